@@ -1,0 +1,24 @@
+-- Choices by a test: the words in which the other definitions put the paper's "if".
+-- Assumes nothing.
+use Prim.Native.Nat.{ℕ}
+use mathlib.Core.Bool.{Bool, true, false}
+use lib.Dec.{leb}
+
+-- the first where the test holds, else the second
+abbrev pub pick : {A : Type 0} → Bool → A → A → A
+pick true a b = a
+pick false a b = b
+
+-- both tests hold
+abbrev pub both : Bool → Bool → Bool
+both true b = b
+both false b = false
+
+-- at least one of the tests holds
+abbrev pub either : Bool → Bool → Bool
+either true b = true
+either false b = b
+
+-- low ≤ x ≤ high
+abbrev pub inRange : ℕ → ℕ → ℕ → Bool
+inRange x low high = both (leb low x) (leb x high)

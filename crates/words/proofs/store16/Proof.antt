@@ -1,0 +1,41 @@
+use native.Mathlib.Omega.{arith}
+use denote.Ref.{now}
+use mathlib.Core.Path.{_≡_}
+use Prim.Native.Nat.{_/_, _%_}
+use native.Mathlib.Numerals.{add-one}
+use lib.ListN.{length-set}
+use Rattle.words.specs.Words.{leBytes}
+use borrow.Author.Needs.{needs}
+use Rattle.words.proofs.store16.Statement.{statement}
+use Rattle.words.proofs.store16.Tie as tie
+use Rattle.words.proofs.store16.Reads as reads
+use Rattle.words.proofs.store16.Lts as lts
+
+cast-out : tie.Need-cast-out
+cast-out c = search needs
+
+slice-write-out : tie.Need-slice-write-out
+slice-write-out c = search needs
+
+cast-out-2 : tie.Need-cast-out-2
+cast-out-2 c = search needs
+
+add-out : tie.Need-add-out
+add-out c = search needs
+
+slice-write-out-2 : tie.Need-slice-write-out-2
+slice-write-out-2 c = simp length-set (omega arith)
+
+same-length : tie.Need-same-length
+same-length c = search needs
+
+returns : tie.Need-returns
+unfolding leBytes
+returns c =
+    let e : c .args .v / 256 % 256 ≡ c .args .v / 256 = omega arith in
+    simp (e, add-one)
+
+pub store16-spec : {M : Type 1} → statement M
+store16-spec =
+    tie.close
+    (tie.spec cast-out slice-write-out cast-out-2 add-out slice-write-out-2 same-length returns)
