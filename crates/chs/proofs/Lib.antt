@@ -1,0 +1,3 @@
+pub mod Chs
+pub mod OneToOne
+pub mod Sums

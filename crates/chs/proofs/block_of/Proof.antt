@@ -1,0 +1,45 @@
+use mathlib.Core.Path.{sym, ap, _∙_}
+use borrow.Author.Tests.{not-true, not-false}
+use Rattle.chs.specs.declared.ToBlock.the-variants.{Block}
+use Rattle.chs.proofs.Chs.{blockOf-limits, blockOf-invalid, blockOf-valid}
+use borrow.Author.Needs.{needs}
+use Rattle.chs.proofs.block_of.Statement.{statement}
+use Rattle.chs.proofs.block_of.Tie as tie
+use Rattle.chs.proofs.block_of.Reads as reads
+use Rattle.chs.proofs.block_of.Lts as lts
+use Rattle.chs.proofs.in_limits.Reads as in-limits-reads
+use Rattle.chs.proofs.is_valid.Reads as is-valid-reads
+use Rattle.chs.proofs.number.Reads as number-reads
+
+in-limits-requires : tie.Need-in-limits-requires
+in-limits-requires c κs = search needs
+
+returns : tie.Need-returns
+returns c =
+    let s = c .before .before in
+    sym (blockOf-limits (s .args .g) (s .args .a) (sym (c .before .in-limits .ensures) ∙ not-true _ (c .if1 .taken)))
+
+is-valid-requires : tie.Need-is-valid-requires
+is-valid-requires c κs = search needs
+
+returns-2 : tie.Need-returns-2
+returns-2 c =
+    let s = c .before .before .before .before in
+    let l = sym (c .before .before .before .in-limits .ensures) ∙ not-false _ (c .before .before .if1 .left) in
+    let v = sym (c .before .is-valid .ensures) ∙ not-true _ (c .if2 .taken) in
+    sym (blockOf-invalid (s .args .g) (s .args .a) l v)
+
+number-requires : tie.Need-number-requires
+number-requires c κs = (sym (c .before .before .before .in-limits .ensures) ∙ not-false _ (c .before .before .if1 .left), sym (c .before .is-valid .ensures) ∙ not-false _ (c .if2 .left))
+
+returns-3 : tie.Need-returns-3
+returns-3 c =
+    let s = c .before .before .before .before .before in
+    let l = sym (c .before .before .before .before .in-limits .ensures) ∙ not-false _ (c .before .before .before .if1 .left) in
+    let v = sym (c .before .before .is-valid .ensures) ∙ not-false _ (c .before .if2 .left) in
+    ap Block (c .number .ensures) ∙ sym (blockOf-valid (s .args .g) (s .args .a) l v)
+
+pub block-of-spec : {M : Type 1} → statement M
+block-of-spec =
+    tie.close
+    (tie.spec in-limits-requires returns is-valid-requires returns-2 number-requires returns-3)

@@ -1,0 +1,19 @@
+use native.Mathlib.Omega.{arith}
+use Rattle.chs.proofs.Chs.{tracks-high, size-high}
+use borrow.Author.Needs.{needs}
+use Rattle.chs.proofs.size_of.Statement.{statement}
+use Rattle.chs.proofs.size_of.Tie as tie
+use Rattle.chs.proofs.size_of.Reads as reads
+use Rattle.chs.proofs.size_of.Lts as lts
+
+mul-result : tie.Need-mul-result
+mul-result c = let s = c .before in omega (arith, tracks-high (s .args .g) (s .pre))
+
+mul-result-2 : tie.Need-mul-result-2
+mul-result-2 c = let s = c .before .before in omega (arith, size-high (s .args .g) (s .pre))
+
+returns : tie.Need-returns
+returns c = search needs
+
+pub size-of-spec : {M : Type 1} → statement M
+size-of-spec = tie.close (tie.spec mul-result mul-result-2 returns)
