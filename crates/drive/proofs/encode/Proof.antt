@@ -1,0 +1,59 @@
+use Prim.Native.Nat.{ℕ}
+use mathlib.Core.Path.{refl}
+use lib.ListN.{replicate}
+use borrow.Author.Needs.{length-unmapped}
+use Rattle.drive.proofs.Drives.{record-stores}
+use borrow.Author.Needs.{needs}
+use Rattle.drive.proofs.encode.Statement.{statement}
+use Rattle.drive.proofs.encode.Tie as tie
+use Rattle.drive.proofs.encode.Reads as reads
+use Rattle.drive.proofs.encode.Lts as lts
+use Rattle.drive.proofs.put_geometry.Reads as put-geometry-reads
+use Rattle.drive.proofs.put_names.Reads as put-names-reads
+use Rattle.drive.proofs.put_sizes.Reads as put-sizes-reads
+
+-- src/lib.rt:104:21
+slice-aggregate-put-geometry : tie.Need-slice-aggregate-put-geometry
+slice-aggregate-put-geometry c = search needs
+
+-- src/lib.rt:104:5
+put-geometry-requires : tie.Need-put-geometry-requires
+put-geometry-requires c κs = search needs
+
+-- src/lib.rt:105:18
+slice-aggregate-put-sizes : tie.Need-slice-aggregate-put-sizes
+slice-aggregate-put-sizes c = search needs
+
+-- src/lib.rt:105:5
+put-sizes-requires : tie.Need-put-sizes-requires
+put-sizes-requires c κs = search needs
+
+-- src/lib.rt:106:18
+slice-aggregate-put-names : tie.Need-slice-aggregate-put-names
+slice-aggregate-put-names c = search needs
+
+-- src/lib.rt:106:5
+put-names-requires : tie.Need-put-names-requires
+put-names-requires c κs = search needs
+
+-- src/lib.rt:100:1
+returns : tie.Need-returns
+returns c =
+    let b = c .before .before .before .before .before .before .before .before .before in
+    let d = b .args .d in
+    let g = b .good .0 .1 .1 .1 .1 .1 .1 .1 .1 .1 .1 .1 .1 in
+    record-stores (replicate 68 0) d
+    record { bus = length-unmapped ℕ (d .bus) 4 (g .0 .1 .0 .1); interface = length-unmapped ℕ (d .interface) 8 (g .1 .0 .1 .0 .1); path = length-unmapped ℕ (d .path) 8 (g .1 .1 .0 .1 .0 .1); device = length-unmapped ℕ (d .device) 8 (g .1 .1 .1 .0 .1 .0 .1) }
+    refl (c .before .before .before .before .before .before .before .put-geometry .ensures) (c .before .before .before .before .put-sizes .ensures) (c .before .put-names .ensures)
+
+pub encode-spec : {M : Type 1} → statement M
+encode-spec =
+    tie.close
+    (tie.spec
+    slice-aggregate-put-geometry
+    put-geometry-requires
+    slice-aggregate-put-sizes
+    put-sizes-requires
+    slice-aggregate-put-names
+    put-names-requires
+    returns)

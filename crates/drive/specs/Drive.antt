@@ -1,0 +1,148 @@
+-- Document 01, "The drive table": the record of kind 1, 68 bytes, and the rules that one drive obeys.
+-- Assumes nothing.
+use Prim.Native.Nat.{ℕ, _+_, _^_, _<_}
+use mathlib.Core.Path.{_≡_}
+use mathlib.Core.Bool.{Bool, true, false}
+use mathlib.Core.List.{List, [], _∷_, _++_}
+use lib.ListN.{length, getD, replicate}
+use lib.Dec.{leb, ltb, eqb}
+use Rattle.logic.specs.Logic.{pick, both, either}
+use Rattle.words.specs.Words.{le, leBytes, part}
+use Rattle.chs.specs.declared.Geometry.{Geometry}
+use Rattle.chs.specs.Chs.{inLimits, size}
+use Rattle.drive.specs.declared.Drive.{Drive}
+
+-- ---- the record, by the paper's offsets
+
+-- kind 1, and its length
+abbrev pub driveKind : ℕ
+driveKind = 1
+
+abbrev pub driveLength : ℕ
+driveLength = 68
+
+-- the drive that a record's bytes say
+unfoldable pub driveOf : List ℕ → Drive
+driveOf r = record {
+  cylinders = le 4 r 4;
+  heads = le 4 r 8;
+  sectors = le 4 r 12;
+  blocks = le 8 r 16;
+  first = le 8 r 24;
+  flags = le 2 r 32;
+  c = le 2 r 34;
+  h = le 2 r 36;
+  s = getD r 38 0;
+  protection = getD r 39 0;
+  bus = part 4 r 40;
+  interface = part 8 r 44;
+  path = part 8 r 52;
+  device = part 8 r 60;
+}
+
+-- offsets 0, 2, 4, 8, 12: length, kind, physical geometry
+unfoldable pub geometryBytes : Drive → List ℕ
+geometryBytes d =
+    leBytes 2 driveLength ++ (leBytes 2 driveKind ++ (leBytes 4 (d .cylinders) ++ (leBytes 4 (d .heads) ++ leBytes 4 (d .sectors))))
+
+-- offsets 16, 24, 32, 34, 36: blocks, first store block, flags, C, H
+unfoldable pub sizeBytes : Drive → List ℕ
+sizeBytes d = leBytes 8 (d .blocks) ++ (leBytes 8 (d .first) ++ (leBytes 2 (d .flags) ++ (leBytes 2 (d .c) ++ leBytes 2 (d .h))))
+
+-- offsets 38, 39, 40, 44, 52, 60: S, protection, host bus, interface type, interface path, device path
+unfoldable pub nameBytes : Drive → List ℕ
+nameBytes d = d .s ∷ d .protection ∷ (d .bus ++ (d .interface ++ (d .path ++ d .device)))
+
+-- the record's bytes of a drive
+unfoldable pub recordOf : Drive → List ℕ
+recordOf d = geometryBytes d ++ (sizeBytes d ++ nameBytes d)
+
+-- what the types of its fields say of a drive: each number fits its word, each array has its length
+pub record Fits (d : Drive) : Type 0 where
+  pub cylinders : d .cylinders < 256 ^ 4
+  pub heads : d .heads < 256 ^ 4
+  pub sectors : d .sectors < 256 ^ 4
+  pub blocks : d .blocks < 256 ^ 8
+  pub first : d .first < 256 ^ 8
+  pub flags : d .flags < 256 ^ 2
+  pub c : d .c < 256 ^ 2
+  pub h : d .h < 256 ^ 2
+  pub bus : length (d .bus) ≡ 4
+  pub interface : length (d .interface) ≡ 8
+  pub path : length (d .path) ≡ 8
+  pub device : length (d .device) ≡ 8
+
+-- ---- the rules of the fields (refusal 5)
+
+-- two lists are the same
+unfoldable pub same : List ℕ → List ℕ → Bool
+same [] [] = true
+same [] (y ∷ ys) = false
+same (x ∷ xs) [] = false
+same (x ∷ xs) (y ∷ ys) = both (eqb x y) (same xs ys)
+
+-- the four bytes of a host bus: ISA, PCI
+abbrev pub isa : List ℕ
+isa = 73 ∷ 83 ∷ 65 ∷ 0 ∷ []
+
+abbrev pub pci : List ℕ
+pci = 80 ∷ 67 ∷ 73 ∷ 0 ∷ []
+
+unfoldable pub busOk : List ℕ → Bool
+busOk b = either (same b isa) (same b pci)
+
+-- the eight bytes of an interface type: ATA, ATAPI, SCSI, USB, 1394, FIBRE
+abbrev pub ata : List ℕ
+ata = 65 ∷ 84 ∷ 65 ∷ 0 ∷ 0 ∷ 0 ∷ 0 ∷ 0 ∷ []
+
+abbrev pub atapi : List ℕ
+atapi = 65 ∷ 84 ∷ 65 ∷ 80 ∷ 73 ∷ 0 ∷ 0 ∷ 0 ∷ []
+
+abbrev pub scsi : List ℕ
+scsi = 83 ∷ 67 ∷ 83 ∷ 73 ∷ 0 ∷ 0 ∷ 0 ∷ 0 ∷ []
+
+abbrev pub usb : List ℕ
+usb = 85 ∷ 83 ∷ 66 ∷ 0 ∷ 0 ∷ 0 ∷ 0 ∷ 0 ∷ []
+
+abbrev pub ieee1394 : List ℕ
+ieee1394 = 49 ∷ 51 ∷ 57 ∷ 52 ∷ 0 ∷ 0 ∷ 0 ∷ 0 ∷ []
+
+abbrev pub fibre : List ℕ
+fibre = 70 ∷ 73 ∷ 66 ∷ 82 ∷ 69 ∷ 0 ∷ 0 ∷ 0 ∷ []
+
+unfoldable pub interfaceOk : List ℕ → Bool
+interfaceOk b =
+    either (same b ata) (either (same b atapi) (either (same b scsi) (either (same b usb) (either (same b ieee1394) (same b fibre)))))
+
+-- C, H and S of the record
+abbrev pub geometryOf : Drive → Geometry
+geometryOf d = record { c = d .c; h = d .h; s = d .s }
+
+-- the geometry is inside the limits, and C x H x S is at most the blocks
+unfoldable pub geometryFits : Drive → Bool
+geometryFits d = both (inLimits (geometryOf d)) (leb (size (geometryOf d)) (d .blocks))
+
+-- every field of the record: blocks at least 1, flag bits 7 to 15 zero, the geometry, protection 0 or 1, the two names
+unfoldable pub fieldsOk : Drive → Bool
+fieldsOk d =
+    both (leb 1 (d .blocks))
+    (both (ltb (d .flags) 128)
+    (both (geometryFits d)
+    (both (leb (d .protection) 1)
+    (both (busOk (d .bus)) (interfaceOk (d .interface))))))
+
+-- ---- the rules of the store (refusals 6 and 7)
+
+-- first + blocks is at most the store's blocks, a sum that never wraps
+unfoldable pub inStore : Drive → ℕ → Bool
+inStore d store = leb (d .first + d .blocks) store
+
+-- two drives overlap: the one that begins first ends past the first block of the other
+unfoldable pub overlap : Drive → Drive → Bool
+overlap a b = pick (leb (a .first) (b .first)) (ltb (b .first) (a .first + a .blocks)) (ltb (a .first) (b .first + b .blocks))
+
+-- ---- what other layers ask of a drive
+
+-- byte 39 says that the drive is protected
+abbrev pub isProtected : Drive → Bool
+isProtected d = eqb (d .protection) 1

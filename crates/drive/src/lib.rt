@@ -1,0 +1,218 @@
+// A drive of the table: its 68-byte record, and the rules of document 01 that one drive obeys.
+use chs::Geometry;
+ghost use mathlib.Core.Path.{_≡_};
+ghost use Prim.Native.Nat.{_+_, _≤_};
+ghost use lib.ListN.{length};
+ghost use lib.Seq.{sets};
+ghost use Rattle.drive.specs.Drive.{driveOf, recordOf, geometryBytes, sizeBytes, nameBytes, busOk, interfaceOk, geometryOf, geometryFits, fieldsOk, inStore, overlap, isProtected};
+
+// The fields of a record in the paper's order. Flags and the protection byte are kept as the table has them.
+pub struct Drive {
+    // physical geometry, any
+    pub cylinders: u32,
+    pub heads: u32,
+    pub sectors: u32,
+    pub blocks: u64,
+    // first store block
+    pub first: u64,
+    // information flags
+    pub flags: u16,
+    // the geometry that 02h, 03h and 08h use
+    pub c: u16,
+    pub h: u16,
+    pub s: u8,
+    pub protection: u8,
+    // host bus and interface type, padded with NUL
+    pub bus: [u8; 4],
+    pub interface: [u8; 8],
+    // interface path and device path, any bytes
+    pub path: [u8; 8],
+    pub device: [u8; 8],
+}
+
+const DRIVE_KIND: u16 = 1;
+
+const DRIVE_LENGTH: u16 = 68;
+
+// ---- the record
+
+// The drive of a whole record. The table reader has seen that all 68 bytes are there.
+pub fn decode(r: &[u8]) -> Drive
+    requires { ⌜ 68 ≤ length (now r) ⌝ }
+    ensures { λ d. ⌜ d ≡ driveOf (now (r .entry)) ⌝ }
+{
+    Drive {
+        cylinders: words::get32(r, 4),
+        heads: words::get32(r, 8),
+        sectors: words::get32(r, 12),
+        blocks: words::get64(r, 16),
+        first: words::get64(r, 24),
+        flags: words::get16(r, 32),
+        c: words::get16(r, 34),
+        h: words::get16(r, 36),
+        s: r[38],
+        protection: r[39],
+        bus: words::load4(r, 40),
+        interface: words::load8(r, 44),
+        path: words::load8(r, 52),
+        device: words::load8(r, 60),
+    }
+}
+
+// The three runs of a record are written in a buffer of 68 bytes, which `encode` makes.
+fn put_geometry(d: Drive, out: &mut [u8])
+    requires { ⌜ 68 ≤ length (now out) ⌝ }
+    ensures { λ _. ⌜ now (out .exit) ≡ sets (now (out .entry)) 0 (geometryBytes d) ⌝ }
+{
+    words::store16(out, 0, DRIVE_LENGTH);
+    words::store16(out, 2, DRIVE_KIND);
+    words::store32(out, 4, d.cylinders);
+    words::store32(out, 8, d.heads);
+    words::store32(out, 12, d.sectors);
+}
+
+fn put_sizes(d: Drive, out: &mut [u8])
+    requires { ⌜ 68 ≤ length (now out) ⌝ }
+    ensures { λ _. ⌜ now (out .exit) ≡ sets (now (out .entry)) 16 (sizeBytes d) ⌝ }
+{
+    words::store64(out, 16, d.blocks);
+    words::store64(out, 24, d.first);
+    words::store16(out, 32, d.flags);
+    words::store16(out, 34, d.c);
+    words::store16(out, 36, d.h);
+}
+
+fn put_names(d: Drive, out: &mut [u8])
+    requires { ⌜ 68 ≤ length (now out) ⌝ }
+    ensures { λ _. ⌜ now (out .exit) ≡ sets (now (out .entry)) 38 (nameBytes d) ⌝ }
+{
+    words::put_byte(out, 38, d.s);
+    words::put_byte(out, 39, d.protection);
+    let bus = d.bus;
+    let interface = d.interface;
+    let path = d.path;
+    let device = d.device;
+    words::store4(out, 40, bus);
+    words::store8(out, 44, interface);
+    words::store8(out, 52, path);
+    words::store8(out, 60, device);
+}
+
+// The record of a drive.
+pub fn encode(d: Drive) -> [u8; 68]
+    ensures { λ r. ⌜ r ≡ recordOf d ⌝ }
+{
+    let mut r = [0u8; 68];
+    put_geometry(d, &mut r);
+    put_sizes(d, &mut r);
+    put_names(d, &mut r);
+    r
+}
+
+// ---- the rules of the fields
+
+// Names as words, lowest byte first.
+const ISA: u32 = 0x0041_5349;
+
+const PCI: u32 = 0x0049_4350;
+
+const ATA: u64 = 0x0041_5441;
+
+const ATAPI: u64 = 0x0049_5041_5441;
+
+const SCSI: u64 = 0x4953_4353;
+
+const USB: u64 = 0x0042_5355;
+
+const IEEE1394: u64 = 0x3439_3331;
+
+const FIBRE: u64 = 0x0045_5242_4946;
+
+fn bus_ok(b: [u8; 4]) -> bool
+    ensures { λ r. ⌜ r ≡ busOk b ⌝ }
+{
+    let v = words::value4(b);
+    logic::or(v == ISA, v == PCI)
+}
+
+fn interface_ok(b: [u8; 8]) -> bool
+    ensures { λ r. ⌜ r ≡ interfaceOk b ⌝ }
+{
+    let v = words::value8(b);
+    logic::or(
+        v == ATA,
+        logic::or(
+            v == ATAPI,
+            logic::or(
+                v == SCSI,
+                logic::or(v == USB, logic::or(v == IEEE1394, v == FIBRE)),
+            ),
+        ),
+    )
+}
+
+// C, H and S of the record.
+pub fn geometry_of(d: Drive) -> Geometry
+    ensures { λ g. ⌜ g ≡ geometryOf d ⌝ }
+{
+    Geometry {
+        c: d.c as u32,
+        h: d.h as u32,
+        s: d.s as u32,
+    }
+}
+
+fn geometry_fits(d: Drive) -> bool
+    ensures { λ r. ⌜ r ≡ geometryFits d ⌝ }
+{
+    let g = geometry_of(d);
+    if !chs::in_limits(g) {
+        return false;
+    }
+    let n = chs::size_of(g);
+    n as u64 <= d.blocks
+}
+
+// Every field is as the table's rules say.
+pub fn fields_ok(d: Drive) -> bool
+    ensures { λ r. ⌜ r ≡ fieldsOk d ⌝ }
+{
+    let bus = d.bus;
+    let interface = d.interface;
+    let names = logic::and(bus_ok(bus), interface_ok(interface));
+    let bytes = logic::and(d.protection <= 1, names);
+    logic::and(
+        1 <= d.blocks,
+        logic::and(d.flags < 128, logic::and(geometry_fits(d), bytes)),
+    )
+}
+
+// ---- the rules of the store
+
+// The drive ends inside a store of that many blocks. Tested by difference, since first + blocks may not fit a word.
+pub fn in_store(d: Drive, store: u64) -> bool
+    ensures { λ r. ⌜ r ≡ inStore d store ⌝ }
+{
+    if store < d.first {
+        return false;
+    }
+    d.blocks <= store - d.first
+}
+
+// The two drives share a block, by differences again.
+pub fn overlaps(a: Drive, b: Drive) -> bool
+    ensures { λ r. ⌜ r ≡ overlap a b ⌝ }
+{
+    if a.first <= b.first {
+        b.first - a.first < a.blocks
+    } else {
+        a.first - b.first < b.blocks
+    }
+}
+
+// Byte 39 says that the drive is protected.
+pub fn is_protected(d: Drive) -> bool
+    ensures { λ r. ⌜ r ≡ isProtected d ⌝ }
+{
+    d.protection == 1
+}
