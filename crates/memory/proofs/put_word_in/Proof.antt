@@ -1,0 +1,55 @@
+use borrow.Author.Needs.{needs}
+use mathlib.Core.Path.{_≡_, _∙_}
+use Prim.Native.Nat.{_-_}
+use native.Mathlib.Omega.{arith}
+use lib.ListN.{length}
+use lib.Seq.{sets, length-sets}
+use Rattle.words.specs.Words.{leBytes}
+use Rattle.memory.specs.Window.{spanLength, windowOf}
+use Rattle.memory.proofs.Windows.{length-window, with-window-lent}
+use Rattle.memory.proofs.put_word_in.Statement.{statement}
+use Rattle.memory.proofs.put_word_in.Tie as tie
+use Rattle.memory.proofs.put_word_in.Reads as reads
+use Rattle.memory.proofs.put_word_in.Lts as lts
+use Rattle.memory.proofs.span_of.Reads as span-of-reads
+use Rattle.words.proofs.store16.Reads as store16-reads
+
+span-of-requires : tie.Need-span-of-requires
+span-of-requires c κs = search needs
+
+sub-store16 : tie.Need-sub-store16
+sub-store16 c = search needs
+
+part-store16-start : tie.Need-part-store16-start
+part-store16-start c = search needs
+
+part-store16-end : tie.Need-part-store16-end
+part-store16-end c = search needs
+
+store16-requires : tie.Need-store16-requires
+store16-requires c κs = search needs
+
+same-length : tie.Need-same-length
+same-length c = search needs
+
+returns : tie.Need-returns
+returns c =
+    let a = c .before .before .before .before .before .before .args in
+    let o = c .before .before .before .before .span-of in
+    let w = windowOf (a .arena .now) (a .guest) (a .m) in
+    let e : o .result .end - o .result .start ≡ spanLength (length (a .arena .now)) (a .guest) (a .m) = omega arith in
+    rw (c .before .before .store16 .ensures, e, o .ensures .0)
+    (with-window-lent (a .arena .now) (a .guest) (a .m) (sets w (a .at) (leBytes 2 (a .x)))
+    (length-sets w (a .at) (leBytes 2 (a .x)) ∙ length-window (a .arena .now) (a .guest) (a .m)))
+
+pub put-word-in-spec : {M : Type 1} → statement M
+put-word-in-spec =
+    tie.close
+    (tie.spec
+    span-of-requires
+    sub-store16
+    part-store16-start
+    part-store16-end
+    store16-requires
+    same-length
+    returns)

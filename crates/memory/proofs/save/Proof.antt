@@ -1,0 +1,49 @@
+use borrow.Author.Needs.{needs}
+use mathlib.Core.Path.{_≡_}
+use Prim.Native.Nat.{_-_}
+use native.Mathlib.Omega.{arith}
+use lib.ListN.{length}
+use Rattle.memory.specs.Window.{spanLength}
+use Rattle.memory.proofs.save.Statement.{statement}
+use Rattle.memory.proofs.save.Tie as tie
+use Rattle.memory.proofs.save.Reads as reads
+use Rattle.memory.proofs.save.Lts as lts
+use Rattle.memory.proofs.copy.Reads as copy-reads
+use Rattle.memory.proofs.span_of.Reads as span-of-reads
+
+span-of-requires : tie.Need-span-of-requires
+span-of-requires c κs = search needs
+
+sub-copy : tie.Need-sub-copy
+sub-copy c = search needs
+
+part-copy-start : tie.Need-part-copy-start
+part-copy-start c = search needs
+
+part-copy-end : tie.Need-part-copy-end
+part-copy-end c = search needs
+
+copy-requires : tie.Need-copy-requires
+copy-requires c κs = search needs
+
+same-length : tie.Need-same-length
+same-length c = search needs
+
+returns : tie.Need-returns
+returns c =
+    let a = c .before .before .before .before .before .before .before .before .args in
+    let o = c .before .before .before .before .before .span-of in
+    let e : o .result .end - o .result .start ≡ spanLength (length (a .arena .now)) (a .guest) (a .m) = omega arith in
+    rw (c .before .before .copy .ensures, e, o .ensures .0)
+
+pub save-spec : {M : Type 1} → statement M
+save-spec =
+    tie.close
+    (tie.spec
+    span-of-requires
+    sub-copy
+    part-copy-start
+    part-copy-end
+    copy-requires
+    same-length
+    returns)

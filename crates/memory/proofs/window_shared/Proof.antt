@@ -1,0 +1,35 @@
+use borrow.Author.Needs.{needs}
+use mathlib.Core.Path.{_≡_, ap}
+use Prim.Native.Nat.{ℕ, _-_}
+use native.Mathlib.Nat.{add-comm}
+use native.Mathlib.Omega.{arith}
+use lib.ListN.{length}
+use Rattle.memory.specs.Window.{spanLength}
+use Rattle.memory.proofs.window_shared.Statement.{statement}
+use Rattle.memory.proofs.window_shared.Tie as tie
+use Rattle.memory.proofs.window_shared.Reads as reads
+use Rattle.memory.proofs.window_shared.Lts as lts
+use Rattle.memory.proofs.span_of.Reads as span-of-reads
+
+span-of-requires : tie.Need-span-of-requires
+span-of-requires c κs = search needs
+
+sub-result : tie.Need-sub-result
+sub-result c = search needs
+
+part-result-start : tie.Need-part-result-start
+part-result-start c = search needs
+
+part-result-end : tie.Need-part-result-end
+part-result-end c = search needs
+
+returns : tie.Need-returns
+returns c =
+    let a = c .before .before .before .args in
+    let o = c .before .span-of in
+    let e : o .result .end - o .result .start ≡ spanLength (length (a .arena .now)) (a .guest) (a .m) = omega arith in
+    (rw (e, o .ensures .0), rw (o .ensures .0) (ap (λ (p : ℕ). (a .arena .ptr .0, p)) (add-comm _ _)))
+
+pub window-shared-spec : {M : Type 1} → statement M
+window-shared-spec =
+    tie.close (tie.spec span-of-requires sub-result part-result-start part-result-end returns)
