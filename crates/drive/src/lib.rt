@@ -4,7 +4,7 @@ ghost use mathlib.Core.Path.{_≡_};
 ghost use Prim.Native.Nat.{_+_, _≤_};
 ghost use lib.ListN.{length};
 ghost use lib.Seq.{sets};
-ghost use Rattle.drive.specs.Drive.{driveOf, recordOf, geometryBytes, sizeBytes, nameBytes, busOk, interfaceOk, geometryOf, geometryFits, fieldsOk, inStore, overlap, isProtected};
+ghost use Rattle.drive.specs.Drive.{driveLength, driveOf, recordOf, geometryBytes, sizeBytes, nameBytes, busOk, interfaceOk, geometryOf, geometryFits, fieldsOk, inStore, overlap, isProtected};
 
 // The fields of a record in the paper's order. Flags and the protection byte are kept as the table has them.
 pub struct Drive {
@@ -107,6 +107,13 @@ pub fn encode(d: Drive) -> [u8; 68]
     put_sizes(d, &mut r);
     put_names(d, &mut r);
     r
+}
+
+// How long the record of a drive is.
+pub fn record_length(d: Drive) -> usize
+    ensures { λ r. ⌜ (r ≡ length (recordOf d)) × (r ≡ driveLength) ⌝ }
+{
+    DRIVE_LENGTH as usize
 }
 
 // ---- the rules of the fields

@@ -156,11 +156,14 @@ sets-more s at a i h =
     let l : length (take i a) ≡ i = length-take-le i a (omega arith) in
     rw (add-one, take-suc a i 0 h, sets-append, l)
 
--- stores over the whole list leave what was stored
+-- stores from the start leave what was stored, and then the rest
+pub sets-front : (s a : List ℕ) → length a ≤ length s → sets s 0 a ≡ a ++ drop (length a) s
+sets-front s a h = rw (sets-eq a s 0 (omega arith), zero-add)
+
 pub sets-whole : (s a : List ℕ) → length s ≡ length a → sets s 0 a ≡ a
 sets-whole s a h =
-    let l : length s ≤ 0 + length a = omega arith in
-    rw (sets-eq a s 0 (omega arith), drop-of-length-le s l) (append-nil a)
+    let l : length s ≤ length a = omega arith in
+    rw (sets-front s a (omega arith), drop-of-length-le s l) (append-nil a)
 
 -- ---- a part, written out byte by byte
 

@@ -1,0 +1,23 @@
+use mathlib.Core.Path.{_≡_, refl, sym}
+use Prim.Native.Nat.{ℕ}
+use borrow.Author.Needs.{length-unmapped}
+use Rattle.drive.proofs.Drives.{length-record}
+use borrow.Author.Needs.{needs}
+use Rattle.drive.proofs.record_length.Statement.{statement}
+use Rattle.drive.proofs.record_length.Tie as tie
+use Rattle.drive.proofs.record_length.Reads as reads
+use Rattle.drive.proofs.record_length.Lts as lts
+
+-- src/lib.rt:116:5
+cast-result : tie.Need-cast-result
+cast-result c = search needs
+
+-- src/lib.rt:113:1
+returns : tie.Need-returns
+returns c =
+    let d = c .args .d in
+    let g = c .good .0 .1 .1 .1 .1 .1 .1 .1 .1 .1 .1 .1 .1 in
+    (sym (length-record d record { bus = length-unmapped ℕ (d .bus) 4 (g .0 .1 .0 .1); interface = length-unmapped ℕ (d .interface) 8 (g .1 .0 .1 .0 .1); path = length-unmapped ℕ (d .path) 8 (g .1 .1 .0 .1 .0 .1); device = length-unmapped ℕ (d .device) 8 (g .1 .1 .1 .0 .1 .0 .1) }), refl)
+
+pub record-length-spec : {M : Type 1} → statement M
+record-length-spec = tie.close (tie.spec cast-result returns)

@@ -1,0 +1,182 @@
+-- Document 01, "The drive table": little-endian records, read record by record in the paper's order of checks, and written back.
+-- Assumes nothing.
+use Prim.Native.Nat.{ℕ, zero, suc, _+_, _-_}
+use mathlib.Core.Bool.{Bool, true, false, not}
+use mathlib.Core.List.{List, [], _∷_, _++_}
+use lib.ListN.{length, getD, set, take, drop, replicate}
+use lib.Dec.{leb, ltb, eqb}
+use Rattle.logic.specs.Logic.{pick, either}
+use Rattle.words.specs.Words.{le, leBytes, part}
+use Rattle.drive.specs.declared.Drive.{Drive}
+use Rattle.drive.specs.Drive.{driveKind, driveLength, driveOf, recordOf, fieldsOk, inStore, overlap}
+use Rattle.table.specs.declared.Table.{Table}
+use Rattle.table.specs.declared.Header.{Header}
+use Rattle.table.specs.declared.Header.the-variants.{Whole, Bad}
+use Rattle.table.specs.declared.Step.{Step}
+use Rattle.table.specs.declared.Step.the-variants.{Next, Done, Refused}
+use Rattle.table.specs.declared.Stepped.{Stepped}
+use Rattle.table.specs.declared.Answer.{Answer}
+use Rattle.table.specs.declared.Answer.the-variants.{Accepted, Refused as AnswerRefused}
+use Rattle.table.specs.declared.Reading.{Reading}
+use Rattle.table.specs.declared.Written.{Written}
+use Rattle.table.specs.declared.Written.the-variants.{Bytes, Refused as WriteRefused}
+
+-- ---- the numbers of the refusals, in the order of the checks
+
+-- 1 fewer than 4 bytes left, or the record is cut off
+abbrev pub cutOff : ℕ
+cutOff = 1
+
+abbrev pub unknownKind : ℕ
+unknownKind = 3
+
+abbrev pub wrongLength : ℕ
+wrongLength = 2
+
+abbrev pub ninthDrive : ℕ
+ninthDrive = 4
+
+abbrev pub badField : ℕ
+badField = 5
+
+abbrev pub pastStore : ℕ
+pastStore = 6
+
+abbrev pub overlapping : ℕ
+overlapping = 7
+
+-- a byte follows the end record
+abbrev pub byteFollows : ℕ
+byteFollows = 8
+
+-- house number 19: write, buffer shorter than the table
+abbrev pub shortBuffer : ℕ
+shortBuffer = 19
+
+-- ---- a record: length first (word, whole record), then a two-byte kind
+
+-- kind 0, length 4, ends the table
+abbrev pub endKind : ℕ
+endKind = 0
+
+abbrev pub endLength : ℕ
+endLength = 4
+
+abbrev pub isKind : ℕ → Bool
+isKind kind = either (eqb kind endKind) (eqb kind driveKind)
+
+abbrev pub recordLength : ℕ → ℕ
+recordLength kind = pick (eqb kind endKind) endLength driveLength
+
+-- checks 1, 3, 2, 1 of a record, from the bytes left, its length word and its kind
+unfoldable pub headerOf : ℕ → ℕ → ℕ → Header
+headerOf left size kind =
+    pick (ltb left 4) (Bad cutOff)
+    (pick (not (isKind kind)) (Bad unknownKind)
+    (pick (not (eqb size (recordLength kind))) (Bad wrongLength)
+    (pick (ltb left (recordLength kind)) (Bad cutOff)
+    (Whole kind))))
+
+unfoldable pub headerAt : List ℕ → ℕ → Header
+headerAt t at = headerOf (length t - at) (le 2 t at) (le 2 t (at + 2))
+
+-- ---- a drive, among those before it: checks 4, 5, 6, 7
+
+-- the value of a place that holds no drive
+abbrev pub noDrive : Drive
+noDrive = record { cylinders = 0; heads = 0; sectors = 0; blocks = 0; first = 0; flags = 0; c = 0; h = 0; s = 0; protection = 0; bus = []; interface = []; path = []; device = [] }
+
+-- d overlaps one of the first n
+unfoldable pub overlapsAny : ℕ → List Drive → Drive → Bool
+overlapsAny zero l d = false
+overlapsAny (suc n) l d = either (overlap d (getD l n noDrive)) (overlapsAny n l d)
+
+-- the refusal of a drive, or 0 where it is taken
+unfoldable pub refusal : Table → Drive → ℕ → ℕ
+refusal b d store =
+    pick (leb 8 (b .count)) ninthDrive
+    (pick (not (fieldsOk d)) badField
+    (pick (not (inStore d store)) pastStore
+    (pick (overlapsAny (b .count) (b .drives) d) overlapping
+    0)))
+
+-- the drives so far with one more
+abbrev pub more : Table → Drive → Table
+more b d = record { drives = set (b .drives) (b .count) d; count = b .count + 1 }
+
+-- ---- one step of the reader; a refusal names the record's start
+
+abbrev pub stepped : Step → Table → Stepped
+stepped s b = record { step = s; table = b }
+
+unfoldable pub driveStep : ℕ → Drive → Table → ℕ → Stepped
+driveStep n d b at = pick (eqb n 0) (stepped (Next (at + driveLength)) (more b d)) (stepped (Refused n at) b)
+
+-- after the end record, 8 if a byte follows, at that byte
+unfoldable pub endStep : List ℕ → ℕ → Table → Stepped
+endStep t at b = pick (ltb (at + endLength) (length t)) (stepped (Refused byteFollows (at + endLength)) b) (stepped Done b)
+
+-- the step from the drive that the record's bytes say
+abbrev pub bodyStep : Drive → Table → ℕ → ℕ → Stepped
+bodyStep d b at store = driveStep (refusal b d store) d b at
+
+unfoldable pub stepOf : Header → List ℕ → ℕ → Table → ℕ → Stepped
+stepOf (Bad n) t at b store = stepped (Refused n at) b
+stepOf (Whole kind) t at b store = pick (eqb kind endKind) (endStep t at b) (bodyStep (driveOf (part driveLength t at)) b at store)
+
+unfoldable pub stepAt : List ℕ → ℕ → Table → ℕ → Stepped
+stepAt t at b store = stepOf (headerAt t at) t at b store
+
+-- ---- the whole table
+
+-- a place that no drive was read into
+abbrev pub zeroDrive : Drive
+zeroDrive = record { cylinders = 0; heads = 0; sectors = 0; blocks = 0; first = 0; flags = 0; c = 0; h = 0; s = 0; protection = 0; bus = replicate 4 0; interface = replicate 8 0; path = replicate 8 0; device = replicate 8 0 }
+
+abbrev pub emptyTable : Table
+emptyTable = record { drives = replicate 8 zeroDrive; count = 0 }
+
+abbrev pub reading : Answer → Table → Reading
+reading a b = record { answer = a; table = b }
+
+-- on with f from a step's answer, unless it ends the reading
+abbrev pub goOn : Step → Table → (ℕ → Table → Reading) → Reading
+goOn (Next at) b f = f at b
+goOn Done b f = reading Accepted b
+goOn (Refused n at) b f = reading (AnswerRefused n at) b
+
+-- at most k records from a place; the ninth drive is refused, so that nine are enough and the first clause is never met
+unfoldable pub readFrom : ℕ → List ℕ → ℕ → ℕ → Table → Reading
+readFrom zero t store at b = reading (AnswerRefused ninthDrive at) b
+readFrom (suc k) t store at b = goOn (stepAt t at b store .step) (stepAt t at b store .table) (readFrom k t store)
+
+-- the drives of a table's bytes, or the refusal with its place and the drives before it
+unfoldable pub readTable : List ℕ → ℕ → Reading
+readTable t store = readFrom 9 t store 0 emptyTable
+
+-- ---- the table written back
+
+abbrev pub endRecord : List ℕ
+endRecord = leBytes 2 endLength ++ leBytes 2 endKind
+
+unfoldable pub recordsOf : List Drive → List ℕ
+recordsOf [] = []
+recordsOf (d ∷ ds) = recordOf d ++ recordsOf ds
+
+-- the bytes of a list of drives
+unfoldable pub bytesOf : List Drive → List ℕ
+bytesOf ds = recordsOf ds ++ endRecord
+
+-- the drives that a table holds
+abbrev pub drivesOf : Table → List Drive
+drivesOf b = take (b .count) (b .drives)
+
+unfoldable pub tableOf : Table → List ℕ
+tableOf b = bytesOf (drivesOf b)
+
+-- write: 19 if the buffer is shorter, which then stays; else the bytes past the table stay
+unfoldable pub writeAnswer : Table → ℕ → Written
+writeAnswer b room = pick (ltb room (length (tableOf b))) (WriteRefused shortBuffer) (Bytes (length (tableOf b)))
+
+unfoldable pub writeOut : Table → List ℕ → List ℕ
+writeOut b out = pick (ltb (length out) (length (tableOf b))) out (tableOf b ++ drop (length (tableOf b)) out)

@@ -1,0 +1,358 @@
+// The drive table: a cursor that reads one record, the reader of a whole table, and the writer.
+use drive::Drive;
+ghost use mathlib.Core.Path.{_≡_};
+ghost use Prim.Native.Nat.{_+_, _-_, _*_, _≤_, _<_, min};
+ghost use lib.ListN.{length, take};
+ghost use lib.Seq.{sets};
+ghost use Rattle.words.specs.Words.{part};
+ghost use Rattle.drive.specs.Drive.{driveOf};
+ghost use Rattle.table.specs.Table.{isKind, recordLength, headerAt, overlapsAny, refusal, more, endStep, bodyStep, stepAt, zeroDrive, emptyTable, readTable, recordsOf, drivesOf, tableOf, writeAnswer, writeOut};
+
+// Document 01's refusals of a table, in the order of the checks.
+const CUT_OFF: u8 = 1;
+
+const UNKNOWN_KIND: u8 = 3;
+
+const WRONG_LENGTH: u8 = 2;
+
+const NINTH_DRIVE: u8 = 4;
+
+const BAD_FIELD: u8 = 5;
+
+const PAST_STORE: u8 = 6;
+
+const OVERLAPPING: u8 = 7;
+
+const BYTE_FOLLOWS: u8 = 8;
+
+// House number of a write to a buffer shorter than the table.
+const SHORT_BUFFER: u8 = 19;
+
+const END_KIND: u16 = 0;
+
+const END_LENGTH: usize = 4;
+
+const DRIVE_KIND: u16 = 1;
+
+const DRIVE_LENGTH: usize = 68;
+
+// The drives in table order; the first `count` places are in use.
+pub struct Table {
+    pub drives: [Drive; 8],
+    pub count: usize,
+}
+
+// What the first four bytes of a record and the bytes left say: a whole record of a kind, or its refusal.
+pub enum Header {
+    Whole(u16),
+    Bad(u8),
+}
+
+// What one record is: go on at the next place, the end of the table, or refusal number and place.
+pub enum Step {
+    Next(usize),
+    Done,
+    Refused(u8, usize),
+}
+
+pub struct Stepped {
+    pub step: Step,
+    pub table: Table,
+}
+
+pub enum Answer {
+    Accepted,
+    Refused(u8, usize),
+}
+
+// What a whole table is, with the drives that were taken.
+pub struct Reading {
+    pub answer: Answer,
+    pub table: Table,
+}
+
+// How many bytes were written, or the house number.
+pub enum Written {
+    Bytes(usize),
+    Refused(u8),
+}
+
+// ---- a record's header
+
+fn bytes_left(n: usize, at: usize) -> usize
+    ensures { λ r. ⌜ r ≡ n - at ⌝ }
+{
+    if at < n { n - at } else { 0 }
+}
+
+fn is_kind(kind: u16) -> bool
+    ensures { λ r. ⌜ r ≡ isKind kind ⌝ }
+{
+    logic::or(kind == END_KIND, kind == DRIVE_KIND)
+}
+
+fn record_length(kind: u16) -> usize
+    ensures { λ r. ⌜ r ≡ recordLength kind ⌝ }
+{
+    if kind == END_KIND {
+        return END_LENGTH;
+    }
+    DRIVE_LENGTH
+}
+
+fn header_at(t: &[u8], at: usize) -> Header
+    ensures { λ r. ⌜ r ≡ headerAt (now (t .entry)) at ⌝ }
+{
+    let left = bytes_left(t.len(), at);
+    if left < 4 {
+        return Header::Bad(CUT_OFF);
+    }
+    let size = words::get16(t, at);
+    let kind = words::get16(t, at + 2);
+    if !is_kind(kind) {
+        return Header::Bad(UNKNOWN_KIND);
+    }
+    let whole = record_length(kind);
+    if size as usize != whole {
+        return Header::Bad(WRONG_LENGTH);
+    }
+    if left < whole {
+        return Header::Bad(CUT_OFF);
+    }
+    Header::Whole(kind)
+}
+
+// ---- a drive among those before it
+
+// d overlaps one of the drives so far. `refusal_of` has tested that there are at most eight.
+fn overlaps_any(b: Table, d: Drive) -> bool
+    requires { ⌜ b .count ≤ 8 ⌝ }
+    ensures { λ r. ⌜ r ≡ overlapsAny (b .count) (b .drives) d ⌝ }
+{
+    let drives = b.drives;
+    let n = b.count;
+    let mut found = false;
+    let mut i = 0;
+    while i < n {
+        let e = drives[i];
+        found = logic::or(drive::overlaps(d, e), found);
+        i += 1;
+    }
+    found
+}
+
+// The refusal of a drive, or 0.
+fn refusal_of(b: Table, d: Drive, store: u64) -> u8
+    ensures { λ r. ⌜ r ≡ refusal b d store ⌝ }
+{
+    if 8 <= b.count {
+        return NINTH_DRIVE;
+    }
+    if !drive::fields_ok(d) {
+        return BAD_FIELD;
+    }
+    if !drive::in_store(d, store) {
+        return PAST_STORE;
+    }
+    if overlaps_any(b, d) {
+        return OVERLAPPING;
+    }
+    0
+}
+
+// The drives so far with one more, which `refusal_of` has not refused as the ninth.
+fn push(b: Table, d: Drive) -> Table
+    requires { ⌜ b .count < 8 ⌝ }
+    ensures { λ r. ⌜ r ≡ more b d ⌝ }
+{
+    let mut next = b;
+    let n = b.count;
+    next.drives[n] = d;
+    next.count = n + 1;
+    next
+}
+
+// ---- the cursor
+
+// The end record at a place; `step_at` has seen its four bytes.
+fn end_step(t: &[u8], at: usize, b: Table) -> Stepped
+    requires { ⌜ at + 4 ≤ length (now t) ⌝ }
+    ensures { λ r. ⌜ r ≡ endStep (now (t .entry)) at b ⌝ }
+{
+    if at + END_LENGTH < t.len() {
+        return Stepped {
+            step: Step::Refused(BYTE_FOLLOWS, at + END_LENGTH),
+            table: b,
+        };
+    }
+    Stepped {
+        step: Step::Done,
+        table: b,
+    }
+}
+
+// The drive record at a place; `step_at` has seen that it is whole.
+fn drive_step(t: &[u8], at: usize, b: Table, store: u64) -> Stepped
+    requires { ⌜ at + 68 ≤ length (now t) ⌝ }
+    ensures { λ r. ⌜ r ≡ bodyStep (driveOf (part 68 (now (t .entry)) at)) b at store ⌝ }
+{
+    let next = at + DRIVE_LENGTH;
+    let d = drive::decode(&t[at..next]);
+    let n = refusal_of(b, d, store);
+    if n == 0 {
+        return Stepped {
+            step: Step::Next(next),
+            table: push(b, d),
+        };
+    }
+    Stepped {
+        step: Step::Refused(n, at),
+        table: b,
+    }
+}
+
+// The record at a place, given the drives before it and the store's number of blocks.
+pub fn step_at(t: &[u8], at: usize, b: Table, store: u64) -> Stepped
+    ensures { λ r. ⌜ r ≡ stepAt (now (t .entry)) at b store ⌝ }
+{
+    let h = header_at(t, at);
+    match h {
+        Header::Bad(n) => Stepped {
+            step: Step::Refused(n, at),
+            table: b,
+        },
+        Header::Whole(kind) => {
+            if kind == END_KIND {
+                end_step(t, at, b)
+            } else {
+                drive_step(t, at, b, store)
+            }
+        }
+    }
+}
+
+// ---- the whole table
+
+fn zero_drive() -> Drive
+    ensures { λ r. ⌜ r ≡ zeroDrive ⌝ }
+{
+    Drive {
+        cylinders: 0,
+        heads: 0,
+        sectors: 0,
+        blocks: 0,
+        first: 0,
+        flags: 0,
+        c: 0,
+        h: 0,
+        s: 0,
+        protection: 0,
+        bus: [0u8; 4],
+        interface: [0u8; 8],
+        path: [0u8; 8],
+        device: [0u8; 8],
+    }
+}
+
+// The table with no drive.
+pub fn empty_table() -> Table
+    ensures { λ r. ⌜ r ≡ emptyTable ⌝ }
+{
+    let d = zero_drive();
+    Table {
+        drives: [d; 8],
+        count: 0,
+    }
+}
+
+// All drives of a table, for a store of that many blocks. Nine records are enough, since the ninth drive is refused.
+pub fn read_table(t: &[u8], store: u64) -> Reading
+    ensures { λ r. ⌜ r ≡ readTable (now (t .entry)) store ⌝ }
+{
+    let mut at = 0;
+    let mut b = empty_table();
+    let mut left: usize = 9;
+    while 0 < left {
+        let r = step_at(t, at, b, store);
+        b = r.table;
+        let s = r.step;
+        match s {
+            Step::Next(n) => {
+                at = n;
+            }
+            Step::Done => {
+                return Reading {
+                    answer: Answer::Accepted,
+                    table: b,
+                };
+            }
+            Step::Refused(n, place) => {
+                return Reading {
+                    answer: Answer::Refused(n, place),
+                    table: b,
+                };
+            }
+        }
+        left -= 1;
+    }
+    Reading {
+        answer: Answer::Refused(NINTH_DRIVE, at),
+        table: b,
+    }
+}
+
+// ---- the table written back
+
+// How many drives a table holds, at most eight.
+fn held(count: usize) -> usize
+    ensures { λ r. ⌜ r ≡ min count 8 ⌝ }
+{
+    if count <= 8 { count } else { 8 }
+}
+
+// The length of the records of the first n drives. `write_table` asks for at most eight.
+fn records_length(drives: [Drive; 8], n: usize) -> usize
+    requires { ⌜ n ≤ 8 ⌝ }
+    ensures { λ r. ⌜ (r ≡ length (recordsOf (take n drives))) × (r ≡ 68 * n) ⌝ }
+{
+    let mut total: usize = 0;
+    let mut i = 0;
+    while i < n {
+        let d = drives[i];
+        total += drive::record_length(d);
+        i += 1;
+    }
+    total
+}
+
+// The records of the first n drives, laid at the start of a buffer that `write_table` has found long enough.
+fn put_records(drives: [Drive; 8], n: usize, out: &mut [u8])
+    requires { ⌜ (n ≤ 8) × (68 * n + 4 ≤ length (now out)) ⌝ }
+    ensures { λ _. ⌜ now (out .exit) ≡ sets (now (out .entry)) 0 (recordsOf (take n drives)) ⌝ }
+{
+    let mut at: usize = 0;
+    let mut i = 0;
+    while i < n {
+        let d = drives[i];
+        let r = drive::encode(d);
+        words::store(out, at, &r);
+        at += drive::record_length(d);
+        i += 1;
+    }
+}
+
+// Lays the table's drives out as a table again.
+pub fn write_table(b: Table, out: &mut [u8]) -> Written
+    ensures { λ r. ⌜ (r ≡ writeAnswer b (length (now (out .entry)))) × (now (out .exit) ≡ writeOut b (now (out .entry))) ⌝ }
+{
+    let drives = b.drives;
+    let n = held(b.count);
+    let end = records_length(drives, n);
+    if out.len() < end + END_LENGTH {
+        return Written::Refused(SHORT_BUFFER);
+    }
+    put_records(drives, n, out);
+    words::store16(out, end, END_LENGTH as u16);
+    words::store16(out, end + 2, END_KIND);
+    Written::Bytes(end + END_LENGTH)
+}
