@@ -1,6 +1,7 @@
 -- Laws of a drive's record.
 -- Assumes nothing.
 use mathlib.Core.Path.{_≡_, refl, sym, ap, _∙_}
+use mathlib.Core.Logic.{_↔_}
 use mathlib.Core.List.{List, [], _∷_, _++_}
 use Prim.Native.Nat.{ℕ, zero, suc, _+_, _-_, _≤_, _<_}
 use native.Mathlib.Omega.{arith}
@@ -8,13 +9,13 @@ use mathlib.Core.Bool.{Bool, true, false}
 use lib.Dec.{leb, ltb, eqb}
 use borrow.Author.Tests.{eq-eqb, eqb-true, eqb-false, le-leb, lt-leb, leb-true, leb-false, lt-ltb, le-ltb, ltb-true, ltb-false}
 use Rattle.logic.specs.Logic.{pick, both}
-use Rattle.logic.proofs.Logic.{both-true}
+use Rattle.logic.proofs.Logic.{both-true, leb-iff}
 use lib.ListN.{length, getD, set, take, drop, replicate, length-append, length-drop}
-use lib.Seq.{sets, take-at, drop-at, drop-drop, take-all, take-add, drop-cons, length-sets}
+use lib.Seq.{sets, take-at, drop-at, drop-drop, take-all, take-add, drop-cons, length-take-le}
 use Rattle.words.specs.Words.{Bytes, le, leBytes, part}
-use Rattle.words.proofs.Words.{sets-append, sets-whole, length-leBytes, read-write, write-read, same-bytes}
+use Rattle.words.proofs.Words.{sets-append, sets-whole, length-leBytes, read-write, write-read, same-bytes, le-lt}
 use Rattle.drive.specs.declared.Drive.{Drive}
-use Rattle.drive.specs.Drive.{driveOf, recordOf, geometryBytes, sizeBytes, nameBytes, Fits, same, inStore, overlap}
+use Rattle.drive.specs.Drive.{driveOf, recordOf, geometryBytes, sizeBytes, nameBytes, Fits, Holds, same, inStore, overlap}
 
 -- ---- what the code stores
 
@@ -129,6 +130,26 @@ drive-record d f = λ i. record {
   device = at₂₀ (d .bus) (d .interface) (d .path) (d .device) (f .bus) (f .interface) (f .path) (f .device) i;
 }
 
+-- the drive of a record fits its fields
+pub fits-drive : (r : List ℕ) → Bytes r → length r ≡ 68 → Fits (driveOf r)
+unfolding driveOf
+fits-drive r b l =
+    let n : (k at : ℕ) → at + k ≤ 68 → length (part k r at) ≡ k = λ k at h. length-take-le k (drop at r) (simp length-drop (omega arith)) in
+    record {
+      cylinders = le-lt 4 r 4 b;
+      heads = le-lt 4 r 8 b;
+      sectors = le-lt 4 r 12 b;
+      blocks = le-lt 8 r 16 b;
+      first = le-lt 8 r 24 b;
+      flags = le-lt 2 r 32 b;
+      c = le-lt 2 r 34 b;
+      h = le-lt 2 r 36 b;
+      bus = n 4 40 (omega arith);
+      interface = n 8 44 (omega arith);
+      path = n 8 52 (omega arith);
+      device = n 8 60 (omega arith);
+    }
+
 -- ---- names
 
 same-refl : (a : List ℕ) → same a a ≡ true
@@ -175,29 +196,33 @@ named k b name lb ln hb t = same-value k b name lb ln hb (allBytes-true name t)
 
 -- ---- the store's rules, by differences
 
-leb-same : (a b m n : ℕ) → (a ≤ b → m ≤ n) → (m ≤ n → a ≤ b) → leb a b ≡ leb m n
-leb-same a b m n f g = by-test (leb a b) refl
-  where
-    by-test : (t : Bool) → leb a b ≡ t → leb a b ≡ leb m n
-    by-test true e = e ∙ sym (le-leb m n (f (leb-true a b e)))
-    by-test false e = e ∙ sym (lt-leb m n (not-le (leb m n) refl))
-      where
-        not-le : (t : Bool) → leb m n ≡ t → n < m
-        not-le true q = absurd (omega (arith, leb-false a b e, g (leb-true m n q)))
-        not-le false q = leb-false m n q
-
 pub inStore-past : (d : Drive) (store : ℕ) → store < d .first → false ≡ inStore d store
 unfolding inStore
 inStore-past d store h = sym (lt-leb (d .first + d .blocks) store (omega arith))
 
 pub inStore-rest : (d : Drive) (store : ℕ) → d .first ≤ store → leb (d .blocks) (store - d .first) ≡ inStore d store
 unfolding inStore
-inStore-rest d store h = leb-same (d .blocks) (store - d .first) (d .first + d .blocks) store (λ q. omega arith) (λ q. omega arith)
+inStore-rest d store h = leb-iff (d .blocks) (store - d .first) (d .first + d .blocks) store (λ q. omega arith) (λ q. omega arith)
 
 pub overlap-before : (a b : Drive) → a .first ≤ b .first → ltb (b .first - a .first) (a .blocks) ≡ overlap a b
 unfolding overlap
-overlap-before a b h = rw (le-leb (a .first) (b .first) h) (leb-same (suc (b .first - a .first)) (a .blocks) (suc (b .first)) (a .first + a .blocks) (λ q. omega arith) (λ q. omega arith))
+overlap-before a b h = rw (le-leb (a .first) (b .first) h) (leb-iff (suc (b .first - a .first)) (a .blocks) (suc (b .first)) (a .first + a .blocks) (λ q. omega arith) (λ q. omega arith))
 
 pub overlap-after : (a b : Drive) → b .first < a .first → ltb (a .first - b .first) (b .blocks) ≡ overlap a b
 unfolding overlap
-overlap-after a b h = rw (lt-leb (a .first) (b .first) h) (leb-same (suc (a .first - b .first)) (b .blocks) (suc (a .first)) (b .first + b .blocks) (λ q. omega arith) (λ q. omega arith))
+overlap-after a b h = rw (lt-leb (a .first) (b .first) h) (leb-iff (suc (a .first - b .first)) (b .blocks) (suc (a .first)) (b .first + b .blocks) (λ q. omega arith) (λ q. omega arith))
+
+-- drives of at least one block overlap exactly where some store block is in both
+pub overlap-common : (a b : Drive) → 1 ≤ a .blocks → 1 ≤ b .blocks → (overlap a b ≡ true) ↔ ((n : ℕ) × (Holds a n × Holds b n))
+unfolding overlap
+overlap-common a b p q = (to (leb (a .first) (b .first)) refl, from (leb (a .first) (b .first)) refl)
+  where
+    to : (t : Bool) → leb (a .first) (b .first) ≡ t
+        → pick t (ltb (b .first) (a .first + a .blocks)) (ltb (a .first) (b .first + b .blocks)) ≡ true → (n : ℕ) × (Holds a n × Holds b n)
+    to true e h = let l = leb-true (a .first) (b .first) e in let r = ltb-true (b .first) (a .first + a .blocks) h in (b .first, ((l, r), (omega arith, omega arith)))
+    to false e h = let l = leb-false (a .first) (b .first) e in let r = ltb-true (a .first) (b .first + b .blocks) h in (a .first, ((omega arith, omega arith), (omega arith, r)))
+
+    from : (t : Bool) → leb (a .first) (b .first) ≡ t
+        → (n : ℕ) × (Holds a n × Holds b n) → pick t (ltb (b .first) (a .first + a .blocks)) (ltb (a .first) (b .first + b .blocks)) ≡ true
+    from true e (n, (ha, hb)) = lt-ltb (b .first) (a .first + a .blocks) (omega (arith, ha .1, hb .0))
+    from false e (n, (ha, hb)) = lt-ltb (a .first) (b .first + b .blocks) (omega (arith, ha .0, hb .1))

@@ -1,6 +1,6 @@
 -- Document 01, "The drive table": the record of kind 1, 68 bytes, and the rules that one drive obeys.
 -- Assumes nothing.
-use Prim.Native.Nat.{ℕ, _+_, _^_, _<_}
+use Prim.Native.Nat.{ℕ, _+_, _^_, _≤_, _<_}
 use mathlib.Core.Path.{_≡_}
 use mathlib.Core.Bool.{Bool, true, false}
 use mathlib.Core.List.{List, [], _∷_, _++_}
@@ -136,6 +136,10 @@ fieldsOk d =
 -- first + blocks is at most the store's blocks, a sum that never wraps
 unfoldable pub inStore : Drive → ℕ → Bool
 inStore d store = leb (d .first + d .blocks) store
+
+-- store block n is one of the drive's
+abbrev pub Holds : Drive → ℕ → Type 0
+Holds d n = (d .first ≤ n) × (n < d .first + d .blocks)
 
 -- two drives overlap: the one that begins first ends past the first block of the other
 unfoldable pub overlap : Drive → Drive → Bool

@@ -1,1 +1,6 @@
 pub mod Tables
+pub mod Nine
+pub mod WriteRead
+pub mod ReadWrite
+pub mod Needed
+pub mod Vectors

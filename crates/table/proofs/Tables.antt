@@ -10,7 +10,7 @@ use native.Mathlib.Omega.{arith}
 use lib.ListN.{length, getD, take, drop, set, length-append}
 use lib.Seq.{sets, take-suc, take-all}
 use lib.Dec.{ltb, leb, eqb}
-use borrow.Author.Tests.{leb-true, leb-false, ltb-false, lt-ltb, le-ltb, eq-eqb, ne-eqb, eqb-true, eqb-false, not-true, not-false}
+use borrow.Author.Tests.{leb-true, leb-false, ltb-true, ltb-false, lt-ltb, le-ltb, eq-eqb, ne-eqb, eqb-true, eqb-false, not-true, not-false}
 use Rattle.logic.specs.Logic.{pick, either}
 use Rattle.words.specs.Words.{le, leBytes, part}
 use Rattle.words.proofs.Words.{sets-append, sets-front, length-leBytes}
@@ -43,15 +43,15 @@ pub header-whole : (left size kind k : ℕ) → headerOf left size kind ≡ Whol
 unfolding headerOf
 header-whole left size kind k h = by-tests (ltb left 4) (isKind kind) (eqb size (recordLength kind)) (ltb left (recordLength kind)) refl refl refl refl h
   where
-  by-tests : (a b c d : Bool) → ltb left 4 ≡ a → isKind kind ≡ b → eqb size (recordLength kind) ≡ c → ltb left (recordLength kind) ≡ d
-      → pick a (Bad 1) (pick (not b) (Bad 3) (pick (not c) (Bad 2) (pick d (Bad 1) (Whole kind)))) ≡ Whole k → IsWhole left size kind k
-  by-tests true b c d e₁ e₂ e₃ e₄ q = let z : _≡_ {A = ℕ} 0 1 = cc in absurd (omega arith)
-  by-tests false false c d e₁ e₂ e₃ e₄ q = let z : _≡_ {A = ℕ} 0 1 = cc in absurd (omega arith)
-  by-tests false true false d e₁ e₂ e₃ e₄ q = let z : _≡_ {A = ℕ} 0 1 = cc in absurd (omega arith)
-  by-tests false true true true e₁ e₂ e₃ e₄ q = let z : _≡_ {A = ℕ} 0 1 = cc in absurd (omega arith)
-  by-tests false true true false e₁ e₂ e₃ e₄ q =
-      let s : kind ≡ k = cc in
-      record { same = s; known = rw s at e₂; right = rw s at (eqb-true size (recordLength kind) e₃); whole = rw s at (ltb-false left (recordLength kind) e₄); header = ltb-false left 4 e₁ }
+    by-tests : (a b c d : Bool) → ltb left 4 ≡ a → isKind kind ≡ b → eqb size (recordLength kind) ≡ c → ltb left (recordLength kind) ≡ d
+        → pick a (Bad 1) (pick (not b) (Bad 3) (pick (not c) (Bad 2) (pick d (Bad 1) (Whole kind)))) ≡ Whole k → IsWhole left size kind k
+    by-tests true b c d e₁ e₂ e₃ e₄ q = let z : _≡_ {A = ℕ} 0 1 = cc in absurd (omega arith)
+    by-tests false false c d e₁ e₂ e₃ e₄ q = let z : _≡_ {A = ℕ} 0 1 = cc in absurd (omega arith)
+    by-tests false true false d e₁ e₂ e₃ e₄ q = let z : _≡_ {A = ℕ} 0 1 = cc in absurd (omega arith)
+    by-tests false true true true e₁ e₂ e₃ e₄ q = let z : _≡_ {A = ℕ} 0 1 = cc in absurd (omega arith)
+    by-tests false true true false e₁ e₂ e₃ e₄ q =
+        let s : kind ≡ k = cc in
+        record { same = s; known = rw s at e₂; right = rw s at (eqb-true size (recordLength kind) e₃); whole = rw s at (ltb-false left (recordLength kind) e₄); header = ltb-false left 4 e₁ }
 
 -- the header of a whole record at a place
 pub whole-at : (t : List ℕ) (at k : ℕ) → headerAt t at ≡ Whole k → IsWhole (length t - at) (le 2 t at) (le 2 t (at + 2)) k
@@ -61,6 +61,9 @@ whole-at t at k h = header-whole _ _ _ k h
 -- a kind that does not end the table is a drive's
 pub recordLength-end : (k : ℕ) → eqb k 0 ≡ true → recordLength k ≡ 4
 recordLength-end k e = rw e
+
+drive-kind : (k : ℕ) → isKind k ≡ true → eqb k 0 ≡ false → k ≡ 1
+drive-kind k h e = eqb-true k 1 (rw e at h)
 
 pub recordLength-drive : (k : ℕ) → eqb k 0 ≡ false → recordLength k ≡ 68
 recordLength-drive k e = rw e
@@ -76,9 +79,9 @@ pub refusal-room : (b : Table) (d : Drive) (store : ℕ) → refusal b d store �
 unfolding refusal
 refusal-room b d store h = leb-false 8 (b .count) (room (leb 8 (b .count)) _ h)
   where
-  room : (a : Bool) (n : ℕ) → pick a 4 n ≡ 0 → a ≡ false
-  room true n h = absurd (omega arith)
-  room false n h = refl
+    room : (a : Bool) (n : ℕ) → pick a 4 n ≡ 0 → a ≡ false
+    room true n h = absurd (omega arith)
+    room false n h = refl
 
 -- ---- a step, by cases
 
@@ -126,6 +129,37 @@ pub stepAt-drive : (t : List ℕ) (at k : ℕ) (b : Table) (store : ℕ) → hea
 unfolding stepAt stepOf
 stepAt-drive t at k b store h e = rw (h, ne-eqb k 0 e)
 
+-- what a step can be: a refusal, the end record with nothing after it, or one more drive
+pub stepAt-cases : (P : Stepped → Type 0) (t : List ℕ) (at : ℕ) (b : Table) (store : ℕ)
+    → ((n p : ℕ) → P (stepped (Refused n p) b))
+    → (headerAt t at ≡ Whole 0 → length t ≤ at + 4 → P (stepped Done b))
+    → (headerAt t at ≡ Whole 1 → refusal b (driveOf (part 68 t at)) store ≡ 0 → P (stepped (Next (at + 68)) (more b (driveOf (part 68 t at)))))
+    → P (stepAt t at b store)
+stepAt-cases P t at b store refuse finish next = by-header (headerAt t at) refl
+  where
+    by-byte : headerAt t at ≡ Whole 0 → (x : Bool) → ltb (at + 4) (length t) ≡ x → P (endStep t at b)
+    by-byte h true e = rw (← endStep-byte t at b (ltb-true (at + 4) (length t) e)) (refuse 8 (at + 4))
+    by-byte h false e = let l = ltb-false (at + 4) (length t) e in rw (← endStep-done t at b l) (finish h l)
+
+    by-refusal : headerAt t at ≡ Whole 1 → (x : Bool) → eqb (refusal b (driveOf (part 68 t at)) store) 0 ≡ x → P (bodyStep (driveOf (part 68 t at)) b at store)
+    by-refusal h true e =
+        let z = eqb-true (refusal b (driveOf (part 68 t at)) store) 0 e in
+        rw (← driveStep-next (refusal b (driveOf (part 68 t at)) store) (driveOf (part 68 t at)) b at z) (next h z)
+    by-refusal h false e =
+        rw (← driveStep-refused (refusal b (driveOf (part 68 t at)) store) (driveOf (part 68 t at)) b at (eqb-false _ _ e)) (refuse (refusal b (driveOf (part 68 t at)) store) at)
+
+    by-kind : (k : ℕ) → headerAt t at ≡ Whole k → (x : Bool) → eqb k 0 ≡ x → P (stepAt t at b store)
+    by-kind k h true e =
+        let z = eqb-true k 0 e in
+        rw (← stepAt-end t at k b store h z) (by-byte (rw z at h) (ltb (at + 4) (length t)) refl)
+    by-kind k h false e =
+        let z = drive-kind k (whole-at t at k h .known) e in
+        rw (← stepAt-drive t at k b store h (eqb-false k 0 e)) (by-refusal (rw z at h) (eqb (refusal b (driveOf (part 68 t at)) store) 0) refl)
+
+    by-header : (h : Header) → headerAt t at ≡ h → P (stepAt t at b store)
+    by-header (Bad n) h = rw (← stepAt-bad t at n b store h) (refuse n at)
+    by-header (Whole k) h = by-kind k h (eqb k 0) refl
+
 -- ---- the reading
 
 pub readFrom-on : (left : ℕ) (t : List ℕ) (store at : ℕ) (b : Table) → 0 < left
@@ -151,7 +185,7 @@ unfolding recordsOf
 recordsOf-append [] b = refl
 recordsOf-append (d ∷ a) b = rw (recordsOf-append a b, append-assoc)
 
-recordsOf-one : (d : Drive) → recordsOf (d ∷ []) ≡ recordOf d
+pub recordsOf-one : (d : Drive) → recordsOf (d ∷ []) ≡ recordOf d
 unfolding recordsOf
 recordsOf-one d = append-nil (recordOf d)
 
@@ -173,11 +207,11 @@ module _ (b : Table) (out : List ℕ) (n end : ℕ) (eight : length (b .drives) 
   drives-held : drivesOf b ≡ take n (b .drives)
   drives-held = by-count (leb (b .count) 8) refl
     where
-    by-count : (t : Bool) → leb (b .count) 8 ≡ t → drivesOf b ≡ take n (b .drives)
-    by-count true e = let q : n ≡ b .count = omega (arith, leb-true (b .count) 8 e) in rw q
-    by-count false e =
-        let q : n ≡ 8 = omega (arith, leb-false (b .count) 8 e) in
-        rw q (take-all (b .count) (b .drives) (omega (arith, leb-false (b .count) 8 e)) ∙ sym (take-all 8 (b .drives) (omega arith)))
+      by-count : (t : Bool) → leb (b .count) 8 ≡ t → drivesOf b ≡ take n (b .drives)
+      by-count true e = let q : n ≡ b .count = omega (arith, leb-true (b .count) 8 e) in rw q
+      by-count false e =
+          let q : n ≡ 8 = omega (arith, leb-false (b .count) 8 e) in
+          rw q (take-all (b .count) (b .drives) (omega (arith, leb-false (b .count) 8 e)) ∙ sym (take-all 8 (b .drives) (omega arith)))
 
   table-held : tableOf b ≡ recordsOf (take n (b .drives)) ++ endRecord
   unfolding tableOf bytesOf
@@ -198,5 +232,5 @@ module _ (b : Table) (out : List ℕ) (n end : ℕ) (eight : length (b .drives) 
   write-done {o₁} {o₂} {o₃} h e₁ e₂ e₃ =
       let t : ltb (length out) (length (tableOf b)) ≡ false = le-ltb (length out) (length (tableOf b)) (rw length-held h) in
       let whole : sets out 0 (tableOf b) ≡ o₃ =
-          rw (table-held, sets-append, sets-append, length-leBytes, zero-add, ← all, e₃, e₂, e₁) in
+      rw (table-held, sets-append, sets-append, length-leBytes, zero-add, ← all, e₃, e₂, e₁) in
       (rw (t, length-held), rw t (sym whole ∙ sets-front out (tableOf b) (rw length-held h)))

@@ -1,6 +1,7 @@
 -- Document 01, "The drive table": little-endian records, read record by record in the paper's order of checks, and written back.
 -- Assumes nothing.
 use Prim.Native.Nat.{ℕ, zero, suc, _+_, _-_}
+use mathlib.Core.Path.{_≡_}
 use mathlib.Core.Bool.{Bool, true, false, not}
 use mathlib.Core.List.{List, [], _∷_, _++_}
 use lib.ListN.{length, getD, set, take, drop, replicate}
@@ -8,7 +9,7 @@ use lib.Dec.{leb, ltb, eqb}
 use Rattle.logic.specs.Logic.{pick, either}
 use Rattle.words.specs.Words.{le, leBytes, part}
 use Rattle.drive.specs.declared.Drive.{Drive}
-use Rattle.drive.specs.Drive.{driveKind, driveLength, driveOf, recordOf, fieldsOk, inStore, overlap}
+use Rattle.drive.specs.Drive.{Fits, driveKind, driveLength, driveOf, recordOf, fieldsOk, inStore, overlap}
 use Rattle.table.specs.declared.Table.{Table}
 use Rattle.table.specs.declared.Header.{Header}
 use Rattle.table.specs.declared.Header.the-variants.{Whole, Bad}
@@ -154,6 +155,17 @@ readFrom (suc k) t store at b = goOn (stepAt t at b store .step) (stepAt t at b 
 unfoldable pub readTable : List ℕ → ℕ → Reading
 readTable t store = readFrom 9 t store 0 emptyTable
 
+-- ---- a list of drives that obeys the rules
+
+abbrev pub pushAll : Table → List Drive → Table
+pushAll b [] = b
+pushAll b (d ∷ ds) = pushAll (more b d) ds
+
+-- each drive fits its fields and is taken after those before it
+pub data Taken (store : ℕ) : Table → List Drive → Type 0 where
+  none : {b : Table} → Taken store b []
+  one : {b : Table} {d : Drive} {ds : List Drive} → Fits d → refusal b d store ≡ 0 → Taken store (more b d) ds → Taken store b (d ∷ ds)
+
 -- ---- the table written back
 
 abbrev pub endRecord : List ℕ
@@ -180,3 +192,18 @@ writeAnswer b room = pick (ltb room (length (tableOf b))) (WriteRefused shortBuf
 
 unfoldable pub writeOut : Table → List ℕ → List ℕ
 writeOut b out = pick (ltb (length out) (length (tableOf b))) out (tableOf b ++ drop (length (tableOf b)) out)
+
+-- ---- the answers as numbers: 0 and the values, or the refusal's number and its place
+
+unfoldable pub stepNumbers : Step → List ℕ
+stepNumbers (Next at) = 0 ∷ at ∷ []
+stepNumbers Done = 0 ∷ []
+stepNumbers (Refused n at) = n ∷ at ∷ []
+
+unfoldable pub answerNumbers : Answer → List ℕ
+answerNumbers Accepted = 0 ∷ []
+answerNumbers (AnswerRefused n at) = n ∷ at ∷ []
+
+unfoldable pub writtenNumbers : Written → List ℕ
+writtenNumbers (Bytes n) = 0 ∷ n ∷ []
+writtenNumbers (WriteRefused n) = n ∷ []

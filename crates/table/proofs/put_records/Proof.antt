@@ -70,12 +70,13 @@ loop-again c =
     let l : length (a .t1) ≡ 8 = search needs in
     let i : h .loop .i < length (a .t1) = omega arith in
     let m = length-more (a .t1) (h .loop .i) i in
-    let e = c .before .before .before .store .ensures in
-    ( search needs
-    , ap length e ∙ rw length-sets (h .loop .inv .1)
-    , e ∙ rw (h .loop .inv .2, c .before .before .before .before .before .before .encode .ensures) (sets-record (now (a .out)) (a .t1) (h .loop .i) (h .loop .at) i (h .loop .inv .3))
-    , omega (arith, m, c .record-length .ensures .0, h .loop .inv .3)
-    , omega (arith, c .record-length .ensures .1, h .loop .inv .4))
+    let e = c .before .before .before .store .ensures in (
+      search needs,
+      ap length e ∙ rw length-sets (h .loop .inv .1),
+      e ∙ rw (h .loop .inv .2, c .before .before .before .before .before .before .encode .ensures) (sets-record (now (a .out)) (a .t1) (h .loop .i) (h .loop .at) i (h .loop .inv .3)),
+      omega (arith, m, c .record-length .ensures .0, h .loop .inv .3),
+      omega (arith, c .record-length .ensures .1, h .loop .inv .4),
+    )
 
 -- src/lib.rt:329:1
 same-length : tie.Need-same-length Inv-loop μ-loop

@@ -1,0 +1,92 @@
+use borrow.Author.Needs.{needs}
+use Prim.Native.Nat.{_≤_, _-_}
+use Rattle.list_drives.proofs.print_table.Statement.{statement}
+use Rattle.list_drives.proofs.print_table.Tie as tie
+use Rattle.list_drives.proofs.print_table.Reads as reads
+use Rattle.list_drives.proofs.print_table.Lts as lts
+use Rattle.io.proofs.print_decimal.Reads as print-decimal-reads
+use Rattle.io.proofs.write_all.Reads as write-all-reads
+use Rattle.list_drives.proofs.print_drive.Reads as print-drive-reads
+
+abbrev Inv-loop : tie.InvT-loop
+Inv-loop count drives i₀ i = i ≤ 8
+
+abbrev μ-loop : tie.MeasureT-loop
+μ-loop count drives i₀ i = 8 - i
+
+-- src/main.rt:38:27
+slice-aggregate-write-all : tie.Need-slice-aggregate-write-all Inv-loop μ-loop
+slice-aggregate-write-all c = search needs
+
+-- src/main.rt:38:5
+write-all-requires : tie.Need-write-all-requires Inv-loop μ-loop
+write-all-requires c κs = search needs
+
+-- src/main.rt:39:5
+print-decimal-requires : tie.Need-print-decimal-requires Inv-loop μ-loop
+print-decimal-requires c κs = search needs
+
+-- src/main.rt:40:27
+slice-aggregate-write-all-2 : tie.Need-slice-aggregate-write-all-2 Inv-loop μ-loop
+slice-aggregate-write-all-2 c = search needs
+
+-- src/main.rt:40:5
+write-all-requires-2 : tie.Need-write-all-requires-2 Inv-loop μ-loop
+write-all-requires-2 c κs = search needs
+
+-- src/main.rt:42:5
+loop-holds : tie.Need-loop-holds Inv-loop μ-loop
+loop-holds c = search needs
+
+-- src/main.rt:44:21
+mul-d : tie.Need-mul-d Inv-loop μ-loop
+mul-d c = search needs
+
+-- src/main.rt:44:21
+array-copy-out-d : tie.Need-array-copy-out-d Inv-loop μ-loop
+array-copy-out-d c = search needs
+
+-- src/main.rt:45:25
+add-print-drive : tie.Need-add-print-drive Inv-loop μ-loop
+add-print-drive c = search needs
+
+-- src/main.rt:45:13
+print-drive-requires : tie.Need-print-drive-requires Inv-loop μ-loop
+print-drive-requires c κs = search needs
+
+-- src/main.rt:42:9
+add-i : tie.Need-add-i Inv-loop μ-loop
+add-i c = search needs
+
+-- src/main.rt:42:5
+loop-less : tie.Need-loop-less Inv-loop μ-loop
+loop-less c = search needs
+
+-- src/main.rt:42:5
+loop-again : tie.Need-loop-again Inv-loop μ-loop
+loop-again c = search needs
+
+-- src/main.rt:36:1
+returns : tie.Need-returns Inv-loop μ-loop
+returns c = search needs
+
+pub print-table-spec : {M : Type 1} → statement M
+print-table-spec =
+    tie.close
+    (tie.spec
+    Inv-loop
+    μ-loop
+    slice-aggregate-write-all
+    write-all-requires
+    print-decimal-requires
+    slice-aggregate-write-all-2
+    write-all-requires-2
+    loop-holds
+    mul-d
+    array-copy-out-d
+    add-print-drive
+    print-drive-requires
+    add-i
+    loop-less
+    loop-again
+    returns)

@@ -1,0 +1,91 @@
+-- The reader needs the first 612 bytes, nine records of 68, and no byte past them.
+-- Assumes nothing.
+use mathlib.Core.Path.{_≡_, refl, sym, ap, _∙_}
+use mathlib.Core.Bool.{Bool, true, false}
+use mathlib.Core.List.{List, [], _∷_}
+use Prim.Native.Nat.{ℕ, zero, suc, _+_, _-_, _*_, _≤_, _<_, min}
+use native.Mathlib.Nat.{zero-add, suc-add, add-assoc}
+use native.Mathlib.Omega.{arith}
+use lib.ListN.{length, take, drop, getD, length-take}
+use lib.Seq.{take-take, getD-take, take-nil, drop-nil}
+use lib.Dec.{ltb, eqb}
+use Rattle.logic.proofs.Logic.{leb-iff}
+use Rattle.words.specs.Words.{le, part}
+use Rattle.words.proofs.Words.{le-ext}
+use Rattle.drive.specs.Drive.{driveOf}
+use Rattle.table.specs.declared.Table.{Table}
+use Rattle.table.specs.declared.Header.{Header}
+use Rattle.table.specs.declared.Header.the-variants.{Whole, Bad}
+use Rattle.table.specs.declared.Step.{Step}
+use Rattle.table.specs.declared.Step.the-variants.{Next, Done, Refused}
+use Rattle.table.specs.declared.Stepped.{Stepped}
+use Rattle.table.specs.declared.Reading.{Reading}
+use Rattle.table.specs.Table.{headerAt, headerOf, recordLength, goOn, endStep, bodyStep, stepOf, stepAt, readFrom, readTable, emptyTable}
+use Rattle.table.proofs.Tables.{stepAt-cases}
+
+-- a part of the first n + m bytes
+drop-take : (n m : ℕ) (l : List ℕ) → drop n (take (n + m) l) ≡ take m (drop n l)
+drop-take zero m l = rw zero-add
+drop-take (suc n) m [] = rw suc-add (sym (take-nil m))
+drop-take (suc n) m (x ∷ l) = rw suc-add (drop-take n m l)
+
+module _ (n : ℕ) (t u : List ℕ) (same : take n t ≡ take n u) where
+  lengths : min n (length t) ≡ min n (length u)
+  lengths = sym (length-take n t) ∙ ap length same ∙ length-take n u
+
+  byte : (i : ℕ) → i < n → getD t i 0 ≡ getD u i 0
+  byte i h = sym (getD-take n t i 0 h) ∙ ap (λ (l : List ℕ). getD l i 0) same ∙ getD-take n u i 0 h
+
+  word : (at : ℕ) → at + 2 ≤ n → le 2 t at ≡ le 2 u at
+  word at h = le-ext 2 t u at at (λ i l. byte (at + i) (omega arith))
+
+  -- a test of the bytes left, up to n
+  left : (at m : ℕ) → at + m ≤ n → ltb (length t - at) m ≡ ltb (length u - at) m
+  left at m h = leb-iff (suc (length t - at)) m (suc (length u - at)) m (λ q. omega (arith, lengths)) (λ q. omega (arith, lengths))
+
+  after : (at : ℕ) → at < n → ltb at (length t) ≡ ltb at (length u)
+  after at h = leb-iff (suc at) (length t) (suc at) (length u) (λ q. omega (arith, lengths)) (λ q. omega (arith, lengths))
+
+  body : (at : ℕ) → at + 68 ≤ n → part 68 t at ≡ part 68 u at
+  body at h =
+      let e : take (at + 68) t ≡ take (at + 68) u = sym (take-take (at + 68) n t h) ∙ ap (take (at + 68)) same ∙ take-take (at + 68) n u h in
+      sym (drop-take at 68 t) ∙ ap (drop at) e ∙ drop-take at 68 u
+
+  length-most : (k : ℕ) → recordLength k ≤ 68
+  length-most k = by-kind (eqb k 0) refl
+    where
+      by-kind : (x : Bool) → eqb k 0 ≡ x → recordLength k ≤ 68
+      by-kind true e = rw e (omega arith)
+      by-kind false e = rw e (omega arith)
+
+  header : (at : ℕ) → at + 68 ≤ n → headerAt t at ≡ headerAt u at
+  unfolding headerAt headerOf
+  header at h =
+      let k : ℕ = le 2 u (at + 2) in
+      rw (word at (omega arith), word (at + 2) (omega arith), left at 4 (omega arith), left at (recordLength k) (omega (arith, length-most k)))
+
+  step : (at : ℕ) (b : Table) (store : ℕ) → at + 68 ≤ n → stepAt t at b store ≡ stepAt u at b store
+  unfolding stepAt stepOf endStep
+  step at b store h = rw (header at h) (by-header (headerAt u at))
+    where
+      by-header : (x : Header) → stepOf x t at b store ≡ stepOf x u at b store
+      by-header (Bad m) = refl
+      by-header (Whole k) = rw (after (at + 4) (omega arith), body at h)
+
+  -- k records need 68 bytes each
+  reads : (k store at : ℕ) (b : Table) → at + 68 * k ≤ n → readFrom k t store at b ≡ readFrom k u store at b
+  unfolding readFrom
+  reads zero store at b h = refl
+  reads (suc k) store at b h =
+      rw (step at b store (omega arith))
+      (stepAt-cases (λ (s : Stepped). goOn (s .step) (s .table) (readFrom k t store) ≡ goOn (s .step) (s .table) (readFrom k u store)) u at b store
+      (λ m p. refl) (λ e l. refl) (λ e z. reads k store (at + 68) (Rattle.table.specs.Table.more b (driveOf (part 68 u at))) (omega arith)))
+
+-- two inputs with the same first 612 bytes are read alike
+pub needed : (t u : List ℕ) (store : ℕ) → take 612 t ≡ take 612 u → readTable t store ≡ readTable u store
+unfolding readTable
+needed t u store e = reads 612 t u e 9 store 0 emptyTable (omega arith)
+
+-- so a buffer of at least 612 bytes answers for input of any length
+pub buffer-enough : (n : ℕ) (t : List ℕ) (store : ℕ) → 612 ≤ n → readTable (take n t) store ≡ readTable t store
+buffer-enough n t store h = needed (take n t) t store (take-take 612 n t h)
