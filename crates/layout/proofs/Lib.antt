@@ -1,0 +1,3 @@
+pub mod Packets
+pub mod ResultBuffers
+pub mod Sums

@@ -1,0 +1,34 @@
+use Prim.Native.Nat.{ℕ}
+use denote.Ref.{now}
+use borrow.Author.Needs.{length-unmapped}
+use Rattle.layout.proofs.ResultBuffers.{path-stores}
+use borrow.Author.Needs.{needs}
+use Rattle.layout.proofs.put_paths.Statement.{statement}
+use Rattle.layout.proofs.put_paths.Tie as tie
+use Rattle.layout.proofs.put_paths.Reads as reads
+use Rattle.layout.proofs.put_paths.Lts as lts
+use Rattle.words.proofs.put_byte.Reads as put-byte-reads
+use Rattle.words.proofs.store8.Reads as store8-reads
+
+store8-requires : tie.Need-store8-requires
+store8-requires c κs = search needs
+
+store8-requires-2 : tie.Need-store8-requires-2
+store8-requires-2 c κs = search needs
+
+put-byte-requires : tie.Need-put-byte-requires
+put-byte-requires c κs = search needs
+
+same-length : tie.Need-same-length
+same-length c = search needs
+
+returns : tie.Need-returns
+returns c =
+    let b = c .before .before .before .before .before .before .before .before .before .before .before .before .before .before .before in
+    let a = b .args in
+    let g = b .good .0 in
+    cc (path-stores (now (a .out)) (a .d) (length-unmapped ℕ (a .d .path) 8 (g .1 .1 .1 .1 .1 .1 .1 .1 .1 .1 .1 .1 .1 .1 .0 .1 .0 .1)) (length-unmapped ℕ (a .d .device) 8 (g .1 .1 .1 .1 .1 .1 .1 .1 .1 .1 .1 .1 .1 .1 .1 .0 .1 .0 .1)))
+
+pub put-paths-spec : {M : Type 1} → statement M
+put-paths-spec =
+    tie.close (tie.spec store8-requires store8-requires-2 put-byte-requires same-length returns)

@@ -1,0 +1,21 @@
+use borrow.Author.Tests.{lt-ltb, le-ltb}
+use Rattle.layout.specs.ResultBuffer.{returnedSize}
+use Rattle.layout.proofs.returned_size.Statement.{statement}
+use Rattle.layout.proofs.returned_size.Tie as tie
+use Rattle.layout.proofs.returned_size.Reads as reads
+use Rattle.layout.proofs.returned_size.Lts as lts
+
+returns : tie.Need-returns
+unfolding returnedSize
+returns c = simp (lt-ltb _ _ (c .if1 .taken))
+
+returns-2 : tie.Need-returns-2
+unfolding returnedSize
+returns-2 c = simp (le-ltb _ _ (c .before .if1 .left), lt-ltb _ _ (c .if2 .taken))
+
+returns-3 : tie.Need-returns-3
+unfolding returnedSize
+returns-3 c = simp (le-ltb _ _ (c .before .if1 .left), le-ltb _ _ (c .if2 .left))
+
+pub returned-size-spec : {M : Type 1} → statement M
+returned-size-spec = tie.close (tie.spec returns returns-2 returns-3)

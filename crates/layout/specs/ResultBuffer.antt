@@ -1,0 +1,111 @@
+-- Document 01, "Steps of each function", 48h: the sizes, the bytes and the answer of the result buffer.
+-- Assumes nothing.
+use Prim.Native.Nat.{ℕ, _+_, _-_, _%_}
+use mathlib.Core.List.{List, [], _∷_, _++_}
+use lib.ListN.{length, take, drop}
+use lib.Dec.{leb, ltb}
+use Rattle.logic.specs.Logic.{pick, both}
+use Rattle.words.specs.Words.{leBytes}
+use Rattle.drive.specs.declared.Drive.{Drive}
+use Rattle.layout.specs.Packet.{badParameter}
+use Rattle.layout.specs.declared.ResultAnswer.{ResultAnswer}
+use Rattle.layout.specs.declared.ResultAnswer.the-variants.{Written, Refused}
+
+-- ---- the sizes
+
+-- up to the bytes in a block, with the pointer after them, with the device path after that
+abbrev pub leastSize : ℕ
+leastSize = 26
+
+abbrev pub pointerSize : ℕ
+pointerSize = 30
+
+abbrev pub pathSize : ℕ
+pathSize = 66
+
+-- 26 to 29 returns 26, 30 to 65 returns 30, from 66, 66
+unfoldable pub returnedSize : ℕ → ℕ
+returnedSize asked = pick (ltb asked pointerSize) leastSize (pick (ltb asked pathSize) pointerSize pathSize)
+
+-- ---- the bytes, by the paper's offsets
+
+-- information flags as the table has them
+abbrev pub flagsShown : Drive → ℕ
+flagsShown d = d .flags
+
+-- bytes in a block
+abbrev pub blockLength : ℕ
+blockLength = 512
+
+-- FFFFh:FFFFh
+abbrev pub pointerOffset : ℕ
+pointerOffset = 65535
+
+abbrev pub pointerSegment : ℕ
+pointerSegment = 65535
+
+-- BEDDh
+abbrev pub pathKey : ℕ
+pathKey = 48861
+
+-- 24h, the length from byte 30 on
+abbrev pub pathLength : ℕ
+pathLength = 36
+
+-- offsets 0, 2, 4, 8, 12: returned size, flags, physical cylinders, heads, sectors
+unfoldable pub geometryBytes : Drive → ℕ → List ℕ
+geometryBytes d n = leBytes 2 n ++ (leBytes 2 (flagsShown d) ++ (leBytes 4 (d .cylinders) ++ (leBytes 4 (d .heads) ++ leBytes 4 (d .sectors))))
+
+-- offsets 16, 24, 26, 28: blocks, bytes in a block, offset and segment of the pointer
+unfoldable pub blockBytes : Drive → List ℕ
+blockBytes d = leBytes 8 (d .blocks) ++ (leBytes 2 blockLength ++ (leBytes 2 pointerOffset ++ leBytes 2 pointerSegment))
+
+-- offsets 30, 32, 33, 36, 40: BEDDh, 24h, three zeros, host bus, interface type
+unfoldable pub interfaceBytes : Drive → List ℕ
+interfaceBytes d = leBytes 2 pathKey ++ (pathLength ∷ 0 ∷ 0 ∷ 0 ∷ (d .bus ++ d .interface))
+
+-- offsets 48, 56, 64: interface path, device path, zero
+unfoldable pub pathBytes : Drive → List ℕ
+pathBytes d = d .path ++ (d .device ++ (0 ∷ []))
+
+-- the sum of bytes
+unfoldable pub sum : List ℕ → ℕ
+sum [] = 0
+sum (x ∷ l) = x + sum l
+
+-- the byte that makes a sum zero modulo 256
+abbrev pub checksum : List ℕ → ℕ
+checksum l = (256 - sum l % 256) % 256
+
+-- bytes 30 to 64, over which byte 65 is made
+abbrev pub summedBytes : Drive → List ℕ
+summedBytes d = interfaceBytes d ++ pathBytes d
+
+-- all 66 bytes, with the returned size n
+unfoldable pub wholeResult : Drive → ℕ → List ℕ
+wholeResult d n = geometryBytes d n ++ (blockBytes d ++ (summedBytes d ++ (checksum (summedBytes d) ∷ [])))
+
+-- the returned bytes
+unfoldable pub resultBytes : Drive → ℕ → List ℕ
+resultBytes d n = take n (wholeResult d n)
+
+-- ---- the answer
+
+-- asked: the word at DS:SI; room: the bytes from DS:SI to the window's end. All returned bytes must be inside, no smaller size is tried.
+-- Every drive has the same sizes
+unfoldable pub resultAnswer : Drive → ℕ → ℕ → ResultAnswer
+resultAnswer d asked room =
+    pick (both (leb leastSize asked) (leb (returnedSize asked) room)) (Written (returnedSize asked)) (Refused badParameter)
+
+-- the bytes from DS:SI after an answer: those past the returned size stay, and a refusal writes none
+abbrev pub written : Drive → ResultAnswer → List ℕ → List ℕ
+written d (Written n) out = resultBytes d n ++ drop n out
+written d (Refused code) out = out
+
+abbrev pub resultOut : Drive → ℕ → List ℕ → List ℕ
+resultOut d asked out = written d (resultAnswer d asked (length out)) out
+
+-- the answer as numbers: 0 and the returned size, or the code
+unfoldable pub resultNumbers : ResultAnswer → List ℕ
+resultNumbers (Written n) = 0 ∷ n ∷ []
+resultNumbers (Refused code) = code ∷ []

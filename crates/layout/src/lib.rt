@@ -1,0 +1,205 @@
+// The two layouts that guests see in their memory: the device address packet, which the desk reads, and the result buffer of 48h,
+// which it writes.
+use drive::Drive;
+ghost use mathlib.Core.Path.{_≡_};
+ghost use Prim.Native.Nat.{_%_, _≤_};
+ghost use lib.ListN.{length};
+ghost use lib.Seq.{sets};
+ghost use Rattle.layout.specs.Packet.{linear, readPacket};
+ghost use Rattle.layout.specs.ResultBuffer.{pathSize, returnedSize, flagsShown, geometryBytes, blockBytes, interfaceBytes, pathBytes, sum, checksum, wholeResult, resultAnswer, resultOut};
+
+// AH 01h.
+const BAD_PARAMETER: u8 = 1;
+
+// ---- the device address packet
+
+// 16 times segment plus offset, never wrapped: at most 10FFEFh.
+pub fn linear(segment: u16, offset: u16) -> u32
+    ensures { λ r. ⌜ r ≡ linear segment offset ⌝ }
+{
+    16 * (segment as u32) + offset as u32
+}
+
+// A packet's fields in the paper's order.
+pub struct Packet {
+    // byte 0 as the guest gave it, not yet tested
+    pub size: u8,
+    pub count: u16,
+    // address of the buffer in the window
+    pub buffer: u32,
+    // first block
+    pub start: u64,
+}
+
+pub enum PacketRead {
+    Whole(Packet),
+    Refused(u8),
+}
+
+const PACKET_LENGTH: usize = 16;
+
+// The packet at a place of the window. Refused with 01h: a packet that is not wholly inside. Tested by difference, since the place
+// may be any number.
+pub fn read_packet(window: &[u8], at: usize) -> PacketRead
+    ensures { λ r. ⌜ r ≡ readPacket (now (window .entry)) at ⌝ }
+{
+    if window.len() < PACKET_LENGTH {
+        return PacketRead::Refused(BAD_PARAMETER);
+    }
+    if window.len() - PACKET_LENGTH < at {
+        return PacketRead::Refused(BAD_PARAMETER);
+    }
+    let offset = words::get16(window, at + 4);
+    let segment = words::get16(window, at + 6);
+    PacketRead::Whole(Packet {
+        size: window[at],
+        count: words::get16(window, at + 2),
+        buffer: linear(segment, offset),
+        start: words::get64(window, at + 8),
+    })
+}
+
+// ---- the bytes of the result buffer
+
+const LEAST_SIZE: u16 = 26;
+
+const POINTER_SIZE: u16 = 30;
+
+const PATH_SIZE: u16 = 66;
+
+const BLOCK_LENGTH: u16 = 512;
+
+// FFFFh:FFFFh, no parameter table.
+const POINTER_OFFSET: u16 = 0xFFFF;
+
+const POINTER_SEGMENT: u16 = 0xFFFF;
+
+const PATH_KEY: u16 = 0xBEDD;
+
+const PATH_LENGTH: u32 = 0x24;
+
+// The returned size for a size asked of at least 26.
+fn returned_size(asked: u16) -> u16
+    ensures { λ r. ⌜ r ≡ returnedSize asked ⌝ }
+{
+    if asked < POINTER_SIZE {
+        return LEAST_SIZE;
+    }
+    if asked < PATH_SIZE {
+        return POINTER_SIZE;
+    }
+    PATH_SIZE
+}
+
+fn flags_shown(d: Drive) -> u16
+    ensures { λ r. ⌜ r ≡ flagsShown d ⌝ }
+{
+    d.flags
+}
+
+// The four runs of a result are written in a buffer of 66 bytes, which `result_of` makes.
+fn put_geometry(d: Drive, n: u16, out: &mut [u8])
+    requires { ⌜ pathSize ≤ length (now out) ⌝ }
+    ensures { λ _. ⌜ now (out .exit) ≡ sets (now (out .entry)) 0 (geometryBytes d n) ⌝ }
+{
+    words::store16(out, 0, n);
+    words::store16(out, 2, flags_shown(d));
+    words::store32(out, 4, d.cylinders);
+    words::store32(out, 8, d.heads);
+    words::store32(out, 12, d.sectors);
+}
+
+fn put_blocks(d: Drive, out: &mut [u8])
+    requires { ⌜ pathSize ≤ length (now out) ⌝ }
+    ensures { λ _. ⌜ now (out .exit) ≡ sets (now (out .entry)) 16 (blockBytes d) ⌝ }
+{
+    words::store64(out, 16, d.blocks);
+    words::store16(out, 24, BLOCK_LENGTH);
+    words::store16(out, 26, POINTER_OFFSET);
+    words::store16(out, 28, POINTER_SEGMENT);
+}
+
+// The length is a byte with three zeros after it: one dword.
+fn put_interface(d: Drive, out: &mut [u8])
+    requires { ⌜ pathSize ≤ length (now out) ⌝ }
+    ensures { λ _. ⌜ now (out .exit) ≡ sets (now (out .entry)) 30 (interfaceBytes d) ⌝ }
+{
+    let bus = d.bus;
+    let interface = d.interface;
+    words::store16(out, 30, PATH_KEY);
+    words::store32(out, 32, PATH_LENGTH);
+    words::store4(out, 36, bus);
+    words::store8(out, 40, interface);
+}
+
+fn put_paths(d: Drive, out: &mut [u8])
+    requires { ⌜ pathSize ≤ length (now out) ⌝ }
+    ensures { λ _. ⌜ now (out .exit) ≡ sets (now (out .entry)) 48 (pathBytes d) ⌝ }
+{
+    let path = d.path;
+    let device = d.device;
+    words::store8(out, 48, path);
+    words::store8(out, 56, device);
+    words::put_byte(out, 64, 0);
+}
+
+// The sum of all bytes, modulo 256.
+fn sum_of(s: &[u8]) -> u8
+    ensures { λ r. ⌜ r ≡ sum (now (s .entry)) % 256 ⌝ }
+{
+    let mut total = 0u16;
+    let mut i = 0;
+    while i < s.len() {
+        total = (total + s[i] as u16) % 256;
+        i += 1;
+    }
+    total as u8
+}
+
+fn checksum_of(s: &[u8]) -> u8
+    ensures { λ r. ⌜ r ≡ checksum (now (s .entry)) ⌝ }
+{
+    ((256 - sum_of(s) as u16) % 256) as u8
+}
+
+// All 66 bytes, with the returned size n.
+fn result_of(d: Drive, n: u16) -> [u8; 66]
+    ensures { λ r. ⌜ r ≡ wholeResult d n ⌝ }
+{
+    let mut r = [0u8; 66];
+    put_geometry(d, n, &mut r);
+    put_blocks(d, &mut r);
+    put_interface(d, &mut r);
+    put_paths(d, &mut r);
+    let from = 30;
+    let end = 65;
+    let byte = checksum_of(&r[from..end]);
+    words::put_byte(&mut r, 65, byte);
+    r
+}
+
+// ---- the answer of 48h
+
+pub enum ResultAnswer {
+    // the returned size
+    Written(u16),
+    Refused(u8),
+}
+
+// The result for a drive and the size asked; out is the window from DS:SI to its end. Refused with 01h, out unchanged: a size below
+// 26, or too little room for the returned size. Bytes past the returned size stay.
+pub fn write_result(d: Drive, asked: u16, out: &mut [u8]) -> ResultAnswer
+    ensures { λ r. ⌜ (r ≡ resultAnswer d asked (length (now (out .entry)))) × (now (out .exit) ≡ resultOut d asked (now (out .entry))) ⌝ }
+{
+    if asked < LEAST_SIZE {
+        return ResultAnswer::Refused(BAD_PARAMETER);
+    }
+    let n = returned_size(asked);
+    let size = n as usize;
+    if out.len() < size {
+        return ResultAnswer::Refused(BAD_PARAMETER);
+    }
+    let r = result_of(d, n);
+    words::store(out, 0, &r[..size]);
+    ResultAnswer::Written(n)
+}
