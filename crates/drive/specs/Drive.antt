@@ -150,3 +150,19 @@ overlap a b = pick (leb (a .first) (b .first)) (ltb (b .first) (a .first + a .bl
 -- byte 39 says that the drive is protected
 abbrev pub isProtected : Drive → Bool
 isProtected d = eqb (d .protection) 1
+
+-- every field is zero, as in a place of the table that holds no drive
+unfoldable pub blankNumbers : Drive → Bool
+blankNumbers d =
+    both (both (eqb (d .cylinders) 0) (both (eqb (d .heads) 0) (eqb (d .sectors) 0)))
+    (both (both (eqb (d .blocks) 0) (eqb (d .first) 0))
+    (both (both (eqb (d .flags) 0) (both (eqb (d .c) 0) (eqb (d .h) 0)))
+    (both (eqb (d .s) 0) (eqb (d .protection) 0))))
+
+unfoldable pub blankNames : Drive → Bool
+blankNames d =
+    both (same (d .bus) (replicate 4 0))
+    (both (same (d .interface) (replicate 8 0)) (both (same (d .path) (replicate 8 0)) (same (d .device) (replicate 8 0))))
+
+unfoldable pub isBlank : Drive → Bool
+isBlank d = both (blankNumbers d) (blankNames d)

@@ -2,9 +2,9 @@
 use chs::Geometry;
 ghost use mathlib.Core.Path.{_≡_};
 ghost use Prim.Native.Nat.{_+_, _≤_};
-ghost use lib.ListN.{length};
+ghost use lib.ListN.{length, replicate};
 ghost use lib.Seq.{sets};
-ghost use Rattle.drive.specs.Drive.{driveLength, driveOf, recordOf, geometryBytes, sizeBytes, nameBytes, busOk, interfaceOk, geometryOf, geometryFits, fieldsOk, inStore, overlap, isProtected};
+ghost use Rattle.drive.specs.Drive.{driveLength, driveOf, recordOf, geometryBytes, sizeBytes, nameBytes, busOk, interfaceOk, geometryOf, geometryFits, fieldsOk, inStore, overlap, isProtected, same, blankNumbers, blankNames, isBlank};
 
 // The fields of a record in the paper's order. Flags and the protection byte are kept as the table has them.
 pub struct Drive {
@@ -222,4 +222,46 @@ pub fn is_protected(d: Drive) -> bool
     ensures { λ r. ⌜ r ≡ isProtected d ⌝ }
 {
     d.protection == 1
+}
+
+fn blank4(a: [u8; 4]) -> bool
+    ensures { λ r. ⌜ r ≡ same a (replicate 4 0) ⌝ }
+{
+    words::value4(a) == 0
+}
+
+fn blank8(a: [u8; 8]) -> bool
+    ensures { λ r. ⌜ r ≡ same a (replicate 8 0) ⌝ }
+{
+    words::value8(a) == 0
+}
+
+fn blank_numbers(d: Drive) -> bool
+    ensures { λ r. ⌜ r ≡ blankNumbers d ⌝ }
+{
+    let physical = logic::and(d.cylinders == 0, logic::and(d.heads == 0, d.sectors == 0));
+    let place = logic::and(d.blocks == 0, d.first == 0);
+    let words = logic::and(d.flags == 0, logic::and(d.c == 0, d.h == 0));
+    let bytes = logic::and(d.s == 0, d.protection == 0);
+    logic::and(physical, logic::and(place, logic::and(words, bytes)))
+}
+
+fn blank_names(d: Drive) -> bool
+    ensures { λ r. ⌜ r ≡ blankNames d ⌝ }
+{
+    let bus = d.bus;
+    let interface = d.interface;
+    let path = d.path;
+    let device = d.device;
+    logic::and(
+        blank4(bus),
+        logic::and(blank8(interface), logic::and(blank8(path), blank8(device))),
+    )
+}
+
+// Every field is zero.
+pub fn is_blank(d: Drive) -> bool
+    ensures { λ r. ⌜ r ≡ isBlank d ⌝ }
+{
+    logic::and(blank_numbers(d), blank_names(d))
 }

@@ -11,11 +11,11 @@ use lib.ListN.{length, getD, take, drop, set, length-append}
 use lib.Seq.{sets, take-suc, take-all}
 use lib.Dec.{ltb, leb, eqb}
 use borrow.Author.Tests.{leb-true, leb-false, ltb-true, ltb-false, lt-ltb, le-ltb, eq-eqb, ne-eqb, eqb-true, eqb-false, not-true, not-false}
-use Rattle.logic.specs.Logic.{pick, either}
+use Rattle.logic.specs.Logic.{pick, both, either}
 use Rattle.words.specs.Words.{le, leBytes, part}
 use Rattle.words.proofs.Words.{sets-append, sets-front, length-leBytes}
 use Rattle.drive.specs.declared.Drive.{Drive}
-use Rattle.drive.specs.Drive.{driveOf, recordOf, overlap}
+use Rattle.drive.specs.Drive.{driveOf, recordOf, overlap, isBlank}
 use Rattle.table.specs.declared.Table.{Table}
 use Rattle.table.specs.declared.Header.{Header}
 use Rattle.table.specs.declared.Header.the-variants.{Whole, Bad}
@@ -27,7 +27,7 @@ use Rattle.table.specs.declared.Answer.the-variants.{Accepted, Refused a
 use Rattle.table.specs.declared.Reading.{Reading}
 use Rattle.table.specs.declared.Written.{Written}
 use Rattle.table.specs.declared.Written.the-variants.{Bytes, Refused as WriteRefused}
-use Rattle.table.specs.Table.{isKind, recordLength, headerOf, headerAt, noDrive, overlapsAny, refusal, more, stepped, driveStep, endStep, bodyStep, stepOf, stepAt, reading, goOn, readFrom, recordsOf, endRecord, bytesOf, drivesOf, tableOf, writeAnswer, writeOut}
+use Rattle.table.specs.Table.{isKind, recordLength, headerOf, headerAt, noDrive, overlapsAny, refusal, more, stepped, driveStep, endStep, bodyStep, stepOf, stepAt, reading, goOn, readFrom, recordsOf, endRecord, bytesOf, drivesOf, tableOf, writeAnswer, writeOut, firstDrives, soundTo, blankTo, isSound}
 
 -- ---- the header
 
@@ -234,3 +234,15 @@ module _ (b : Table) (out : List ℕ) (n end : ℕ) (eight : length (b .drives) 
       let whole : sets out 0 (tableOf b) ≡ o₃ =
       rw (table-held, sets-append, sets-append, length-leBytes, zero-add, ← all, e₃, e₂, e₁) in
       (rw (t, length-held), rw t (sym whole ∙ sets-front out (tableOf b) (rw length-held h)))
+
+-- ---- a table that obeys the rules
+
+pub soundTo-more : {r a s : Bool} (i : ℕ) (l : List Drive) (store : ℕ) → s ≡ soundTo i l store → r ≡ both a s
+    → a ≡ eqb (refusal (firstDrives l i) (getD l i noDrive) store) 0 → r ≡ soundTo (i + 1) l store
+unfolding soundTo
+soundTo-more i l store p q e = rw (add-one, q, e, p)
+
+pub blankTo-more : {r a s : Bool} (i : ℕ) (l : List Drive) (count : ℕ) → s ≡ blankTo i l count → r ≡ both a s
+    → a ≡ either (ltb i count) (isBlank (getD l i noDrive)) → r ≡ blankTo (i + 1) l count
+unfolding blankTo
+blankTo-more i l count p q e = rw (add-one, q, e, p)

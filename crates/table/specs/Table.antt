@@ -6,10 +6,10 @@ use mathlib.Core.Bool.{Bool, true, false, not}
 use mathlib.Core.List.{List, [], _∷_, _++_}
 use lib.ListN.{length, getD, set, take, drop, replicate}
 use lib.Dec.{leb, ltb, eqb}
-use Rattle.logic.specs.Logic.{pick, either}
+use Rattle.logic.specs.Logic.{pick, both, either}
 use Rattle.words.specs.Words.{le, leBytes, part}
 use Rattle.drive.specs.declared.Drive.{Drive}
-use Rattle.drive.specs.Drive.{Fits, driveKind, driveLength, driveOf, recordOf, fieldsOk, inStore, overlap}
+use Rattle.drive.specs.Drive.{Fits, driveKind, driveLength, driveOf, recordOf, fieldsOk, inStore, overlap, isBlank}
 use Rattle.table.specs.declared.Table.{Table}
 use Rattle.table.specs.declared.Header.{Header}
 use Rattle.table.specs.declared.Header.the-variants.{Whole, Bad}
@@ -207,3 +207,23 @@ answerNumbers (AnswerRefused n at) = n ∷ at ∷ []
 unfoldable pub writtenNumbers : Written → List ℕ
 writtenNumbers (Bytes n) = 0 ∷ n ∷ []
 writtenNumbers (WriteRefused n) = n ∷ []
+
+-- ---- a table that obeys the rules, as a desk holds it
+
+-- the table of the first n drives
+abbrev pub firstDrives : List Drive → ℕ → Table
+firstDrives l n = record { drives = l; count = n }
+
+-- each of the first n drives is taken after those before it
+unfoldable pub soundTo : ℕ → List Drive → ℕ → Bool
+soundTo zero l store = true
+soundTo (suc n) l store = both (eqb (refusal (firstDrives l n) (getD l n noDrive) store) 0) (soundTo n l store)
+
+-- of the first n places, those past the count are blank
+unfoldable pub blankTo : ℕ → List Drive → ℕ → Bool
+blankTo zero l count = true
+blankTo (suc n) l count = both (either (ltb n count) (isBlank (getD l n noDrive))) (blankTo n l count)
+
+-- at most eight drives, each of which the reader would take, and blank places past them
+unfoldable pub isSound : Table → ℕ → Bool
+isSound b store = both (leb (b .count) 8) (both (soundTo (b .count) (b .drives) store) (blankTo 8 (b .drives) (b .count)))

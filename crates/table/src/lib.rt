@@ -6,7 +6,7 @@ ghost use lib.ListN.{length, take};
 ghost use lib.Seq.{sets};
 ghost use Rattle.words.specs.Words.{part};
 ghost use Rattle.drive.specs.Drive.{driveOf};
-ghost use Rattle.table.specs.Table.{isKind, recordLength, headerAt, overlapsAny, refusal, more, endStep, bodyStep, stepAt, zeroDrive, emptyTable, readTable, recordsOf, drivesOf, tableOf, writeAnswer, writeOut};
+ghost use Rattle.table.specs.Table.{isKind, recordLength, headerAt, overlapsAny, refusal, more, endStep, bodyStep, stepAt, zeroDrive, emptyTable, readTable, recordsOf, drivesOf, tableOf, writeAnswer, writeOut, soundTo, blankTo, isSound};
 
 // Document 01's refusals of a table, in the order of the checks.
 const CUT_OFF: u8 = 1;
@@ -355,4 +355,57 @@ pub fn write_table(b: Table, out: &mut [u8]) -> Written
     words::store16(out, end, END_LENGTH as u16);
     words::store16(out, end + 2, END_KIND);
     Written::Bytes(end + END_LENGTH)
+}
+
+// ---- a table that obeys the rules
+
+// How many drives a table holds.
+pub fn drive_count(b: Table) -> usize
+    ensures { λ r. ⌜ r ≡ length (drivesOf b) ⌝ }
+{
+    held(b.count)
+}
+
+// Each of the first n drives is taken after those before it. `is_sound` asks for at most eight.
+fn sound_to(n: usize, drives: [Drive; 8], store: u64) -> bool
+    requires { ⌜ n ≤ 8 ⌝ }
+    ensures { λ r. ⌜ r ≡ soundTo n drives store ⌝ }
+{
+    let mut sound = true;
+    let mut i = 0;
+    while i < n {
+        let d = drives[i];
+        let before = Table { drives, count: i };
+        sound = logic::and(refusal_of(before, d, store) == 0, sound);
+        i += 1;
+    }
+    sound
+}
+
+// Places past the count are blank.
+fn blank_past(b: Table) -> bool
+    ensures { λ r. ⌜ r ≡ blankTo 8 (b .drives) (b .count) ⌝ }
+{
+    let drives = b.drives;
+    let count = b.count;
+    let mut blank = true;
+    let mut i = 0;
+    while i < 8 {
+        let d = drives[i];
+        blank = logic::and(logic::or(i < count, drive::is_blank(d)), blank);
+        i += 1;
+    }
+    blank
+}
+
+// At most eight drives, each of which the reader would take after those before it, and blank places past them.
+pub fn is_sound(b: Table, store: u64) -> bool
+    ensures { λ r. ⌜ r ≡ isSound b store ⌝ }
+{
+    let n = b.count;
+    if 8 < n {
+        return false;
+    }
+    let drives = b.drives;
+    logic::and(sound_to(n, drives, store), blank_past(b))
 }

@@ -1,0 +1,73 @@
+-- Document 01, "Calls the host makes": which desks are accepted; any other is 25.
+-- Assumes nothing.
+use Prim.Native.Nat.{ℕ, zero, suc, _+_, _*_, _%_}
+use mathlib.Core.Bool.{Bool, true, false, not}
+use mathlib.Core.List.{List}
+use lib.Dec.{leb, ltb, eqb}
+use Rattle.logic.specs.Logic.{pick, both, either}
+use Rattle.chs.specs.Chs.{size}
+use Rattle.drive.specs.Drive.{geometryOf, isProtected}
+use Rattle.table.specs.declared.Table.{Table}
+use Rattle.table.specs.Table.{isSound}
+use Rattle.layout.specs.Packet.{packetLength}
+use Rattle.memory.specs.Window.{guests}
+use Rattle.memory.specs.Blocks.{blockLength}
+use Rattle.int13.specs.declared.Job.{Job}
+use Rattle.int13.specs.Answers.{ah, isSectors, isWrite}
+use Rattle.int13.specs.Steps.{isDrive, driveAt, mostBlocks, mostSectors}
+use Rattle.desk.specs.declared.Request.{Request}
+use Rattle.desk.specs.declared.Stage.{Stage}
+use Rattle.desk.specs.declared.Stage.the-variants.{Vacant, Waiting, Finished}
+use Rattle.desk.specs.declared.Row.{Row}
+use Rattle.desk.specs.declared.Desk.{Desk}
+use Rattle.desk.specs.Parts.{windowSize, storeBlocks, stageIn}
+
+-- the blocks that a turn moves at most
+abbrev pub part : ℕ
+part = 16
+
+-- the functions that wait
+abbrev pub isTransfer : ℕ → Bool
+isTransfer f = either (isSectors f) (either (eqb f 0x42) (eqb f 0x43))
+
+-- a count within its function's limit
+abbrev pub countOk : ℕ → ℕ → Bool
+countOk f n = leb n (pick (isSectors f) mostSectors mostBlocks)
+
+-- a block range inside that drive, and the geometry for 02h and 03h
+abbrev pub rangeOk : Table → ℕ → Job → Bool
+rangeOk b f j =
+    both (leb (j .start + j .count) (driveAt b (j .drive) .blocks))
+    (pick (isSectors f) (leb (j .start + j .count) (size (geometryOf (driveAt b (j .drive))))) true)
+
+-- any packet inside the window; 02h and 03h have none, and keep 0 in its place
+abbrev pub packetOk : ℕ → ℕ → ℕ → Bool
+packetOk f place M = pick (isSectors f) (eqb place 0) (leb (place + packetLength) M)
+
+unfoldable pub jobOk : Table → ℕ → Job → Bool
+jobOk b M j =
+    both (isDrive b (j .drive))
+    (both (isTransfer (ah (j .registers)))
+    (both (countOk (ah (j .registers)) (j .count))
+    (both (rangeOk b (ah (j .registers)) j)
+    (both (leb (j .buffer + blockLength * j .count) M)
+    (both (packetOk (ah (j .registers)) (j .packet) M)
+    (not (both (isWrite (ah (j .registers))) (isProtected (driveAt b (j .drive))))))))))
+
+-- a moved number that is a multiple of 16 below the count
+abbrev pub movedOk : ℕ → ℕ → Bool
+movedOk moved count = both (eqb (moved % part) 0) (ltb moved count)
+
+abbrev pub stageOk : Table → ℕ → Stage → Bool
+stageOk b M Vacant = true
+stageOk b M (Waiting q) = both (jobOk b M (q .job)) (movedOk (q .moved) (q .job .count))
+stageOk b M (Finished r) = true
+
+-- the first n rows
+unfoldable pub rowsOk : ℕ → List Row → Table → ℕ → Bool
+rowsOk zero rows b M = true
+rowsOk (suc n) rows b M = both (stageOk b M (stageIn rows n)) (rowsOk n rows b M)
+
+-- a table that obeys the rules, a pointer below 8, and every waiting row as above
+unfoldable pub accept : Desk → Bool
+accept d = both (isSound (d .table) (storeBlocks d)) (both (ltb (d .pointer) guests) (rowsOk guests (d .rows) (d .table) (windowSize d)))

@@ -1,0 +1,214 @@
+-- Document 01, "Calls the host makes" and "Numbers given back": what each call answers, and the desk, arena and store it leaves.
+-- Assumes nothing.
+use Prim.Native.Nat.{ℕ, zero, suc, _+_, _-_, _/_, min}
+use mathlib.Core.Bool.{Bool, true, false, not}
+use mathlib.Core.List.{List, [], _∷_}
+use lib.ListN.{length, replicate}
+use lib.Dec.{leb, ltb, eqb}
+use Rattle.logic.specs.Logic.{pick, both}
+use Rattle.memory.specs.Window.{guests, windowOf, withWindow}
+use Rattle.memory.specs.Blocks.{blockLength}
+use Rattle.table.specs.declared.Table.{Table}
+use Rattle.table.specs.declared.Answer.{Answer}
+use Rattle.table.specs.declared.Answer.the-variants.{Accepted, Refused as TableRefused}
+use Rattle.table.specs.declared.Reading.{Reading}
+use Rattle.table.specs.declared.Written.{Written}
+use Rattle.table.specs.declared.Written.the-variants.{Bytes, Refused as WriteRefused}
+use Rattle.table.specs.Table.{readTable, writeAnswer, writeOut}
+use Rattle.int13.specs.declared.Registers.{Registers}
+use Rattle.int13.specs.declared.Job.{Job}
+use Rattle.int13.specs.declared.Outcome.{Outcome}
+use Rattle.int13.specs.declared.Outcome.the-variants.{Answered, Waits}
+use Rattle.int13.specs.Answers.{ah, isSectors, succeed, withdraw}
+use Rattle.int13.specs.Steps.{Checked, withCount, check}
+use Rattle.int13.specs.Alone.{Memory, storeBlock, moves}
+use Rattle.desk.specs.declared.Request.{Request}
+use Rattle.desk.specs.declared.Stage.{Stage}
+use Rattle.desk.specs.declared.Stage.the-variants.{Vacant, Waiting, Finished}
+use Rattle.desk.specs.declared.Row.{Row}
+use Rattle.desk.specs.declared.Desk.{Desk}
+use Rattle.desk.specs.declared.Next.{Next}
+use Rattle.desk.specs.declared.Next.the-variants.{Guest, Nobody}
+use Rattle.desk.specs.declared.OpenAnswer.{OpenAnswer}
+use Rattle.desk.specs.declared.OpenAnswer.the-variants.{Opened, Refused as OpenRefused}
+use Rattle.desk.specs.declared.Opening.{Opening}
+use Rattle.desk.specs.declared.PostAnswer.{PostAnswer}
+use Rattle.desk.specs.declared.PostAnswer.the-variants.{Answered as PostAnswered, Waits as PostWaits, Refused as PostRefused}
+use Rattle.desk.specs.declared.TurnAnswer.{TurnAnswer}
+use Rattle.desk.specs.declared.TurnAnswer.the-variants.{Served, Idle, Refused as TurnRefused}
+use Rattle.desk.specs.declared.CollectAnswer.{CollectAnswer}
+use Rattle.desk.specs.declared.CollectAnswer.the-variants.{Given as CollectGiven, Refused as CollectRefused}
+use Rattle.desk.specs.declared.WithdrawAnswer.{WithdrawAnswer}
+use Rattle.desk.specs.declared.WithdrawAnswer.the-variants.{Given as WithdrawGiven, Refused as WithdrawRefused}
+use Rattle.desk.specs.Parts.{windowSize, vacantRow, stageIn, stageAt, withStage, isWaiting, next, withPointer}
+use Rattle.desk.specs.Acceptable.{part, accept}
+
+-- ---- house numbers, in their order: 25, 24, 20, then the row or 19
+
+abbrev pub notAcceptable : ℕ
+notAcceptable = 25
+
+abbrev pub otherLength : ℕ
+otherLength = 24
+
+abbrev pub noGuest : ℕ
+noGuest = 20
+
+abbrev pub notVacant : ℕ
+notVacant = 21
+
+abbrev pub notFinished : ℕ
+notFinished = 22
+
+abbrev pub notWaiting : ℕ
+notWaiting = 23
+
+-- arena and store have the lengths of the opening
+abbrev pub isLent : Desk → List ℕ → List ℕ → Bool
+isLent d arena store = both (eqb (length arena) (d .arena)) (eqb (length store) (d .store))
+
+-- what a call leaves: the desk, its answer, and the arena and store that were lent
+pub record Done (A : Type 0) : Type 0 where
+  pub desk : Desk
+  pub answer : A
+  pub arena : List ℕ
+  pub store : List ℕ
+
+-- an answer that changes nothing
+abbrev pub still : {A : Type 0} → Desk → A → List ℕ → List ℕ → Done A
+still d x arena store = record { desk = d; answer = x; arena = arena; store = store }
+
+-- ---- open
+
+-- all rows start vacant, the pointer at 0
+abbrev pub opened : Table → ℕ → ℕ → Desk
+opened b arena store = record { rows = replicate guests vacantRow; pointer = 0; table = b; arena = arena; store = store }
+
+abbrev pub openAnswer : Answer → OpenAnswer
+openAnswer Accepted = Opened
+openAnswer (TableRefused n place) = OpenRefused n place
+
+unfoldable pub openOf : List ℕ → ℕ → ℕ → Opening
+openOf t arena store =
+    record {
+      desk = opened (readTable t (store / blockLength) .table) arena store;
+      answer = openAnswer (readTable t (store / blockLength) .answer);
+    }
+
+-- ---- write
+
+unfoldable pub writtenOf : Desk → ℕ → Written
+writtenOf d room = pick (not (accept d)) (WriteRefused notAcceptable) (writeAnswer (d .table) room)
+
+unfoldable pub writtenOut : Desk → List ℕ → List ℕ
+writtenOut d out = pick (not (accept d)) out (writeOut (d .table) out)
+
+-- ---- post
+
+-- by what the steps make of it: answered at once the row stays vacant, else it waits with no block moved
+abbrev pub postChecked : Desk → ℕ → List ℕ → List ℕ → Outcome → List ℕ → Done PostAnswer
+postChecked d g arena store (Answered r) w = record { desk = d; answer = PostAnswered r; arena = withWindow arena g (windowSize d) w; store = store }
+postChecked d g arena store (Waits j) w =
+    record { desk = withStage d g (Waiting (record { job = j; moved = 0 })); answer = PostWaits; arena = withWindow arena g (windowSize d) w; store = store }
+
+abbrev pub postVacant : Desk → ℕ → Registers → List ℕ → List ℕ → Done PostAnswer
+postVacant d g r arena store =
+    postChecked d g arena store (check (d .table) r (windowOf arena g (windowSize d)) .outcome) (check (d .table) r (windowOf arena g (windowSize d)) .window)
+
+abbrev pub postRow : Desk → ℕ → Registers → List ℕ → List ℕ → Stage → Done PostAnswer
+postRow d g r arena store Vacant = postVacant d g r arena store
+postRow d g r arena store (Waiting q) = still d (PostRefused notVacant) arena store
+postRow d g r arena store (Finished x) = still d (PostRefused notVacant) arena store
+
+unfoldable pub postOf : Desk → ℕ → Registers → List ℕ → List ℕ → Done PostAnswer
+postOf d g r arena store =
+    pick (not (accept d)) (still d (PostRefused notAcceptable) arena store)
+    (pick (not (isLent d arena store)) (still d (PostRefused otherLength) arena store)
+    (pick (not (ltb g guests)) (still d (PostRefused noGuest) arena store)
+    (postRow d g r arena store (stageAt d g))))
+
+-- ---- turn
+
+-- the first waiting row among k, from guest g on
+unfoldable pub seek : List Row → ℕ → ℕ → Next
+seek rows zero g = Nobody
+seek rows (suc k) g = pick (isWaiting (stageIn rows g)) (Guest g) (seek rows k (next g))
+
+-- the next 16 blocks, or what remains if fewer
+abbrev pub quota : Request → ℕ
+quota q = min part (q .job .count - q .moved)
+
+abbrev pub later : Request → ℕ → Request
+later q k = record { job = q .job; moved = q .moved + k }
+
+-- finished when all are moved
+unfoldable pub stageAfter : Request → Stage
+stageAfter q = pick (ltb (q .moved + quota q) (q .job .count)) (Waiting (later q (quota q))) (Finished (succeed (q .job .registers)))
+
+abbrev pub memoryOf : Desk → ℕ → List ℕ → List ℕ → Memory
+memoryOf d g arena store = record { window = windowOf arena g (windowSize d); store = store }
+
+abbrev pub movedBy : Desk → ℕ → Request → List ℕ → List ℕ → Memory
+movedBy d g q arena store = moves (q .job) (storeBlock (d .table) (q .job)) (q .moved) (quota q) (memoryOf d g arena store)
+
+abbrev pub serve : Desk → ℕ → Request → List ℕ → List ℕ → Done TurnAnswer
+serve d g q arena store =
+    record {
+      desk = withPointer (withStage d g (stageAfter q)) (next g);
+      answer = Served g (quota q);
+      arena = withWindow arena g (windowSize d) (movedBy d g q arena store .window);
+      store = movedBy d g q arena store .store;
+    }
+
+abbrev pub serveStage : Desk → ℕ → Stage → List ℕ → List ℕ → Done TurnAnswer
+serveStage d g Vacant arena store = still d Idle arena store
+serveStage d g (Waiting q) arena store = serve d g q arena store
+serveStage d g (Finished r) arena store = still d Idle arena store
+
+abbrev pub turnNext : Desk → Next → List ℕ → List ℕ → Done TurnAnswer
+turnNext d Nobody arena store = still d Idle arena store
+turnNext d (Guest g) arena store = serveStage d g (stageAt d g) arena store
+
+unfoldable pub turnOf : Desk → List ℕ → List ℕ → Done TurnAnswer
+turnOf d arena store =
+    pick (not (accept d)) (still d (TurnRefused notAcceptable) arena store)
+    (pick (not (isLent d arena store)) (still d (TurnRefused otherLength) arena store)
+    (turnNext d (seek (d .rows) guests (d .pointer)) arena store))
+
+-- ---- collect
+
+abbrev pub collectStage : Desk → ℕ → Stage → List ℕ → List ℕ → Done CollectAnswer
+collectStage d g Vacant arena store = still d (CollectRefused notFinished) arena store
+collectStage d g (Waiting q) arena store = still d (CollectRefused notFinished) arena store
+collectStage d g (Finished r) arena store = still (withStage d g Vacant) (CollectGiven r) arena store
+
+-- it is lent no arena and no store, which stay whatever they are
+unfoldable pub collectOf : Desk → ℕ → List ℕ → List ℕ → Done CollectAnswer
+collectOf d g arena store =
+    pick (not (accept d)) (still d (CollectRefused notAcceptable) arena store)
+    (pick (not (ltb g guests)) (still d (CollectRefused noGuest) arena store)
+    (collectStage d g (stageAt d g) arena store))
+
+-- ---- withdraw
+
+-- blocks moved are written to the packet's count word; for 02h and 03h they are in AL
+abbrev pub withdrawnWindow : Request → List ℕ → List ℕ
+withdrawnWindow q w = pick (isSectors (ah (q .job .registers))) w (withCount w (q .job .packet) (q .moved))
+
+abbrev pub withdrawStage : Desk → ℕ → Stage → List ℕ → List ℕ → Done WithdrawAnswer
+withdrawStage d g Vacant arena store = still d (WithdrawRefused notWaiting) arena store
+withdrawStage d g (Waiting q) arena store =
+    record {
+      desk = withStage d g Vacant;
+      answer = WithdrawGiven (withdraw (q .moved) (q .job .registers));
+      arena = withWindow arena g (windowSize d) (withdrawnWindow q (windowOf arena g (windowSize d)));
+      store = store;
+    }
+withdrawStage d g (Finished r) arena store = still d (WithdrawRefused notWaiting) arena store
+
+unfoldable pub withdrawOf : Desk → ℕ → List ℕ → List ℕ → Done WithdrawAnswer
+withdrawOf d g arena store =
+    pick (not (accept d)) (still d (WithdrawRefused notAcceptable) arena store)
+    (pick (not (isLent d arena store)) (still d (WithdrawRefused otherLength) arena store)
+    (pick (not (ltb g guests)) (still d (WithdrawRefused noGuest) arena store)
+    (withdrawStage d g (stageAt d g) arena store)))

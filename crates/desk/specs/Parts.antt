@@ -1,0 +1,49 @@
+-- Document 01, "Parts of the desk": rows, windows, the turn pointer.
+-- Assumes nothing.
+use Prim.Native.Nat.{ℕ, _+_, _/_, _%_}
+use mathlib.Core.Bool.{Bool, true, false}
+use mathlib.Core.List.{List}
+use lib.ListN.{getD, set}
+use Rattle.memory.specs.Window.{guests, windowLength}
+use Rattle.memory.specs.Blocks.{blockLength}
+use Rattle.table.specs.declared.Table.{Table}
+use Rattle.desk.specs.declared.Request.{Request}
+use Rattle.desk.specs.declared.Stage.{Stage}
+use Rattle.desk.specs.declared.Stage.the-variants.{Vacant, Waiting, Finished}
+use Rattle.desk.specs.declared.Row.{Row}
+use Rattle.desk.specs.declared.Desk.{Desk}
+
+-- M, the length of each guest's window
+abbrev pub windowSize : Desk → ℕ
+windowSize d = windowLength (d .arena)
+
+-- the store's blocks
+abbrev pub storeBlocks : Desk → ℕ
+storeBlocks d = d .store / blockLength
+
+-- ---- rows
+
+abbrev pub vacantRow : Row
+vacantRow = record { stage = Vacant }
+
+abbrev pub stageIn : List Row → ℕ → Stage
+stageIn rows g = getD rows g vacantRow .stage
+
+abbrev pub stageAt : Desk → ℕ → Stage
+stageAt d g = stageIn (d .rows) g
+
+abbrev pub withStage : Desk → ℕ → Stage → Desk
+withStage d g s = record { rows = set (d .rows) g (record { stage = s }); pointer = d .pointer; table = d .table; arena = d .arena; store = d .store }
+
+abbrev pub isWaiting : Stage → Bool
+isWaiting Vacant = false
+isWaiting (Waiting q) = true
+isWaiting (Finished r) = false
+
+-- ---- the turn pointer, which counts cyclically
+
+abbrev pub next : ℕ → ℕ
+next g = (g + 1) % guests
+
+abbrev pub withPointer : Desk → ℕ → Desk
+withPointer d p = record { rows = d .rows; pointer = p; table = d .table; arena = d .arena; store = d .store }

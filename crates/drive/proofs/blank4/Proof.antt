@@ -1,0 +1,31 @@
+use mathlib.Core.Path.{_≡_, refl, ap, _∙_}
+use Prim.Native.Nat.{ℕ}
+use mir.Val.{Fits}
+use mir.Syntax.{w8}
+use lib.ListN.{getD, length, replicate}
+use lib.Dec.{eqb}
+use Rattle.words.specs.Words.{le}
+use Rattle.drive.specs.Drive.{same}
+use Rattle.drive.proofs.Drives.{named}
+use borrow.Author.Needs.{needs}
+use Rattle.drive.proofs.blank4.Statement.{statement}
+use Rattle.drive.proofs.blank4.Tie as tie
+use Rattle.drive.proofs.blank4.Reads as reads
+use Rattle.drive.proofs.blank4.Lts as lts
+use Rattle.words.proofs.value4.Reads as value4-reads
+
+-- src/lib.rt:230:5
+value4-requires : tie.Need-value4-requires
+value4-requires c κs = search needs
+
+-- src/lib.rt:227:1
+returns : tie.Need-returns
+unfolding le
+returns c =
+    let a = c .before .args .a in
+    let f : (i : ℕ) → Fits w8 (getD a i 0) = λ i. search needs in
+    let l : length a ≡ 4 = search needs in
+    ap (λ (n : ℕ). eqb n 0) (c .value4 .ensures) ∙ named 4 a (replicate 4 0) l refl (λ i. f i .fits) refl
+
+pub blank4-spec : {M : Type 1} → statement M
+blank4-spec = tie.close (tie.spec value4-requires returns)

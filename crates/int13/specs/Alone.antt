@@ -1,0 +1,75 @@
+-- Document 01, "The words of demand 3": a request's own words, and served alone, a plain machine of registers, window and store.
+-- Assumes nothing.
+use Prim.Native.Nat.{ℕ, _+_, _*_, _/_}
+use mathlib.Core.Bool.{Bool, true, false}
+use mathlib.Core.List.{List}
+use lib.ListN.{length}
+use Rattle.logic.specs.Logic.{pick}
+use Rattle.words.specs.Words.{le}
+use Rattle.chs.specs.declared.ToBlock.{ToBlock}
+use Rattle.chs.specs.declared.ToBlock.the-variants.{Block, Refused as NoBlock}
+use Rattle.chs.specs.Chs.{blockOf, addressIn}
+use Rattle.drive.specs.Drive.{geometryOf}
+use Rattle.table.specs.declared.Table.{Table}
+use Rattle.table.specs.Table.{readTable}
+use Rattle.memory.specs.Blocks.{blockLength, blocks}
+use Rattle.int13.specs.declared.Registers.{Registers}
+use Rattle.int13.specs.declared.Job.{Job}
+use Rattle.int13.specs.declared.Outcome.{Outcome}
+use Rattle.int13.specs.declared.Outcome.the-variants.{Answered, Waits}
+use Rattle.int13.specs.Answers.{ah, al, isSectors, isWrite, succeed}
+use Rattle.int13.specs.Steps.{Checked, driveAt, driveOf, packetPlace, check}
+
+-- ---- a request, from outside: the registers and the window that the post found
+
+-- n: its AL or packet count
+abbrev pub asked : Registers → List ℕ → ℕ
+asked r w = pick (isSectors (ah r)) (al r) (le 2 w (packetPlace r + 2))
+
+abbrev pub blockNumber : ToBlock → ℕ
+blockNumber (Block n) = n
+blockNumber (NoBlock code) = 0
+
+-- the first of its blocks, of the drive: from start, for 02h and 03h from its address's block
+abbrev pub askedStart : Table → Registers → List ℕ → ℕ
+askedStart b r w =
+    pick (isSectors (ah r)) (blockNumber (blockOf (geometryOf (driveOf b r)) (addressIn (r .cx) (r .dx)))) (le 8 w (packetPlace r + 8))
+
+-- the store block that it names first
+abbrev pub namedFrom : Table → Registers → List ℕ → ℕ
+namedFrom b r w = driveOf b r .first + askedStart b r w
+
+-- ---- the blocks of a request move between the window and the store
+
+pub record Memory : Type 0 where
+  pub window : List ℕ
+  pub store : List ℕ
+
+-- the store block of a job's first block
+abbrev pub storeBlock : Table → Job → ℕ
+storeBlock b j = driveAt b (j .drive) .first + j .start
+
+-- k blocks from block i on: 02h and 42h copy store block to window, 03h and 43h the other way; `first` is the store block of block 0
+unfoldable pub moves : Job → ℕ → ℕ → ℕ → Memory → Memory
+moves j first i k m =
+    pick (isWrite (ah (j .registers)))
+    (record { window = m .window; store = blocks (m .store) (blockLength * (first + i)) (m .window) (j .buffer + blockLength * i) k })
+    (record { window = blocks (m .window) (j .buffer + blockLength * i) (m .store) (blockLength * (first + i)) k; store = m .store })
+
+-- ---- served alone
+
+pub record Served : Type 0 where
+  pub registers : Registers
+  pub memory : Memory
+
+-- what the steps answer at once is answered and written as they say; else all n blocks move, and the posted registers come back
+abbrev pub finish : Table → Outcome → List ℕ → Memory → Served
+finish b (Answered r) w m = record { registers = r; memory = record { window = w; store = m .store } }
+finish b (Waits j) w m = record { registers = succeed (j .registers); memory = moves j (storeBlock b j) 0 (j .count) m }
+
+abbrev pub servedBy : Table → Registers → Memory → Served
+servedBy b r m = finish b (check b r (m .window) .outcome) (check b r (m .window) .window) m
+
+-- fed the opening's table bytes, the post's registers, and the guest's window and the store as the post found them
+unfoldable pub alone : List ℕ → Registers → Memory → Served
+alone t r m = servedBy (readTable t (length (m .store) / blockLength) .table) r m

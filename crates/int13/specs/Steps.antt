@@ -1,0 +1,198 @@
+-- Document 01, "Steps of each function": the tests of each function in the paper's order. M is the length of the guest's window.
+-- Assumes nothing.
+use Prim.Native.Nat.{ℕ, _+_, _-_, _*_, _/_, _%_}
+use mathlib.Core.Bool.{Bool, true, false, not}
+use mathlib.Core.List.{List, _++_}
+use lib.ListN.{length, getD, take, drop}
+use lib.Dec.{leb, ltb, eqb}
+use lib.Seq.{sets}
+use Rattle.logic.specs.Logic.{pick, both, either}
+use Rattle.words.specs.Words.{le, leBytes}
+use Rattle.chs.specs.declared.ToBlock.{ToBlock}
+use Rattle.chs.specs.declared.ToBlock.the-variants.{Block, Refused as NoBlock}
+use Rattle.chs.specs.Chs.{outside, size, blockOf, addressIn, pack}
+use Rattle.drive.specs.declared.Drive.{Drive}
+use Rattle.drive.specs.Drive.{geometryOf, isProtected}
+use Rattle.table.specs.declared.Table.{Table}
+use Rattle.table.specs.Table.{drivesOf, noDrive}
+use Rattle.layout.specs.declared.Packet.{Packet}
+use Rattle.layout.specs.declared.PacketRead.{PacketRead}
+use Rattle.layout.specs.declared.PacketRead.the-variants.{Whole, Refused as NoPacket}
+use Rattle.layout.specs.declared.ResultAnswer.{ResultAnswer}
+use Rattle.layout.specs.declared.ResultAnswer.the-variants.{Written, Refused as NoResult}
+use Rattle.layout.specs.Packet.{linear, packetLength, readPacket}
+use Rattle.layout.specs.ResultBuffer.{resultAnswer, resultOut}
+use Rattle.memory.specs.Blocks.{blockLength}
+use Rattle.int13.specs.declared.Registers.{Registers}
+use Rattle.int13.specs.declared.Job.{Job}
+use Rattle.int13.specs.declared.Outcome.{Outcome}
+use Rattle.int13.specs.declared.Outcome.the-variants.{Answered, Waits}
+use Rattle.int13.specs.declared.Plan.{Plan}
+use Rattle.int13.specs.declared.Plan.the-variants.{Refuse, Clear, Finish, Wait}
+use Rattle.int13.specs.Answers.{badParameter, writeProtected, noParameters, badBuffer, ah, al, dl, isWrite, answer, succeed, refuse, posted}
+
+-- what the steps make of a call: answered at once or waiting, and the guest's window afterwards
+pub record Checked : Type 0 where
+  pub outcome : Outcome
+  pub window : List ℕ
+
+abbrev pub unchanged : List ℕ → Outcome → Checked
+unchanged w o = record { outcome = o; window = w }
+
+-- ---- drives: numbered 80h upward in table order
+
+abbrev pub firstDrive : ℕ
+firstDrive = 0x80
+
+abbrev pub driveCount : Table → ℕ
+driveCount b = length (drivesOf b)
+
+unfoldable pub isDrive : Table → ℕ → Bool
+isDrive b n = both (leb firstDrive n) (ltb n (firstDrive + driveCount b))
+
+abbrev pub driveAt : Table → ℕ → Drive
+driveAt b n = getD (b .drives) (n - firstDrive) noDrive
+
+-- the drive that DL names
+abbrev pub driveOf : Table → Registers → Drive
+driveOf b r = driveAt b (dl r)
+
+-- ---- 42h, 43h, 44h
+
+-- the packet stands at DS:SI
+abbrev pub packetPlace : Registers → ℕ
+packetPlace r = linear (r .ds) (r .si)
+
+-- for 43h AL in 0 to 2, and 2 only if information flag bit 3 is set
+unfoldable pub verifyOk : ℕ → ℕ → Bool
+verifyOk low flags = either (ltb low 2) (both (eqb low 2) (eqb (flags / 8 % 2) 1))
+
+abbrev pub mostBlocks : ℕ
+mostBlocks = 127
+
+abbrev pub packetJob : Registers → Packet → Job
+packetJob r p = record { registers = posted r; drive = dl r; start = p .start; count = p .count; buffer = p .buffer; packet = packetPlace r }
+
+-- the packet's own tests, once its size byte is found good; from here a refusal sets the count word to 0
+unfoldable pub packetTests : Drive → Registers → ℕ → Packet → Plan
+packetTests d r M p =
+    pick (ltb mostBlocks (p .count)) (Clear badParameter)
+    (pick (both (isWrite (ah r)) (isProtected d)) (Clear writeProtected)
+    (pick (ltb (d .blocks) (p .start + p .count)) (Clear outside)
+    (pick (eqb (ah r) 0x44) Finish
+    (pick (ltb M (p .buffer + blockLength * p .count)) (Clear badBuffer)
+    (pick (eqb (p .count) 0) Finish
+    (Wait (packetJob r p)))))))
+
+-- 16 packet bytes inside the window, size byte at least 16
+abbrev pub packetRead : Drive → Registers → ℕ → PacketRead → Plan
+packetRead d r M (NoPacket code) = Refuse code
+packetRead d r M (Whole p) = pick (ltb (p .size) packetLength) (Refuse badParameter) (packetTests d r M p)
+
+unfoldable pub packetPlan : Table → Registers → List ℕ → Plan
+packetPlan b r w =
+    pick (not (isDrive b (dl r))) (Refuse badParameter)
+    (pick (both (isWrite (ah r)) (not (verifyOk (al r) (driveOf b r .flags)))) (Refuse badParameter)
+    (packetRead (driveOf b r) r (length w) (readPacket w (packetPlace r))))
+
+-- the count word of the packet at a place, set to a number
+abbrev pub withCount : List ℕ → ℕ → ℕ → List ℕ
+withCount w place n = sets w (place + 2) (leBytes 2 n)
+
+abbrev pub carryOut : Plan → Registers → List ℕ → Checked
+carryOut (Refuse code) r w = unchanged w (Answered (refuse code r))
+carryOut (Clear code) r w = record { outcome = Answered (refuse code r); window = withCount w (packetPlace r) 0 }
+carryOut Finish r w = unchanged w (Answered (succeed r))
+carryOut (Wait j) r w = unchanged w (Waits j)
+
+abbrev pub extended : Table → Registers → List ℕ → Checked
+extended b r w = carryOut (packetPlan b r w) r w
+
+-- ---- 47h: drive, packet and size as above; start below the drive's blocks; count ignored
+
+abbrev pub seekRead : Drive → Registers → PacketRead → Outcome
+seekRead d r (NoPacket code) = Answered (refuse code r)
+seekRead d r (Whole p) =
+    pick (ltb (p .size) packetLength) (Answered (refuse badParameter r))
+    (pick (leb (d .blocks) (p .start)) (Answered (refuse outside r))
+    (Answered (succeed r)))
+
+unfoldable pub seek : Table → Registers → List ℕ → Outcome
+seek b r w =
+    pick (not (isDrive b (dl r))) (Answered (refuse badParameter r))
+    (seekRead (driveOf b r) r (readPacket w (packetPlace r)))
+
+-- ---- 02h, 03h
+
+abbrev pub mostSectors : ℕ
+mostSectors = 128
+
+-- the buffer stands at ES:BX
+abbrev pub sectorBuffer : Registers → ℕ
+sectorBuffer r = linear (r .es) (r .bx)
+
+abbrev pub sectorJob : Registers → ℕ → Job
+sectorJob r n = record { registers = posted r; drive = dl r; start = n; count = al r; buffer = sectorBuffer r; packet = 0 }
+
+-- the run from the address's block may cross tracks, but block + AL is at most C x H x S; then the buffer
+abbrev pub sectorRun : Drive → Registers → ℕ → ToBlock → Outcome
+sectorRun d r M (NoBlock code) = Answered (refuse code r)
+sectorRun d r M (Block n) =
+    pick (ltb (size (geometryOf d)) (n + al r)) (Answered (refuse outside r))
+    (pick (ltb M (sectorBuffer r + blockLength * al r)) (Answered (refuse badBuffer r))
+    (Waits (sectorJob r n)))
+
+unfoldable pub sectors : Table → Registers → ℕ → Outcome
+sectors b r M =
+    pick (not (isDrive b (dl r))) (Answered (refuse badParameter r))
+    (pick (eqb (al r) 0) (Answered (refuse badParameter r))
+    (pick (ltb mostSectors (al r)) (Answered (refuse badBuffer r))
+    (pick (both (isWrite (ah r)) (isProtected (driveOf b r))) (Answered (refuse writeProtected r))
+    (sectorRun (driveOf b r) r M (blockOf (geometryOf (driveOf b r)) (addressIn (r .cx) (r .dx)))))))
+
+-- ---- 08h: AL = 0; CH and CL hold C - 1 and S; DH = H - 1; DL = number of drives
+
+abbrev pub geometryGiven : Drive → ℕ → Registers → Registers
+geometryGiven d n r = record { ax = 0; bx = r .bx; cx = pack (d .c - 1) (d .s); dx = 256 * (d .h - 1) + n; ds = r .ds; si = r .si; es = r .es; carry = false }
+
+unfoldable pub parameters : Table → Registers → Outcome
+parameters b r = pick (isDrive b (dl r)) (Answered (geometryGiven (driveOf b r) (driveCount b) r)) (Answered (refuse noParameters r))
+
+-- ---- 41h: drive known and BX = 55AAh, else 01h; AX = 3000h, BX = AA55h, CX = 0001h
+
+abbrev pub extensionsGiven : Registers → Registers
+extensionsGiven r = record { ax = 0x3000; bx = 0xAA55; cx = 0x0001; dx = r .dx; ds = r .ds; si = r .si; es = r .es; carry = false }
+
+unfoldable pub extensions : Table → Registers → Outcome
+extensions b r = pick (both (isDrive b (dl r)) (eqb (r .bx) 0x55AA)) (Answered (extensionsGiven r)) (Answered (refuse badParameter r))
+
+-- ---- 48h: drive; the word at DS:SI inside the window, which is the buffer's size; then the result
+
+abbrev pub resultGiven : ResultAnswer → Registers → Outcome
+resultGiven (NoResult code) r = Answered (refuse code r)
+resultGiven (Written n) r = Answered (succeed r)
+
+abbrev pub resultSteps : Drive → Registers → List ℕ → ℕ → Checked
+resultSteps d r w place =
+    record {
+      outcome = resultGiven (resultAnswer d (le 2 w place) (length (drop place w))) r;
+      window = take place w ++ resultOut d (le 2 w place) (drop place w);
+    }
+
+unfoldable pub result : Table → Registers → List ℕ → Checked
+result b r w =
+    pick (not (isDrive b (dl r))) (unchanged w (Answered (refuse badParameter r)))
+    (pick (ltb (length w) (packetPlace r + 2)) (unchanged w (Answered (refuse badParameter r)))
+    (resultSteps (driveOf b r) r w (packetPlace r)))
+
+-- ---- every function by AH; unknown ones are 01h
+
+unfoldable pub check : Table → Registers → List ℕ → Checked
+check b r w =
+    pick (either (eqb (ah r) 0x02) (eqb (ah r) 0x03)) (unchanged w (sectors b r (length w)))
+    (pick (eqb (ah r) 0x08) (unchanged w (parameters b r))
+    (pick (eqb (ah r) 0x41) (unchanged w (extensions b r))
+    (pick (either (eqb (ah r) 0x42) (either (eqb (ah r) 0x43) (eqb (ah r) 0x44))) (extended b r w)
+    (pick (eqb (ah r) 0x47) (unchanged w (seek b r w))
+    (pick (eqb (ah r) 0x48) (result b r w)
+    (unchanged w (Answered (refuse badParameter r))))))))
