@@ -1,6 +1,7 @@
 -- Document 01, "Calls the host makes": which desks are accepted; any other is 25.
 -- Assumes nothing.
-use Prim.Native.Nat.{ℕ, zero, suc, _+_, _*_, _%_}
+use mathlib.Core.Path.{_≡_}
+use Prim.Native.Nat.{ℕ, zero, suc, _+_, _*_, _%_, _^_, _≤_, _<_}
 use mathlib.Core.Bool.{Bool, true, false, not}
 use mathlib.Core.List.{List}
 use lib.Dec.{leb, ltb, eqb}
@@ -10,10 +11,11 @@ use Rattle.drive.specs.Drive.{geometryOf, isProtected}
 use Rattle.table.specs.declared.Table.{Table}
 use Rattle.table.specs.Table.{isSound}
 use Rattle.layout.specs.Packet.{packetLength}
-use Rattle.memory.specs.Window.{guests}
+use Rattle.memory.specs.Window.{guests, windowLength}
 use Rattle.memory.specs.Blocks.{blockLength}
 use Rattle.int13.specs.declared.Job.{Job}
 use Rattle.int13.specs.Answers.{ah, isSectors, isWrite}
+use Rattle.int13.specs.Alone.{storeBlock}
 use Rattle.int13.specs.Steps.{isDrive, driveAt, mostBlocks, mostSectors}
 use Rattle.desk.specs.declared.Request.{Request}
 use Rattle.desk.specs.declared.Stage.{Stage}
@@ -71,3 +73,13 @@ rowsOk (suc n) rows b M = both (stageOk b M (stageIn rows n)) (rowsOk n rows b M
 -- a table that obeys the rules, a pointer below 8, and every waiting row as above
 unfoldable pub accept : Desk → Bool
 accept d = both (isSound (d .table) (storeBlocks d)) (both (ltb (d .pointer) guests) (rowsOk guests (d .rows) (d .table) (windowSize d)))
+
+-- what acceptance says of the row that a turn serves, for an arena of a bytes and a store of s
+pub record InRange (b : Table) (q : Request) (g a s : ℕ) : Type 0 where
+  pub guest : g < guests
+  pub drive : isDrive b (q .job .drive) ≡ true
+  pub moved : q .moved < q .job .count
+  pub buffer : q .job .buffer + blockLength * q .job .count ≤ windowLength a
+  pub blocks : blockLength * (storeBlock b (q .job) + q .job .count) ≤ s
+  pub arena : a < 2 ^ 64
+  pub store : s < 2 ^ 64

@@ -74,6 +74,9 @@ pub record Done (A : Type 0) : Type 0 where
   pub arena : List ℕ
   pub store : List ℕ
 
+abbrev pub done : {A : Type 0} → Desk → A → List ℕ → List ℕ → Done A
+done d x arena store = record { desk = d; answer = x; arena = arena; store = store }
+
 -- an answer that changes nothing
 abbrev pub still : {A : Type 0} → Desk → A → List ℕ → List ℕ → Done A
 still d x arena store = record { desk = d; answer = x; arena = arena; store = store }

@@ -1,8 +1,29 @@
 // The desk: a guest posts, the host gives turns, the guest collects. The desk goes from call to call as a record that is handed in and
 // handed back with the answer.
+use drive::Drive;
 use int13::Job;
+use int13::Outcome;
 use int13::Registers;
+use table::Answer;
 use table::Table;
+use table::Written;
+ghost use mathlib.Core.Path.{_≡_};
+ghost use mathlib.Core.Bool.{true, false};
+ghost use Prim.Native.Nat.{ℕ, _+_, _-_, _*_, _^_, _≤_, _<_};
+ghost use lib.Dec.{leb, ltb, eqb};
+ghost use lib.ListN.{length};
+ghost use Rattle.logic.specs.Logic.{pick, both};
+ghost use Rattle.chs.specs.Chs.{size};
+ghost use Rattle.drive.specs.Drive.{geometryOf};
+ghost use Rattle.desk.specs.Parts.{isWaiting};
+ghost use Rattle.desk.specs.Acceptable.{packetOk, movedOk, jobOk, stageOk, rowsOk, accept, InRange};
+ghost use mathlib.Core.List.{List, []};
+ghost use Rattle.memory.specs.Window.{windowLength, spanLength, windowOf, withWindow};
+ghost use Rattle.memory.specs.Blocks.{blocks};
+ghost use Rattle.int13.specs.Answers.{ah};
+ghost use Rattle.int13.specs.Alone.{storeBlock, moves};
+ghost use Rattle.desk.specs.declared.Stage.the-variants.{Waiting};
+ghost use Rattle.desk.specs.Calls.{done, openOf, writtenOf, writtenOut, postChecked, postOf, seek, quota, stageAfter, serve, turnOf, collectOf, withdrawnWindow, withdrawStage, withdrawOf};
 
 // A request with the number of blocks that have moved.
 pub struct Request {
@@ -88,4 +109,485 @@ pub struct Withdrawn {
 pub enum Next {
     Guest(usize),
     Nobody,
+}
+
+// Document 01's house numbers.
+const NO_GUEST: u8 = 20;
+
+const NOT_VACANT: u8 = 21;
+
+const NOT_FINISHED: u8 = 22;
+
+const NOT_WAITING: u8 = 23;
+
+const OTHER_LENGTH: u8 = 24;
+
+const NOT_ACCEPTABLE: u8 = 25;
+
+// Blocks that a turn moves at most, bytes of a block, bytes of a packet.
+const PART: u64 = 16;
+
+const BLOCK_LENGTH: u64 = 512;
+
+const PACKET_LENGTH: u64 = 16;
+
+// ---- acceptable desks
+
+// C x H x S of a drive, whatever its fields.
+fn geometry_size(d: Drive) -> u64
+    ensures { λ r. ⌜ r ≡ size (geometryOf d) ⌝ }
+{
+    d.c as u64 * d.h as u64 * d.s as u64
+}
+
+// place + n is at most end, with no sum that wraps.
+fn ends_by(place: u64, n: u64, end: u64) -> bool
+    ensures { λ r. ⌜ r ≡ leb (place + n) end ⌝ }
+{
+    if end < place {
+        return false;
+    }
+    n <= end - place
+}
+
+// n blocks of bytes from a place end at most at end.
+fn blocks_end_by(place: u64, n: u64, end: u64) -> bool
+    ensures { λ r. ⌜ r ≡ leb (place + 512 * n) end ⌝ }
+{
+    if end < place {
+        return false;
+    }
+    n <= (end - place) / BLOCK_LENGTH
+}
+
+fn count_ok(sectors: bool, n: u64) -> bool
+    ensures { λ r. ⌜ r ≡ leb n (pick sectors 128 127) ⌝ }
+{
+    if sectors {
+        return n <= 128;
+    }
+    n <= 127
+}
+
+fn packet_ok(sectors: bool, place: u64, m: u64) -> bool
+    ensures { λ r. ⌜ r ≡ pick sectors (eqb place 0) (leb (place + 16) m) ⌝ }
+{
+    if sectors {
+        return place == 0;
+    }
+    ends_by(place, PACKET_LENGTH, m)
+}
+
+fn range_ok(d: Drive, sectors: bool, start: u64, count: u64) -> bool
+    ensures { λ r. ⌜ r ≡ both (leb (start + count) (d .blocks)) (pick sectors (leb (start + count) (size (geometryOf d))) true) ⌝ }
+{
+    let inside = ends_by(start, count, d.blocks);
+    if sectors {
+        return logic::and(inside, ends_by(start, count, geometry_size(d)));
+    }
+    logic::and(inside, true)
+}
+
+fn moved_ok(moved: u64, count: u64) -> bool
+    ensures { λ r. ⌜ r ≡ movedOk moved count ⌝ }
+{
+    logic::and(moved % PART == 0, moved < count)
+}
+
+fn job_ok(b: Table, m: u64, j: Job) -> bool
+    ensures { λ r. ⌜ r ≡ jobOk b m j ⌝ }
+{
+    let n = j.drive;
+    if !int13::is_drive(b, n) {
+        return false;
+    }
+    let d = int13::drive_at(b, n);
+    let f = int13::function_of(j.registers);
+    let sectors = int13::is_sectors(f);
+    let transfer = logic::or(sectors, logic::or(f == 0x42, f == 0x43));
+    let protected = logic::and(int13::is_write(f), drive::is_protected(d));
+    let places = logic::and(
+        blocks_end_by(j.buffer, j.count, m),
+        logic::and(packet_ok(sectors, j.packet, m), !protected),
+    );
+    let blocks = logic::and(range_ok(d, sectors, j.start, j.count), places);
+    logic::and(transfer, logic::and(count_ok(sectors, j.count), blocks))
+}
+
+fn stage_ok(b: Table, m: u64, stage: Stage) -> bool
+    ensures { λ r. ⌜ r ≡ stageOk b m stage ⌝ }
+{
+    let Stage::Waiting(q) = stage else {
+        return true;
+    };
+    logic::and(job_ok(b, m, q.job), moved_ok(q.moved, q.job.count))
+}
+
+fn rows_ok(rows: [Row; 8], b: Table, m: u64) -> bool
+    ensures { λ r. ⌜ r ≡ rowsOk 8 rows b m ⌝ }
+{
+    let mut good = true;
+    let mut i: usize = 0;
+    while i < 8 {
+        let row = rows[i];
+        let stage = row.stage;
+        good = logic::and(stage_ok(b, m, stage), good);
+        i += 1;
+    }
+    good
+}
+
+impl Desk {
+    // A table that obeys the rules, a pointer below 8, and every waiting row in range; any other desk is 25.
+    pub fn accept(self) -> bool
+        ensures { λ r. ⌜ r ≡ accept self ⌝ }
+    {
+        let rows = self.rows;
+        let b = self.table;
+        let sound = table::is_sound(b, self.store / BLOCK_LENGTH);
+        let good = rows_ok(rows, b, self.arena / 8);
+        logic::and(sound, logic::and(self.pointer < 8, good))
+    }
+}
+
+// ---- the turn's search
+
+fn waits(stage: Stage) -> bool
+    ensures { λ r. ⌜ r ≡ isWaiting stage ⌝ }
+{
+    match stage {
+        Stage::Waiting(_) => true,
+        Stage::Vacant => false,
+        Stage::Finished(_) => false,
+    }
+}
+
+// The first waiting row at or after the pointer, which `accept` has found below 8.
+fn next_waiting(rows: [Row; 8], pointer: usize) -> Next
+    requires { ⌜ pointer < 8 ⌝ }
+    ensures { λ r. ⌜ r ≡ seek rows 8 pointer ⌝ }
+{
+    let mut guest = pointer;
+    let mut left: usize = 8;
+    while 0 < left {
+        let row = rows[guest];
+        let stage = row.stage;
+        if waits(stage) {
+            return Next::Guest(guest);
+        }
+        guest = (guest + 1) % 8;
+        left -= 1;
+    }
+    Next::Nobody
+}
+
+// The blocks that the next turn moves, of a request with blocks left.
+fn quota_of(q: Request) -> u64
+    requires { ⌜ q .moved ≤ q .job .count ⌝ }
+    ensures { λ r. ⌜ r ≡ quota q ⌝ }
+{
+    let left = q.job.count - q.moved;
+    if left < PART { left } else { PART }
+}
+
+// The stage of a row after its next turn.
+fn stage_after(q: Request) -> Stage
+    requires { ⌜ q .moved ≤ q .job .count ⌝ }
+    ensures { λ r. ⌜ r ≡ stageAfter q ⌝ }
+{
+    let k = quota_of(q);
+    let moved = q.moved + k;
+    let job = q.job;
+    if moved < job.count {
+        return Stage::Waiting(Request { job, moved });
+    }
+    let registers = job.registers;
+    Stage::Finished(int13::succeed(registers))
+}
+
+// Where the next blocks of a request stand in the window and in the store, in bytes. The request is in range, so that neither wraps.
+fn window_place(buffer: u64, moved: u64) -> usize
+    requires { ⌜ buffer + 512 * moved < 2 ^ 64 ⌝ }
+    ensures { λ r. ⌜ r ≡ buffer + 512 * moved ⌝ }
+{
+    (buffer + BLOCK_LENGTH * moved) as usize
+}
+
+fn store_place(first: u64, start: u64, moved: u64) -> usize
+    requires { ⌜ 512 * (first + start + moved) < 2 ^ 64 ⌝ }
+    ensures { λ r. ⌜ r ≡ 512 * (first + start + moved) ⌝ }
+{
+    (BLOCK_LENGTH * (first + start + moved)) as usize
+}
+
+// k blocks move between a place of the guest's window and a place of the store, both of which `transfer` finds in range.
+fn move_blocks(
+    write: bool,
+    guest: usize,
+    at: usize,
+    place: usize,
+    k: usize,
+    arena: &mut [u8],
+    store: &mut [u8],
+)
+    requires { ⌜ (at + 512 * k ≤ spanLength (length (now arena)) guest (windowLength (length (now arena)))) × (place + 512 * k ≤ length (now store)) ⌝ }
+    ensures { λ _. ⌜ (now (arena .exit) ≡ pick write (now (arena .entry)) (withWindow (now (arena .entry)) guest (windowLength (length (now (arena .entry)))) (blocks (windowOf (now (arena .entry)) guest (windowLength (length (now (arena .entry))))) at (now (store .entry)) place k))) × (now (store .exit) ≡ pick write (blocks (now (store .entry)) place (windowOf (now (arena .entry)) guest (windowLength (length (now (arena .entry))))) at k) (now (store .entry))) ⌝ }
+{
+    let m = memory::window_length(arena.len());
+    if write {
+        memory::save(&arena[..], guest, m, at, store, place, k);
+        return;
+    }
+    memory::load(arena, guest, m, at, &store[..], place, k);
+}
+
+// The next blocks of a request move between the window and the store. `turn` serves only rows that `accept` has found in range.
+fn transfer(b: Table, q: Request, guest: usize, arena: &mut [u8], store: &mut [u8])
+    requires { ⌜ InRange b q guest (length (now arena)) (length (now store)) ⌝ }
+    ensures { λ _. ⌜ (now (arena .exit) ≡ withWindow (now (arena .entry)) guest (windowLength (length (now (arena .entry)))) (moves (q .job) (storeBlock b (q .job)) (q .moved) (quota q) (record { window = windowOf (now (arena .entry)) guest (windowLength (length (now (arena .entry)))); store = now (store .entry) }) .window)) × (now (store .exit) ≡ moves (q .job) (storeBlock b (q .job)) (q .moved) (quota q) (record { window = windowOf (now (arena .entry)) guest (windowLength (length (now (arena .entry)))); store = now (store .entry) }) .store) ⌝ }
+{
+    let job = q.job;
+    let n = job.drive;
+    let d = int13::drive_at(b, n);
+    let k = quota_of(q);
+    let at = window_place(job.buffer, q.moved);
+    let place = store_place(d.first, job.start, q.moved);
+    let registers = job.registers;
+    let write = int13::is_write(int13::function_of(registers));
+    move_blocks(write, guest, at, place, k as usize, arena, store);
+}
+
+// The place of a packet's count word; the packet is in the window, so that it does not wrap.
+fn count_place(packet: u64) -> usize
+    requires { ⌜ packet + 2 < 2 ^ 64 ⌝ }
+    ensures { λ r. ⌜ r ≡ packet + 2 ⌝ }
+{
+    (packet + 2) as usize
+}
+
+// The blocks moved go to the packet's count word; for 02h and 03h, which have no packet, they go to AL alone. `accept` has found the
+// packet inside the window.
+fn report_moved(q: Request, guest: usize, arena: &mut [u8])
+    requires { ⌜ (guest < 8) × (packetOk (ah (q .job .registers)) (q .job .packet) (windowLength (length (now arena))) ≡ true) × (q .moved < 128) ⌝ }
+    ensures { λ _. ⌜ now (arena .exit) ≡ withWindow (now (arena .entry)) guest (windowLength (length (now (arena .entry)))) (withdrawnWindow q (windowOf (now (arena .entry)) guest (windowLength (length (now (arena .entry)))))) ⌝ }
+{
+    let job = q.job;
+    let registers = job.registers;
+    if int13::is_sectors(int13::function_of(registers)) {
+        return;
+    }
+    let m = memory::window_length(arena.len());
+    let at = count_place(job.packet);
+    memory::put_word_in(arena, guest, m, at, q.moved as u16);
+}
+
+impl Desk {
+    // Arena and store have the lengths of the opening.
+    fn is_lent(self, arena: usize, store: usize) -> bool
+        ensures { λ r. ⌜ r ≡ both (eqb arena (self .arena)) (eqb store (self .store)) ⌝ }
+    {
+        logic::and(arena as u64 == self.arena, store as u64 == self.store)
+    }
+
+    // Reads the table; a desk with all rows vacant, or the table's refusal with its place.
+    pub fn open(t: &[u8], arena: u64, store: u64) -> Opening
+        ensures { λ r. ⌜ r ≡ openOf (now (t .entry)) arena store ⌝ }
+    {
+        let reading = table::read_table(t, store / BLOCK_LENGTH);
+        let b = reading.table;
+        let row = Row {
+            stage: Stage::Vacant,
+        };
+        let desk = Desk {
+            rows: [row; 8],
+            pointer: 0,
+            table: b,
+            arena,
+            store,
+        };
+        let answer = reading.answer;
+        match answer {
+            Answer::Accepted => Opening {
+                desk,
+                answer: OpenAnswer::Opened,
+            },
+            Answer::Refused(n, place) => Opening {
+                desk,
+                answer: OpenAnswer::Refused(n, place),
+            },
+        }
+    }
+
+    // Lays the drives out as a table again.
+    pub fn write(self, out: &mut [u8]) -> Written
+        ensures { λ r. ⌜ (r ≡ writtenOf self (length (now (out .entry)))) × (now (out .exit) ≡ writtenOut self (now (out .entry))) ⌝ }
+    {
+        if !self.accept() {
+            return Written::Refused(NOT_ACCEPTABLE);
+        }
+        let b = self.table;
+        table::write_table(b, out)
+    }
+
+    // The row waits with no block moved, or stays vacant.
+    fn posted(self, guest: usize, outcome: Outcome) -> Posted
+        requires { ⌜ guest < 8 ⌝ }
+        ensures { λ r. ⌜ (r .desk ≡ postChecked self guest [] [] outcome [] .desk) × (r .answer ≡ postChecked self guest [] [] outcome [] .answer) ⌝ }
+    {
+        match outcome {
+            Outcome::Answered(r) => Posted {
+                desk: self,
+                answer: PostAnswer::Answered(r),
+            },
+            Outcome::Waits(job) => {
+                let mut next = self;
+                next.rows[guest] = Row {
+                    stage: Stage::Waiting(Request { job, moved: 0 }),
+                };
+                Posted {
+                    desk: next,
+                    answer: PostAnswer::Waits,
+                }
+            }
+        }
+    }
+
+    // The desk after the blocks of a turn have moved.
+    fn served(self, guest: usize, q: Request) -> Turned
+        requires { ⌜ (guest < 8) × (q .moved ≤ q .job .count) ⌝ }
+        ensures { λ r. ⌜ (r .desk ≡ serve self guest q [] [] .desk) × (r .answer ≡ serve self guest q [] [] .answer) ⌝ }
+    {
+        let k = quota_of(q);
+        let stage = stage_after(q);
+        let mut next = self;
+        next.rows[guest] = Row { stage };
+        next.pointer = (guest + 1) % 8;
+        Turned {
+            desk: next,
+            answer: TurnAnswer::Served(guest, k),
+        }
+    }
+
+    // Serves the first waiting row at or after the pointer.
+    pub fn turn(self, arena: &mut [u8], store: &mut [u8]) -> Turned
+        ensures { λ r. ⌜ done (r .desk) (r .answer) (now (arena .exit)) (now (store .exit)) ≡ turnOf self (now (arena .entry)) (now (store .entry)) ⌝ }
+    {
+        if !self.accept() {
+            return Turned {
+                desk: self,
+                answer: TurnAnswer::Refused(NOT_ACCEPTABLE),
+            };
+        }
+        if !self.is_lent(arena.len(), store.len()) {
+            return Turned {
+                desk: self,
+                answer: TurnAnswer::Refused(OTHER_LENGTH),
+            };
+        }
+        let rows = self.rows;
+        let found = next_waiting(rows, self.pointer);
+        let Next::Guest(guest) = found else {
+            return Turned {
+                desk: self,
+                answer: TurnAnswer::Idle,
+            };
+        };
+        let row = rows[guest];
+        let stage = row.stage;
+        let Stage::Waiting(q) = stage else {
+            return Turned {
+                desk: self,
+                answer: TurnAnswer::Idle,
+            };
+        };
+        let b = self.table;
+        transfer(b, q, guest, arena, store);
+        self.served(guest, q)
+    }
+
+    // Hands the finished registers out and vacates the row.
+    pub fn collect(self, guest: usize) -> Collected
+        ensures { λ r. ⌜ ((arena store : List ℕ) → done (r .desk) (r .answer) arena store ≡ collectOf self guest arena store) ⌝ }
+    {
+        if !self.accept() {
+            return Collected {
+                desk: self,
+                answer: CollectAnswer::Refused(NOT_ACCEPTABLE),
+            };
+        }
+        if 8 <= guest {
+            return Collected {
+                desk: self,
+                answer: CollectAnswer::Refused(NO_GUEST),
+            };
+        }
+        let row = self.rows[guest];
+        let stage = row.stage;
+        let Stage::Finished(registers) = stage else {
+            return Collected {
+                desk: self,
+                answer: CollectAnswer::Refused(NOT_FINISHED),
+            };
+        };
+        let mut next = self;
+        next.rows[guest] = Row {
+            stage: Stage::Vacant,
+        };
+        Collected {
+            desk: next,
+            answer: CollectAnswer::Given(registers),
+        }
+    }
+
+    // The row is vacant at once, and the registers say what was moved.
+    fn withdrawn(self, guest: usize, q: Request) -> Withdrawn
+        requires { ⌜ (guest < 8) × (q .moved < 128) ⌝ }
+        ensures { λ r. ⌜ (r .desk ≡ withdrawStage self guest (Waiting q) [] [] .desk) × (r .answer ≡ withdrawStage self guest (Waiting q) [] [] .answer) ⌝ }
+    {
+        let job = q.job;
+        let registers = job.registers;
+        let given = int13::withdraw(q.moved as u8, registers);
+        let mut next = self;
+        next.rows[guest] = Row {
+            stage: Stage::Vacant,
+        };
+        Withdrawn {
+            desk: next,
+            answer: WithdrawAnswer::Given(given),
+        }
+    }
+
+    // Ends a waiting request.
+    pub fn withdraw(self, guest: usize, arena: &mut [u8], store: &[u8]) -> Withdrawn
+        ensures { λ r. ⌜ done (r .desk) (r .answer) (now (arena .exit)) (now (store .entry)) ≡ withdrawOf self guest (now (arena .entry)) (now (store .entry)) ⌝ }
+    {
+        if !self.accept() {
+            return Withdrawn {
+                desk: self,
+                answer: WithdrawAnswer::Refused(NOT_ACCEPTABLE),
+            };
+        }
+        if !self.is_lent(arena.len(), store.len()) {
+            return Withdrawn {
+                desk: self,
+                answer: WithdrawAnswer::Refused(OTHER_LENGTH),
+            };
+        }
+        if 8 <= guest {
+            return Withdrawn {
+                desk: self,
+                answer: WithdrawAnswer::Refused(NO_GUEST),
+            };
+        }
+        let row = self.rows[guest];
+        let stage = row.stage;
+        let Stage::Waiting(q) = stage else {
+            return Withdrawn {
+                desk: self,
+                answer: WithdrawAnswer::Refused(NOT_WAITING),
+            };
+        };
+        report_moved(q, guest, arena);
+        self.withdrawn(guest, q)
+    }
 }

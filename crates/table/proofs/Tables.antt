@@ -15,7 +15,7 @@ use Rattle.logic.specs.Logic.{pick, both, either}
 use Rattle.words.specs.Words.{le, leBytes, part}
 use Rattle.words.proofs.Words.{sets-append, sets-front, length-leBytes}
 use Rattle.drive.specs.declared.Drive.{Drive}
-use Rattle.drive.specs.Drive.{driveOf, recordOf, overlap, isBlank}
+use Rattle.drive.specs.Drive.{driveOf, recordOf, fieldsOk, inStore, overlap, isBlank}
 use Rattle.table.specs.declared.Table.{Table}
 use Rattle.table.specs.declared.Header.{Header}
 use Rattle.table.specs.declared.Header.the-variants.{Whole, Bad}
@@ -82,6 +82,18 @@ refusal-room b d store h = leb-false 8 (b .count) (room (leb 8 (b .count)) _ h)
     room : (a : Bool) (n : ℕ) → pick a 4 n ≡ 0 → a ≡ false
     room true n h = absurd (omega arith)
     room false n h = refl
+
+-- and its fields and its place in the store are good
+pub refusal-taken : (b : Table) (d : Drive) (store : ℕ) → refusal b d store ≡ 0 → (fieldsOk d ≡ true) × (inStore d store ≡ true)
+unfolding refusal
+refusal-taken b d store h = by-tests (leb 8 (b .count)) (fieldsOk d) (inStore d store) refl refl h
+  where
+    by-tests : (a f i : Bool) → fieldsOk d ≡ f → inStore d store ≡ i
+        → _≡_ {A = ℕ} (pick a 4 (pick (not f) 5 (pick (not i) 6 (pick (overlapsAny (b .count) (b .drives) d) 7 0)))) 0 → (fieldsOk d ≡ true) × (inStore d store ≡ true)
+    by-tests true f i p q e = absurd (omega arith)
+    by-tests false false i p q e = absurd (omega arith)
+    by-tests false true false p q e = absurd (omega arith)
+    by-tests false true true p q e = (p, q)
 
 -- ---- a step, by cases
 

@@ -1,0 +1,142 @@
+-- What an accepted desk says, as facts.
+-- Assumes nothing.
+use mathlib.Core.Path.{_≡_, refl, sym, ap, _∙_}
+use mathlib.Core.Logic.{_⊎_, inl, inr, ⊎-elim}
+use mathlib.Core.Bool.{Bool, true, false, not}
+use mathlib.Core.List.{List, [], _∷_}
+use types.Run.{OneOf}
+use denote.Enum.Declared.{tagOf}
+use Rattle.desk.proofs.Stage as stage
+use native.Mathlib.Numerals.{add-one}
+use Prim.Native.Nat.{ℕ, zero, suc, _+_, _-_, _*_, _/_, _%_, _≤_, _<_, min}
+use native.Mathlib.Decide.{ℕ-discrete}
+use native.Mathlib.Omega.{arith}
+use lib.ListN.{length, getD, take, length-take}
+use lib.Dec.{leb, ltb, eqb}
+use borrow.Author.Tests.{leb-true, ltb-true, eqb-true, not-true}
+use Rattle.logic.specs.Logic.{pick, both, either}
+use Rattle.logic.proofs.Logic.{both-true}
+use Rattle.drive.specs.declared.Drive.{Drive}
+use Rattle.chs.specs.Chs.{size}
+use Rattle.drive.specs.Drive.{geometryOf, fieldsOk, inStore, isProtected}
+use Rattle.table.specs.declared.Table.{Table}
+use Rattle.table.specs.Table.{noDrive, refusal, firstDrives, soundTo, blankTo, isSound, drivesOf}
+use Rattle.table.proofs.Tables.{refusal-taken}
+use Rattle.int13.specs.declared.Job.{Job}
+use Rattle.int13.specs.Answers.{ah, isSectors, isWrite}
+use Rattle.int13.specs.Steps.{isDrive, driveAt}
+use Rattle.desk.specs.declared.Request.{Request}
+use Rattle.desk.specs.declared.Stage.{Stage}
+use Rattle.desk.specs.declared.Stage.the-variants.{Vacant, Waiting, Finished}
+use Rattle.desk.specs.declared.Row.{Row}
+use Rattle.desk.specs.declared.Desk.{Desk}
+use Rattle.desk.specs.Parts.{windowSize, storeBlocks, stageIn, stageAt}
+use Rattle.desk.specs.Acceptable.{isTransfer, countOk, rangeOk, packetOk, jobOk, movedOk, stageOk, rowsOk, accept}
+
+-- ---- the parts of the test
+
+pub record Accepted (d : Desk) : Type 0 where
+  pub sound : isSound (d .table) (storeBlocks d) ≡ true
+  pub pointer : d .pointer < 8
+  pub rows : rowsOk 8 (d .rows) (d .table) (windowSize d) ≡ true
+
+pub accept-true : (d : Desk) → accept d ≡ true → Accepted d
+unfolding accept
+accept-true d e =
+    let p = both-true _ _ e in
+    let q = both-true _ _ (p .1) in
+    record { sound = p .0; pointer = ltb-true (d .pointer) 8 (q .0); rows = q .1 }
+
+pub rowsOk-at : (n : ℕ) (rows : List Row) (b : Table) (M g : ℕ) → g < n → rowsOk n rows b M ≡ true → stageOk b M (stageIn rows g) ≡ true
+unfolding rowsOk
+rowsOk-at zero rows b M g l e = absurd (omega arith)
+rowsOk-at (suc n) rows b M g l e =
+    let p = both-true (stageOk b M (stageIn rows n)) (rowsOk n rows b M) e in
+    by-guest (ℕ-discrete g n) (p .0) (λ h. rowsOk-at n rows b M g h (p .1))
+  where
+    by-guest : Dec (g ≡ n) → stageOk b M (stageIn rows n) ≡ true → (g < n → stageOk b M (stageIn rows g) ≡ true) → stageOk b M (stageIn rows g) ≡ true
+    by-guest (yes y) h f = rw y h
+    by-guest (no y) h f = f (omega arith)
+
+-- a waiting row's request
+pub record Waits (b : Table) (M : ℕ) (q : Request) : Type 0 where
+  pub drive : isDrive b (q .job .drive) ≡ true
+  pub transfer : isTransfer (ah (q .job .registers)) ≡ true
+  pub count : q .job .count ≤ 128
+  pub range : q .job .start + q .job .count ≤ driveAt b (q .job .drive) .blocks
+  pub buffer : q .job .buffer + 512 * q .job .count ≤ M
+  pub packet : packetOk (ah (q .job .registers)) (q .job .packet) M ≡ true
+  pub moved : q .moved < q .job .count
+
+count-most : (s : Bool) (n : ℕ) → leb n (pick s 128 127) ≡ true → n ≤ 128
+count-most true n e = leb-true n 128 e
+count-most false n e = let l : n ≤ 127 = leb-true n 127 e in omega arith
+
+pub waits-facts : (b : Table) (M : ℕ) (q : Request) → stageOk b M (Waiting q) ≡ true → Waits b M q
+unfolding jobOk
+waits-facts b M q e =
+    let p = both-true _ _ e in
+    let p₁ = both-true _ _ (p .0) in
+    let p₂ = both-true _ _ (p₁ .1) in
+    let p₃ = both-true _ _ (p₂ .1) in
+    let p₄ = both-true _ _ (p₃ .1) in
+    let p₅ = both-true _ _ (p₄ .1) in
+    let p₆ = both-true _ _ (p₅ .1) in
+    let r = both-true _ _ (p₄ .0) in
+    let m = both-true (eqb (q .moved % 16) 0) (ltb (q .moved) (q .job .count)) (p .1) in
+    record {
+      drive = p₁ .0;
+      transfer = p₂ .0;
+      count = count-most (isSectors (ah (q .job .registers))) (q .job .count) (p₃ .0);
+      range = leb-true (q .job .start + q .job .count) (driveAt b (q .job .drive) .blocks) (r .0);
+      buffer = leb-true (q .job .buffer + 512 * q .job .count) M (p₅ .0);
+      packet = p₆ .0;
+      moved = ltb-true (q .moved) (q .job .count) (m .1);
+    }
+
+-- ---- the drives of a sound table
+
+pub soundTo-at : (n : ℕ) (l : List Drive) (store i : ℕ) → i < n → soundTo n l store ≡ true → refusal (firstDrives l i) (getD l i noDrive) store ≡ 0
+unfolding soundTo
+soundTo-at zero l store i h e = absurd (omega arith)
+soundTo-at (suc n) l store i h e =
+    let p = both-true (eqb (refusal (firstDrives l n) (getD l n noDrive) store) 0) (soundTo n l store) e in
+    by-place (ℕ-discrete i n) (eqb-true (refusal (firstDrives l n) (getD l n noDrive) store) 0 (p .0)) (λ q. soundTo-at n l store i q (p .1))
+  where
+    by-place : Dec (i ≡ n) → refusal (firstDrives l n) (getD l n noDrive) store ≡ 0 → (i < n → refusal (firstDrives l i) (getD l i noDrive) store ≡ 0)
+        → refusal (firstDrives l i) (getD l i noDrive) store ≡ 0
+    by-place (yes y) q f = rw y q
+    by-place (no y) q f = f (omega arith)
+
+-- a known drive of a sound table has good fields and lies in the store
+pub drive-sound : (b : Table) (store n : ℕ) → isSound b store ≡ true → isDrive b n ≡ true → (fieldsOk (driveAt b n) ≡ true) × (driveAt b n .first + driveAt b n .blocks ≤ store)
+unfolding isSound isDrive inStore
+drive-sound b store n s k =
+    let s₁ = both-true (leb (b .count) 8) (both (soundTo (b .count) (b .drives) store) (blankTo 8 (b .drives) (b .count))) s in
+    let p = both-true (soundTo (b .count) (b .drives) store) (blankTo 8 (b .drives) (b .count)) (s₁ .1) in
+    let q = both-true _ _ k in
+    let low : 128 ≤ n = leb-true 128 n (q .0) in
+    let high : n < 128 + length (drivesOf b) = ltb-true n (128 + length (drivesOf b)) (q .1) in
+    let i : n - 128 < b .count = omega (arith, length-take (b .count) (b .drives)) in
+    let t = refusal-taken (firstDrives (b .drives) (n - 128)) (driveAt b n) store (soundTo-at (b .count) (b .drives) store (n - 128) i (p .0)) in
+    (t .0, leb-true (driveAt b n .first + driveAt b n .blocks) store (t .1))
+
+-- ---- the tests of the code, one by one
+
+pub stageOk-other : (b : Table) (M : ℕ) (s : Stage) → OneOf (0 ∷ 2 ∷ []) (tagOf stage.the-type s) → true ≡ stageOk b M s
+stageOk-other b M Vacant k = refl
+stageOk-other b M (Waiting q) k = absurd (⊎-elim (λ w. omega arith) (λ w. omega arith) k)
+stageOk-other b M (Finished r) k = refl
+
+pub rowsOk-more : {r a s : Bool} (i : ℕ) (rows : List Row) (b : Table) (M : ℕ) → s ≡ rowsOk i rows b M → r ≡ both a s → a ≡ stageOk b M (stageIn rows i) → r ≡ rowsOk (i + 1) rows b M
+unfolding rowsOk
+rowsOk-more i rows b M p q e = rw (add-one, q, e, p)
+
+pub jobOk-tests : {d : Drive} {f : ℕ} {sector word transfer writes guarded protected buffer packet placed places range blocks count x y : Bool} (b : Table) (M : ℕ) (j : Job)
+    → isDrive b (j .drive) ≡ true → d ≡ driveAt b (j .drive) → f ≡ ah (j .registers) → sector ≡ isSectors f
+    → word ≡ either (eqb f 0x42) (eqb f 0x43) → transfer ≡ either sector word → writes ≡ isWrite f → guarded ≡ isProtected d → protected ≡ both writes guarded
+    → buffer ≡ leb (j .buffer + 512 * j .count) M → packet ≡ pick sector (eqb (j .packet) 0) (leb (j .packet + 16) M) → placed ≡ both packet (not protected) → places ≡ both buffer placed
+    → range ≡ both (leb (j .start + j .count) (d .blocks)) (pick sector (leb (j .start + j .count) (size (geometryOf d))) true) → blocks ≡ both range places
+    → count ≡ leb (j .count) (pick sector 128 127) → x ≡ both count blocks → y ≡ both transfer x → y ≡ jobOk b M j
+unfolding jobOk
+jobOk-tests b M j known ed ef es ew et ei eg ep eb ek el en er eo ec ex ey = rw (ey, ex, ec, eo, er, en, el, ek, eb, ep, eg, ei, et, ew, es, ef, ed, known)

@@ -1,0 +1,4 @@
+pub mod Searches
+pub mod Acceptances
+pub mod Callings
+pub mod Transfers

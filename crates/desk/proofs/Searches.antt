@@ -1,0 +1,27 @@
+-- Laws of the turn's search.
+-- Assumes nothing.
+use mathlib.Core.Path.{_≡_, refl, sym, ap, _∙_}
+use mathlib.Core.Bool.{Bool, true, false}
+use mathlib.Core.List.{List}
+use Prim.Native.Nat.{ℕ, zero, suc, _+_, _-_, _%_, _<_}
+use native.Mathlib.Numerals.{sub-one}
+use native.Mathlib.Omega.{arith}
+use Rattle.desk.specs.declared.Row.{Row}
+use Rattle.desk.specs.declared.Next.{Next}
+use Rattle.desk.specs.declared.Next.the-variants.{Guest, Nobody}
+use Rattle.desk.specs.Parts.{stageIn, isWaiting, next}
+use Rattle.desk.specs.Calls.{seek}
+
+pub seek-here : (rows : List Row) (left g : ℕ) → 0 < left → isWaiting (stageIn rows g) ≡ true → Guest g ≡ seek rows left g
+unfolding seek
+seek-here rows zero g l e = absurd (omega arith)
+seek-here rows (suc k) g l e = rw e
+
+pub seek-on : (rows : List Row) (left g : ℕ) → 0 < left → isWaiting (stageIn rows g) ≡ false → seek rows (left - 1) (next g) ≡ seek rows left g
+unfolding seek
+seek-on rows zero g l e = absurd (omega arith)
+seek-on rows (suc k) g l e = rw (e, sub-one)
+
+pub seek-none : (rows : List Row) (left g : ℕ) → left ≡ 0 → Nobody ≡ seek rows left g
+unfolding seek
+seek-none rows left g e = rw e
