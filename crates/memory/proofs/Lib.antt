@@ -1,3 +1,4 @@
 pub mod Sets
 pub mod Windows
 pub mod Blocks
+pub mod Vectors
