@@ -1,6 +1,7 @@
 use mathlib.Core.Path.{_≡_, sym, ap, _∙_}
 use native.Mathlib.Omega.{arith}
-use lib.ListN.{length, length-map, length-take}
+use lib.ListN.{length, length-map}
+use Rattle.int13.proofs.Steps.{count-most}
 use borrow.Author.Needs.{needs}
 use Rattle.int13.proofs.drive_count.Statement.{statement}
 use Rattle.int13.proofs.drive_count.Tie as tie
@@ -8,23 +9,20 @@ use Rattle.int13.proofs.drive_count.Reads as reads
 use Rattle.int13.proofs.drive_count.Lts as lts
 use Rattle.table.proofs.drive_count.Reads as drive-count-reads
 
--- src/lib.rt:197:5
 drive-count-requires : tie.Need-drive-count-requires
 drive-count-requires c κs = search needs
 
--- src/lib.rt:197:5
 cast-result : tie.Need-cast-result
 cast-result c =
     let b = c .before .args .b in
     let l : length (b .drives) ≡ 8 = simp length-map at (c .before .good .0 .1 .1 .0 .1 .0 .1) in
-    omega (arith, c .drive-count .ensures, length-take (b .count) (b .drives))
+    omega (arith, count-most b l)
 
--- src/lib.rt:194:1
 returns : tie.Need-returns
 returns c =
     let b = c .before .args .b in
     let l : length (b .drives) ≡ 8 = simp length-map at (c .before .good .0 .1 .1 .0 .1 .0 .1) in
-    (c .drive-count .ensures, omega (arith, c .drive-count .ensures, length-take (b .count) (b .drives)))
+    (c .drive-count .ensures, omega (arith, count-most b l))
 
 pub drive-count-spec : {M : Type 1} → statement M
 drive-count-spec = tie.close (tie.spec drive-count-requires cast-result returns)

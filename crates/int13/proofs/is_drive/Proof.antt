@@ -7,22 +7,18 @@ use Rattle.int13.proofs.is_drive.Lts as lts
 use Rattle.int13.proofs.drive_count.Reads as drive-count-reads
 use Rattle.logic.proofs.and.Reads as and-reads
 
--- src/lib.rt:204:29
 drive-count-requires : tie.Need-drive-count-requires
 drive-count-requires c κs = search needs
 
--- src/lib.rt:204:15
 add-end : tie.Need-add-end
 add-end c = search needs
 
--- src/lib.rt:205:5
 and-requires : tie.Need-and-requires
 and-requires c κs = search needs
 
--- src/lib.rt:201:1
 returns : tie.Need-returns
 unfolding isDrive
-returns c = rw (c .and .ensures, c .before .drive-count .ensures .0)
+returns c = cc
 
 pub is-drive-spec : {M : Type 1} → statement M
 is-drive-spec = tie.close (tie.spec drive-count-requires add-end and-requires returns)

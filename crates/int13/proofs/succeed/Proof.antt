@@ -6,15 +6,12 @@ use Rattle.int13.proofs.succeed.Lts as lts
 use Rattle.int13.proofs.al.Reads as al-reads
 use Rattle.int13.proofs.answer.Reads as answer-reads
 
--- src/lib.rt:146:22
 al-requires : tie.Need-al-requires
 al-requires c κs = search needs
 
--- src/lib.rt:146:5
 answer-requires : tie.Need-answer-requires
 answer-requires c κs = search needs
 
--- src/lib.rt:143:1
 returns : tie.Need-returns
 returns c = cc
 
