@@ -63,6 +63,12 @@ withdraw-stage Vacant d g arena store k = refl
 withdraw-stage (Waiting q) d g arena store k = absurd (⊎-elim (λ w. omega arith) (λ w. omega arith) k)
 withdraw-stage (Finished r) d g arena store k = refl
 
+-- a post that passed its tests, by its parts
+post-parts : (d : Desk) (g : ℕ) (arena store : List ℕ) (o : Outcome) (w : List ℕ)
+    → done (postChecked d g [] [] o [] .desk) (postChecked d g [] [] o [] .answer) (withWindow arena g (windowSize d) w) store ≡ postChecked d g arena store o w
+post-parts d g arena store (Answered r) w = refl
+post-parts d g arena store (OutcomeWaits j) w = refl
+
 -- ---- the lengths that are lent
 
 pub lent-arena : (d : Desk) (arena store : List ℕ) → isLent d arena store ≡ true → length arena ≡ d .arena
@@ -161,6 +167,18 @@ module _ (d : Desk) (good : accept d ≡ true) where
 
       pub post-other : (g : ℕ) (r : Registers) → g < 8 → OneOf (1 ∷ 2 ∷ []) (tagOf stage.the-type (stageAt d g)) → still d (PostRefused 21) arena store ≡ postOf d g r arena store
       post-other g r h k = post-stage (stageAt d g) d g r arena store k ∙ post-row g r h
+
+      pub post-vacant : {desk : Desk} {answer : PostAnswer} {outcome : Outcome} {w : List ℕ} (g : ℕ) (r : Registers) → g < 8 → stageAt d g ≡ Vacant
+          → outcome ≡ check (d .table) r (windowOf arena g (windowLength (length arena))) .outcome → w ≡ check (d .table) r (windowOf arena g (windowLength (length arena))) .window
+          → desk ≡ postChecked d g [] [] outcome [] .desk → answer ≡ postChecked d g [] [] outcome [] .answer
+          → done desk answer (withWindow arena g (windowLength (length arena)) w) store ≡ postOf d g r arena store
+      post-vacant g r h v eo ew e₁ e₂ =
+          let m : windowLength (length arena) ≡ windowSize d = ap (λ (n : ℕ). n / 8) (lent-arena d arena store lent) in
+          let asked : ℕ → Checked = λ n. check (d .table) r (windowOf arena g n) in
+          rw (e₁, e₂, eo, ew)
+          (ap (λ (n : ℕ). done (postChecked d g [] [] (asked n .outcome) [] .desk) (postChecked d g [] [] (asked n .outcome) [] .answer) (withWindow arena g n (asked n .window)) store) m
+          ∙ post-parts d g arena store (asked (windowSize d) .outcome) (asked (windowSize d) .window)
+          ∙ ap (postRow d g r arena store) (sym v) ∙ post-row g r h)
 
       pub withdraw-guest : (g : ℕ) → 8 ≤ g → still d (WithdrawRefused 20) arena store ≡ withdrawOf d g arena store
       unfolding withdrawOf

@@ -452,6 +452,45 @@ impl Desk {
         }
     }
 
+    // A guest's call: answered at once, or the row waits.
+    pub fn post(self, guest: usize, registers: Registers, arena: &mut [u8], store: &[u8]) -> Posted
+        ensures { λ r. ⌜ done (r .desk) (r .answer) (now (arena .exit)) (now (store .entry)) ≡ postOf self guest registers (now (arena .entry)) (now (store .entry)) ⌝ }
+    {
+        if !self.accept() {
+            return Posted {
+                desk: self,
+                answer: PostAnswer::Refused(NOT_ACCEPTABLE),
+            };
+        }
+        if !self.is_lent(arena.len(), store.len()) {
+            return Posted {
+                desk: self,
+                answer: PostAnswer::Refused(OTHER_LENGTH),
+            };
+        }
+        if 8 <= guest {
+            return Posted {
+                desk: self,
+                answer: PostAnswer::Refused(NO_GUEST),
+            };
+        }
+        let row = self.rows[guest];
+        let stage = row.stage;
+        let Stage::Vacant = stage else {
+            return Posted {
+                desk: self,
+                answer: PostAnswer::Refused(NOT_VACANT),
+            };
+        };
+        let m = memory::window_length(arena.len());
+        let span = memory::span_of(arena.len(), guest, m);
+        let start = span.start;
+        let end = span.end;
+        let b = self.table;
+        let outcome = int13::check(b, registers, &mut arena[start..end]);
+        self.posted(guest, outcome)
+    }
+
     // The desk after the blocks of a turn have moved.
     fn served(self, guest: usize, q: Request) -> Turned
         requires { ⌜ (guest < 8) × (q .moved ≤ q .job .count) ⌝ }
