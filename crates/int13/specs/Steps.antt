@@ -150,10 +150,10 @@ sectors b r M =
     (pick (both (isWrite (ah r)) (isProtected (driveOf b r))) (Answered (refuse writeProtected r))
     (sectorRun (driveOf b r) r M (blockOf (geometryOf (driveOf b r)) (addressIn (r .cx) (r .dx)))))))
 
--- ---- 08h: AL = 0; CH and CL hold C - 1 and S; DH = H - 1; DL = number of drives
+-- ---- 08h: AL = 0; CH and CL hold C - 1 and S; DH = H - 1, of which DX has room for eight bits; DL = number of drives
 
 abbrev pub geometryGiven : Drive → ℕ → Registers → Registers
-geometryGiven d n r = record { ax = 0; bx = r .bx; cx = pack (d .c - 1) (d .s); dx = 256 * (d .h - 1) + n; ds = r .ds; si = r .si; es = r .es; carry = false }
+geometryGiven d n r = record { ax = 0; bx = r .bx; cx = pack (d .c - 1) (d .s); dx = 256 * ((d .h - 1) % 256) + n; ds = r .ds; si = r .si; es = r .es; carry = false }
 
 unfoldable pub parameters : Table → Registers → Outcome
 parameters b r = pick (isDrive b (dl r)) (Answered (geometryGiven (driveOf b r) (driveCount b) r)) (Answered (refuse noParameters r))

@@ -1,5 +1,20 @@
 // INT 13h: registers, requests, and the steps of each function, on a drive table and one guest's window.
+use chs::ToBlock;
+use drive::Drive;
+use layout::Packet;
+use layout::PacketRead;
+use layout::ResultAnswer;
 use table::Table;
+ghost use mathlib.Core.Path.{_≡_};
+ghost use mathlib.Core.Bool.{true};
+ghost use Prim.Native.Nat.{_+_, _-_, _≤_};
+ghost use lib.Dec.{ltb, eqb};
+ghost use Rattle.logic.specs.Logic.{either};
+ghost use Rattle.chs.specs.declared.ToBlock.the-variants.{Block};
+ghost use Rattle.chs.specs.Chs.{inLimits};
+ghost use Rattle.drive.specs.Drive.{geometryOf};
+ghost use Rattle.int13.specs.Answers.{ah, al, dl, isSectors, isWrite, answer, succeed, stop, refuse, withdraw, posted};
+ghost use Rattle.int13.specs.Steps.{driveCount, isDrive, driveAt, packetPlace, verifyOk, packetJob, packetTests, packetRead, packetPlan, extended, seekRead, seek, sectorBuffer, sectorJob, sectorRun, sectors, geometryGiven, parameters, extensionsGiven, extensions, resultGiven, result, check};
 
 // The registers of a call.
 pub struct Registers {
@@ -39,4 +54,522 @@ pub enum Plan {
     Clear(u8),
     Finish,
     Wait(Job),
+}
+
+// ---- document 01, "Numbers given back": the codes in AH
+
+const BAD_PARAMETER: u8 = 0x01;
+
+const WRITE_PROTECTED: u8 = 0x03;
+
+const OUTSIDE: u8 = 0x04;
+
+const NO_PARAMETERS: u8 = 0x07;
+
+const BAD_BUFFER: u8 = 0x09;
+
+const WITHDRAWN: u8 = 0x80;
+
+// ---- the functions that are told apart by their number
+
+const READ_SECTORS: u8 = 0x02;
+
+const WRITE_SECTORS: u8 = 0x03;
+
+const GET_PARAMETERS: u8 = 0x08;
+
+const CHECK_EXTENSIONS: u8 = 0x41;
+
+const EXTENDED_READ: u8 = 0x42;
+
+const EXTENDED_WRITE: u8 = 0x43;
+
+const EXTENDED_VERIFY: u8 = 0x44;
+
+const EXTENDED_SEEK: u8 = 0x47;
+
+const GET_RESULT: u8 = 0x48;
+
+// 02h and 03h, which say a run of sectors in AL.
+pub fn is_sectors(f: u8) -> bool
+    ensures { λ r. ⌜ r ≡ isSectors f ⌝ }
+{
+    logic::or(f == READ_SECTORS, f == WRITE_SECTORS)
+}
+
+// 03h and 43h, which write the drive.
+pub fn is_write(f: u8) -> bool
+    ensures { λ r. ⌜ r ≡ isWrite f ⌝ }
+{
+    logic::or(f == WRITE_SECTORS, f == EXTENDED_WRITE)
+}
+
+// ---- halves of the registers
+
+// AH.
+pub fn function_of(r: Registers) -> u8
+    ensures { λ f. ⌜ f ≡ ah r ⌝ }
+{
+    (r.ax / 256) as u8
+}
+
+fn al(r: Registers) -> u8
+    ensures { λ n. ⌜ n ≡ al r ⌝ }
+{
+    (r.ax % 256) as u8
+}
+
+fn dl(r: Registers) -> u8
+    ensures { λ n. ⌜ n ≡ dl r ⌝ }
+{
+    (r.dx % 256) as u8
+}
+
+// ---- answers
+
+// The one place that sets carry, AH and AL; the other registers stay as given.
+fn answer(carry: bool, code: u8, low: u8, r: Registers) -> Registers
+    ensures { λ a. ⌜ a ≡ answer carry code low r ⌝ }
+{
+    Registers {
+        ax: 256 * (code as u16) + low as u16,
+        bx: r.bx,
+        cx: r.cx,
+        dx: r.dx,
+        ds: r.ds,
+        si: r.si,
+        es: r.es,
+        carry: carry,
+    }
+}
+
+// Carry clear and AH = 0.
+pub fn succeed(r: Registers) -> Registers
+    ensures { λ a. ⌜ a ≡ succeed r ⌝ }
+{
+    answer(false, 0, al(r), r)
+}
+
+// Carry and a code, after some blocks: AL gives them for 02h and 03h, and stays for the others.
+pub fn stop(code: u8, moved: u8, r: Registers) -> Registers
+    ensures { λ a. ⌜ a ≡ stop code moved r ⌝ }
+{
+    if is_sectors(function_of(r)) {
+        return answer(true, code, moved, r);
+    }
+    answer(true, code, al(r), r)
+}
+
+// A refusal, which moved no block.
+pub fn refuse(code: u8, r: Registers) -> Registers
+    ensures { λ a. ⌜ a ≡ refuse code r ⌝ }
+{
+    stop(code, 0, r)
+}
+
+// A request withdrawn after some blocks.
+pub fn withdraw(moved: u8, r: Registers) -> Registers
+    ensures { λ a. ⌜ a ≡ withdraw moved r ⌝ }
+{
+    stop(WITHDRAWN, moved, r)
+}
+
+// The registers that a waiting row keeps: carry clear.
+fn posted(r: Registers) -> Registers
+    ensures { λ a. ⌜ a ≡ posted r ⌝ }
+{
+    Registers {
+        ax: r.ax,
+        bx: r.bx,
+        cx: r.cx,
+        dx: r.dx,
+        ds: r.ds,
+        si: r.si,
+        es: r.es,
+        carry: false,
+    }
+}
+
+// ---- drives and ranges
+
+// The number of drive 0.
+const FIRST_DRIVE: u8 = 0x80;
+
+fn drive_count(b: Table) -> u8
+    ensures { λ n. ⌜ (n ≡ driveCount b) × (n ≤ 8) ⌝ }
+{
+    table::drive_count(b) as u8
+}
+
+// Whether the table has a drive of that number. DL below 80h is never one.
+pub fn is_drive(b: Table, n: u8) -> bool
+    ensures { λ r. ⌜ r ≡ isDrive b n ⌝ }
+{
+    let end = FIRST_DRIVE + drive_count(b);
+    logic::and(FIRST_DRIVE <= n, n < end)
+}
+
+// The drive of a number. Every caller has found by `is_drive` that there is one; a waiting row names one.
+pub fn drive_at(b: Table, n: u8) -> Drive
+    requires { ⌜ isDrive b n ≡ true ⌝ }
+    ensures { λ d. ⌜ d ≡ driveAt b n ⌝ }
+{
+    let drives = b.drives;
+    let place = (n - FIRST_DRIVE) as usize;
+    drives[place]
+}
+
+// start + count is above the end. Tested by difference, since a guest's start may be any 64-bit number.
+fn ends_past(end: u64, start: u64, count: u64) -> bool
+    ensures { λ r. ⌜ r ≡ ltb end (start + count) ⌝ }
+{
+    if end < count {
+        return true;
+    }
+    end - count < start
+}
+
+// Bytes of a block.
+const BLOCK_LENGTH: u64 = 512;
+
+// ---- 02h, 03h: read and write sectors
+
+// The most sectors of one call; above them AL does not fit a 64 KiB buffer.
+const MOST_SECTORS: u8 = 128;
+
+// The buffer stands at ES:BX.
+fn sector_buffer(r: Registers) -> u64
+    ensures { λ n. ⌜ n ≡ sectorBuffer r ⌝ }
+{
+    layout::linear(r.es, r.bx) as u64
+}
+
+fn sector_job(r: Registers, start: u32) -> Job
+    ensures { λ j. ⌜ j ≡ sectorJob r start ⌝ }
+{
+    Job {
+        registers: posted(r),
+        drive: dl(r),
+        start: start as u64,
+        count: al(r) as u64,
+        buffer: sector_buffer(r),
+        packet: 0,
+    }
+}
+
+// The run of AL blocks from a block of the geometry, whose size asks for the limits: `sectors_02_03` has a block of it.
+fn sector_run(d: Drive, r: Registers, window: usize, start: u32) -> Outcome
+    requires { ⌜ inLimits (geometryOf d) ≡ true ⌝ }
+    ensures { λ o. ⌜ o ≡ sectorRun d r window (Block start) ⌝ }
+{
+    let count = al(r) as u64;
+    let end = chs::size_of(drive::geometry_of(d));
+    if ends_past(end as u64, start as u64, count) {
+        return Outcome::Answered(refuse(OUTSIDE, r));
+    }
+    if ends_past(window as u64, sector_buffer(r), BLOCK_LENGTH * count) {
+        return Outcome::Answered(refuse(BAD_BUFFER, r));
+    }
+    Outcome::Waits(sector_job(r, start))
+}
+
+fn sectors_02_03(b: Table, r: Registers, window: usize) -> Outcome
+    ensures { λ o. ⌜ o ≡ sectors b r window ⌝ }
+{
+    let n = dl(r);
+    if !is_drive(b, n) {
+        return Outcome::Answered(refuse(BAD_PARAMETER, r));
+    }
+    let count = al(r);
+    if count == 0 {
+        return Outcome::Answered(refuse(BAD_PARAMETER, r));
+    }
+    if MOST_SECTORS < count {
+        return Outcome::Answered(refuse(BAD_BUFFER, r));
+    }
+    let d = drive_at(b, n);
+    if logic::and(is_write(function_of(r)), drive::is_protected(d)) {
+        return Outcome::Answered(refuse(WRITE_PROTECTED, r));
+    }
+    let block = chs::block_of(drive::geometry_of(d), chs::address_in(r.cx, r.dx));
+    match block {
+        ToBlock::Refused(code) => Outcome::Answered(refuse(code, r)),
+        ToBlock::Block(start) => sector_run(d, r, window, start),
+    }
+}
+
+// ---- 08h: get drive parameters
+
+// One less, and 0 for 0.
+fn less_one(n: u16) -> u16
+    ensures { λ r. ⌜ r ≡ n - 1 ⌝ }
+{
+    if n == 0 { 0 } else { n - 1 }
+}
+
+// CH and CL hold C - 1 and S; DH = H - 1; DL = the number of drives.
+fn geometry_given(d: Drive, n: u8, r: Registers) -> Registers
+    ensures { λ a. ⌜ a ≡ geometryGiven d n r ⌝ }
+{
+    Registers {
+        ax: 0,
+        bx: r.bx,
+        cx: chs::pack(less_one(d.c), d.s as u16),
+        dx: 256 * (less_one(d.h) % 256) + n as u16,
+        ds: r.ds,
+        si: r.si,
+        es: r.es,
+        carry: false,
+    }
+}
+
+fn parameters_08(b: Table, r: Registers) -> Outcome
+    ensures { λ o. ⌜ o ≡ parameters b r ⌝ }
+{
+    let n = dl(r);
+    if !is_drive(b, n) {
+        return Outcome::Answered(refuse(NO_PARAMETERS, r));
+    }
+    let d = drive_at(b, n);
+    Outcome::Answered(geometry_given(d, drive_count(b), r))
+}
+
+// ---- 41h: check extensions present
+
+// What BX asks and answers.
+const ASKED: u16 = 0x55AA;
+
+const PRESENT: u16 = 0xAA55;
+
+// AH = 30h, AL = 0; CX bit 0: the device access functions.
+const VERSION: u16 = 0x3000;
+
+const ACCESS: u16 = 0x0001;
+
+fn extensions_given(r: Registers) -> Registers
+    ensures { λ a. ⌜ a ≡ extensionsGiven r ⌝ }
+{
+    Registers {
+        ax: VERSION,
+        bx: PRESENT,
+        cx: ACCESS,
+        dx: r.dx,
+        ds: r.ds,
+        si: r.si,
+        es: r.es,
+        carry: false,
+    }
+}
+
+fn extensions_41(b: Table, r: Registers) -> Outcome
+    ensures { λ o. ⌜ o ≡ extensions b r ⌝ }
+{
+    if logic::and(is_drive(b, dl(r)), r.bx == ASKED) {
+        return Outcome::Answered(extensions_given(r));
+    }
+    Outcome::Answered(refuse(BAD_PARAMETER, r))
+}
+
+// ---- 42h, 43h, 44h: extended read, write and verify
+
+// The most blocks of one packet.
+const MOST_BLOCKS: u16 = 127;
+
+// The least size byte of a packet.
+const PACKET_LENGTH: u8 = 16;
+
+// The packet, and the result of 48h, stand at DS:SI.
+fn packet_place(r: Registers) -> usize
+    ensures { λ n. ⌜ n ≡ packetPlace r ⌝ }
+{
+    layout::linear(r.ds, r.si) as usize
+}
+
+// AL of 43h: 0 and 1, or 2 where information flag bit 3 is set.
+fn verify_ok(low: u8, flags: u16) -> bool
+    ensures { λ r. ⌜ r ≡ verifyOk low flags ⌝ }
+{
+    logic::or(low < 2, logic::and(low == 2, flags / 8 % 2 == 1))
+}
+
+fn packet_job(r: Registers, p: Packet) -> Job
+    ensures { λ j. ⌜ j ≡ packetJob r p ⌝ }
+{
+    Job {
+        registers: posted(r),
+        drive: dl(r),
+        start: p.start,
+        count: p.count as u64,
+        buffer: p.buffer as u64,
+        packet: packet_place(r) as u64,
+    }
+}
+
+// The tests of a packet whose size byte is good: from here a refusal sets the count word to 0.
+fn packet_tests(d: Drive, r: Registers, window: usize, p: Packet) -> Plan
+    ensures { λ o. ⌜ o ≡ packetTests d r window p ⌝ }
+{
+    if MOST_BLOCKS < p.count {
+        return Plan::Clear(BAD_PARAMETER);
+    }
+    let f = function_of(r);
+    if logic::and(is_write(f), drive::is_protected(d)) {
+        return Plan::Clear(WRITE_PROTECTED);
+    }
+    let count = p.count as u64;
+    if ends_past(d.blocks, p.start, count) {
+        return Plan::Clear(OUTSIDE);
+    }
+    if f == EXTENDED_VERIFY {
+        return Plan::Finish;
+    }
+    if ends_past(window as u64, p.buffer as u64, BLOCK_LENGTH * count) {
+        return Plan::Clear(BAD_BUFFER);
+    }
+    if p.count == 0 {
+        return Plan::Finish;
+    }
+    Plan::Wait(packet_job(r, p))
+}
+
+fn packet_read(d: Drive, r: Registers, window: usize, read: PacketRead) -> Plan
+    ensures { λ o. ⌜ o ≡ packetRead d r window read ⌝ }
+{
+    match read {
+        PacketRead::Refused(code) => Plan::Refuse(code),
+        PacketRead::Whole(p) => {
+            if p.size < PACKET_LENGTH {
+                return Plan::Refuse(BAD_PARAMETER);
+            }
+            packet_tests(d, r, window, p)
+        }
+    }
+}
+
+// All tests in the paper's order; the packet is read once, here.
+fn packet_plan(b: Table, r: Registers, window: &[u8]) -> Plan
+    ensures { λ o. ⌜ o ≡ packetPlan b r (now (window .entry)) ⌝ }
+{
+    let n = dl(r);
+    if !is_drive(b, n) {
+        return Plan::Refuse(BAD_PARAMETER);
+    }
+    let d = drive_at(b, n);
+    let verify = verify_ok(al(r), d.flags);
+    if logic::and(is_write(function_of(r)), !verify) {
+        return Plan::Refuse(BAD_PARAMETER);
+    }
+    let read = layout::read_packet(window, packet_place(r));
+    packet_read(d, r, window.len(), read)
+}
+
+fn extended_42_43_44(b: Table, r: Registers, window: &mut [u8]) -> Outcome
+    ensures { λ o. ⌜ (o ≡ extended b r (now (window .entry)) .outcome) × (now (window .exit) ≡ extended b r (now (window .entry)) .window) ⌝ }
+{
+    let plan = packet_plan(b, r, window);
+    match plan {
+        Plan::Refuse(code) => Outcome::Answered(refuse(code, r)),
+        Plan::Clear(code) => {
+            words::store16(window, packet_place(r) + 2, 0);
+            Outcome::Answered(refuse(code, r))
+        }
+        Plan::Finish => Outcome::Answered(succeed(r)),
+        Plan::Wait(job) => Outcome::Waits(job),
+    }
+}
+
+// ---- 47h: extended seek
+
+fn seek_read(d: Drive, r: Registers, read: PacketRead) -> Outcome
+    ensures { λ o. ⌜ o ≡ seekRead d r read ⌝ }
+{
+    match read {
+        PacketRead::Refused(code) => Outcome::Answered(refuse(code, r)),
+        PacketRead::Whole(p) => {
+            if p.size < PACKET_LENGTH {
+                return Outcome::Answered(refuse(BAD_PARAMETER, r));
+            }
+            if d.blocks <= p.start {
+                return Outcome::Answered(refuse(OUTSIDE, r));
+            }
+            Outcome::Answered(succeed(r))
+        }
+    }
+}
+
+fn seek_47(b: Table, r: Registers, window: &[u8]) -> Outcome
+    ensures { λ o. ⌜ o ≡ seek b r (now (window .entry)) ⌝ }
+{
+    let n = dl(r);
+    if !is_drive(b, n) {
+        return Outcome::Answered(refuse(BAD_PARAMETER, r));
+    }
+    let read = layout::read_packet(window, packet_place(r));
+    seek_read(drive_at(b, n), r, read)
+}
+
+// ---- 48h: get drive parameters, the result buffer
+
+fn result_given(given: ResultAnswer, r: Registers) -> Outcome
+    ensures { λ o. ⌜ o ≡ resultGiven given r ⌝ }
+{
+    match given {
+        ResultAnswer::Refused(code) => Outcome::Answered(refuse(code, r)),
+        ResultAnswer::Written(_size) => Outcome::Answered(succeed(r)),
+    }
+}
+
+fn result_48(b: Table, r: Registers, window: &mut [u8]) -> Outcome
+    ensures { λ o. ⌜ (o ≡ result b r (now (window .entry)) .outcome) × (now (window .exit) ≡ result b r (now (window .entry)) .window) ⌝ }
+{
+    let n = dl(r);
+    if !is_drive(b, n) {
+        return Outcome::Answered(refuse(BAD_PARAMETER, r));
+    }
+    let place = packet_place(r);
+    if window.len() < place + 2 {
+        return Outcome::Answered(refuse(BAD_PARAMETER, r));
+    }
+    let d = drive_at(b, n);
+    let asked = words::get16(window, place);
+    let given = layout::write_result(d, asked, &mut window[place..]);
+    result_given(given, r)
+}
+
+// ---- every function by AH
+
+fn is_extended(f: u8) -> bool
+    ensures { λ r. ⌜ r ≡ either (eqb f 0x42) (either (eqb f 0x43) (eqb f 0x44)) ⌝ }
+{
+    logic::or(
+        f == EXTENDED_READ,
+        logic::or(f == EXTENDED_WRITE, f == EXTENDED_VERIFY),
+    )
+}
+
+// What a call comes to, for any table, registers and window: answered at once, or it waits, with the window as the answer leaves it.
+// No function that is not named here is known.
+pub fn check(b: Table, r: Registers, window: &mut [u8]) -> Outcome
+    ensures { λ o. ⌜ (o ≡ check b r (now (window .entry)) .outcome) × (now (window .exit) ≡ check b r (now (window .entry)) .window) ⌝ }
+{
+    let f = function_of(r);
+    if is_sectors(f) {
+        return sectors_02_03(b, r, window.len());
+    }
+    if f == GET_PARAMETERS {
+        return parameters_08(b, r);
+    }
+    if f == CHECK_EXTENSIONS {
+        return extensions_41(b, r);
+    }
+    if is_extended(f) {
+        return extended_42_43_44(b, r, window);
+    }
+    if f == EXTENDED_SEEK {
+        return seek_47(b, r, window);
+    }
+    if f == GET_RESULT {
+        return result_48(b, r, window);
+    }
+    Outcome::Answered(refuse(BAD_PARAMETER, r))
 }

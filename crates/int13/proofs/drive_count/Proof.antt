@@ -1,0 +1,28 @@
+use mathlib.Core.Path.{_≡_, sym, ap, _∙_}
+use native.Mathlib.Omega.{arith}
+use lib.ListN.{length, length-map}
+use Rattle.int13.proofs.Steps.{count-most}
+use borrow.Author.Needs.{needs}
+use Rattle.int13.proofs.drive_count.Statement.{statement}
+use Rattle.int13.proofs.drive_count.Tie as tie
+use Rattle.int13.proofs.drive_count.Reads as reads
+use Rattle.int13.proofs.drive_count.Lts as lts
+use Rattle.table.proofs.drive_count.Reads as drive-count-reads
+
+drive-count-requires : tie.Need-drive-count-requires
+drive-count-requires c κs = search needs
+
+cast-result : tie.Need-cast-result
+cast-result c =
+    let b = c .before .args .b in
+    let l : length (b .drives) ≡ 8 = simp length-map at (c .before .good .0 .1 .1 .0 .1 .0 .1) in
+    omega (arith, count-most b l)
+
+returns : tie.Need-returns
+returns c =
+    let b = c .before .args .b in
+    let l : length (b .drives) ≡ 8 = simp length-map at (c .before .good .0 .1 .1 .0 .1 .0 .1) in
+    (c .drive-count .ensures, omega (arith, count-most b l))
+
+pub drive-count-spec : {M : Type 1} → statement M
+drive-count-spec = tie.close (tie.spec drive-count-requires cast-result returns)

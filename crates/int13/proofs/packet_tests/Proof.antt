@@ -1,0 +1,139 @@
+use mathlib.Core.Path.{_≡_, sym, _∙_}
+use mathlib.Core.Bool.{true, false}
+use Prim.Native.Nat.{_+_, _*_}
+use lib.Dec.{ltb, eqb}
+use borrow.Author.Tests.{lt-ltb, le-ltb, eq-eqb, ne-eqb}
+use Rattle.logic.specs.Logic.{both}
+use Rattle.drive.specs.Drive.{isProtected}
+use Rattle.memory.specs.Blocks.{blockLength}
+use Rattle.int13.specs.Answers.{ah, isWrite}
+use Rattle.int13.specs.Steps.{packetTests}
+use borrow.Author.Needs.{needs}
+use Rattle.int13.proofs.packet_tests.Statement.{statement}
+use Rattle.int13.proofs.packet_tests.Tie as tie
+use Rattle.int13.proofs.packet_tests.Reads as reads
+use Rattle.int13.proofs.packet_tests.Lts as lts
+use Rattle.drive.proofs.is_protected.Reads as is-protected-reads
+use Rattle.int13.proofs.ends_past.Reads as ends-past-reads
+use Rattle.int13.proofs.function_of.Reads as function-of-reads
+use Rattle.int13.proofs.is_write.Reads as is-write-reads
+use Rattle.int13.proofs.packet_job.Reads as packet-job-reads
+use Rattle.logic.proofs.and.Reads as and-reads
+
+returns : tie.Need-returns
+unfolding packetTests
+returns c = rw (lt-ltb _ _ (c .if1 .taken))
+
+function-of-requires : tie.Need-function-of-requires
+function-of-requires c κs = search needs
+
+is-write-requires : tie.Need-is-write-requires
+is-write-requires c κs = search needs
+
+is-protected-requires : tie.Need-is-protected-requires
+is-protected-requires c κs = search needs
+
+and-requires : tie.Need-and-requires
+and-requires c κs = search needs
+
+returns-2 : tie.Need-returns-2
+unfolding packetTests
+returns-2 c =
+    let a = c .before .before .before .before .before .before .before .args in
+    let most = le-ltb 127 (a .p .count) (c .before .before .before .before .before .if1 .left) in
+    let protected : both (isWrite (ah (a .r))) (isProtected (a .d)) ≡ true = cc in
+    rw (most, protected)
+
+cast-count : tie.Need-cast-count
+cast-count c = search needs
+
+ends-past-requires : tie.Need-ends-past-requires
+ends-past-requires c κs = search needs
+
+returns-3 : tie.Need-returns-3
+unfolding packetTests
+returns-3 c =
+    let a = c .before .before .before .before .before .before .before .before .before .before .args in
+    let most = le-ltb 127 (a .p .count) (c .before .before .before .before .before .before .before .before .if1 .left) in
+    let protected : both (isWrite (ah (a .r))) (isProtected (a .d)) ≡ false = cc in
+    let range : ltb (a .d .blocks) (a .p .start + a .p .count) ≡ true = cc in
+    rw (most, protected, range)
+
+returns-4 : tie.Need-returns-4
+unfolding packetTests
+returns-4 c =
+    let a = c .before .before .before .before .before .before .before .before .before .before .before .args in
+    let most = le-ltb 127 (a .p .count) (c .before .before .before .before .before .before .before .before .before .if1 .left) in
+    let protected : both (isWrite (ah (a .r))) (isProtected (a .d)) ≡ false = cc in
+    let range : ltb (a .d .blocks) (a .p .start + a .p .count) ≡ false = cc in
+    let verify : eqb (ah (a .r)) 0x44 ≡ true = eq-eqb _ _ (sym (c .before .before .before .before .before .before .before .before .function-of .ensures) ∙ c .if4 .taken) in
+    rw (most, protected, range, verify)
+
+cast-ends-past : tie.Need-cast-ends-past
+cast-ends-past c = search needs
+
+mul-ends-past : tie.Need-mul-ends-past
+mul-ends-past c = search needs
+
+ends-past-requires-2 : tie.Need-ends-past-requires-2
+ends-past-requires-2 c κs = search needs
+
+returns-5 : tie.Need-returns-5
+unfolding packetTests
+returns-5 c =
+    let a = c .before .before .before .before .before .before .before .before .before .before .before .before .before .before .args in
+    let most = le-ltb 127 (a .p .count) (c .before .before .before .before .before .before .before .before .before .before .before .before .if1 .left) in
+    let protected : both (isWrite (ah (a .r))) (isProtected (a .d)) ≡ false = cc in
+    let range : ltb (a .d .blocks) (a .p .start + a .p .count) ≡ false = cc in
+    let verify : eqb (ah (a .r)) 0x44 ≡ false = ne-eqb _ _ (λ e. c .before .before .before .if4 .left (c .before .before .before .before .before .before .before .before .before .before .before .function-of .ensures ∙ e)) in
+    let buffer : ltb (a .window) (a .p .buffer + blockLength * a .p .count) ≡ true = cc in
+    rw (most, protected, range, verify, buffer)
+
+returns-6 : tie.Need-returns-6
+unfolding packetTests
+returns-6 c =
+    let a = c .before .before .before .before .before .before .before .before .before .before .before .before .before .before .before .before .args in
+    let most = le-ltb 127 (a .p .count) (c .before .before .before .before .before .before .before .before .before .before .before .before .before .before .if1 .left) in
+    let protected : both (isWrite (ah (a .r))) (isProtected (a .d)) ≡ false = cc in
+    let range : ltb (a .d .blocks) (a .p .start + a .p .count) ≡ false = cc in
+    let verify : eqb (ah (a .r)) 0x44 ≡ false = ne-eqb _ _ (λ e. c .before .before .before .before .before .if4 .left (c .before .before .before .before .before .before .before .before .before .before .before .before .before .function-of .ensures ∙ e)) in
+    let buffer : ltb (a .window) (a .p .buffer + blockLength * a .p .count) ≡ false = cc in
+    let none = eq-eqb (a .p .count) 0 (c .if6 .taken) in
+    rw (most, protected, range, verify, buffer, none)
+
+packet-job-requires : tie.Need-packet-job-requires
+packet-job-requires c κs = search needs
+
+returns-7 : tie.Need-returns-7
+unfolding packetTests
+returns-7 c =
+    let a = c .before .before .before .before .before .before .before .before .before .before .before .before .before .before .before .before .before .args in
+    let most = le-ltb 127 (a .p .count) (c .before .before .before .before .before .before .before .before .before .before .before .before .before .before .before .if1 .left) in
+    let protected : both (isWrite (ah (a .r))) (isProtected (a .d)) ≡ false = cc in
+    let range : ltb (a .d .blocks) (a .p .start + a .p .count) ≡ false = cc in
+    let verify : eqb (ah (a .r)) 0x44 ≡ false = ne-eqb _ _ (λ e. c .before .before .before .before .before .before .if4 .left (c .before .before .before .before .before .before .before .before .before .before .before .before .before .before .function-of .ensures ∙ e)) in
+    let buffer : ltb (a .window) (a .p .buffer + blockLength * a .p .count) ≡ false = cc in
+    let none = ne-eqb (a .p .count) 0 (c .before .if6 .left) in
+    rw (most, protected, range, verify, buffer, none, c .packet-job .ensures)
+
+pub packet-tests-spec : {M : Type 1} → statement M
+packet-tests-spec =
+    tie.close
+    (tie.spec
+    returns
+    function-of-requires
+    is-write-requires
+    is-protected-requires
+    and-requires
+    returns-2
+    cast-count
+    ends-past-requires
+    returns-3
+    returns-4
+    cast-ends-past
+    mul-ends-past
+    ends-past-requires-2
+    returns-5
+    returns-6
+    packet-job-requires
+    returns-7)

@@ -1,0 +1,36 @@
+use borrow.Author.Needs.{needs}
+use Rattle.int13.proofs.result_given.Statement.{statement}
+use Rattle.int13.proofs.result_given.Tie as tie
+use Rattle.int13.proofs.result_given.Reads as reads
+use Rattle.int13.proofs.result_given.Lts as lts
+use Rattle.int13.proofs.refuse.Reads as refuse-reads
+use Rattle.int13.proofs.succeed.Reads as succeed-reads
+
+enum-known-given : tie.Need-enum-known-given
+enum-known-given c = search needs
+
+refuse-requires : tie.Need-refuse-requires
+refuse-requires c κs = search needs
+
+enum-known-given-2 : tie.Need-enum-known-given-2
+enum-known-given-2 c = search needs
+
+succeed-requires : tie.Need-succeed-requires
+succeed-requires c κs = search needs
+
+returns : tie.Need-returns
+returns c = rw (c .before .before .given .given .1, c .refuse .ensures)
+
+returns-2 : tie.Need-returns-2
+returns-2 c = rw (c .before .before .given2 .given .1, c .succeed .ensures)
+
+pub result-given-spec : {M : Type 1} → statement M
+result-given-spec =
+    tie.close
+    (tie.spec
+    enum-known-given
+    refuse-requires
+    enum-known-given-2
+    succeed-requires
+    returns
+    returns-2)

@@ -1,0 +1,45 @@
+use mathlib.Core.Path.{_≡_}
+use mathlib.Core.Bool.{true, false}
+use Rattle.int13.specs.Answers.{ah, isSectors}
+use borrow.Author.Needs.{needs}
+use Rattle.int13.proofs.stop.Statement.{statement}
+use Rattle.int13.proofs.stop.Tie as tie
+use Rattle.int13.proofs.stop.Reads as reads
+use Rattle.int13.proofs.stop.Lts as lts
+use Rattle.int13.proofs.al.Reads as al-reads
+use Rattle.int13.proofs.answer.Reads as answer-reads
+use Rattle.int13.proofs.function_of.Reads as function-of-reads
+use Rattle.int13.proofs.is_sectors.Reads as is-sectors-reads
+
+function-of-requires : tie.Need-function-of-requires
+function-of-requires c κs = search needs
+
+is-sectors-requires : tie.Need-is-sectors-requires
+is-sectors-requires c κs = search needs
+
+answer-requires : tie.Need-answer-requires
+answer-requires c κs = search needs
+
+returns : tie.Need-returns
+returns c = let s : isSectors (ah (c .before .before .before .before .args .r)) ≡ true = cc in rw s (c .answer .ensures)
+
+al-requires : tie.Need-al-requires
+al-requires c κs = search needs
+
+answer-requires-2 : tie.Need-answer-requires-2
+answer-requires-2 c κs = search needs
+
+returns-2 : tie.Need-returns-2
+returns-2 c = let s : isSectors (ah (c .before .before .before .before .before .args .r)) ≡ false = cc in rw s cc
+
+pub stop-spec : {M : Type 1} → statement M
+stop-spec =
+    tie.close
+    (tie.spec
+    function-of-requires
+    is-sectors-requires
+    answer-requires
+    returns
+    al-requires
+    answer-requires-2
+    returns-2)

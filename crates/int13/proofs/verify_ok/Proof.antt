@@ -1,0 +1,21 @@
+use Rattle.int13.specs.Steps.{verifyOk}
+use borrow.Author.Needs.{needs}
+use Rattle.int13.proofs.verify_ok.Statement.{statement}
+use Rattle.int13.proofs.verify_ok.Tie as tie
+use Rattle.int13.proofs.verify_ok.Reads as reads
+use Rattle.int13.proofs.verify_ok.Lts as lts
+use Rattle.logic.proofs.and.Reads as and-reads
+use Rattle.logic.proofs.or.Reads as or-reads
+
+and-requires : tie.Need-and-requires
+and-requires c κs = search needs
+
+or-requires : tie.Need-or-requires
+or-requires c κs = search needs
+
+returns : tie.Need-returns
+unfolding verifyOk
+returns c = cc
+
+pub verify-ok-spec : {M : Type 1} → statement M
+verify-ok-spec = tie.close (tie.spec and-requires or-requires returns)
