@@ -3,25 +3,30 @@
 use mathlib.Core.Path.{_≡_, refl, sym, _∙_}
 use mathlib.Core.Bool.{Bool, true, false, not}
 use mathlib.Core.List.{List, _++_, append-nil}
-use Prim.Native.Nat.{ℕ, _+_, _-_, _*_, _≤_, _<_}
+use Prim.Native.Nat.{ℕ, _+_, _-_, _≤_, _<_}
 use native.Mathlib.Omega.{arith}
-use lib.ListN.{length, take, drop, length-take, length-drop, drop-of-length-le}
-use lib.Seq.{take-all}
+use lib.ListN.{length, take, drop, length-append, length-take, length-drop, drop-of-length-le}
+use lib.Seq.{take-all, length-sets}
 use lib.Dec.{leb, ltb, eqb}
-use borrow.Author.Tests.{leb-true, leb-false, ltb-true, ltb-false, lt-ltb, le-ltb}
-use Rattle.logic.specs.Logic.{pick, both}
+use borrow.Author.Tests.{leb-true, ltb-true, ltb-false, lt-ltb, le-ltb}
+use Rattle.logic.specs.Logic.{pick, both, either}
 use Rattle.logic.proofs.Logic.{both-true}
 use Rattle.chs.specs.declared.Geometry.{Geometry}
 use Rattle.chs.specs.declared.Address.{Address}
 use Rattle.chs.specs.declared.ToBlock.the-variants.{Block, Refused as NoBlock}
 use Rattle.chs.specs.Chs.{outside, inLimits, isValid, number, blockOf}
+use Rattle.words.specs.Words.{le, leBytes}
+use Rattle.drive.proofs.Drives.{Arrays}
 use Rattle.table.specs.declared.Table.{Table}
 use Rattle.layout.specs.declared.PacketRead.the-variants.{Whole, Refused as NoPacket}
 use Rattle.layout.specs.Packet.{packetLength, packetAt, readPacket}
+use Rattle.layout.proofs.ResultBuffers.{length-out}
 use Rattle.int13.specs.declared.Registers.{Registers}
+use Rattle.int13.specs.declared.Outcome.the-variants.{Answered}
+use Rattle.int13.specs.declared.Plan.{Plan}
 use Rattle.int13.specs.declared.Plan.the-variants.{Refuse, Clear, Finish, Wait}
-use Rattle.int13.specs.Answers.{badParameter, ah, al, dl, isWrite}
-use Rattle.int13.specs.Steps.{firstDrive, driveCount, isDrive, driveOf, packetPlace, verifyOk, packetRead, packetPlan}
+use Rattle.int13.specs.Answers.{badParameter, ah, al, dl, isSectors, isWrite, refuse}
+use Rattle.int13.specs.Steps.{Checked, unchanged, firstDrive, driveCount, isDrive, driveOf, packetPlace, verifyOk, packetRead, packetPlan, carryOut, extended, seek, sectors, parameters, extensions, resultSteps, result, check}
 
 -- ---- drives
 
@@ -78,3 +83,44 @@ lent-rest w place = take-all (length w - place) (drop place w) (omega (arith, le
 
 pub put-rest : (w out : List ℕ) (place : ℕ) → take place w ++ (out ++ drop (length w - place) (drop place w)) ≡ take place w ++ out
 put-rest w out place = rw (drop-of-length-le (drop place w) {i = length w - place} (omega (arith, length-drop place w)), append-nil)
+
+-- ---- the window after a call has as many bytes as before
+
+length-carryOut : (p : Plan) (r : Registers) (w : List ℕ) → length (carryOut p r w .window) ≡ length w
+length-carryOut (Refuse code) r w = refl
+length-carryOut (Clear code) r w = length-sets w (packetPlace r + 2) (leBytes 2 0)
+length-carryOut Finish r w = refl
+length-carryOut (Wait j) r w = refl
+
+length-result : (b : Table) (r : Registers) (w : List ℕ) → (isDrive b (dl r) ≡ true → Arrays (driveOf b r)) → length (result b r w .window) ≡ length w
+unfolding result
+length-result b r w arrays = by-tests (isDrive b (dl r)) (ltb (length w) (packetPlace r + 2)) refl
+  where
+    refused : Checked
+    refused = unchanged w (Answered (refuse badParameter r))
+
+    by-tests : (known short : Bool) → isDrive b (dl r) ≡ known
+        → length (pick (not known) refused (pick short refused (resultSteps (driveOf b r) r w (packetPlace r))) .window) ≡ length w
+    by-tests false short e = refl
+    by-tests true true e = refl
+    by-tests true false e =
+        let kept = length-out (driveOf b r) (le 2 w (packetPlace r)) (drop (packetPlace r) w) (arrays e) in
+        rw (length-append, kept) (omega (arith, length-take (packetPlace r) w, length-drop (packetPlace r) w))
+
+-- every drive of the code has its arrays' lengths
+pub length-check : (b : Table) (r : Registers) (w : List ℕ) → (isDrive b (dl r) ≡ true → Arrays (driveOf b r)) → length (check b r w .window) ≡ length w
+unfolding check
+length-check b r w arrays =
+    by-tests (isSectors (ah r)) (eqb (ah r) 0x08) (eqb (ah r) 0x41) (either (eqb (ah r) 0x42) (either (eqb (ah r) 0x43) (eqb (ah r) 0x44))) (eqb (ah r) 0x47) (eqb (ah r) 0x48)
+  where
+    by-tests : (s p x e k g : Bool)
+        → length (pick s (unchanged w (sectors b r (length w))) (pick p (unchanged w (parameters b r)) (pick x (unchanged w (extensions b r))
+        (pick e (extended b r w) (pick k (unchanged w (seek b r w)) (pick g (result b r w) (unchanged w (Answered (refuse badParameter r)))))))) .window)
+        ≡ length w
+    by-tests true p x e k g = refl
+    by-tests false true x e k g = refl
+    by-tests false false true e k g = refl
+    by-tests false false false true k g = length-carryOut (packetPlan b r w) r w
+    by-tests false false false false true g = refl
+    by-tests false false false false false true = length-result b r w arrays
+    by-tests false false false false false false = refl

@@ -70,7 +70,7 @@ const BAD_BUFFER: u8 = 0x09;
 
 const WITHDRAWN: u8 = 0x80;
 
-// ---- the functions that are told apart by their number
+// ---- the functions, by AH
 
 const READ_SECTORS: u8 = 0x02;
 
@@ -234,7 +234,7 @@ const BLOCK_LENGTH: u64 = 512;
 
 // ---- 02h, 03h: read and write sectors
 
-// The most sectors of one call; above them AL does not fit a 64 KiB buffer.
+// The most sectors of one call.
 const MOST_SECTORS: u8 = 128;
 
 // The buffer stands at ES:BX.
@@ -547,8 +547,8 @@ fn is_extended(f: u8) -> bool
     )
 }
 
-// What a call comes to, for any table, registers and window: answered at once, or it waits, with the window as the answer leaves it.
-// No function that is not named here is known.
+// What a call comes to, for any table, registers and window: answered at once, or it waits. The window is written by 48h and by a
+// refused 42h, 43h or 44h only. A function that is not named here is refused with 01h.
 pub fn check(b: Table, r: Registers, window: &mut [u8]) -> Outcome
     ensures { λ o. ⌜ (o ≡ check b r (now (window .entry)) .outcome) × (now (window .exit) ≡ check b r (now (window .entry)) .window) ⌝ }
 {

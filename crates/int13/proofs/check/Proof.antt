@@ -21,6 +21,26 @@ use Rattle.int13.proofs.result_48.Reads as result-48-reads
 use Rattle.int13.proofs.sectors_02_03.Reads as sectors-02-03-reads
 use Rattle.int13.proofs.seek_47.Reads as seek-47-reads
 
+-- which functions it is not
+
+not-sectors : (c : tie.Else1) → isSectors (ah (c .before .before .before .before .args .r)) ≡ false
+not-sectors c = rw (c .before .before .function-of .ensures) at (sym (c .before .is-sectors .ensures) ∙ c .if1 .left)
+
+not-parameters : (c : tie.Else2) → eqb (ah (c .before .before .before .before .before .args .r)) 0x08 ≡ false
+not-parameters c = ne-eqb _ _ (λ e. c .if2 .left (c .before .before .before .function-of .ensures ∙ e))
+
+not-extensions : (c : tie.Else3) → eqb (ah (c .before .before .before .before .before .before .args .r)) 0x41 ≡ false
+not-extensions c = ne-eqb _ _ (λ e. c .if3 .left (c .before .before .before .before .function-of .ensures ∙ e))
+
+not-extended : (c : tie.Else4) → either (eqb (ah (c .before .before .before .before .before .before .before .before .args .r)) 0x42) (either (eqb (ah (c .before .before .before .before .before .before .before .before .args .r)) 0x43) (eqb (ah (c .before .before .before .before .before .before .before .before .args .r)) 0x44)) ≡ false
+not-extended c = rw (c .before .before .before .before .before .before .function-of .ensures) at (sym (c .before .is-extended .ensures) ∙ c .if4 .left)
+
+not-seek : (c : tie.Else5) → eqb (ah (c .before .before .before .before .before .before .before .before .before .args .r)) 0x47 ≡ false
+not-seek c = ne-eqb _ _ (λ e. c .if5 .left (c .before .before .before .before .before .before .before .function-of .ensures ∙ e))
+
+not-result : (c : tie.Else6) → eqb (ah (c .before .before .before .before .before .before .before .before .before .before .args .r)) 0x48 ≡ false
+not-result c = ne-eqb _ _ (λ e. c .if6 .left (c .before .before .before .before .before .before .before .before .function-of .ensures ∙ e))
+
 function-of-requires : tie.Need-function-of-requires
 function-of-requires c κs = search needs
 
@@ -33,10 +53,8 @@ sectors-02-03-requires c κs = search needs
 returns : tie.Need-returns
 unfolding check
 returns c =
-    let a = c .before .before .before .before .before .args in
-    let f = c .before .before .before .function-of .ensures in
-    let is-sectors : isSectors (ah (a .r)) ≡ true = cc in
-    (rw is-sectors (c .sectors-02-03 .ensures), rw is-sectors)
+    let this : isSectors (ah (c .before .before .before .before .before .args .r)) ≡ true = rw (c .before .before .before .function-of .ensures) at (sym (c .before .before .is-sectors .ensures) ∙ c .before .if1 .taken) in
+    (rw this (c .sectors-02-03 .ensures), rw this)
 
 parameters-08-requires : tie.Need-parameters-08-requires
 parameters-08-requires c κs = search needs
@@ -44,11 +62,8 @@ parameters-08-requires c κs = search needs
 returns-2 : tie.Need-returns-2
 unfolding check
 returns-2 c =
-    let a = c .before .before .before .before .before .before .args in
-    let f = c .before .before .before .before .function-of .ensures in
-    let is-sectors : isSectors (ah (a .r)) ≡ false = cc in
-    let is-parameters : eqb (ah (a .r)) 0x08 ≡ true = eq-eqb _ _ (sym f ∙ c .before .if2 .taken) in
-    (rw (is-sectors, is-parameters) (c .parameters-08 .ensures), rw (is-sectors, is-parameters))
+    let this : eqb (ah (c .before .before .before .before .before .before .args .r)) 0x08 ≡ true = eq-eqb _ _ (sym (c .before .before .before .before .function-of .ensures) ∙ c .before .if2 .taken) in
+    (rw (not-sectors (c .before .before), this) (c .parameters-08 .ensures), rw (not-sectors (c .before .before), this))
 
 extensions-41-requires : tie.Need-extensions-41-requires
 extensions-41-requires c κs = search needs
@@ -56,12 +71,8 @@ extensions-41-requires c κs = search needs
 returns-3 : tie.Need-returns-3
 unfolding check
 returns-3 c =
-    let a = c .before .before .before .before .before .before .before .args in
-    let f = c .before .before .before .before .before .function-of .ensures in
-    let is-sectors : isSectors (ah (a .r)) ≡ false = cc in
-    let is-parameters : eqb (ah (a .r)) 0x08 ≡ false = ne-eqb _ _ (λ e. c .before .before .if2 .left (f ∙ e)) in
-    let is-extensions : eqb (ah (a .r)) 0x41 ≡ true = eq-eqb _ _ (sym f ∙ c .before .if3 .taken) in
-    (rw (is-sectors, is-parameters, is-extensions) (c .extensions-41 .ensures), rw (is-sectors, is-parameters, is-extensions))
+    let this : eqb (ah (c .before .before .before .before .before .before .before .args .r)) 0x41 ≡ true = eq-eqb _ _ (sym (c .before .before .before .before .before .function-of .ensures) ∙ c .before .if3 .taken) in
+    (rw (not-sectors (c .before .before .before), not-parameters (c .before .before), this) (c .extensions-41 .ensures), rw (not-sectors (c .before .before .before), not-parameters (c .before .before), this))
 
 is-extended-requires : tie.Need-is-extended-requires
 is-extended-requires c κs = search needs
@@ -75,13 +86,8 @@ same-length c = search needs
 returns-4 : tie.Need-returns-4
 unfolding check
 returns-4 c =
-    let a = c .before .before .before .before .before .before .before .before .before .before .before .before .args in
-    let f = c .before .before .before .before .before .before .before .before .before .before .function-of .ensures in
-    let is-sectors : isSectors (ah (a .r)) ≡ false = cc in
-    let is-parameters : eqb (ah (a .r)) 0x08 ≡ false = ne-eqb _ _ (λ e. c .before .before .before .before .before .before .before .if2 .left (f ∙ e)) in
-    let is-extensions : eqb (ah (a .r)) 0x41 ≡ false = ne-eqb _ _ (λ e. c .before .before .before .before .before .before .if3 .left (f ∙ e)) in
-    let is-extended : either (eqb (ah (a .r)) 0x42) (either (eqb (ah (a .r)) 0x43) (eqb (ah (a .r)) 0x44)) ≡ true = cc in
-    (rw (is-sectors, is-parameters, is-extensions, is-extended) (c .before .before .extended-42-43-44 .ensures .0), rw (is-sectors, is-parameters, is-extensions, is-extended) (c .before .before .extended-42-43-44 .ensures .1))
+    let this : either (eqb (ah (c .before .before .before .before .before .before .before .before .before .before .before .before .args .r)) 0x42) (either (eqb (ah (c .before .before .before .before .before .before .before .before .before .before .before .before .args .r)) 0x43) (eqb (ah (c .before .before .before .before .before .before .before .before .before .before .before .before .args .r)) 0x44)) ≡ true = rw (c .before .before .before .before .before .before .before .before .before .before .function-of .ensures) at (sym (c .before .before .before .before .before .is-extended .ensures) ∙ c .before .before .before .before .if4 .taken) in
+    (rw (not-sectors (c .before .before .before .before .before .before .before .before), not-parameters (c .before .before .before .before .before .before .before), not-extensions (c .before .before .before .before .before .before), this) (c .before .before .extended-42-43-44 .ensures .0), rw (not-sectors (c .before .before .before .before .before .before .before .before), not-parameters (c .before .before .before .before .before .before .before), not-extensions (c .before .before .before .before .before .before), this) (c .before .before .extended-42-43-44 .ensures .1))
 
 seek-47-requires : tie.Need-seek-47-requires
 seek-47-requires c κs = search needs
@@ -92,14 +98,8 @@ same-length-2 c = search needs
 returns-5 : tie.Need-returns-5
 unfolding check
 returns-5 c =
-    let a = c .before .before .before .before .before .before .before .before .before .before .before .args in
-    let f = c .before .before .before .before .before .before .before .before .before .function-of .ensures in
-    let is-sectors : isSectors (ah (a .r)) ≡ false = cc in
-    let is-parameters : eqb (ah (a .r)) 0x08 ≡ false = ne-eqb _ _ (λ e. c .before .before .before .before .before .before .if2 .left (f ∙ e)) in
-    let is-extensions : eqb (ah (a .r)) 0x41 ≡ false = ne-eqb _ _ (λ e. c .before .before .before .before .before .if3 .left (f ∙ e)) in
-    let is-extended : either (eqb (ah (a .r)) 0x42) (either (eqb (ah (a .r)) 0x43) (eqb (ah (a .r)) 0x44)) ≡ false = cc in
-    let is-seek : eqb (ah (a .r)) 0x47 ≡ true = eq-eqb _ _ (sym f ∙ c .before .before .if5 .taken) in
-    (rw (is-sectors, is-parameters, is-extensions, is-extended, is-seek) (c .seek-47 .ensures), rw (is-sectors, is-parameters, is-extensions, is-extended, is-seek))
+    let this : eqb (ah (c .before .before .before .before .before .before .before .before .before .before .before .args .r)) 0x47 ≡ true = eq-eqb _ _ (sym (c .before .before .before .before .before .before .before .before .before .function-of .ensures) ∙ c .before .before .if5 .taken) in
+    (rw (not-sectors (c .before .before .before .before .before .before .before), not-parameters (c .before .before .before .before .before .before), not-extensions (c .before .before .before .before .before), not-extended (c .before .before .before), this) (c .seek-47 .ensures), rw (not-sectors (c .before .before .before .before .before .before .before), not-parameters (c .before .before .before .before .before .before), not-extensions (c .before .before .before .before .before), not-extended (c .before .before .before), this))
 
 result-48-requires : tie.Need-result-48-requires
 result-48-requires c κs = search needs
@@ -110,31 +110,15 @@ same-length-3 c = search needs
 returns-6 : tie.Need-returns-6
 unfolding check
 returns-6 c =
-    let a = c .before .before .before .before .before .before .before .before .before .before .before .before .before .before .args in
-    let f = c .before .before .before .before .before .before .before .before .before .before .before .before .function-of .ensures in
-    let is-sectors : isSectors (ah (a .r)) ≡ false = cc in
-    let is-parameters : eqb (ah (a .r)) 0x08 ≡ false = ne-eqb _ _ (λ e. c .before .before .before .before .before .before .before .before .before .if2 .left (f ∙ e)) in
-    let is-extensions : eqb (ah (a .r)) 0x41 ≡ false = ne-eqb _ _ (λ e. c .before .before .before .before .before .before .before .before .if3 .left (f ∙ e)) in
-    let is-extended : either (eqb (ah (a .r)) 0x42) (either (eqb (ah (a .r)) 0x43) (eqb (ah (a .r)) 0x44)) ≡ false = cc in
-    let is-seek : eqb (ah (a .r)) 0x47 ≡ false = ne-eqb _ _ (λ e. c .before .before .before .before .before .if5 .left (f ∙ e)) in
-    let is-result : eqb (ah (a .r)) 0x48 ≡ true = eq-eqb _ _ (sym f ∙ c .before .before .before .before .if6 .taken) in
-    (rw (is-sectors, is-parameters, is-extensions, is-extended, is-seek, is-result) (c .before .before .result-48 .ensures .0), rw (is-sectors, is-parameters, is-extensions, is-extended, is-seek, is-result) (c .before .before .result-48 .ensures .1))
+    let this : eqb (ah (c .before .before .before .before .before .before .before .before .before .before .before .before .before .before .args .r)) 0x48 ≡ true = eq-eqb _ _ (sym (c .before .before .before .before .before .before .before .before .before .before .before .before .function-of .ensures) ∙ c .before .before .before .before .if6 .taken) in
+    (rw (not-sectors (c .before .before .before .before .before .before .before .before .before .before), not-parameters (c .before .before .before .before .before .before .before .before .before), not-extensions (c .before .before .before .before .before .before .before .before), not-extended (c .before .before .before .before .before .before), not-seek (c .before .before .before .before .before), this) (c .before .before .result-48 .ensures .0), rw (not-sectors (c .before .before .before .before .before .before .before .before .before .before), not-parameters (c .before .before .before .before .before .before .before .before .before), not-extensions (c .before .before .before .before .before .before .before .before), not-extended (c .before .before .before .before .before .before), not-seek (c .before .before .before .before .before), this) (c .before .before .result-48 .ensures .1))
 
 refuse-requires : tie.Need-refuse-requires
 refuse-requires c κs = search needs
 
 returns-7 : tie.Need-returns-7
 unfolding check
-returns-7 c =
-    let a = c .before .before .before .before .before .before .before .before .before .before .before .args in
-    let f = c .before .before .before .before .before .before .before .before .before .function-of .ensures in
-    let is-sectors : isSectors (ah (a .r)) ≡ false = cc in
-    let is-parameters : eqb (ah (a .r)) 0x08 ≡ false = ne-eqb _ _ (λ e. c .before .before .before .before .before .before .if2 .left (f ∙ e)) in
-    let is-extensions : eqb (ah (a .r)) 0x41 ≡ false = ne-eqb _ _ (λ e. c .before .before .before .before .before .if3 .left (f ∙ e)) in
-    let is-extended : either (eqb (ah (a .r)) 0x42) (either (eqb (ah (a .r)) 0x43) (eqb (ah (a .r)) 0x44)) ≡ false = cc in
-    let is-seek : eqb (ah (a .r)) 0x47 ≡ false = ne-eqb _ _ (λ e. c .before .before .if5 .left (f ∙ e)) in
-    let is-result : eqb (ah (a .r)) 0x48 ≡ false = ne-eqb _ _ (λ e. c .before .if6 .left (f ∙ e)) in
-    (rw (c .refuse .ensures, is-sectors, is-parameters, is-extensions, is-extended, is-seek, is-result), rw (is-sectors, is-parameters, is-extensions, is-extended, is-seek, is-result))
+returns-7 c = (rw (c .refuse .ensures, not-sectors (c .before .before .before .before .before .before .before), not-parameters (c .before .before .before .before .before .before), not-extensions (c .before .before .before .before .before), not-extended (c .before .before .before), not-seek (c .before .before), not-result (c .before)), rw (not-sectors (c .before .before .before .before .before .before .before), not-parameters (c .before .before .before .before .before .before), not-extensions (c .before .before .before .before .before), not-extended (c .before .before .before), not-seek (c .before .before), not-result (c .before)))
 
 pub check-spec : {M : Type 1} → statement M
 check-spec =

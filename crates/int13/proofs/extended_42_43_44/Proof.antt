@@ -67,7 +67,7 @@ returns-2 : tie.Need-returns-2
 returns-2 c =
     let a = c .before .before .before .before .before .before .before .before .before .before .before .before .args in
     let plan : packetPlan (a .b) (a .r) (now (a .window)) ≡ Clear (c .before .before .before .before .before .before .before .plan2 .given .0 .0) = sym (c .before .before .before .before .before .before .before .before .before .packet-plan .ensures) ∙ c .before .before .before .before .before .before .before .plan2 .given .1 in
-    (rw (plan, c .refuse2 .ensures), rw plan cc)
+    (rw (plan, c .refuse2 .ensures), rw (plan, c .before .before .before .store16 .ensures, c .before .before .before .before .packet-place .ensures))
 
 same-length-3 : tie.Need-same-length-3
 same-length-3 c = search needs

@@ -23,7 +23,7 @@ packet-place-requires : tie.Need-packet-place-requires
 packet-place-requires c κs = search needs
 
 returns : tie.Need-returns
-returns c = cc
+returns c = rw (c .before .before .before .before .posted .ensures, c .before .before .before .dl .ensures, c .packet-place .ensures)
 
 pub packet-job-spec : {M : Type 1} → statement M
 packet-job-spec =

@@ -7,7 +7,7 @@ use Rattle.logic.specs.Logic.{both}
 use Rattle.drive.specs.Drive.{isProtected}
 use Rattle.memory.specs.Blocks.{blockLength}
 use Rattle.int13.specs.Answers.{ah, isWrite}
-use Rattle.int13.specs.Steps.{packetTests}
+use Rattle.int13.specs.Steps.{mostBlocks, packetTests}
 use borrow.Author.Needs.{needs}
 use Rattle.int13.proofs.packet_tests.Statement.{statement}
 use Rattle.int13.proofs.packet_tests.Tie as tie
@@ -19,6 +19,23 @@ use Rattle.int13.proofs.function_of.Reads as function-of-reads
 use Rattle.int13.proofs.is_write.Reads as is-write-reads
 use Rattle.int13.proofs.packet_job.Reads as packet-job-reads
 use Rattle.logic.proofs.and.Reads as and-reads
+
+-- what each passed test says
+
+few : (c : tie.Else1) → ltb mostBlocks (c .before .before .args .p .count) ≡ false
+few c = le-ltb _ _ (c .if1 .left)
+
+allowed : (c : tie.Else2) → both (isWrite (ah (c .before .before .before .before .before .before .before .args .r))) (isProtected (c .before .before .before .before .before .before .before .args .d)) ≡ false
+allowed c = rw (c .before .before .before .is-write .ensures, c .before .before .before .before .function-of .ensures, c .before .before .is-protected .ensures) at (sym (c .before .and .ensures) ∙ c .if2 .left)
+
+inside : (c : tie.Else3) → ltb (c .before .before .before .before .before .before .before .before .before .before .args .d .blocks) (c .before .before .before .before .before .before .before .before .before .before .args .p .start + c .before .before .before .before .before .before .before .before .before .before .args .p .count) ≡ false
+inside c = sym (c .before .ends-past .ensures) ∙ c .if3 .left
+
+moving : (c : tie.Else4) → eqb (ah (c .before .before .before .before .before .before .before .before .before .before .before .args .r)) 0x44 ≡ false
+moving c = ne-eqb _ _ (λ e. c .if4 .left (c .before .before .before .before .before .before .before .before .function-of .ensures ∙ e))
+
+fitting : (c : tie.Else5) → ltb (c .before .before .before .before .before .before .before .before .before .before .before .before .before .before .args .window) (c .before .before .before .before .before .before .before .before .before .before .before .before .before .before .args .p .buffer + blockLength * c .before .before .before .before .before .before .before .before .before .before .before .before .before .before .args .p .count) ≡ false
+fitting c = sym (c .before .ends-past2 .ensures) ∙ c .if5 .left
 
 returns : tie.Need-returns
 unfolding packetTests
@@ -40,9 +57,8 @@ returns-2 : tie.Need-returns-2
 unfolding packetTests
 returns-2 c =
     let a = c .before .before .before .before .before .before .before .args in
-    let most = le-ltb 127 (a .p .count) (c .before .before .before .before .before .if1 .left) in
-    let protected : both (isWrite (ah (a .r))) (isProtected (a .d)) ≡ true = cc in
-    rw (most, protected)
+    let protected : both (isWrite (ah (a .r))) (isProtected (a .d)) ≡ true = rw (c .before .before .before .is-write .ensures, c .before .before .before .before .function-of .ensures, c .before .before .is-protected .ensures) at (sym (c .before .and .ensures) ∙ c .if2 .taken) in
+    rw (few (c .before .before .before .before .before), protected)
 
 cast-count : tie.Need-cast-count
 cast-count c = search needs
@@ -52,22 +68,13 @@ ends-past-requires c κs = search needs
 
 returns-3 : tie.Need-returns-3
 unfolding packetTests
-returns-3 c =
-    let a = c .before .before .before .before .before .before .before .before .before .before .args in
-    let most = le-ltb 127 (a .p .count) (c .before .before .before .before .before .before .before .before .if1 .left) in
-    let protected : both (isWrite (ah (a .r))) (isProtected (a .d)) ≡ false = cc in
-    let range : ltb (a .d .blocks) (a .p .start + a .p .count) ≡ true = cc in
-    rw (most, protected, range)
+returns-3 c = rw (few (c .before .before .before .before .before .before .before .before), allowed (c .before .before .before), sym (c .before .ends-past .ensures) ∙ c .if3 .taken)
 
 returns-4 : tie.Need-returns-4
 unfolding packetTests
 returns-4 c =
-    let a = c .before .before .before .before .before .before .before .before .before .before .before .args in
-    let most = le-ltb 127 (a .p .count) (c .before .before .before .before .before .before .before .before .before .if1 .left) in
-    let protected : both (isWrite (ah (a .r))) (isProtected (a .d)) ≡ false = cc in
-    let range : ltb (a .d .blocks) (a .p .start + a .p .count) ≡ false = cc in
-    let verify : eqb (ah (a .r)) 0x44 ≡ true = eq-eqb _ _ (sym (c .before .before .before .before .before .before .before .before .function-of .ensures) ∙ c .if4 .taken) in
-    rw (most, protected, range, verify)
+    let verify : eqb (ah (c .before .before .before .before .before .before .before .before .before .before .before .args .r)) 0x44 ≡ true = eq-eqb _ _ (sym (c .before .before .before .before .before .before .before .before .function-of .ensures) ∙ c .if4 .taken) in
+    rw (few (c .before .before .before .before .before .before .before .before .before), allowed (c .before .before .before .before), inside (c .before), verify)
 
 cast-ends-past : tie.Need-cast-ends-past
 cast-ends-past c = search needs
@@ -80,41 +87,18 @@ ends-past-requires-2 c κs = search needs
 
 returns-5 : tie.Need-returns-5
 unfolding packetTests
-returns-5 c =
-    let a = c .before .before .before .before .before .before .before .before .before .before .before .before .before .before .args in
-    let most = le-ltb 127 (a .p .count) (c .before .before .before .before .before .before .before .before .before .before .before .before .if1 .left) in
-    let protected : both (isWrite (ah (a .r))) (isProtected (a .d)) ≡ false = cc in
-    let range : ltb (a .d .blocks) (a .p .start + a .p .count) ≡ false = cc in
-    let verify : eqb (ah (a .r)) 0x44 ≡ false = ne-eqb _ _ (λ e. c .before .before .before .if4 .left (c .before .before .before .before .before .before .before .before .before .before .before .function-of .ensures ∙ e)) in
-    let buffer : ltb (a .window) (a .p .buffer + blockLength * a .p .count) ≡ true = cc in
-    rw (most, protected, range, verify, buffer)
+returns-5 c = rw (few (c .before .before .before .before .before .before .before .before .before .before .before .before), allowed (c .before .before .before .before .before .before .before), inside (c .before .before .before .before), moving (c .before .before .before), sym (c .before .ends-past2 .ensures) ∙ c .if5 .taken)
 
 returns-6 : tie.Need-returns-6
 unfolding packetTests
-returns-6 c =
-    let a = c .before .before .before .before .before .before .before .before .before .before .before .before .before .before .before .before .args in
-    let most = le-ltb 127 (a .p .count) (c .before .before .before .before .before .before .before .before .before .before .before .before .before .before .if1 .left) in
-    let protected : both (isWrite (ah (a .r))) (isProtected (a .d)) ≡ false = cc in
-    let range : ltb (a .d .blocks) (a .p .start + a .p .count) ≡ false = cc in
-    let verify : eqb (ah (a .r)) 0x44 ≡ false = ne-eqb _ _ (λ e. c .before .before .before .before .before .if4 .left (c .before .before .before .before .before .before .before .before .before .before .before .before .before .function-of .ensures ∙ e)) in
-    let buffer : ltb (a .window) (a .p .buffer + blockLength * a .p .count) ≡ false = cc in
-    let none = eq-eqb (a .p .count) 0 (c .if6 .taken) in
-    rw (most, protected, range, verify, buffer, none)
+returns-6 c = rw (few (c .before .before .before .before .before .before .before .before .before .before .before .before .before .before), allowed (c .before .before .before .before .before .before .before .before .before), inside (c .before .before .before .before .before .before), moving (c .before .before .before .before .before), fitting (c .before .before), eq-eqb _ _ (c .if6 .taken))
 
 packet-job-requires : tie.Need-packet-job-requires
 packet-job-requires c κs = search needs
 
 returns-7 : tie.Need-returns-7
 unfolding packetTests
-returns-7 c =
-    let a = c .before .before .before .before .before .before .before .before .before .before .before .before .before .before .before .before .before .args in
-    let most = le-ltb 127 (a .p .count) (c .before .before .before .before .before .before .before .before .before .before .before .before .before .before .before .if1 .left) in
-    let protected : both (isWrite (ah (a .r))) (isProtected (a .d)) ≡ false = cc in
-    let range : ltb (a .d .blocks) (a .p .start + a .p .count) ≡ false = cc in
-    let verify : eqb (ah (a .r)) 0x44 ≡ false = ne-eqb _ _ (λ e. c .before .before .before .before .before .before .if4 .left (c .before .before .before .before .before .before .before .before .before .before .before .before .before .before .function-of .ensures ∙ e)) in
-    let buffer : ltb (a .window) (a .p .buffer + blockLength * a .p .count) ≡ false = cc in
-    let none = ne-eqb (a .p .count) 0 (c .before .if6 .left) in
-    rw (most, protected, range, verify, buffer, none, c .packet-job .ensures)
+returns-7 c = rw (few (c .before .before .before .before .before .before .before .before .before .before .before .before .before .before .before), allowed (c .before .before .before .before .before .before .before .before .before .before), inside (c .before .before .before .before .before .before .before), moving (c .before .before .before .before .before .before), fitting (c .before .before .before), ne-eqb _ _ (c .before .if6 .left), c .packet-job .ensures)
 
 pub packet-tests-spec : {M : Type 1} → statement M
 packet-tests-spec =

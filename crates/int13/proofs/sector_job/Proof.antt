@@ -24,7 +24,7 @@ sector-buffer-requires : tie.Need-sector-buffer-requires
 sector-buffer-requires c κs = search needs
 
 returns : tie.Need-returns
-returns c = cc
+returns c = rw (c .before .before .before .posted .ensures, c .before .before .dl .ensures, c .before .al .ensures, c .sector-buffer .ensures)
 
 pub sector-job-spec : {M : Type 1} → statement M
 sector-job-spec =

@@ -1,4 +1,4 @@
-use mathlib.Core.Path.{_≡_}
+use mathlib.Core.Path.{_≡_, sym, _∙_}
 use mathlib.Core.Bool.{true, false}
 use Prim.Native.Nat.{_+_, _*_}
 use lib.Dec.{ltb}
@@ -44,7 +44,7 @@ refuse-requires c κs = search needs
 returns : tie.Need-returns
 returns c =
     let a = c .before .before .before .before .before .before .args in
-    let run : ltb (size (geometryOf (a .d))) (a .start + al (a .r)) ≡ true = cc in
+    let run : ltb (size (geometryOf (a .d))) (a .start + al (a .r)) ≡ true = rw (c .before .before .before .size-of .ensures, c .before .before .before .before .geometry-of .ensures, c .before .before .before .before .before .al .ensures) at (sym (c .before .before .ends-past .ensures) ∙ c .before .if1 .taken) in
     rw (run, c .refuse .ensures)
 
 sector-buffer-requires : tie.Need-sector-buffer-requires
@@ -62,8 +62,8 @@ refuse-requires-2 c κs = search needs
 returns-2 : tie.Need-returns-2
 returns-2 c =
     let a = c .before .before .before .before .before .before .before .before .before .args in
-    let run : ltb (size (geometryOf (a .d))) (a .start + al (a .r)) ≡ false = cc in
-    let buffer : ltb (a .window) (sectorBuffer (a .r) + blockLength * al (a .r)) ≡ true = cc in
+    let run : ltb (size (geometryOf (a .d))) (a .start + al (a .r)) ≡ false = rw (c .before .before .before .before .before .before .size-of .ensures, c .before .before .before .before .before .before .before .geometry-of .ensures, c .before .before .before .before .before .before .before .before .al .ensures) at (sym (c .before .before .before .before .before .ends-past .ensures) ∙ c .before .before .before .before .if1 .left) in
+    let buffer : ltb (a .window) (sectorBuffer (a .r) + blockLength * al (a .r)) ≡ true = rw (c .before .before .before .sector-buffer .ensures, c .before .before .before .before .before .before .before .before .al .ensures) at (sym (c .before .before .ends-past2 .ensures) ∙ c .before .if2 .taken) in
     rw (run, buffer, c .refuse2 .ensures)
 
 sector-job-requires : tie.Need-sector-job-requires
@@ -72,8 +72,8 @@ sector-job-requires c κs = search needs
 returns-3 : tie.Need-returns-3
 returns-3 c =
     let a = c .before .before .before .before .before .before .before .before .before .args in
-    let run : ltb (size (geometryOf (a .d))) (a .start + al (a .r)) ≡ false = cc in
-    let buffer : ltb (a .window) (sectorBuffer (a .r) + blockLength * al (a .r)) ≡ false = cc in
+    let run : ltb (size (geometryOf (a .d))) (a .start + al (a .r)) ≡ false = rw (c .before .before .before .before .before .before .size-of .ensures, c .before .before .before .before .before .before .before .geometry-of .ensures, c .before .before .before .before .before .before .before .before .al .ensures) at (sym (c .before .before .before .before .before .ends-past .ensures) ∙ c .before .before .before .before .if1 .left) in
+    let buffer : ltb (a .window) (sectorBuffer (a .r) + blockLength * al (a .r)) ≡ false = rw (c .before .before .before .sector-buffer .ensures, c .before .before .before .before .before .before .before .before .al .ensures) at (sym (c .before .before .ends-past2 .ensures) ∙ c .before .if2 .left) in
     rw (run, buffer, c .sector-job .ensures)
 
 pub sector-run-spec : {M : Type 1} → statement M

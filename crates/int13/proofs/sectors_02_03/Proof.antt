@@ -28,6 +28,20 @@ use Rattle.int13.proofs.refuse.Reads as refuse-reads
 use Rattle.int13.proofs.sector_run.Reads as sector-run-reads
 use Rattle.logic.proofs.and.Reads as and-reads
 
+-- what each passed test says
+
+known : (c : tie.Else1) → isDrive (c .before .before .before .args .b) (dl (c .before .before .before .args .r)) ≡ true
+known c = rw (c .before .before .dl .ensures) at (sym (c .before .is-drive .ensures) ∙ not-false _ (c .if1 .left))
+
+some : (c : tie.Else2) → eqb (al (c .before .before .before .before .before .args .r)) 0 ≡ false
+some c = ne-eqb _ _ (λ e. c .if2 .left (c .before .al .ensures ∙ e))
+
+few : (c : tie.Else3) → ltb mostSectors (al (c .before .before .before .before .before .before .args .r)) ≡ false
+few c = le-ltb _ _ (rw (c .before .before .al .ensures) at (c .if3 .left))
+
+allowed : (c : tie.Else4) → both (isWrite (ah (c .before .before .before .before .before .before .before .before .before .before .before .before .args .r))) (isProtected (driveOf (c .before .before .before .before .before .before .before .before .before .before .before .before .args .b) (c .before .before .before .before .before .before .before .before .before .before .before .before .args .r))) ≡ false
+allowed c = rw (c .before .before .before .is-write .ensures, c .before .before .before .before .function-of .ensures, c .before .before .is-protected .ensures, c .before .before .before .before .before .drive-at .ensures, c .before .before .before .before .before .before .before .before .before .before .before .dl .ensures) at (sym (c .before .and .ensures) ∙ c .if4 .left)
+
 dl-requires : tie.Need-dl-requires
 dl-requires c κs = search needs
 
@@ -53,10 +67,8 @@ refuse-requires-2 c κs = search needs
 returns-2 : tie.Need-returns-2
 unfolding sectors
 returns-2 c =
-    let a = c .before .before .before .before .before .before .args in
-    let known : isDrive (a .b) (dl (a .r)) ≡ true = rw (c .before .before .before .before .before .dl .ensures) at (sym (c .before .before .before .before .is-drive .ensures) ∙ not-false _ (c .before .before .before .if1 .left)) in
-    let none : eqb (al (a .r)) 0 ≡ true = eq-eqb _ _ (sym (c .before .before .al .ensures) ∙ c .before .if2 .taken) in
-    rw (known, none, c .refuse2 .ensures)
+    let none : eqb (al (c .before .before .before .before .before .before .args .r)) 0 ≡ true = eq-eqb _ _ (sym (c .before .before .al .ensures) ∙ c .before .if2 .taken) in
+    rw (known (c .before .before .before), none, c .refuse2 .ensures)
 
 refuse-requires-3 : tie.Need-refuse-requires-3
 refuse-requires-3 c κs = search needs
@@ -64,11 +76,8 @@ refuse-requires-3 c κs = search needs
 returns-3 : tie.Need-returns-3
 unfolding sectors
 returns-3 c =
-    let a = c .before .before .before .before .before .before .before .args in
-    let known : isDrive (a .b) (dl (a .r)) ≡ true = rw (c .before .before .before .before .before .before .dl .ensures) at (sym (c .before .before .before .before .before .is-drive .ensures) ∙ not-false _ (c .before .before .before .before .if1 .left)) in
-    let none : eqb (al (a .r)) 0 ≡ false = ne-eqb _ _ (λ e. c .before .before .if2 .left (c .before .before .before .al .ensures ∙ e)) in
-    let most : ltb mostSectors (al (a .r)) ≡ true = lt-ltb _ _ (rw (c .before .before .before .al .ensures) at (c .before .if3 .taken)) in
-    rw (known, none, most, c .refuse3 .ensures)
+    let many : ltb mostSectors (al (c .before .before .before .before .before .before .before .args .r)) ≡ true = lt-ltb _ _ (rw (c .before .before .before .al .ensures) at (c .before .if3 .taken)) in
+    rw (known (c .before .before .before .before), some (c .before .before), many, c .refuse3 .ensures)
 
 drive-at-requires : tie.Need-drive-at-requires
 drive-at-requires c κs = sym (c .before .before .before .before .is-drive .ensures) ∙ not-false _ (c .before .before .before .if1 .left)
@@ -92,11 +101,8 @@ returns-4 : tie.Need-returns-4
 unfolding sectors
 returns-4 c =
     let a = c .before .before .before .before .before .before .before .before .before .before .before .before .before .args in
-    let known : isDrive (a .b) (dl (a .r)) ≡ true = rw (c .before .before .before .before .before .before .before .before .before .before .before .before .dl .ensures) at (sym (c .before .before .before .before .before .before .before .before .before .before .before .is-drive .ensures) ∙ not-false _ (c .before .before .before .before .before .before .before .before .before .before .if1 .left)) in
-    let none : eqb (al (a .r)) 0 ≡ false = ne-eqb _ _ (λ e. c .before .before .before .before .before .before .before .before .if2 .left (c .before .before .before .before .before .before .before .before .before .al .ensures ∙ e)) in
-    let most : ltb mostSectors (al (a .r)) ≡ false = le-ltb _ _ (rw (c .before .before .before .before .before .before .before .before .before .al .ensures) at (c .before .before .before .before .before .before .before .if3 .left)) in
     let protected : both (isWrite (ah (a .r))) (isProtected (driveOf (a .b) (a .r))) ≡ true = rw (c .before .before .before .before .is-write .ensures, c .before .before .before .before .before .function-of .ensures, c .before .before .before .is-protected .ensures, c .before .before .before .before .before .before .drive-at .ensures, c .before .before .before .before .before .before .before .before .before .before .before .before .dl .ensures) at (sym (c .before .before .and .ensures) ∙ c .before .if4 .taken) in
-    rw (known, none, most, protected, c .refuse4 .ensures)
+    rw (known (c .before .before .before .before .before .before .before .before .before .before), some (c .before .before .before .before .before .before .before .before), few (c .before .before .before .before .before .before .before), protected, c .refuse4 .ensures)
 
 geometry-of-requires : tie.Need-geometry-of-requires
 geometry-of-requires c κs = search needs
@@ -125,23 +131,15 @@ returns-5 : tie.Need-returns-5
 unfolding sectors
 returns-5 c =
     let a = c .before .before .before .before .before .before .before .before .before .before .before .before .before .before .before .before .before .before .before .args in
-    let known : isDrive (a .b) (dl (a .r)) ≡ true = rw (c .before .before .before .before .before .before .before .before .before .before .before .before .before .before .before .before .before .before .dl .ensures) at (sym (c .before .before .before .before .before .before .before .before .before .before .before .before .before .before .before .before .before .is-drive .ensures) ∙ not-false _ (c .before .before .before .before .before .before .before .before .before .before .before .before .before .before .before .before .if1 .left)) in
-    let none : eqb (al (a .r)) 0 ≡ false = ne-eqb _ _ (λ e. c .before .before .before .before .before .before .before .before .before .before .before .before .before .before .if2 .left (c .before .before .before .before .before .before .before .before .before .before .before .before .before .before .before .al .ensures ∙ e)) in
-    let most : ltb mostSectors (al (a .r)) ≡ false = le-ltb _ _ (rw (c .before .before .before .before .before .before .before .before .before .before .before .before .before .before .before .al .ensures) at (c .before .before .before .before .before .before .before .before .before .before .before .before .before .if3 .left)) in
-    let protected : both (isWrite (ah (a .r))) (isProtected (driveOf (a .b) (a .r))) ≡ false = rw (c .before .before .before .before .before .before .before .before .before .before .is-write .ensures, c .before .before .before .before .before .before .before .before .before .before .before .function-of .ensures, c .before .before .before .before .before .before .before .before .before .is-protected .ensures, c .before .before .before .before .before .before .before .before .before .before .before .before .drive-at .ensures, c .before .before .before .before .before .before .before .before .before .before .before .before .before .before .before .before .before .before .dl .ensures) at (sym (c .before .before .before .before .before .before .before .before .and .ensures) ∙ c .before .before .before .before .before .before .before .if4 .left) in
     let block : blockOf (geometryOf (driveOf (a .b) (a .r))) (addressIn (a .r .cx) (a .r .dx)) ≡ Refused (c .before .before .block .given .0 .0) = rw (c .before .before .before .before .before .before .geometry-of .ensures, c .before .before .before .before .before .address-in .ensures, c .before .before .before .before .before .before .before .before .before .before .before .before .drive-at .ensures, c .before .before .before .before .before .before .before .before .before .before .before .before .before .before .before .before .before .before .dl .ensures) at (sym (c .before .before .before .before .block-of .ensures) ∙ c .before .before .block .given .1) in
-    rw (known, none, most, protected, block, c .refuse5 .ensures)
+    rw (known (c .before .before .before .before .before .before .before .before .before .before .before .before .before .before .before .before), some (c .before .before .before .before .before .before .before .before .before .before .before .before .before .before), few (c .before .before .before .before .before .before .before .before .before .before .before .before .before), allowed (c .before .before .before .before .before .before .before), block, c .refuse5 .ensures)
 
 returns-6 : tie.Need-returns-6
 unfolding sectors
 returns-6 c =
     let a = c .before .before .before .before .before .before .before .before .before .before .before .before .before .before .before .before .before .before .before .args in
-    let known : isDrive (a .b) (dl (a .r)) ≡ true = rw (c .before .before .before .before .before .before .before .before .before .before .before .before .before .before .before .before .before .before .dl .ensures) at (sym (c .before .before .before .before .before .before .before .before .before .before .before .before .before .before .before .before .before .is-drive .ensures) ∙ not-false _ (c .before .before .before .before .before .before .before .before .before .before .before .before .before .before .before .before .if1 .left)) in
-    let none : eqb (al (a .r)) 0 ≡ false = ne-eqb _ _ (λ e. c .before .before .before .before .before .before .before .before .before .before .before .before .before .before .if2 .left (c .before .before .before .before .before .before .before .before .before .before .before .before .before .before .before .al .ensures ∙ e)) in
-    let most : ltb mostSectors (al (a .r)) ≡ false = le-ltb _ _ (rw (c .before .before .before .before .before .before .before .before .before .before .before .before .before .before .before .al .ensures) at (c .before .before .before .before .before .before .before .before .before .before .before .before .before .if3 .left)) in
-    let protected : both (isWrite (ah (a .r))) (isProtected (driveOf (a .b) (a .r))) ≡ false = rw (c .before .before .before .before .before .before .before .before .before .before .is-write .ensures, c .before .before .before .before .before .before .before .before .before .before .before .function-of .ensures, c .before .before .before .before .before .before .before .before .before .is-protected .ensures, c .before .before .before .before .before .before .before .before .before .before .before .before .drive-at .ensures, c .before .before .before .before .before .before .before .before .before .before .before .before .before .before .before .before .before .before .dl .ensures) at (sym (c .before .before .before .before .before .before .before .before .and .ensures) ∙ c .before .before .before .before .before .before .before .if4 .left) in
     let block : blockOf (geometryOf (driveOf (a .b) (a .r))) (addressIn (a .r .cx) (a .r .dx)) ≡ Block (c .before .before .block2 .given .0 .0) = rw (c .before .before .before .before .before .before .geometry-of .ensures, c .before .before .before .before .before .address-in .ensures, c .before .before .before .before .before .before .before .before .before .before .before .before .drive-at .ensures, c .before .before .before .before .before .before .before .before .before .before .before .before .before .before .before .before .before .before .dl .ensures) at (sym (c .before .before .before .before .block-of .ensures) ∙ c .before .before .block2 .given .1) in
-    rw (known, none, most, protected, block, c .sector-run .ensures, c .before .before .before .before .before .before .before .before .before .before .before .before .drive-at .ensures, c .before .before .before .before .before .before .before .before .before .before .before .before .before .before .before .before .before .before .dl .ensures)
+    rw (known (c .before .before .before .before .before .before .before .before .before .before .before .before .before .before .before .before), some (c .before .before .before .before .before .before .before .before .before .before .before .before .before .before), few (c .before .before .before .before .before .before .before .before .before .before .before .before .before), allowed (c .before .before .before .before .before .before .before), block, c .sector-run .ensures, c .before .before .before .before .before .before .before .before .before .before .before .before .drive-at .ensures, c .before .before .before .before .before .before .before .before .before .before .before .before .before .before .before .before .before .before .dl .ensures)
 
 pub sectors-02-03-spec : {M : Type 1} → statement M
 sectors-02-03-spec =

@@ -1,4 +1,4 @@
-use mathlib.Core.Path.{_≡_}
+use mathlib.Core.Path.{_≡_, sym, _∙_}
 use mathlib.Core.Bool.{true, false}
 use Rattle.int13.specs.Answers.{ah, isSectors}
 use borrow.Author.Needs.{needs}
@@ -21,7 +21,9 @@ answer-requires : tie.Need-answer-requires
 answer-requires c κs = search needs
 
 returns : tie.Need-returns
-returns c = let s : isSectors (ah (c .before .before .before .before .args .r)) ≡ true = cc in rw s (c .answer .ensures)
+returns c =
+    let run : isSectors (ah (c .before .before .before .before .args .r)) ≡ true = rw (c .before .before .before .function-of .ensures) at (sym (c .before .before .is-sectors .ensures) ∙ c .before .if1 .taken) in
+    rw run (c .answer .ensures)
 
 al-requires : tie.Need-al-requires
 al-requires c κs = search needs
@@ -30,7 +32,9 @@ answer-requires-2 : tie.Need-answer-requires-2
 answer-requires-2 c κs = search needs
 
 returns-2 : tie.Need-returns-2
-returns-2 c = let s : isSectors (ah (c .before .before .before .before .before .args .r)) ≡ false = cc in rw s cc
+returns-2 c =
+    let run : isSectors (ah (c .before .before .before .before .before .args .r)) ≡ false = rw (c .before .before .before .before .function-of .ensures) at (sym (c .before .before .before .is-sectors .ensures) ∙ c .before .before .if1 .left) in
+    rw (run, c .answer2 .ensures, c .before .al .ensures)
 
 pub stop-spec : {M : Type 1} → statement M
 stop-spec =

@@ -13,7 +13,7 @@ answer-requires : tie.Need-answer-requires
 answer-requires c κs = search needs
 
 returns : tie.Need-returns
-returns c = cc
+returns c = rw (c .answer .ensures, c .before .al .ensures)
 
 pub succeed-spec : {M : Type 1} → statement M
 succeed-spec = tie.close (tie.spec al-requires answer-requires returns)
