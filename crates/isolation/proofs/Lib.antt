@@ -1,0 +1,4 @@
+pub mod Turn
+pub mod Moves
+pub mod Sound
+pub mod Check
