@@ -6,3 +6,5 @@ pub mod Accept
 pub mod View
 pub mod Keep
 pub mod Fate
+pub mod Bound
+pub mod Equal
