@@ -46,6 +46,10 @@ unfolding run after
 opens-rest [] ds d n = n
 opens-rest (c ∷ cs) ds d n = opens-rest cs ds (step d c .desk) (n .1)
 
+pub opens-cons : (d : Desk) (c : Call) (cs : List Call) → NoneOpens (run d (c ∷ cs)) → (kindOf (step d c .answer) ≡ opens → ⊥) × NoneOpens (run (step d c .desk) cs)
+unfolding run
+opens-cons d c cs n = n
+
 -- ---- one of eight turns serves it
 
 -- unserved and not withdrawn, it waits on, and each turn brings the pointer nearer

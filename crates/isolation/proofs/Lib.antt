@@ -8,3 +8,4 @@ pub mod Keep
 pub mod Fate
 pub mod Bound
 pub mod Equal
+pub mod Theorem
