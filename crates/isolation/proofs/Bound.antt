@@ -36,6 +36,14 @@ unfolding after
 after-append [] ds d = refl
 after-append (c ∷ cs) ds d = after-append cs ds (step d c .desk)
 
+pub after-none : (d : Desk) → after d [] ≡ d
+unfolding after
+after-none d = refl
+
+pub after-at : (front rest : List Call) (t : Call) (d : Desk) → after d (front ++ t ∷ rest) ≡ after (step (after d front) t .desk) rest
+unfolding after
+after-at front rest t d = after-append front (t ∷ rest) d
+
 pub opens-front : (cs ds : List Call) (d : Desk) → NoneOpens (run d (cs ++ ds)) → NoneOpens (run d cs)
 unfolding run
 opens-front [] ds d n = tt
@@ -49,6 +57,11 @@ opens-rest (c ∷ cs) ds d n = opens-rest cs ds (step d c .desk) (n .1)
 pub opens-cons : (d : Desk) (c : Call) (cs : List Call) → NoneOpens (run d (c ∷ cs)) → (kindOf (step d c .answer) ≡ opens → ⊥) × NoneOpens (run (step d c .desk) cs)
 unfolding run
 opens-cons d c cs n = n
+
+pub opens-upto : (front rest : List Call) (t : Call) (d : Desk) → NoneOpens (run d (front ++ t ∷ rest)) → NoneOpens (run d (front ++ t ∷ []))
+unfolding run
+opens-upto [] rest t d n = (n .0, tt)
+opens-upto (c ∷ cs) rest t d n = (n .0, opens-upto cs rest t (step d c .desk) (n .1))
 
 -- ---- one of eight turns serves it
 

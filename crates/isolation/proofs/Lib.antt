@@ -9,3 +9,5 @@ pub mod Fate
 pub mod Bound
 pub mod Equal
 pub mod Theorem
+pub mod Sums
+pub mod Example

@@ -2,6 +2,7 @@
 -- Assumes nothing.
 use Prim.Native.Nat.{ℕ, _+_, _*_, _≤_, _<_}
 use mathlib.Core.Path.{_≡_}
+use mathlib.Core.Bool.{true}
 use mathlib.Core.List.{List, [], _∷_, _++_}
 use Rattle.words.specs.Words.{part}
 use Rattle.memory.specs.Window.{guests, windowLength, windowOf}
@@ -15,6 +16,7 @@ use Rattle.desk.specs.declared.OpenAnswer.the-variants.{Opened}
 use Rattle.desk.specs.declared.PostAnswer.the-variants.{Answered}
 use Rattle.desk.specs.declared.CollectAnswer.the-variants.{Given}
 use Rattle.desk.specs.Parts.{stageAt}
+use Rattle.desk.specs.Acceptable.{accept}
 use Rattle.desk.specs.Calls.{notAcceptable, openOf}
 use Rattle.isolation.specs.Lists.{Op, post, turn, collect, Call, posted, collected, Out, step, run, after}
 use Rattle.isolation.specs.Words.{refused, kindOf, houseNumber, NoneOpens, turnIn, turns, serviceIn, services, collects, Accepted, Waits, Finishes, Withdraws, turnsFor, Named, Unwritten, Left}
@@ -100,7 +102,8 @@ pub record Claim (t : List ℕ) (d₀ : Desk) (m : ℕ) (calls : List Call) : Ty
     → c .op ≡ post g r
     → step (after d₀ pre) c .answer ≡ posted g (Answered x)
     → SameAtOnce m g (step (after d₀ pre) c) x (alone t r (foundBy m c g))
-  -- every desk of the list is acceptable: no call in it is answered 25
+  -- every call gets an acceptable desk and leaves one: none is answered 25
+  pub acceptable : (pre rest : List Call) → calls ≡ pre ++ rest → accept (after d₀ pre) ≡ true
   pub never25 : (pre rest : List Call) (c : Call) → calls ≡ pre ++ c ∷ rest
     → houseNumber (step (after d₀ pre) c .answer) ≡ notAcceptable → ⊥
 
