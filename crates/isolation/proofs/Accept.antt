@@ -135,7 +135,7 @@ job-facts b M j e =
     let p₅ = both-true (leb (j .buffer + blockLength * j .count) M) t₆ (p₄ .1) in
     let p₆ = both-true (packetOk f (j .packet) M) t₇ (p₅ .1) in
     let r = both-true (leb (j .start + j .count) (driveAt b (j .drive) .blocks))
-        (pick (isSectors f) (leb (j .start + j .count) (size (geometryOf (driveAt b (j .drive))))) true) (p₄ .0) in
+    (pick (isSectors f) (leb (j .start + j .count) (size (geometryOf (driveAt b (j .drive))))) true) (p₄ .0) in
     record {
       drive = p₁ .0;
       range = leb-true (j .start + j .count) (driveAt b (j .drive) .blocks) (r .0);
@@ -152,7 +152,7 @@ job-ready b M S q g e m w =
 pub ready : (d : Desk) (g : ℕ) (q : Request) → Inv d → stageAt d g ≡ Waiting q → Ready (d .table) (windowSize d) (d .store) q
 ready d g q inv e =
     let s : both (jobOk (d .table) (windowSize d) (q .job)) (movedOk (q .moved) (q .job .count)) ≡ true
-        = ap (stageOk (d .table) (windowSize d)) (sym e) ∙ inv .stages g in
+    = ap (stageOk (d .table) (windowSize d)) (sym e) ∙ inv .stages g in
     let p = both-true (jobOk (d .table) (windowSize d) (q .job)) (movedOk (q .moved) (q .job .count)) s in
     let m = both-true (eqb (q .moved % 16) 0) (ltb (q .moved) (q .job .count)) (p .1) in
     job-ready (d .table) (windowSize d) (d .store) q (inv .table) (p .0) (ltb-true (q .moved) (q .job .count) (m .1)) (eqb-true (q .moved % 16) 0 (m .0))

@@ -133,10 +133,10 @@ pub record Track (g : ℕ) (q : Request) (d : Desk) (cs : List Call) : Type 0 wh
 pub data Course (g : ℕ) (q : Request) (d : Desk) (cs : List Call) : Type 0 where
   waiting : Track g q d cs → Course g q d cs
   finishing : (front : List Call) (t : Call) (rest : List Call) → cs ≡ front ++ t ∷ rest → Track g q d front
-    → q .moved + (moved g (run d front) + movedIn g (kindOf (step (after d front) t .answer))) ≡ q .job .count
-    → turnIn (kindOf (step (after d front) t .answer)) ≡ 1 → Course g q d cs
+      → q .moved + (moved g (run d front) + movedIn g (kindOf (step (after d front) t .answer))) ≡ q .job .count
+      → turnIn (kindOf (step (after d front) t .answer)) ≡ 1 → Course g q d cs
   leaving : (front : List Call) (t : Call) (rest : List Call) → cs ≡ front ++ t ∷ rest → Track g q d front
-    → kindOf (step (after d front) t .answer) ≡ withdraws g → Course g q d cs
+      → kindOf (step (after d front) t .answer) ≡ withdraws g → Course g q d cs
 
 track-none : (g : ℕ) (q : Request) (d : Desk) → stageAt d g ≡ Waiting q → Track g q d []
 unfolding run after
@@ -205,10 +205,10 @@ track cs d inv n g q e w b = go (course cs d inv n g q e)
     go (waiting t) = t
     go (finishing front t rest s k f u) =
         let m : moved g (run d cs) ≡ moved g (run d front) + (movedIn g (kindOf (step (after d front) t .answer)) + moved g (run (step (after d front) t .desk) rest))
-            = ap (λ (l : List Call). moved g (run d l)) s ∙ total-at (movedIn g) front rest t d in
+        = ap (λ (l : List Call). moved g (run d l)) s ∙ total-at (movedIn g) front rest t d in
         absurd (omega arith)
     go (leaving front t rest s k f) =
         let m : withdrawals g (run d cs) ≡ withdrawals g (run d front) + (withdrawalIn g (kindOf (step (after d front) t .answer)) + withdrawals g (run (step (after d front) t .desk) rest))
-            = ap (λ (l : List Call). withdrawals g (run d l)) s ∙ total-at (withdrawalIn g) front rest t d in
+        = ap (λ (l : List Call). withdrawals g (run d l)) s ∙ total-at (withdrawalIn g) front rest t d in
         let y : withdrawalIn g (kindOf (step (after d front) t .answer)) ≡ 1 = ap (withdrawalIn g) f ∙ same-guest g 1 in
         absurd (omega arith)

@@ -203,7 +203,7 @@ module _ (b : Table) (store : ℕ) (g : Good b store) (r : Registers) (w : List 
       whole d e =
           let l : place + 2 ≤ length w = ltb-false (length w) (place + 2) e in
           let n : length (resultOut (driveOf b r) (le 2 w place) (drop place w)) ≡ length w - place
-              = length-out (driveOf b r) (le 2 w place) (drop place w) (known b store (dl r) g d .arrays) ∙ length-drop place w in
+          = length-out (driveOf b r) (le 2 w place) (drop place w) (known b store (dl r) g d .arrays) ∙ length-drop place w in
           length-append (take place w) (resultOut (driveOf b r) (le 2 w place) (drop place w)) ∙ omega (arith, l, n, length-take place w)
 
       by-answer : (x : ResultAnswer) → length (take place w ++ resultOut (driveOf b r) (le 2 w place) (drop place w)) ≡ length w

@@ -49,8 +49,8 @@ pub record Mid (lo : ℕ) (d : Desk) (g : ℕ) (j : Job) (n : ℕ) (m₀ : Memor
 pub data Next (lo : ℕ) (d : Desk) (o : Out) (g : ℕ) (j : Job) (n : ℕ) (m₀ : Memory) (L : List ℕ → List ℕ → Type 0) : Type 0 where
   on : (n′ : ℕ) (w s : List ℕ) → Mid lo (o .desk) g j n′ m₀ w s → n′ ≡ n + movedIn g (kindOf (o .answer)) → L w s → Next lo d o g j n m₀ L
   over : stageAt (o .desk) g ≡ Finished (succeed (j .registers))
-    → Alike lo (j .count) (memory (windowOf (o .arena) g (windowSize d)) (o .store)) (moves j lo 0 (j .count) m₀)
-    → n + movedIn g (kindOf (o .answer)) ≡ j .count → Next lo d o g j n m₀ L
+      → Alike lo (j .count) (memory (windowOf (o .arena) g (windowSize d)) (o .store)) (moves j lo 0 (j .count) m₀)
+      → n + movedIn g (kindOf (o .answer)) ≡ j .count → Next lo d o g j n m₀ L
   out : kindOf (o .answer) ≡ withdraws g → Next lo d o g j n m₀ L
 
 -- another pair of window and store that is the same so far
@@ -144,7 +144,7 @@ module _ (lo : ℕ) (d : Desk) (inv : Inv d) (c : Call) (g : ℕ) (j : Job) (n :
       al′ : Alike lo (j .count) (memory (windowOf (o .arena) g (windowSize d)) (by .store)) (moves j lo 0 (n + q) m₀)
       al′ =
           let a : Alike lo (j .count) by (moves j lo 0 (n + q) m₀)
-              = subst (λ (f : ℕ). Alike lo (j .count) (moves j f n q mm) (moves j lo 0 (n + q) m₀)) (sym (mid .first)) al in
+          = subst (λ (f : ℕ). Alike lo (j .count) (moves j f n q mm) (moves j lo 0 (n + q) m₀)) (sym (mid .first)) al in
           record { window = new ∙ a .window; length = a .length; named = a .named }
 
       goes-on : n + q < j .count → q ≡ 16 → stageAt (o .desk) g ≡ Waiting (later (request j n) q) → Goes o
@@ -229,7 +229,7 @@ last lo d inv t g j n m₀ L no-open (out e) z b = let y = withdrawal-none g (ki
 
 equal-next : (lo : ℕ) (cs : List Call) (t : Call) (d : Desk) (c : Call) (g : ℕ) (j : Job) (n : ℕ) (m₀ : Memory) (L : List ℕ → List ℕ → Type 0)
     → ((n′ : ℕ) (w s : List ℕ) → Mid lo (step d c .desk) g j n′ m₀ w s → n′ + moved g (run (step d c .desk) cs) < j .count
-      → n′ + moved g (run (step d c .desk) (cs ++ t ∷ [])) ≡ j .count → L w s → Ended lo (after (step d c .desk) cs) g j m₀ (step (after (step d c .desk) cs) t))
+    → n′ + moved g (run (step d c .desk) (cs ++ t ∷ [])) ≡ j .count → L w s → Ended lo (after (step d c .desk) cs) g j m₀ (step (after (step d c .desk) cs) t))
     → Next lo d (step d c) g j n m₀ L
     → withdrawalIn g (kindOf (step d c .answer)) ≡ 0
     → n + (movedIn g (kindOf (step d c .answer)) + moved g (run (step d c .desk) cs)) < j .count

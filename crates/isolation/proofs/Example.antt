@@ -322,11 +322,16 @@ module _ (a s : List ℕ) where
     unwritten : Unwritten 2 (firstBy table 8704 c₁ 2 read) 17 (run (step d₀ c₁ .desk) (c₂ ∷ c₃ ∷ c₄ ∷ c₅ ∷ []))
     unwritten = subst (λ (n : ℕ). Unwritten 2 n 17 (run (step d₀ c₁ .desk) (c₂ ∷ c₃ ∷ c₄ ∷ c₅ ∷ []))) (sym first-is)
         (subst (λ (o : Out). Unwritten 2 0 17 (run (o .desk) (c₂ ∷ c₃ ∷ c₄ ∷ c₅ ∷ []))) (sym e₁)
-        (subst (Unwritten 2 0 17) (sym upto)
-        ((λ h k b q e. differ cc),
-        ((λ h k b q e ne. let hh : 2 ≡ h = cc in absurd (ne (sym hh))),
-        ((λ h k b q e ne v w n. writes-other h k b q e v w n),
-        ((λ h k b q e ne. let hh : 2 ≡ h = cc in absurd (ne (sym hh))), tt))))))
+        (subst (Unwritten 2 0 17) (sym upto) (
+          (λ h k b q e. differ cc),
+          (
+            (λ h k b q e ne. let hh : 2 ≡ h = cc in absurd (ne (sym hh))),
+            (
+              (λ h k b q e ne v w n. writes-other h k b q e v w n),
+              ((λ h k b q e ne. let hh : 2 ≡ h = cc in absurd (ne (sym hh))), tt),
+            ),
+          ),
+        )))
 
     -- after the third turn, guest 2's registers, window and blocks 0 to 16 are those of its read served alone
     pub example : Same 8704 2 (firstBy table 8704 c₁ 2 read) 17 (step (after (step d₀ c₁ .desk) (c₂ ∷ c₃ ∷ c₄ ∷ [])) c₅) (alone table₁ read (foundBy 8704 c₁ 2))

@@ -113,7 +113,7 @@ blocks-agree first n at s t w from k fits room l a i h c =
         let e : at + j ≡ i = omega arith in
         let jb : j < blockLength * k = omega arith in
         let p : part (blockLength * k) (blocks s at w from k) at ≡ part (blockLength * k) (blocks t at w from k) at
-            = part-blocks-same s at w from k fits room ∙ sym (part-blocks-same t at w from k (omega arith) room) in
+        = part-blocks-same s at w from k fits room ∙ sym (part-blocks-same t at w from k (omega arith) room) in
         rw (← e)
         (sym (getD-part (blockLength * k) (blocks s at w from k) at j jb)
         ∙ ap (λ (v : List ℕ). getD v j 0) p
@@ -134,8 +134,8 @@ alike-by j first n i k m m′ h bw bs a false =
     let from : ℕ = blockLength * (first + i) in
     record {
       window = ap (λ (w : List ℕ). blocks w at (m .store) from k) (a .window)
-      ∙ blocks-source (m′ .window) at (m .store) (m′ .store) from k (omega arith) (omega (arith, a .length))
-      (part-agree first n from (blockLength * k) (m .store) (m′ .store) (omega arith) (omega arith) bs (a .length) (a .named));
+          ∙ blocks-source (m′ .window) at (m .store) (m′ .store) from k (omega arith) (omega (arith, a .length))
+          (part-agree first n from (blockLength * k) (m .store) (m′ .store) (omega arith) (omega arith) bs (a .length) (a .named));
       length = a .length;
       named = a .named;
     }

@@ -129,15 +129,15 @@ so-more store b d s a z =
     let room : b .count < 8 = refusal-room b d store z in
     let here : getD (set (b .drives) (b .count) d) (b .count) noDrive ≡ d = getD-set-same (b .drives) (b .count) d noDrive (omega (arith, s .eight)) in
     let other : (i : ℕ) → i ≢ b .count → getD (set (b .drives) (b .count) d) i noDrive ≡ getD (b .drives) i noDrive
-        = λ i. getD-set-other (b .drives) (b .count) i d noDrive in
+    = λ i. getD-set-other (b .drives) (b .count) i d noDrive in
     record {
       most = omega arith;
       eight = length-set (b .drives) (b .count) d ∙ s .eight;
       sound = rw add-one (both-intro
-      (eqb (refusal (firstDrives (set (b .drives) (b .count) d) (b .count)) (getD (set (b .drives) (b .count) d) (b .count) noDrive) store) 0)
-      (soundTo (b .count) (set (b .drives) (b .count) d) store)
-      (rw here (eq-eqb _ _ (refusal-ext (b .count) (set (b .drives) (b .count) d) (b .drives) d store (λ i h. other i (λ x. omega arith)) ∙ z)))
-      (sound-ext (b .count) (set (b .drives) (b .count) d) (b .drives) store (λ i h. other i (λ x. omega arith)) ∙ s .sound));
+          (eqb (refusal (firstDrives (set (b .drives) (b .count) d) (b .count)) (getD (set (b .drives) (b .count) d) (b .count) noDrive) store) 0)
+          (soundTo (b .count) (set (b .drives) (b .count) d) store)
+          (rw here (eq-eqb _ _ (refusal-ext (b .count) (set (b .drives) (b .count) d) (b .drives) d store (λ i h. other i (λ x. omega arith)) ∙ z)))
+          (sound-ext (b .count) (set (b .drives) (b .count) d) (b .drives) store (λ i h. other i (λ x. omega arith)) ∙ s .sound));
       blank = λ i l h. other i (λ x. omega arith) ∙ s .blank i (omega arith) h;
       arrays = λ i h. at i h (ℕ-discrete i (b .count));
     }

@@ -244,9 +244,12 @@ module _ (d : Desk) (inv : Inv d) (c : Call) (g : ℕ) (r : Registers) (acc : Ac
       let one′ : turnIn k ≡ 1 = sym (total-one turnIn last (after d₂ stretch)) ∙ ap (λ (x : Desk). turns (run x (last ∷ []))) (sym (after-append mid stretch d₁)) ∙ one in
       let zl : withdrawals g (run d₂ (stretch ++ last ∷ [])) ≡ withdrawals g (run d₂ stretch) + withdrawalIn g k = total-last (withdrawalIn g) stretch last d₂ in
       ⊎-elim (λ x. x)
-      (λ x. absurd (omega (arith, eight,
-      near (stretch ++ last ∷ []) d₂ (reached mid d₁ inv₁ o₁ .inv) o₂ g (t .now) (t .here) (omega (arith, zw, zl, turn-keeps g k one′)) (omega arith),
-      dist-lt (d₂ .pointer) g)))
+      (λ x. absurd (omega (
+        arith,
+        eight,
+        near (stretch ++ last ∷ []) d₂ (reached mid d₁ inv₁ o₁ .inv) o₂ g (t .now) (t .here) (omega (arith, zw, zl, turn-keeps g k one′)) (omega arith),
+        dist-lt (d₂ .pointer) g,
+      )))
       (lt-or-le 0 (services g (run d₂ (stretch ++ last ∷ []))))
 
   -- the finishing turn leaves the row finished
@@ -323,24 +326,24 @@ module _ (d : Desk) (inv : Inv d) (c : Call) (g : ℕ) (r : Registers) (acc : Ac
       → Same (windowSize d) g lo n (step (after d₁ mid) last) (alone t r found)
   equal′ t te mid last no-open f l u =
       let l₁ : Left (windowSize d) g (windowIn d c g) (c .store) (run d₁ (mid ++ last ∷ []))
-          = subst (λ (s : List ℕ). Left (windowSize d) g (windowIn d c g) s (run d₁ (mid ++ last ∷ []))) (accepted .store)
-          (subst (λ (a : List ℕ). Left (windowSize d) g (windowOf a g (windowSize d)) (step d c .store) (run d₁ (mid ++ last ∷ []))) (accepted .arena) l) in
+      = subst (λ (s : List ℕ). Left (windowSize d) g (windowIn d c g) s (run d₁ (mid ++ last ∷ []))) (accepted .store)
+      (subst (λ (a : List ℕ). Left (windowSize d) g (windowOf a g (windowSize d)) (step d c .store) (run d₁ (mid ++ last ∷ []))) (accepted .arena) l) in
       let l₂ : Left (windowSize d₁) g (windowIn d c g) (c .store) (run d₁ (mid ++ last ∷ []))
-          = subst (λ (a : ℕ). Left (windowLength a) g (windowIn d c g) (c .store) (run d₁ (mid ++ last ∷ []))) (sym (fixed₁ .arena)) l₁ in
+      = subst (λ (a : ℕ). Left (windowLength a) g (windowIn d c g) (c .store) (run d₁ (mid ++ last ∷ []))) (sym (fixed₁ .arena)) l₁ in
       let e : Ended lo (after d₁ mid) g job found (step (after d₁ mid) last)
-          = equal-run lo mid last d₁ inv₁ no-open g job 0 found (windowIn d c g) (c .store) mid₀ (f .waited .0) (omega (arith, f .waited .1)) (omega (arith, f .reached)) l₂ u in
+      = equal-run lo mid last d₁ inv₁ no-open g job 0 found (windowIn d c g) (c .store) mid₀ (f .waited .0) (omega (arith, f .waited .1)) (omega (arith, f .reached)) l₂ u in
       let fx = reached mid d₁ inv₁ (opens-front mid (last ∷ []) d₁ no-open) .fixed in
       let size : windowSize (after d₁ mid) ≡ windowSize d = ap windowLength (fx .arena ∙ fixed₁ .arena) in
       let al = alone-is t te in
       let len : length (step (after d₁ mid) last .store) ≡ d .store
-          = e .alike .length ∙ moves-size job lo 0 n found .store ∙ accepted .lent .store in
+      = e .alike .length ∙ moves-size job lo 0 n found .store ∙ accepted .lent .store in
       record {
         registers = e .registers ∙ ap (λ (x : Served). Finished (x .registers)) (sym al);
         window = ap (λ (m : ℕ). windowOf (step (after d₁ mid) last .arena) g m) (sym size) ∙ e .alike .window ∙ ap (λ (x : Served). x .memory .window) (sym al);
         named = λ b h.
-          part-agree lo n (blockLength * b) blockLength (step (after d₁ mid) last .store) (moves job lo 0 n found .store)
-          (omega (arith, h .0)) (omega (arith, h .1)) (omega (arith, room .range, len)) (e .alike .length) (e .alike .named)
-          ∙ ap (λ (x : Served). part blockLength (x .memory .store) (blockLength * b)) (sym al);
+            part-agree lo n (blockLength * b) blockLength (step (after d₁ mid) last .store) (moves job lo 0 n found .store)
+            (omega (arith, h .0)) (omega (arith, h .1)) (omega (arith, room .range, len)) (e .alike .length) (e .alike .named)
+            ∙ ap (λ (x : Served). part blockLength (x .memory .store) (blockLength * b)) (sym al);
       }
 
   handed′ : (t : List ℕ) → readTable t (d .store / blockLength) .table ≡ d .table → (mid after₁ : List Call) (last x : Call)
@@ -358,7 +361,7 @@ module _ (d : Desk) (inv : Inv d) (c : Call) (g : ℕ) (r : Registers) (acc : Ac
       let o₄ = opens-cons (after d₂ after₁) x [] (opens-rest after₁ (x ∷ []) d₂ (o₂ .1)) in
       let inv₂ : Inv d₂ = inv-step (after d₁ mid) last (reached mid d₁ inv₁ o₁ .inv) (o₂ .0) in
       let e : stageAt (after d₂ after₁) g ≡ Finished (succeed (job .registers))
-          = still-finished after₁ d₂ inv₂ o₃ g (succeed (job .registers)) (finished mid last (opens-upto mid (after₁ ++ x ∷ []) last d₁ no-open) f) z in
+      = still-finished after₁ d₂ inv₂ o₃ g (succeed (job .registers)) (finished mid last (opens-upto mid (after₁ ++ x ∷ []) last d₁ no-open) f) z in
       handed-over (after d₂ after₁) (reached after₁ d₂ inv₂ o₃ .inv) x g (succeed (job .registers)) (o₄ .0) e op u
       ∙ ap (λ (s : Served). collected g (Given (s .registers))) (sym (alone-is t te))
 
@@ -474,9 +477,9 @@ module _ (t : List ℕ) (arena store : ℕ) (calls : List Call) (passed : openOf
       let a = at pre (mid ++ (stretch ++ last ∷ rest)) c e in
       let n = asks d (a .inv) c g r acc (a .here) (a .size) in
       let o : NoneOpens (run (step d c .desk) (mid ++ (stretch ++ last ∷ [])))
-          = subst (λ (l : List Call). NoneOpens (run (step d c .desk) l)) (append-assoc mid stretch (last ∷ []))
-          (opens-upto (mid ++ stretch) rest last (step d c .desk)
-          (subst (λ (l : List Call). NoneOpens (run (step d c .desk) l)) (sym (append-assoc mid stretch (last ∷ rest))) (a .later))) in
+      = subst (λ (l : List Call). NoneOpens (run (step d c .desk) l)) (append-assoc mid stretch (last ∷ []))
+      (opens-upto (mid ++ stretch) rest last (step d c .desk)
+      (subst (λ (l : List Call). NoneOpens (run (step d c .desk) l)) (sym (append-assoc mid stretch (last ∷ rest))) (a .later))) in
       within′ d (a .inv) c g r acc (a .here) mid stretch last o
       (subst (λ (k : ℕ). Waits g k (run (step d c .desk) (mid ++ stretch))) (sym n) w) one eight
 
@@ -550,11 +553,11 @@ module _ (t : List ℕ) (arena store : ℕ) (calls : List Call) (passed : openOf
       let assoc : mid ++ last ∷ (later ++ x ∷ rest) ≡ (mid ++ last ∷ later) ++ x ∷ rest = sym (append-assoc mid (last ∷ later) (x ∷ rest)) in
       let assoc′ : (mid ++ last ∷ later) ++ x ∷ [] ≡ mid ++ last ∷ (later ++ x ∷ []) = append-assoc mid (last ∷ later) (x ∷ []) in
       let o : NoneOpens (run d₁ (mid ++ last ∷ (later ++ x ∷ [])))
-          = subst (λ (l : List Call). NoneOpens (run d₁ l)) assoc′
-          (opens-upto (mid ++ last ∷ later) rest x d₁ (subst (λ (l : List Call). NoneOpens (run d₁ l)) assoc (a .later))) in
+      = subst (λ (l : List Call). NoneOpens (run d₁ l)) assoc′
+      (opens-upto (mid ++ last ∷ later) rest x d₁ (subst (λ (l : List Call). NoneOpens (run d₁ l)) assoc (a .later))) in
       let there : after d₁ (mid ++ last ∷ later) ≡ after (step (after d₁ mid) last .desk) later = after-at mid later last d₁ in
       let z′ : collects g (run (step (after d₁ mid) last .desk) later) ≡ 0
-          = subst (λ (x : Desk). collects g (run x later) ≡ 0) (after-at mid [] last d₁ ∙ after-none (step (after d₁ mid) last .desk)) z in
+      = subst (λ (x : Desk). collects g (run x later) ≡ 0) (after-at mid [] last d₁ ∙ after-none (step (after d₁ mid) last .desk)) z in
       subst (λ (y : Desk). (kindOf (step y x .answer) ≡ refused → ⊥) → step y x .answer ≡ collected g (Given (alone t r (foundBy m c g) .registers))) (sym there)
       (subst (λ (k : ℕ). (kindOf (step (after (step (after d₁ mid) last .desk) later) x .answer) ≡ refused → ⊥)
       → step (after (step (after d₁ mid) last .desk) later) x .answer ≡ collected g (Given (alone t r (foundBy k c g) .registers))) (a .size)
@@ -581,8 +584,8 @@ module _ (t : List ℕ) (arena store : ℕ) (calls : List Call) (passed : openOf
         handed = handed″;
         atOnce = atOnce″;
         acceptable = λ pre rest e.
-          inv-accept (after d₀ pre)
-          (reached pre d₀ (inv-opened t arena store passed) (opens-front pre rest d₀ (subst (λ (l : List Call). NoneOpens (run d₀ l)) e closed)) .inv);
+            inv-accept (after d₀ pre)
+            (reached pre d₀ (inv-opened t arena store passed) (opens-front pre rest d₀ (subst (λ (l : List Call). NoneOpens (run d₀ l)) e closed)) .inv);
         never25 = λ pre rest c e. let a = at pre rest c e in never (after d₀ pre) c (step (after d₀ pre) c) (view (after d₀ pre) (a .inv) c (a .here));
       }
 

@@ -104,10 +104,11 @@ past rows p g pb nw f =
       request = f .request;
       here = f .here;
       nearest = λ h q b e.
-        let x = f .nearest h q b e in
-        let gp : g ≢ p = λ y. nw (f .request) (rw (← y) (f .here)) in
-        let hp : h ≢ p = λ y. nw q (rw (← y) e) in
-        omega (arith, dist-next p g pb (f .below) gp, dist-next p h pb b hp) }
+          let x = f .nearest h q b e in
+          let gp : g ≢ p = λ y. nw (f .request) (rw (← y) (f .here)) in
+          let hp : h ≢ p = λ y. nw q (rw (← y) e) in
+          omega (arith, dist-next p g pb (f .below) gp, dist-next p h pb b hp);
+    }
 
 seek-go : (rows : List Row) (k p g : ℕ) → p < 8 → (seek rows k (next p) ≡ Guest g → Found rows (next p) g)
     → (st : Stage) → stageIn rows p ≡ st → pick (isWaiting st) (Guest p) (seek rows k (next p)) ≡ Guest g → Found rows p g
@@ -119,7 +120,8 @@ seek-go rows k p g pb ih (Waiting q) r f =
       below = omega arith;
       request = q;
       here = rw (← pg) r;
-      nearest = λ h q′ b x. rw (← pg) (omega (arith, dist-here p pb)) }
+      nearest = λ h q′ b x. rw (← pg) (omega (arith, dist-here p pb));
+    }
 
 pub seek-guest : (rows : List Row) (k p g : ℕ) → p < 8 → seek rows k p ≡ Guest g → Found rows p g
 unfolding seek

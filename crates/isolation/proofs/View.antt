@@ -104,13 +104,13 @@ pub data Did (d : Desk) (c : Call) : Out → Type 0 where
   same : (x : Answer) → Quiet (kindOf x) → (houseNumber x ≡ 25 → ⊥) → Did d c (still d c x)
   idle : c .op ≡ turn → ((h : ℕ) (q : Request) → h < guests → stageAt d h ≡ Waiting q → ⊥) → Did d c (still d c (turned Idle))
   answer : (g : ℕ) (r x : Registers) (w : List ℕ) → c .op ≡ post g r → g < guests → Lent d c → stageAt d g ≡ Vacant
-    → check (d .table) r (windowIn d c g) .outcome ≡ Answered x → check (d .table) r (windowIn d c g) .window ≡ w → length w ≡ windowSize d
-    → Did d c (postedOut d c g (Answered x) w)
+      → check (d .table) r (windowIn d c g) .outcome ≡ Answered x → check (d .table) r (windowIn d c g) .window ≡ w → length w ≡ windowSize d
+      → Did d c (postedOut d c g (Answered x) w)
   accepting : (g : ℕ) (r : Registers) (j : Job) → c .op ≡ post g r → g < guests → Lent d c → stageAt d g ≡ Vacant
-    → check (d .table) r (windowIn d c g) .outcome ≡ Waits j → check (d .table) r (windowIn d c g) .window ≡ windowIn d c g → Fresh (d .table) r (windowIn d c g) j
-    → Did d c (postedOut d c g (Waits j) (windowIn d c g))
+      → check (d .table) r (windowIn d c g) .outcome ≡ Waits j → check (d .table) r (windowIn d c g) .window ≡ windowIn d c g → Fresh (d .table) r (windowIn d c g) j
+      → Did d c (postedOut d c g (Waits j) (windowIn d c g))
   serving : (g : ℕ) (q : Request) → c .op ≡ turn → g < guests → Lent d c → stageAt d g ≡ Waiting q
-    → ((h : ℕ) (q′ : Request) → h < guests → stageAt d h ≡ Waiting q′ → dist (d .pointer) g ≤ dist (d .pointer) h) → Did d c (servedOut d c g q)
+      → ((h : ℕ) (q′ : Request) → h < guests → stageAt d h ≡ Waiting q′ → dist (d .pointer) g ≤ dist (d .pointer) h) → Did d c (servedOut d c g q)
   giving : (g : ℕ) (x : Registers) → c .op ≡ collect g → g < guests → stageAt d g ≡ Finished x → Did d c (collectedOut d c g x)
   withdrawing : (g : ℕ) (q : Request) → c .op ≡ withdraw g → g < guests → Lent d c → stageAt d g ≡ Waiting q → Did d c (withdrawnOut d c g q)
 

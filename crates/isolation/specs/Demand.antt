@@ -38,9 +38,9 @@ firstBy table m c g r = namedFrom table r (windowOf (c .arena) g m)
 -- within so many turns not refused, the request of g with n blocks, accepted just before the calls cs, finishes or is withdrawn
 pub data Ends (g n most : ℕ) (d : Desk) (cs : List Call) : Type 0 where
   finishing : (front : List Call) (t : Call) (rest : List Call) → cs ≡ front ++ t ∷ rest → Finishes g n d front t
-    → turns (run d (front ++ t ∷ [])) ≤ most → Ends g n most d cs
+      → turns (run d (front ++ t ∷ [])) ≤ most → Ends g n most d cs
   withdrawing : (front : List Call) (t : Call) (rest : List Call) → cs ≡ front ++ t ∷ rest → Withdraws g n d front t
-    → turns (run d (front ++ t ∷ [])) ≤ most → Ends g n most d cs
+      → turns (run d (front ++ t ∷ [])) ≤ most → Ends g n most d cs
 
 -- "Compared are that window and the named blocks after the finishing turn, and the finished row's registers"
 pub record Same (m g first n : ℕ) (o : Out) (s : Served) : Type 0 where
@@ -60,52 +60,52 @@ pub record Claim (t : List ℕ) (d₀ : Desk) (m : ℕ) (calls : List Call) : Ty
   -- "A waiting request is served in at least one of any eight successive turns not refused while it waits": in a stretch of calls that
   -- holds eight, the last call one of them, before which it waits
   pub within : (pre mid stretch rest : List Call) (c last : Call) (g : ℕ) (r : Registers) → calls ≡ pre ++ c ∷ (mid ++ (stretch ++ last ∷ rest))
-    → Accepted (after d₀ pre) c g r
-    → Waits g (askedBy m c g r) (run (step (after d₀ pre) c .desk) (mid ++ stretch))
-    → turns (run (after (step (after d₀ pre) c .desk) (mid ++ stretch)) (last ∷ [])) ≡ 1
-    → guests ≤ turns (run (after (step (after d₀ pre) c .desk) mid) (stretch ++ last ∷ []))
-    → 0 < services g (run (after (step (after d₀ pre) c .desk) mid) (stretch ++ last ∷ []))
+      → Accepted (after d₀ pre) c g r
+      → Waits g (askedBy m c g r) (run (step (after d₀ pre) c .desk) (mid ++ stretch))
+      → turns (run (after (step (after d₀ pre) c .desk) (mid ++ stretch)) (last ∷ [])) ≡ 1
+      → guests ≤ turns (run (after (step (after d₀ pre) c .desk) mid) (stretch ++ last ∷ []))
+      → 0 < services g (run (after (step (after d₀ pre) c .desk) mid) (stretch ++ last ∷ []))
   -- "While it waits, fewer than 8 x ceil(n / 16) turns not refused have followed its acceptance"
   pub bounded : (pre mid rest : List Call) (c : Call) (g : ℕ) (r : Registers) → calls ≡ pre ++ c ∷ (mid ++ rest)
-    → Accepted (after d₀ pre) c g r
-    → Waits g (askedBy m c g r) (run (step (after d₀ pre) c .desk) mid)
-    → turns (run (step (after d₀ pre) c .desk) mid) < turnsFor (askedBy m c g r)
+      → Accepted (after d₀ pre) c g r
+      → Waits g (askedBy m c g r) (run (step (after d₀ pre) c .desk) mid)
+      → turns (run (step (after d₀ pre) c .desk) mid) < turnsFor (askedBy m c g r)
   -- "So, unless withdrawn, it finishes within eight such turns for each of its sixteen-block parts, a shorter last one included."
   pub finishes : (pre mid rest : List Call) (c : Call) (g : ℕ) (r : Registers) → calls ≡ pre ++ c ∷ (mid ++ rest)
-    → Accepted (after d₀ pre) c g r
-    → turnsFor (askedBy m c g r) ≤ turns (run (step (after d₀ pre) c .desk) mid)
-    → Ends g (askedBy m c g r) (turnsFor (askedBy m c g r)) (step (after d₀ pre) c .desk) mid
+      → Accepted (after d₀ pre) c g r
+      → turnsFor (askedBy m c g r) ≤ turns (run (step (after d₀ pre) c .desk) mid)
+      → Ends g (askedBy m c g r) (turnsFor (askedBy m c g r)) (step (after d₀ pre) c .desk) mid
   -- "A turn changes no other guest's row or memory."
   pub spared : (pre rest : List Call) (c : Call) (h : ℕ) → calls ≡ pre ++ c ∷ rest
-    → c .op ≡ turn
-    → serviceIn h (kindOf (step (after d₀ pre) c .answer)) ≡ 0
-    → (stageAt (step (after d₀ pre) c .desk) h ≡ stageAt (after d₀ pre) h) × (windowOf (step (after d₀ pre) c .arena) h m ≡ windowOf (c .arena) h m)
+      → c .op ≡ turn
+      → serviceIn h (kindOf (step (after d₀ pre) c .answer)) ≡ 0
+      → (stageAt (step (after d₀ pre) c .desk) h ≡ stageAt (after d₀ pre) h) × (windowOf (step (after d₀ pre) c .arena) h m ≡ windowOf (c .arena) h m)
   -- "Take a request that finishes, and let meanwhile the same arena and store be lent, only posts, turns and withdrawals at this desk change
   -- that guest's memory and the store, and no other guest write a block it names. Then, whatever the other guests posted, its registers, that
   -- memory and those blocks equal those of the same request served alone when accepted."
   pub equal : (pre mid rest : List Call) (c last : Call) (g : ℕ) (r : Registers) → calls ≡ pre ++ c ∷ (mid ++ last ∷ rest)
-    → Accepted (after d₀ pre) c g r
-    → Finishes g (askedBy m c g r) (step (after d₀ pre) c .desk) mid last
-    → Left m g (windowOf (step (after d₀ pre) c .arena) g m) (step (after d₀ pre) c .store) (run (step (after d₀ pre) c .desk) (mid ++ last ∷ []))
-    → Unwritten g (firstBy (d₀ .table) m c g r) (askedBy m c g r) (run (step (after d₀ pre) c .desk) (mid ++ last ∷ []))
-    → Same m g (firstBy (d₀ .table) m c g r) (askedBy m c g r) (step (after (step (after d₀ pre) c .desk) mid) last) (alone t r (foundBy m c g))
+      → Accepted (after d₀ pre) c g r
+      → Finishes g (askedBy m c g r) (step (after d₀ pre) c .desk) mid last
+      → Left m g (windowOf (step (after d₀ pre) c .arena) g m) (step (after d₀ pre) c .store) (run (step (after d₀ pre) c .desk) (mid ++ last ∷ []))
+      → Unwritten g (firstBy (d₀ .table) m c g r) (askedBy m c g r) (run (step (after d₀ pre) c .desk) (mid ++ last ∷ []))
+      → Same m g (firstBy (d₀ .table) m c g r) (askedBy m c g r) (step (after (step (after d₀ pre) c .desk) mid) last) (alone t r (foundBy m c g))
   -- "the finished row's registers, which the guest's next collect not refused hands out", however much later; they need no condition
   pub handed : (pre mid later rest : List Call) (c last x : Call) (g : ℕ) (r : Registers) → calls ≡ pre ++ c ∷ (mid ++ last ∷ (later ++ x ∷ rest))
-    → Accepted (after d₀ pre) c g r
-    → Finishes g (askedBy m c g r) (step (after d₀ pre) c .desk) mid last
-    → collects g (run (after (step (after d₀ pre) c .desk) (mid ++ last ∷ [])) later) ≡ 0
-    → x .op ≡ collect g
-    → (kindOf (step (after (step (after d₀ pre) c .desk) (mid ++ last ∷ later)) x .answer) ≡ refused → ⊥)
-    → step (after (step (after d₀ pre) c .desk) (mid ++ last ∷ later)) x .answer ≡ collected g (Given (alone t r (foundBy m c g) .registers))
+      → Accepted (after d₀ pre) c g r
+      → Finishes g (askedBy m c g r) (step (after d₀ pre) c .desk) mid last
+      → collects g (run (after (step (after d₀ pre) c .desk) (mid ++ last ∷ [])) later) ≡ 0
+      → x .op ≡ collect g
+      → (kindOf (step (after (step (after d₀ pre) c .desk) (mid ++ last ∷ later)) x .answer) ≡ refused → ⊥)
+      → step (after (step (after d₀ pre) c .desk) (mid ++ last ∷ later)) x .answer ≡ collected g (Given (alone t r (foundBy m c g) .registers))
   -- "What they answer at once, refusals included, it answers and writes as they say": so does the desk
   pub atOnce : (pre rest : List Call) (c : Call) (g : ℕ) (r x : Registers) → calls ≡ pre ++ c ∷ rest
-    → c .op ≡ post g r
-    → step (after d₀ pre) c .answer ≡ posted g (Answered x)
-    → SameAtOnce m g (step (after d₀ pre) c) x (alone t r (foundBy m c g))
+      → c .op ≡ post g r
+      → step (after d₀ pre) c .answer ≡ posted g (Answered x)
+      → SameAtOnce m g (step (after d₀ pre) c) x (alone t r (foundBy m c g))
   -- every call gets an acceptable desk and leaves one: none is answered 25
   pub acceptable : (pre rest : List Call) → calls ≡ pre ++ rest → accept (after d₀ pre) ≡ true
   pub never25 : (pre rest : List Call) (c : Call) → calls ≡ pre ++ c ∷ rest
-    → houseNumber (step (after d₀ pre) c .answer) ≡ notAcceptable → ⊥
+      → houseNumber (step (after d₀ pre) c .answer) ≡ notAcceptable → ⊥
 
 -- DEMAND 3: for table bytes, arena length and store length with which an opening passes, and every list of calls after it in which no other
 -- opening passes
