@@ -18,8 +18,26 @@ use Rattle.desk.specs.declared.CollectAnswer.the-variants.{Given}
 use Rattle.desk.specs.Parts.{stageAt}
 use Rattle.desk.specs.Acceptable.{accept}
 use Rattle.desk.specs.Calls.{notAcceptable, openOf}
-use Rattle.isolation.specs.Lists.{Op, post, turn, collect, Call, posted, collected, Out, step, run, after}
+use Rattle.isolation.specs.Lists.{Op, post, turn, collect, Call, posted, collected, Out, step, Event, run, after}
 use Rattle.isolation.specs.Words.{refused, kindOf, houseNumber, NoneOpens, turnIn, turns, serviceIn, services, collects, Accepted, Waits, Finishes, Withdraws, turnsFor, Named, Unwritten, Left}
+
+-- ---- a call of the list, and the calls since it
+
+-- what the call c leaves, after the calls pre
+abbrev pub outAt : Desk → List Call → Call → Out
+outAt d pre c = step (after d pre) c
+
+-- the calls cs that follow it
+abbrev pub since : Desk → List Call → Call → List Call → List Event
+since d pre c cs = run (outAt d pre c .desk) cs
+
+-- what the call x leaves after those
+abbrev pub outSince : Desk → List Call → Call → List Call → Call → Out
+outSince d pre c cs x = step (after (outAt d pre c .desk) cs) x
+
+-- the calls ds that follow the calls cs
+abbrev pub later : Desk → List Call → Call → List Call → List Call → List Event
+later d pre c cs ds = run (after (outAt d pre c .desk) cs) ds
 
 -- ---- one request
 
@@ -61,51 +79,51 @@ pub record Claim (t : List ℕ) (d₀ : Desk) (m : ℕ) (calls : List Call) : Ty
   -- holds eight, the last call one of them, before which it waits
   pub within : (pre mid stretch rest : List Call) (c last : Call) (g : ℕ) (r : Registers) → calls ≡ pre ++ c ∷ (mid ++ (stretch ++ last ∷ rest))
       → Accepted (after d₀ pre) c g r
-      → Waits g (askedBy m c g r) (run (step (after d₀ pre) c .desk) (mid ++ stretch))
-      → turns (run (after (step (after d₀ pre) c .desk) (mid ++ stretch)) (last ∷ [])) ≡ 1
-      → guests ≤ turns (run (after (step (after d₀ pre) c .desk) mid) (stretch ++ last ∷ []))
-      → 0 < services g (run (after (step (after d₀ pre) c .desk) mid) (stretch ++ last ∷ []))
+      → Waits g (askedBy m c g r) (since d₀ pre c (mid ++ stretch))
+      → turns (later d₀ pre c (mid ++ stretch) (last ∷ [])) ≡ 1
+      → guests ≤ turns (later d₀ pre c mid (stretch ++ last ∷ []))
+      → 0 < services g (later d₀ pre c mid (stretch ++ last ∷ []))
   -- "While it waits, fewer than 8 x ceil(n / 16) turns not refused have followed its acceptance"
   pub bounded : (pre mid rest : List Call) (c : Call) (g : ℕ) (r : Registers) → calls ≡ pre ++ c ∷ (mid ++ rest)
       → Accepted (after d₀ pre) c g r
-      → Waits g (askedBy m c g r) (run (step (after d₀ pre) c .desk) mid)
-      → turns (run (step (after d₀ pre) c .desk) mid) < turnsFor (askedBy m c g r)
+      → Waits g (askedBy m c g r) (since d₀ pre c mid)
+      → turns (since d₀ pre c mid) < turnsFor (askedBy m c g r)
   -- "So, unless withdrawn, it finishes within eight such turns for each of its sixteen-block parts, a shorter last one included."
   pub finishes : (pre mid rest : List Call) (c : Call) (g : ℕ) (r : Registers) → calls ≡ pre ++ c ∷ (mid ++ rest)
       → Accepted (after d₀ pre) c g r
-      → turnsFor (askedBy m c g r) ≤ turns (run (step (after d₀ pre) c .desk) mid)
-      → Ends g (askedBy m c g r) (turnsFor (askedBy m c g r)) (step (after d₀ pre) c .desk) mid
+      → turnsFor (askedBy m c g r) ≤ turns (since d₀ pre c mid)
+      → Ends g (askedBy m c g r) (turnsFor (askedBy m c g r)) (outAt d₀ pre c .desk) mid
   -- "A turn changes no other guest's row or memory."
   pub spared : (pre rest : List Call) (c : Call) (h : ℕ) → calls ≡ pre ++ c ∷ rest
       → c .op ≡ turn
-      → serviceIn h (kindOf (step (after d₀ pre) c .answer)) ≡ 0
-      → (stageAt (step (after d₀ pre) c .desk) h ≡ stageAt (after d₀ pre) h) × (windowOf (step (after d₀ pre) c .arena) h m ≡ windowOf (c .arena) h m)
+      → serviceIn h (kindOf (outAt d₀ pre c .answer)) ≡ 0
+      → (stageAt (outAt d₀ pre c .desk) h ≡ stageAt (after d₀ pre) h) × (windowOf (outAt d₀ pre c .arena) h m ≡ windowOf (c .arena) h m)
   -- "Take a request that finishes, and let meanwhile the same arena and store be lent, only posts, turns and withdrawals at this desk change
   -- that guest's memory and the store, and no other guest write a block it names. Then, whatever the other guests posted, its registers, that
   -- memory and those blocks equal those of the same request served alone when accepted."
   pub equal : (pre mid rest : List Call) (c last : Call) (g : ℕ) (r : Registers) → calls ≡ pre ++ c ∷ (mid ++ last ∷ rest)
       → Accepted (after d₀ pre) c g r
-      → Finishes g (askedBy m c g r) (step (after d₀ pre) c .desk) mid last
-      → Left m g (windowOf (step (after d₀ pre) c .arena) g m) (step (after d₀ pre) c .store) (run (step (after d₀ pre) c .desk) (mid ++ last ∷ []))
-      → Unwritten g (firstBy (d₀ .table) m c g r) (askedBy m c g r) (run (step (after d₀ pre) c .desk) (mid ++ last ∷ []))
-      → Same m g (firstBy (d₀ .table) m c g r) (askedBy m c g r) (step (after (step (after d₀ pre) c .desk) mid) last) (alone t r (foundBy m c g))
+      → Finishes g (askedBy m c g r) (outAt d₀ pre c .desk) mid last
+      → Left m g (windowOf (outAt d₀ pre c .arena) g m) (outAt d₀ pre c .store) (since d₀ pre c (mid ++ last ∷ []))
+      → Unwritten g (firstBy (d₀ .table) m c g r) (askedBy m c g r) (since d₀ pre c (mid ++ last ∷ []))
+      → Same m g (firstBy (d₀ .table) m c g r) (askedBy m c g r) (outSince d₀ pre c mid last) (alone t r (foundBy m c g))
   -- "the finished row's registers, which the guest's next collect not refused hands out", however much later; they need no condition
-  pub handed : (pre mid later rest : List Call) (c last x : Call) (g : ℕ) (r : Registers) → calls ≡ pre ++ c ∷ (mid ++ last ∷ (later ++ x ∷ rest))
+  pub handed : (pre mid more rest : List Call) (c last x : Call) (g : ℕ) (r : Registers) → calls ≡ pre ++ c ∷ (mid ++ last ∷ (more ++ x ∷ rest))
       → Accepted (after d₀ pre) c g r
-      → Finishes g (askedBy m c g r) (step (after d₀ pre) c .desk) mid last
-      → collects g (run (after (step (after d₀ pre) c .desk) (mid ++ last ∷ [])) later) ≡ 0
+      → Finishes g (askedBy m c g r) (outAt d₀ pre c .desk) mid last
+      → collects g (later d₀ pre c (mid ++ last ∷ []) more) ≡ 0
       → x .op ≡ collect g
-      → (kindOf (step (after (step (after d₀ pre) c .desk) (mid ++ last ∷ later)) x .answer) ≡ refused → ⊥)
-      → step (after (step (after d₀ pre) c .desk) (mid ++ last ∷ later)) x .answer ≡ collected g (Given (alone t r (foundBy m c g) .registers))
+      → (kindOf (outSince d₀ pre c (mid ++ last ∷ more) x .answer) ≡ refused → ⊥)
+      → outSince d₀ pre c (mid ++ last ∷ more) x .answer ≡ collected g (Given (alone t r (foundBy m c g) .registers))
   -- "What they answer at once, refusals included, it answers and writes as they say": so does the desk
   pub atOnce : (pre rest : List Call) (c : Call) (g : ℕ) (r x : Registers) → calls ≡ pre ++ c ∷ rest
       → c .op ≡ post g r
-      → step (after d₀ pre) c .answer ≡ posted g (Answered x)
-      → SameAtOnce m g (step (after d₀ pre) c) x (alone t r (foundBy m c g))
+      → outAt d₀ pre c .answer ≡ posted g (Answered x)
+      → SameAtOnce m g (outAt d₀ pre c) x (alone t r (foundBy m c g))
   -- every call gets an acceptable desk and leaves one: none is answered 25
   pub acceptable : (pre rest : List Call) → calls ≡ pre ++ rest → accept (after d₀ pre) ≡ true
   pub never25 : (pre rest : List Call) (c : Call) → calls ≡ pre ++ c ∷ rest
-      → houseNumber (step (after d₀ pre) c .answer) ≡ notAcceptable → ⊥
+      → houseNumber (outAt d₀ pre c .answer) ≡ notAcceptable → ⊥
 
 -- DEMAND 3: for table bytes, arena length and store length with which an opening passes, and every list of calls after it in which no other
 -- opening passes
