@@ -1,0 +1,162 @@
+-- An acceptable desk, as facts, both ways; and what each waiting row of it has room for.
+-- Assumes nothing.
+use Prim.Native.Nat.{ℕ, zero, suc, _+_, _*_, _/_, _%_, _≤_, _<_}
+use mathlib.Core.Path.{_≡_, refl, sym, ap, _∙_}
+use mathlib.Core.Logic.{_⊎_, inl, inr, ⊎-elim, _↔_}
+use mathlib.Core.Bool.{Bool, true, false, not}
+use mathlib.Core.List.{List}
+use native.Mathlib.Omega.{arith}
+use lib.ListN.{length, replicate, length-replicate, getD-replicate, List·getD-eq-default}
+use lib.Dec.{leb, ltb, eqb}
+use borrow.Author.Tests.{leb-true, ltb-true, lt-ltb, eqb-true}
+use Rattle.logic.specs.Logic.{pick, both}
+use Rattle.logic.proofs.Logic.{both-true}
+use Rattle.chs.specs.Chs.{size}
+use Rattle.drive.specs.Drive.{geometryOf, isProtected}
+use Rattle.table.specs.declared.Table.{Table}
+use Rattle.table.specs.declared.Answer.{Answer}
+use Rattle.table.specs.declared.Answer.the-variants.{Accepted, Refused as TableRefused}
+use Rattle.table.specs.Table.{isSound, readTable}
+use Rattle.memory.specs.Window.{guests}
+use Rattle.memory.specs.Blocks.{blockLength}
+use Rattle.int13.specs.declared.Job.{Job}
+use Rattle.int13.specs.Answers.{ah, isSectors, isWrite}
+use Rattle.int13.specs.Steps.{isDrive, driveAt}
+use Rattle.int13.specs.Alone.{storeBlock}
+use Rattle.desk.specs.declared.Request.{Request}
+use Rattle.desk.specs.declared.Stage.{Stage}
+use Rattle.desk.specs.declared.Stage.the-variants.{Vacant, Waiting, Finished}
+use Rattle.desk.specs.declared.Row.{Row}
+use Rattle.desk.specs.declared.Desk.{Desk}
+use Rattle.desk.specs.declared.OpenAnswer.the-variants.{Opened}
+use Rattle.desk.specs.Parts.{windowSize, storeBlocks, vacantRow, stageIn, stageAt}
+use Rattle.desk.specs.Acceptable.{isTransfer, countOk, rangeOk, packetOk, jobOk, movedOk, stageOk, rowsOk, accept}
+use Rattle.desk.specs.Calls.{opened, openAnswer, openOf}
+use Rattle.isolation.proofs.Turn.{lt-or-le}
+use Rattle.isolation.proofs.Sound.{both-intro, Good, accepted-good}
+use Rattle.isolation.proofs.Check.{Known, known}
+
+-- ---- acceptable, as facts
+
+pub record Facts (d : Desk) : Type 0 where
+  pub sound : isSound (d .table) (storeBlocks d) ≡ true
+  pub pointer : d .pointer < guests
+  pub stages : (g : ℕ) → g < guests → stageOk (d .table) (windowSize d) (stageAt d g) ≡ true
+
+rows-facts : (n : ℕ) (rows : List Row) (b : Table) (M g : ℕ) → rowsOk n rows b M ≡ true → g < n → stageOk b M (stageIn rows g) ≡ true
+unfolding rowsOk
+rows-facts zero rows b M g e h = absurd (omega arith)
+rows-facts (suc n) rows b M g e h =
+    let p = both-true (stageOk b M (stageIn rows n)) (rowsOk n rows b M) e in
+    ⊎-elim (λ x. rows-facts n rows b M g (p .1) x) (λ x. let y : g ≡ n = omega arith in rw y (p .0)) (lt-or-le g n)
+
+rows-ok : (n : ℕ) (rows : List Row) (b : Table) (M : ℕ) → ((g : ℕ) → g < n → stageOk b M (stageIn rows g) ≡ true) → rowsOk n rows b M ≡ true
+unfolding rowsOk
+rows-ok zero rows b M f = refl
+rows-ok (suc n) rows b M f = both-intro _ _ (f n (omega arith)) (rows-ok n rows b M (λ g h. f g (omega arith)))
+
+pub accept-facts : (d : Desk) → (accept d ≡ true) ↔ Facts d
+unfolding accept
+accept-facts d = (there, back)
+  where
+    there : both (isSound (d .table) (storeBlocks d)) (both (ltb (d .pointer) guests) (rowsOk guests (d .rows) (d .table) (windowSize d))) ≡ true → Facts d
+    there e =
+        let p = both-true (isSound (d .table) (storeBlocks d)) (both (ltb (d .pointer) guests) (rowsOk guests (d .rows) (d .table) (windowSize d))) e in
+        let q = both-true (ltb (d .pointer) guests) (rowsOk guests (d .rows) (d .table) (windowSize d)) (p .1) in
+        record { sound = p .0; pointer = ltb-true (d .pointer) guests (q .0); stages = λ g h. rows-facts guests (d .rows) (d .table) (windowSize d) g (q .1) h }
+
+    back : Facts d → both (isSound (d .table) (storeBlocks d)) (both (ltb (d .pointer) guests) (rowsOk guests (d .rows) (d .table) (windowSize d))) ≡ true
+    back f = both-intro _ _ (f .sound) (both-intro _ _ (lt-ltb _ _ (f .pointer)) (rows-ok guests (d .rows) (d .table) (windowSize d) (f .stages)))
+
+-- ---- what holds of every desk of a list: acceptable, with eight rows, eight places for drives, and names of their lengths
+
+pub record Inv (d : Desk) : Type 0 where
+  pub rows : length (d .rows) ≡ guests
+  pub table : Good (d .table) (storeBlocks d)
+  pub pointer : d .pointer < guests
+  pub stages : (g : ℕ) → stageOk (d .table) (windowSize d) (stageAt d g) ≡ true
+
+pub inv-accept : (d : Desk) → Inv d → accept d ≡ true
+inv-accept d inv = accept-facts d .1 (record { sound = inv .table .sound; pointer = inv .pointer; stages = λ g h. inv .stages g })
+
+all-vacant : (g : ℕ) → stageIn (replicate guests vacantRow) g ≡ Vacant
+all-vacant g =
+    ⊎-elim
+    (λ x. ap (λ (r : Row). r .stage) (getD-replicate guests g vacantRow vacantRow x))
+    (λ x. ap (λ (r : Row). r .stage) (List·getD-eq-default (replicate guests vacantRow) vacantRow x))
+    (lt-or-le g guests)
+
+-- an opening that passed gives such a desk
+pub inv-opened : (t : List ℕ) (arena store : ℕ) → openOf t arena store .answer ≡ Opened → Inv (openOf t arena store .desk)
+unfolding openOf
+inv-opened t arena store e =
+    record {
+      rows = refl;
+      table = accepted-good t (store / blockLength) (passed (readTable t (store / blockLength) .answer) e);
+      pointer = omega arith;
+      stages = λ g. ap (stageOk (readTable t (store / blockLength) .table) (arena / guests)) (all-vacant g);
+    }
+  where
+    passed : (x : Answer) → openAnswer x ≡ Opened → x ≡ Accepted
+    passed Accepted e = refl
+    passed (TableRefused n place) e = let z : _≡_ {A = ℕ} 0 1 = cc in absurd (omega arith)
+
+-- ---- a waiting row
+
+-- M is the window's length, S the store's
+pub record Ready (b : Table) (M S : ℕ) (q : Request) : Type 0 where
+  pub buffer : q .job .buffer + blockLength * q .job .count ≤ M
+  pub range : blockLength * (storeBlock b (q .job) + q .job .count) ≤ S
+  pub rest : q .moved < q .job .count
+  pub whole : q .moved % 16 ≡ 0
+  pub packet : packetOk (ah (q .job .registers)) (q .job .packet) M ≡ true
+
+-- the tests of a job that the rest uses
+pub record JobFacts (b : Table) (M : ℕ) (j : Job) : Type 0 where
+  pub drive : isDrive b (j .drive) ≡ true
+  pub range : j .start + j .count ≤ driveAt b (j .drive) .blocks
+  pub buffer : j .buffer + blockLength * j .count ≤ M
+  pub packet : packetOk (ah (j .registers)) (j .packet) M ≡ true
+
+job-facts : (b : Table) (M : ℕ) (j : Job) → jobOk b M j ≡ true → JobFacts b M j
+unfolding jobOk
+job-facts b M j e =
+    let f : ℕ = ah (j .registers) in
+    let t₇ : Bool = not (both (isWrite f) (isProtected (driveAt b (j .drive)))) in
+    let t₆ : Bool = both (packetOk f (j .packet) M) t₇ in
+    let t₅ : Bool = both (leb (j .buffer + blockLength * j .count) M) t₆ in
+    let t₄ : Bool = both (rangeOk b f j) t₅ in
+    let t₃ : Bool = both (countOk f (j .count)) t₄ in
+    let t₂ : Bool = both (isTransfer f) t₃ in
+    let p₁ = both-true (isDrive b (j .drive)) t₂ e in
+    let p₂ = both-true (isTransfer f) t₃ (p₁ .1) in
+    let p₃ = both-true (countOk f (j .count)) t₄ (p₂ .1) in
+    let p₄ = both-true (rangeOk b f j) t₅ (p₃ .1) in
+    let p₅ = both-true (leb (j .buffer + blockLength * j .count) M) t₆ (p₄ .1) in
+    let p₆ = both-true (packetOk f (j .packet) M) t₇ (p₅ .1) in
+    let r = both-true (leb (j .start + j .count) (driveAt b (j .drive) .blocks))
+    (pick (isSectors f) (leb (j .start + j .count) (size (geometryOf (driveAt b (j .drive))))) true) (p₄ .0) in
+    record {
+      drive = p₁ .0;
+      range = leb-true (j .start + j .count) (driveAt b (j .drive) .blocks) (r .0);
+      buffer = leb-true (j .buffer + blockLength * j .count) M (p₅ .0);
+      packet = p₆ .0;
+    }
+
+pub job-ready : (b : Table) (M S : ℕ) (q : Request) → Good b (S / blockLength) → jobOk b M (q .job) ≡ true → q .moved < q .job .count → q .moved % 16 ≡ 0 → Ready b M S q
+job-ready b M S q g e m w =
+    let f = job-facts b M (q .job) e in
+    let k = known b (S / blockLength) (q .job .drive) g (f .drive) in
+    record { buffer = f .buffer; range = omega (arith, f .range, k .taken .inside); rest = m; whole = w; packet = f .packet }
+
+pub ready : (d : Desk) (g : ℕ) (q : Request) → Inv d → stageAt d g ≡ Waiting q → Ready (d .table) (windowSize d) (d .store) q
+ready d g q inv e =
+    let s : both (jobOk (d .table) (windowSize d) (q .job)) (movedOk (q .moved) (q .job .count)) ≡ true
+    = ap (stageOk (d .table) (windowSize d)) (sym e) ∙ inv .stages g in
+    let p = both-true (jobOk (d .table) (windowSize d) (q .job)) (movedOk (q .moved) (q .job .count)) s in
+    let m = both-true (eqb (q .moved % 16) 0) (ltb (q .moved) (q .job .count)) (p .1) in
+    job-ready (d .table) (windowSize d) (d .store) q (inv .table) (p .0) (ltb-true (q .moved) (q .job .count) (m .1)) (eqb-true (q .moved % 16) 0 (m .0))
+
+pub waiting-job : (d : Desk) (g : ℕ) (q : Request) → Inv d → stageAt d g ≡ Waiting q → jobOk (d .table) (windowSize d) (q .job) ≡ true
+waiting-job d g q inv e =
+    both-true (jobOk (d .table) (windowSize d) (q .job)) (movedOk (q .moved) (q .job .count)) (ap (stageOk (d .table) (windowSize d)) (sym e) ∙ inv .stages g) .0

@@ -1,0 +1,111 @@
+-- What one call does to a waiting request, in the words of the demand.
+-- Assumes nothing.
+use Prim.Native.Nat.{ℕ, _+_, _-_, _*_, _%_, _≤_, _<_, min}
+use mathlib.Core.Path.{_≡_, refl, sym, ap, _∙_}
+use mathlib.Core.Logic.{_≢_}
+use mathlib.Core.Bool.{Bool, true, false}
+use mathlib.Core.List.{List}
+use native.Mathlib.Omega.{arith}
+use native.Mathlib.Decide.{ℕ-discrete}
+use borrow.Author.Tests.{ltb-true, ltb-false, eq-eqb, ne-eqb}
+use lib.Dec.{ltb, eqb}
+use Rattle.logic.specs.Logic.{pick}
+use Rattle.memory.specs.Window.{guests}
+use Rattle.int13.specs.Answers.{succeed}
+use Rattle.desk.specs.declared.Request.{Request}
+use Rattle.desk.specs.declared.Stage.{Stage}
+use Rattle.desk.specs.declared.Stage.the-variants.{Vacant, Waiting, Finished}
+use Rattle.desk.specs.declared.Desk.{Desk}
+use Rattle.desk.specs.Parts.{windowSize, stageAt, next}
+use Rattle.desk.specs.Calls.{quota, later, stageAfter}
+use Rattle.isolation.specs.Lists.{Call, Out, step}
+use Rattle.isolation.specs.Words.{Kind, serves, withdraws, opens, kindOf, turnIn, withdrawalIn, movedIn, serviceIn, ifSame}
+use Rattle.isolation.proofs.Turn.{dist, dist-less, vacant≢waiting, finished≢waiting}
+use Rattle.isolation.proofs.Sound.{pick-cases}
+use Rattle.isolation.proofs.Accept.{Inv, Ready, ready}
+use Rattle.isolation.proofs.View.{Lent, Did, same, idle, answer, accepting, serving, giving, withdrawing, view, servedOut, withdrawnOut, quiet-turn, quiet-withdrawal, quiet-moved, quiet-service}
+use Rattle.isolation.proofs.Keep.{stage-same, stage-other, waiting-below, same-guest}
+
+-- the numbers of one call: turns, and withdrawals, blocks and services of g
+pub record Counts (g : ℕ) (k : Kind) (t w m s : ℕ) : Type 0 where
+  pub turn : turnIn k ≡ t
+  pub withdrawal : withdrawalIn g k ≡ w
+  pub moved : movedIn g k ≡ m
+  pub service : serviceIn g k ≡ s
+
+pub data Fate (g : ℕ) (q : Request) (d : Desk) (o : Out) : Type 0 where
+  -- no turn of this desk
+  stays : stageAt (o .desk) g ≡ Waiting q → o .desk .pointer ≡ d .pointer → Counts g (kindOf (o .answer)) 0 0 0 0 → Fate g q d o
+  -- a turn that serves another guest
+  passes : stageAt (o .desk) g ≡ Waiting q → dist (o .desk .pointer) g < dist (d .pointer) g → Counts g (kindOf (o .answer)) 1 0 0 0 → Fate g q d o
+  -- a turn that serves it and leaves some
+  parts : stageAt (o .desk) g ≡ Waiting (later q 16) → q .moved + 16 < q .job .count → o .desk .pointer ≡ next g → Counts g (kindOf (o .answer)) 1 0 16 1 → Fate g q d o
+  -- the finishing turn
+  ends : stageAt (o .desk) g ≡ Finished (succeed (q .job .registers)) → (k : ℕ) → q .moved + k ≡ q .job .count → Counts g (kindOf (o .answer)) 1 0 k 1 → Fate g q d o
+  leaves : kindOf (o .answer) ≡ withdraws g → Fate g q d o
+
+pub other-guest : (h g n : ℕ) → h ≢ g → ifSame h g n ≡ 0
+other-guest h g n ne = rw (ne-eqb h g ne)
+
+pub same-request : {p q : Request} → Waiting p ≡ Waiting q → p ≡ q
+same-request e = cc
+
+-- sixteen where some are left, else the rest
+full : (n m : ℕ) → m + min 16 (n - m) < n → min 16 (n - m) ≡ 16
+full n m h = omega arith
+
+rest : (n m : ℕ) → m < n → n ≤ m + min 16 (n - m) → m + min 16 (n - m) ≡ n
+rest n m l h = omega arith
+
+-- the stage that a service leaves, by cases
+pub after-cases : (P : Stage → Type 0) (q : Request) → (q .moved + quota q < q .job .count → quota q ≡ 16 → P (Waiting (later q (quota q))))
+    → (q .job .count ≤ q .moved + quota q → P (Finished (succeed (q .job .registers)))) → P (stageAfter q)
+unfolding stageAfter
+after-cases P q f g =
+    pick-cases P (ltb (q .moved + quota q) (q .job .count)) _ _
+    (λ e. f (ltb-true _ _ e) (full (q .job .count) (q .moved) (ltb-true _ _ e)))
+    (λ e. g (ltb-false _ _ e))
+
+module _ (d : Desk) (inv : Inv d) (c : Call) (g : ℕ) (q : Request) (e : stageAt d g ≡ Waiting q) where
+  below : g < guests
+  below = waiting-below d g q inv e
+
+  -- it is served itself
+  own : Fate g q d (servedOut d c g q)
+  own = after-cases (λ (s : Stage). stageAt (servedOut d c g q .desk) g ≡ s → Fate g q d (servedOut d c g q)) q
+      (λ h s r. parts (r ∙ ap (λ (k : ℕ). Waiting (later q k)) s) (omega arith) refl
+      (record { turn = refl; withdrawal = refl; moved = same-guest g (quota q) ∙ s; service = same-guest g 1 }))
+      (λ h r. ends r (quota q) (rest (q .job .count) (q .moved) (ready d g q inv e .rest) h)
+      (record { turn = refl; withdrawal = refl; moved = same-guest g (quota q); service = same-guest g 1 }))
+      (stage-same d g (stageAfter q) inv below)
+
+  serve-fate : (h : ℕ) (p : Request) → h < guests → stageAt d h ≡ Waiting p
+      → ((k : ℕ) (q′ : Request) → k < guests → stageAt d k ≡ Waiting q′ → dist (d .pointer) h ≤ dist (d .pointer) k)
+      → Dec (h ≡ g) → Fate g q d (servedOut d c h p)
+  serve-fate h p b v f (yes y) =
+      let pq : p ≡ q = same-request (sym v ∙ rw y e) in
+      rw (y, pq) own
+  serve-fate h p b v f (no y) =
+      let gh : g ≢ h = λ z. y (sym z) in
+      passes (stage-other d h g (stageAfter p) gh ∙ e) (dist-less (d .pointer) g h (inv .pointer) below b gh (f g q below e))
+      (record { turn = refl; withdrawal = refl; moved = other-guest h g (quota p) y; service = other-guest h g 1 y })
+
+  withdraw-fate : (h : ℕ) (p : Request) → Dec (h ≡ g) → Fate g q d (withdrawnOut d c h p)
+  withdraw-fate h p (yes y) = leaves (ap withdraws y)
+  withdraw-fate h p (no y) =
+      stays (stage-other d h g Vacant (λ z. y (sym z)) ∙ e) refl (record { turn = refl; withdrawal = other-guest h g 1 y; moved = refl; service = refl })
+
+  pub fate : (o : Out) → Did d c o → Fate g q d o
+  fate o (same x p n) = stays e refl (record { turn = quiet-turn p; withdrawal = quiet-withdrawal g p; moved = quiet-moved g p; service = quiet-service g p })
+  fate o (idle t f) = absurd (f g q below e)
+  fate o (answer h r x w t b l v ko kw k) = stays e refl (record { turn = refl; withdrawal = refl; moved = refl; service = refl })
+  fate o (accepting h r j t b l v ko kw f) =
+      stays (stage-other d h g (Waiting (record { job = j; moved = 0 })) (λ y. vacant≢waiting (sym v ∙ (rw y at e))) ∙ e) refl
+      (record { turn = refl; withdrawal = refl; moved = refl; service = refl })
+  fate o (serving h p t b l v f) = serve-fate h p b v f (ℕ-discrete h g)
+  fate o (giving h r t b v) =
+      stays (stage-other d h g Vacant (λ y. finished≢waiting (sym v ∙ (rw y at e))) ∙ e) refl (record { turn = refl; withdrawal = refl; moved = refl; service = refl })
+  fate o (withdrawing h p t b l v) = withdraw-fate h p (ℕ-discrete h g)
+
+  pub step-fate : (kindOf (step d c .answer) ≡ opens → ⊥) → Fate g q d (step d c)
+  step-fate n = fate (step d c) (view d inv c n)

@@ -1,0 +1,180 @@
+-- The desk stays acceptable after every call; and what one call leaves alone.
+-- Assumes nothing.
+use Prim.Native.Nat.{ℕ, _+_, _-_, _*_, _%_, _≤_, _<_, min}
+use mathlib.Core.Path.{_≡_, refl, sym, ap, _∙_}
+use mathlib.Core.Logic.{_⊎_, inl, inr, ⊎-elim, _≢_}
+use mathlib.Core.Bool.{Bool, true, false}
+use mathlib.Core.List.{List, [], _∷_}
+use native.Mathlib.Omega.{arith}
+use native.Mathlib.Decide.{ℕ-discrete}
+use borrow.Author.Tests.{ltb-true, lt-ltb, eq-eqb}
+use lib.Dec.{ltb, eqb}
+use lib.ListN.{length, getD, set, length-set, List·getD-eq-default}
+use lib.Seq.{getD-set-same, getD-set-other, length-sets}
+use Rattle.logic.specs.Logic.{pick, both}
+use Rattle.words.specs.Words.{leBytes}
+use Rattle.memory.specs.Window.{guests, windowOf, withWindow, spanLength}
+use Rattle.memory.proofs.Windows.{window-with-other}
+use Rattle.table.specs.declared.Table.{Table}
+use Rattle.int13.specs.declared.Registers.{Registers}
+use Rattle.int13.specs.Answers.{ah, isSectors}
+use Rattle.int13.specs.Alone.{storeBlock}
+use Rattle.desk.specs.declared.Request.{Request}
+use Rattle.desk.specs.declared.Stage.{Stage}
+use Rattle.desk.specs.declared.Stage.the-variants.{Vacant, Waiting, Finished}
+use Rattle.desk.specs.declared.Row.{Row}
+use Rattle.desk.specs.declared.Desk.{Desk}
+use Rattle.desk.specs.Parts.{windowSize, vacantRow, stageAt, withStage, withPointer, next}
+use Rattle.desk.specs.Acceptable.{jobOk, movedOk, stageOk}
+use Rattle.desk.specs.Calls.{quota, later, stageAfter, memoryOf, movedBy, withdrawnWindow}
+use Rattle.isolation.specs.Lists.{Op, post, turn, collect, withdraw, Call, Out, step, run, after}
+use Rattle.isolation.specs.Words.{opens, kindOf, NoneOpens, serviceIn, ifSame}
+use Rattle.isolation.proofs.Turn.{lt-or-le, next-lt, vacant≢waiting}
+use Rattle.isolation.proofs.Moves.{SameSize, moves-size}
+use Rattle.isolation.proofs.Sound.{pick-cases, both-intro}
+use Rattle.isolation.proofs.Check.{Fresh}
+use Rattle.isolation.proofs.Accept.{Inv, Ready, ready, waiting-job}
+use Rattle.isolation.proofs.View.{Lent, Did, same, idle, answer, accepting, serving, giving, withdrawing, view, windowIn, window-length, span-lent}
+
+-- ---- rows
+
+pub stage-same : (d : Desk) (g : ℕ) (s : Stage) → Inv d → g < guests → stageAt (withStage d g s) g ≡ s
+stage-same d g s inv b = ap (λ (r : Row). r .stage) (getD-set-same (d .rows) g (record { stage = s }) vacantRow (omega (arith, inv .rows)))
+
+pub stage-other : (d : Desk) (g h : ℕ) (s : Stage) → h ≢ g → stageAt (withStage d g s) h ≡ stageAt d h
+stage-other d g h s ne = ap (λ (r : Row). r .stage) (getD-set-other (d .rows) g h (record { stage = s }) vacantRow ne)
+
+-- a waiting row is a guest's
+pub waiting-below : (d : Desk) (g : ℕ) (q : Request) → Inv d → stageAt d g ≡ Waiting q → g < guests
+waiting-below d g q inv e =
+    ⊎-elim (λ x. x)
+    (λ x. absurd (vacant≢waiting (sym (ap (λ (r : Row). r .stage) (List·getD-eq-default (d .rows) vacantRow (omega (arith, inv .rows)))) ∙ e)))
+    (lt-or-le g guests)
+
+-- ---- every call leaves an acceptable desk
+
+pub inv-set : (d : Desk) (g : ℕ) (s : Stage) (p : ℕ) → Inv d → g < guests → p < guests → stageOk (d .table) (windowSize d) s ≡ true → Inv (withPointer (withStage d g s) p)
+inv-set d g s p inv b pb ok =
+    record {
+      rows = length-set (d .rows) g (record { stage = s }) ∙ inv .rows;
+      table = inv .table;
+      pointer = pb;
+      stages = λ h. go h (ℕ-discrete h g);
+    }
+  where
+    go : (h : ℕ) → Dec (h ≡ g) → stageOk (d .table) (windowSize d) (stageAt (withStage d g s) h) ≡ true
+    go h (yes y) = rw y (ap (stageOk (d .table) (windowSize d)) (stage-same d g s inv b) ∙ ok)
+    go h (no y) = ap (stageOk (d .table) (windowSize d)) (stage-other d g h s y) ∙ inv .stages h
+
+-- sixteen more leave a multiple of sixteen
+next-whole : (n m : ℕ) → m % 16 ≡ 0 → m + min 16 (n - m) < n → (m + min 16 (n - m)) % 16 ≡ 0
+next-whole n m e h = omega arith
+
+after-ok : (b : Table) (M S : ℕ) (q : Request) → jobOk b M (q .job) ≡ true → Ready b M S q → stageOk b M (stageAfter q) ≡ true
+unfolding stageAfter
+after-ok b M S q j a =
+    pick-cases (λ (s : Stage). stageOk b M s ≡ true) (ltb (q .moved + quota q) (q .job .count)) _ _
+    (λ e. both-intro (jobOk b M (q .job)) (movedOk (q .moved + quota q) (q .job .count)) j
+    (both-intro (eqb ((q .moved + quota q) % 16) 0) (ltb (q .moved + quota q) (q .job .count))
+    (eq-eqb _ _ (next-whole (q .job .count) (q .moved) (a .whole) (ltb-true _ _ e))) e))
+    (λ e. refl)
+
+fresh-ok : (b : Table) (M : ℕ) (r : Registers) (w : List ℕ) (q : Request) → q .moved ≡ 0 → length w ≡ M → Fresh b r w (q .job) → stageOk b M (Waiting q) ≡ true
+fresh-ok b M r w q z l f =
+    both-intro (jobOk b M (q .job)) (movedOk (q .moved) (q .job .count)) (ap (λ (m : ℕ). jobOk b m (q .job)) (sym l) ∙ f .ok)
+    (rw z (both-intro (eqb 0 0) (ltb 0 (q .job .count)) refl (lt-ltb _ _ (f .some))))
+
+pub inv-did : (d : Desk) (c : Call) (o : Out) → Inv d → Did d c o → Inv (o .desk)
+inv-did d c o inv (same x p n) = inv
+inv-did d c o inv (idle e f) = inv
+inv-did d c o inv (answer g r x w e b l v ko kw k) = inv
+inv-did d c o inv (accepting g r j e b l v ko kw f) =
+    inv-set d g (Waiting (record { job = j; moved = 0 })) (d .pointer) inv b (inv .pointer)
+    (fresh-ok (d .table) (windowSize d) r (windowIn d c g) (record { job = j; moved = 0 }) refl (window-length d c g b l) f)
+inv-did d c o inv (serving g q e b l v f) =
+    inv-set d g (stageAfter q) (next g) inv b (next-lt g) (after-ok (d .table) (windowSize d) (d .store) q (waiting-job d g q inv v) (ready d g q inv v))
+inv-did d c o inv (giving g x e b v) = inv-set d g Vacant (d .pointer) inv b (inv .pointer) refl
+inv-did d c o inv (withdrawing g q e b l v) = inv-set d g Vacant (d .pointer) inv b (inv .pointer) refl
+
+pub inv-step : (d : Desk) (c : Call) → Inv d → (kindOf (step d c .answer) ≡ opens → ⊥) → Inv (step d c .desk)
+inv-step d c inv n = inv-did d c (step d c) inv (view d inv c n)
+
+-- ---- what no call changes
+
+pub record Fixed (d d′ : Desk) : Type 0 where
+  pub table : d′ .table ≡ d .table
+  pub arena : d′ .arena ≡ d .arena
+  pub store : d′ .store ≡ d .store
+
+fixed-did : (d : Desk) (c : Call) (o : Out) → Did d c o → Fixed d (o .desk)
+fixed-did d c o (same x p n) = record { table = refl; arena = refl; store = refl }
+fixed-did d c o (idle e f) = record { table = refl; arena = refl; store = refl }
+fixed-did d c o (answer g r x w e b l v ko kw k) = record { table = refl; arena = refl; store = refl }
+fixed-did d c o (accepting g r j e b l v ko kw f) = record { table = refl; arena = refl; store = refl }
+fixed-did d c o (serving g q e b l v f) = record { table = refl; arena = refl; store = refl }
+fixed-did d c o (giving g x e b v) = record { table = refl; arena = refl; store = refl }
+fixed-did d c o (withdrawing g q e b l v) = record { table = refl; arena = refl; store = refl }
+
+pub fixed-step : (d : Desk) (c : Call) → Inv d → (kindOf (step d c .answer) ≡ opens → ⊥) → Fixed d (step d c .desk)
+fixed-step d c inv n = fixed-did d c (step d c) (view d inv c n)
+
+-- along a list
+pub record Reached (d d′ : Desk) : Type 0 where
+  pub inv : Inv d′
+  pub fixed : Fixed d d′
+
+pub reached : (cs : List Call) (d : Desk) → Inv d → NoneOpens (run d cs) → Reached d (after d cs)
+unfolding run after
+reached [] d inv n = record { inv = inv; fixed = record { table = refl; arena = refl; store = refl } }
+reached (c ∷ cs) d inv n =
+    let f = fixed-step d c inv (n .0) in
+    let r = reached cs (step d c .desk) (inv-step d c inv (n .0)) (n .1) in
+    record {
+      inv = r .inv;
+      fixed = record { table = r .fixed .table ∙ f .table; arena = r .fixed .arena ∙ f .arena; store = r .fixed .store ∙ f .store };
+    }
+
+-- ---- lengths of the windows that calls leave
+
+pub served-size : (d : Desk) (c : Call) (g : ℕ) (q : Request) → Lent d c → g < guests
+    → length (movedBy d g q (c .arena) (c .store) .window) ≡ spanLength (length (c .arena)) g (windowSize d)
+served-size d c g q l b =
+    moves-size (q .job) (storeBlock (d .table) (q .job)) (q .moved) (quota q) (memoryOf d g (c .arena) (c .store)) .window
+    ∙ window-length d c g b l ∙ sym (span-lent d c g b l)
+
+pub withdrawn-size : (q : Request) (w : List ℕ) → length (withdrawnWindow q w) ≡ length w
+withdrawn-size q w =
+    pick-cases (λ (v : List ℕ). length v ≡ length w) (isSectors (ah (q .job .registers))) _ _ (λ e. refl)
+    (λ e. length-sets w (q .job .packet + 2) (leBytes 2 (q .moved)))
+
+-- ---- a turn changes no other guest's row or window
+
+pub record Spared (d : Desk) (c : Call) (o : Out) (h : ℕ) : Type 0 where
+  pub row : stageAt (o .desk) h ≡ stageAt d h
+  pub window : windowOf (o .arena) h (windowSize d) ≡ windowOf (c .arena) h (windowSize d)
+
+turn≢post : {A : Type 0} {g : ℕ} {r : Registers} → turn ≡ post g r → A
+turn≢post e = let z : _≡_ {A = ℕ} 0 1 = cc in absurd (omega arith)
+
+turn≢collect : {A : Type 0} {g : ℕ} → turn ≡ collect g → A
+turn≢collect e = let z : _≡_ {A = ℕ} 0 1 = cc in absurd (omega arith)
+
+turn≢withdraw : {A : Type 0} {g : ℕ} → turn ≡ withdraw g → A
+turn≢withdraw e = let z : _≡_ {A = ℕ} 0 1 = cc in absurd (omega arith)
+
+pub same-guest : (g n : ℕ) → ifSame g g n ≡ n
+same-guest g n = rw (eq-eqb g g refl)
+
+pub turn-spares : (d : Desk) (c : Call) (o : Out) → c .op ≡ turn → (h : ℕ) → serviceIn h (kindOf (o .answer)) ≡ 0 → Did d c o → Spared d c o h
+turn-spares d c o t h z (same x p n) = record { row = refl; window = refl }
+turn-spares d c o t h z (idle e f) = record { row = refl; window = refl }
+turn-spares d c o t h z (answer g r x w e b l v ko kw k) = turn≢post (sym t ∙ e)
+turn-spares d c o t h z (accepting g r j e b l v ko kw f) = turn≢post (sym t ∙ e)
+turn-spares d c o t h z (serving g q e b l v f) =
+    let ne : g ≢ h = λ y. let u : ifSame g h 1 ≡ 1 = rw y (same-guest h 1) in absurd (omega arith) in
+    record {
+      row = stage-other d g h (stageAfter q) (λ y. ne (sym y));
+      window = window-with-other (c .arena) g h (windowSize d) (movedBy d g q (c .arena) (c .store) .window) ne (served-size d c g q l b);
+    }
+turn-spares d c o t h z (giving g x e b v) = turn≢collect (sym t ∙ e)
+turn-spares d c o t h z (withdrawing g q e b l v) = turn≢withdraw (sym t ∙ e)

@@ -1,0 +1,13 @@
+pub mod Turn
+pub mod Moves
+pub mod Sound
+pub mod Check
+pub mod Accept
+pub mod View
+pub mod Keep
+pub mod Fate
+pub mod Bound
+pub mod Equal
+pub mod Theorem
+pub mod Sums
+pub mod Example

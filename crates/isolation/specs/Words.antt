@@ -1,0 +1,237 @@
+-- Document 01, "The words of demand 3", one by one, in its order.
+-- Assumes nothing.
+use Prim.Native.Nat.{ℕ, zero, suc, _+_, _*_, _/_, _≤_, _<_}
+use mathlib.Core.Path.{_≡_}
+use mathlib.Core.Bool.{Bool, true}
+use mathlib.Core.List.{List, [], _∷_, _++_}
+use lib.Dec.{eqb}
+use Rattle.logic.specs.Logic.{pick}
+use Rattle.words.specs.Words.{part}
+use Rattle.memory.specs.Window.{guests, windowOf}
+use Rattle.memory.specs.Blocks.{blockLength}
+use Rattle.table.specs.declared.Table.{Table}
+use Rattle.table.specs.declared.Written.the-variants.{Bytes, Refused as WriteRefused}
+use Rattle.int13.specs.declared.Registers.{Registers}
+use Rattle.int13.specs.Answers.{ah, isWrite}
+use Rattle.int13.specs.Alone.{storeBlock}
+use Rattle.desk.specs.declared.Request.{Request}
+use Rattle.desk.specs.declared.Stage.the-variants.{Waiting}
+use Rattle.desk.specs.declared.Desk.{Desk}
+use Rattle.desk.specs.declared.OpenAnswer.the-variants.{Opened, Refused as OpenRefused}
+use Rattle.desk.specs.declared.PostAnswer.the-variants.{Answered as PostAnswered, Waits as PostWaits, Refused as PostRefused}
+use Rattle.desk.specs.declared.TurnAnswer.the-variants.{Served, Idle, Refused as TurnRefused}
+use Rattle.desk.specs.declared.CollectAnswer.the-variants.{Given as CollectGiven, Refused as CollectRefused}
+use Rattle.desk.specs.declared.WithdrawAnswer.the-variants.{Given as WithdrawGiven, Refused as WithdrawRefused}
+use Rattle.desk.specs.Parts.{stageAt}
+use Rattle.desk.specs.Acceptable.{part as partLength}
+use Rattle.isolation.specs.Lists.{Op, post, Call, Answer, opening, posted, turned, collected, withdrawn, written, Out, step, Event, run, after}
+
+-- ---- the answers, in the words of the demand; each later word is a clause for each of these
+
+pub data Kind : Type 0 where
+  -- a house number, or a table's number
+  refused : Kind
+  -- not refused, and none of the others: a table write
+  plain : Kind
+  -- an opening that passed
+  opens : Kind
+  -- a post of a guest: answered at once, or accepted
+  answers : ℕ → Kind
+  accepts : ℕ → Kind
+  -- a turn: the guest served and the number moved, or idle
+  serves : ℕ → ℕ → Kind
+  idles : Kind
+  -- a collect of a guest
+  hands : ℕ → Registers → Kind
+  -- a withdrawal of a guest
+  withdraws : ℕ → Kind
+
+abbrev pub kindOf : Answer → Kind
+kindOf (opening Opened) = opens
+kindOf (opening (OpenRefused n place)) = refused
+kindOf (posted g (PostAnswered r)) = answers g
+kindOf (posted g PostWaits) = accepts g
+kindOf (posted g (PostRefused n)) = refused
+kindOf (turned (Served g k)) = serves g k
+kindOf (turned Idle) = idles
+kindOf (turned (TurnRefused n)) = refused
+kindOf (collected g (CollectGiven r)) = hands g r
+kindOf (collected g (CollectRefused n)) = refused
+kindOf (withdrawn g (WithdrawGiven r)) = withdraws g
+kindOf (withdrawn g (WithdrawRefused n)) = refused
+kindOf (written (Bytes n) out) = plain
+kindOf (written (WriteRefused n) out) = refused
+
+abbrev pub kindIn : Event → Kind
+kindIn e = kindOf (e .out .answer)
+
+-- the house number of a refusal, else 0; a refused opening's is a table's number
+abbrev pub houseNumber : Answer → ℕ
+houseNumber (opening x) = 0
+houseNumber (posted g (PostAnswered r)) = 0
+houseNumber (posted g PostWaits) = 0
+houseNumber (posted g (PostRefused n)) = n
+houseNumber (turned (Served g k)) = 0
+houseNumber (turned Idle) = 0
+houseNumber (turned (TurnRefused n)) = n
+houseNumber (collected g (CollectGiven r)) = 0
+houseNumber (collected g (CollectRefused n)) = n
+houseNumber (withdrawn g (WithdrawGiven r)) = 0
+houseNumber (withdrawn g (WithdrawRefused n)) = n
+houseNumber (written (Bytes n) out) = 0
+houseNumber (written (WriteRefused n) out) = n
+
+-- "The list begins at an opening that passed, and the next one that passes ends it": each opening in the list is refused
+abbrev pub NoneOpens : List Event → Type 0
+NoneOpens [] = Unit
+NoneOpens (e ∷ es) = (kindIn e ≡ opens → ⊥) × NoneOpens es
+
+-- ---- numbers over a list of calls
+
+abbrev pub total : (Kind → ℕ) → List Event → ℕ
+total f [] = 0
+total f (e ∷ es) = f (kindIn e) + total f es
+
+-- k where the guests are the same
+abbrev pub ifSame : ℕ → ℕ → ℕ → ℕ
+ifSame h g k = pick (eqb h g) k 0
+
+-- turns not refused
+abbrev pub turnIn : Kind → ℕ
+turnIn refused = 0
+turnIn plain = 0
+turnIn opens = 0
+turnIn (answers h) = 0
+turnIn (accepts h) = 0
+turnIn (serves h k) = 1
+turnIn idles = 1
+turnIn (hands h r) = 0
+turnIn (withdraws h) = 0
+
+abbrev pub turns : List Event → ℕ
+turns = total turnIn
+
+-- "A turn serves it by answering that guest", whatever the number
+abbrev pub serviceIn : ℕ → Kind → ℕ
+serviceIn g refused = 0
+serviceIn g plain = 0
+serviceIn g opens = 0
+serviceIn g (answers h) = 0
+serviceIn g (accepts h) = 0
+serviceIn g (serves h k) = ifSame h g 1
+serviceIn g idles = 0
+serviceIn g (hands h r) = 0
+serviceIn g (withdraws h) = 0
+
+abbrev pub services : ℕ → List Event → ℕ
+services g = total (serviceIn g)
+
+-- "the numbers so answered"
+abbrev pub movedIn : ℕ → Kind → ℕ
+movedIn g refused = 0
+movedIn g plain = 0
+movedIn g opens = 0
+movedIn g (answers h) = 0
+movedIn g (accepts h) = 0
+movedIn g (serves h k) = ifSame h g k
+movedIn g idles = 0
+movedIn g (hands h r) = 0
+movedIn g (withdraws h) = 0
+
+abbrev pub moved : ℕ → List Event → ℕ
+moved g = total (movedIn g)
+
+-- withdrawals of a guest not refused
+abbrev pub withdrawalIn : ℕ → Kind → ℕ
+withdrawalIn g refused = 0
+withdrawalIn g plain = 0
+withdrawalIn g opens = 0
+withdrawalIn g (answers h) = 0
+withdrawalIn g (accepts h) = 0
+withdrawalIn g (serves h k) = 0
+withdrawalIn g idles = 0
+withdrawalIn g (hands h r) = 0
+withdrawalIn g (withdraws h) = ifSame h g 1
+
+abbrev pub withdrawals : ℕ → List Event → ℕ
+withdrawals g = total (withdrawalIn g)
+
+-- collects of a guest not refused
+abbrev pub collectIn : ℕ → Kind → ℕ
+collectIn g refused = 0
+collectIn g plain = 0
+collectIn g opens = 0
+collectIn g (answers h) = 0
+collectIn g (accepts h) = 0
+collectIn g (serves h k) = 0
+collectIn g idles = 0
+collectIn g (hands h r) = ifSame h g 1
+collectIn g (withdraws h) = 0
+
+abbrev pub collects : ℕ → List Event → ℕ
+collects g = total (collectIn g)
+
+-- posts, turns and withdrawals without a house number
+abbrev pub touchIn : Kind → ℕ
+touchIn refused = 0
+touchIn plain = 0
+touchIn opens = 0
+touchIn (answers h) = 1
+touchIn (accepts h) = 1
+touchIn (serves h k) = 1
+touchIn idles = 1
+touchIn (hands h r) = 0
+touchIn (withdraws h) = 1
+
+-- ---- a request, by the calls since its acceptance
+
+-- "A request is accepted by the post answered that the row waits."
+pub record Accepted (d : Desk) (c : Call) (g : ℕ) (r : Registers) : Type 0 where
+  pub posts : c .op ≡ post g r
+  pub waits : step d c .answer ≡ posted g PostWaits
+
+-- "It finishes at the turn where the numbers so answered reach n, [...] or is withdrawn by a withdrawal not refused; until then it waits."
+abbrev pub Waits : ℕ → ℕ → List Event → Type 0
+Waits g n es = (withdrawals g es ≡ 0) × (moved g es < n)
+
+-- t is the finishing turn: the request waits up to it, and there the numbers answered reach n
+pub record Finishes (g n : ℕ) (d : Desk) (front : List Call) (t : Call) : Type 0 where
+  pub waited : Waits g n (run d front)
+  pub reached : moved g (run d (front ++ t ∷ [])) ≡ n
+
+-- t withdraws it: the request waits up to it, and t is a withdrawal of its guest not refused
+pub record Withdraws (g n : ℕ) (d : Desk) (front : List Call) (t : Call) : Type 0 where
+  pub waited : Waits g n (run d front)
+  pub gone : kindOf (step (after d front) t .answer) ≡ withdraws g
+
+-- 8 x ceil(n / 16)
+abbrev pub turnsFor : ℕ → ℕ
+turnsFor n = guests * ((n + 15) / partLength)
+
+-- ---- the blocks, the arena and the store
+
+-- "A request names the n blocks of its drive from start": store block b is one of n from first
+abbrev pub Named : ℕ → ℕ → ℕ → Type 0
+Named first n b = (first ≤ b) × (b < first + n)
+
+-- a turn that serves the waiting request q and answers k moves data to store block b
+abbrev pub Writes : Table → Request → ℕ → ℕ → Type 0
+Writes table q k b = (isWrite (ah (q .job .registers)) ≡ true) × Named (storeBlock table (q .job) + q .moved) k b
+
+-- "Another guest writes one when a turn serving that guest moves data to it while the request waits": none does
+abbrev pub Unwritten : ℕ → ℕ → ℕ → List Event → Type 0
+Unwritten g first n [] = Unit
+Unwritten g first n (e ∷ es) =
+    ((h k b : ℕ) (q : Request) → kindIn e ≡ serves h k → (h ≡ g → ⊥) → stageAt (e .desk) h ≡ Waiting q → Writes (e .desk .table) q k b → Named first n b → ⊥)
+    × Unwritten g first n es
+
+-- by whether the call counts
+abbrev pub LeftIf : ℕ → ℕ → ℕ → List ℕ → List ℕ → Event → Type 0 → Type 0 → Type 0
+LeftIf zero m g w s e skip go = skip
+LeftIf (suc k) m g w s e skip go = (windowOf (e .call .arena) g m ≡ w) × (e .call .store ≡ s) × go
+
+-- "each post, turn and withdrawal without a house number finds the window of the request's guest and the store as the one before left them",
+-- w and s at first; m is the windows' length
+abbrev pub Left : ℕ → ℕ → List ℕ → List ℕ → List Event → Type 0
+Left m g w s [] = Unit
+Left m g w s (e ∷ es) = LeftIf (touchIn (kindIn e)) m g w s e (Left m g w s es) (Left m g (windowOf (e .out .arena) g m) (e .out .store) es)

@@ -1,0 +1,1 @@
+// Theorems only: demand 3 over every list of calls at a desk.
