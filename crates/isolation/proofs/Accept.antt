@@ -2,11 +2,11 @@
 -- Assumes nothing.
 use Prim.Native.Nat.{ℕ, zero, suc, _+_, _*_, _/_, _%_, _≤_, _<_}
 use mathlib.Core.Path.{_≡_, refl, sym, ap, _∙_}
-use mathlib.Core.Logic.{_⊎_, inl, inr, ⊎-elim, _↔_}
-use mathlib.Core.Bool.{Bool, true, false, not}
+use mathlib.Core.Logic.{⊎-elim, _↔_}
+use mathlib.Core.Bool.{Bool, true, not}
 use mathlib.Core.List.{List}
 use native.Mathlib.Omega.{arith}
-use lib.ListN.{length, replicate, length-replicate, getD-replicate, List·getD-eq-default}
+use lib.ListN.{length, replicate, getD-replicate, List·getD-eq-default}
 use lib.Dec.{leb, ltb, eqb}
 use borrow.Author.Tests.{leb-true, ltb-true, lt-ltb, eqb-true}
 use Rattle.logic.specs.Logic.{pick, both}
@@ -24,17 +24,16 @@ use Rattle.int13.specs.Answers.{ah, isSectors, isWrite}
 use Rattle.int13.specs.Steps.{isDrive, driveAt}
 use Rattle.int13.specs.Alone.{storeBlock}
 use Rattle.desk.specs.declared.Request.{Request}
-use Rattle.desk.specs.declared.Stage.{Stage}
-use Rattle.desk.specs.declared.Stage.the-variants.{Vacant, Waiting, Finished}
+use Rattle.desk.specs.declared.Stage.the-variants.{Vacant, Waiting}
 use Rattle.desk.specs.declared.Row.{Row}
 use Rattle.desk.specs.declared.Desk.{Desk}
 use Rattle.desk.specs.declared.OpenAnswer.the-variants.{Opened}
 use Rattle.desk.specs.Parts.{windowSize, storeBlocks, vacantRow, stageIn, stageAt}
 use Rattle.desk.specs.Acceptable.{isTransfer, countOk, rangeOk, packetOk, jobOk, movedOk, stageOk, rowsOk, accept}
-use Rattle.desk.specs.Calls.{opened, openAnswer, openOf}
+use Rattle.desk.specs.Calls.{openAnswer, openOf}
 use Rattle.isolation.proofs.Turn.{lt-or-le}
 use Rattle.isolation.proofs.Sound.{both-intro, Good, accepted-good}
-use Rattle.isolation.proofs.Check.{Known, known}
+use Rattle.isolation.proofs.Check.{known}
 
 -- ---- acceptable, as facts
 

@@ -1,21 +1,19 @@
 -- A waiting request along a list of calls: how many turns it can wait, and how it ends.
 -- Assumes nothing.
-use Prim.Native.Nat.{ℕ, zero, suc, _+_, _-_, _*_, _/_, _%_, _≤_, _<_}
+use Prim.Native.Nat.{ℕ, _+_, _-_, _*_, _/_, _≤_, _<_}
 use mathlib.Core.Path.{_≡_, refl, sym, ap, _∙_}
 use mathlib.Core.List.{List, [], _∷_, _++_}
 use native.Mathlib.Omega.{arith}
-use native.Mathlib.Nat.{zero-add, add-assoc}
-use Rattle.memory.specs.Window.{guests}
-use Rattle.int13.specs.Answers.{succeed}
+use native.Mathlib.Nat.{zero-add}
 use Rattle.desk.specs.declared.Request.{Request}
-use Rattle.desk.specs.declared.Stage.the-variants.{Waiting, Finished}
+use Rattle.desk.specs.declared.Stage.the-variants.{Waiting}
 use Rattle.desk.specs.declared.Desk.{Desk}
 use Rattle.desk.specs.Parts.{stageAt, next}
 use Rattle.desk.specs.Calls.{later}
-use Rattle.isolation.specs.Lists.{Call, Out, step, run, after}
+use Rattle.isolation.specs.Lists.{Call, step, run, after}
 use Rattle.isolation.specs.Words.{Kind, withdraws, opens, kindOf, NoneOpens, total, turnIn, turns, withdrawalIn, withdrawals, movedIn, moved, serviceIn, services, turnsFor}
 use Rattle.isolation.proofs.Turn.{dist, dist-lt, dist-own}
-use Rattle.isolation.proofs.Accept.{Inv, Ready, ready}
+use Rattle.isolation.proofs.Accept.{Inv}
 use Rattle.isolation.proofs.Keep.{waiting-below, inv-step, same-guest}
 use Rattle.isolation.proofs.Fate.{Counts, Fate, stays, passes, parts, ends, leaves, step-fate}
 

@@ -1,26 +1,24 @@
 -- The steps of a post, by what the rest uses of them: an answer at once keeps the window's length, and a request that waits is acceptable and says
 -- what its registers and its packet said.
 -- Assumes nothing.
-use Prim.Native.Nat.{ℕ, _+_, _-_, _*_, _/_, _%_, _≤_, _<_, min}
+use Prim.Native.Nat.{ℕ, _+_, _-_, _*_, _≤_, _<_, min}
 use mathlib.Core.Path.{_≡_, refl, sym, ap, _∙_}
 use mathlib.Core.Bool.{Bool, true, false, not}
 use mathlib.Core.List.{List, _++_}
 use native.Mathlib.Omega.{arith}
-use lib.ListN.{length, getD, take, drop, length-append, length-drop, length-take}
+use lib.ListN.{length, take, drop, length-append, length-drop, length-take}
 use lib.Seq.{length-sets}
 use lib.Dec.{leb, ltb, eqb}
-use borrow.Author.Tests.{leb-true, ltb-true, ltb-false, le-leb, eqb-false, eq-eqb, not-true, not-false}
-use Rattle.logic.specs.Logic.{pick, both, either}
+use borrow.Author.Tests.{leb-true, ltb-true, ltb-false, le-leb, eqb-false, not-false}
+use Rattle.logic.specs.Logic.{both, either}
 use Rattle.logic.proofs.Logic.{both-true}
 use Rattle.words.specs.Words.{le, leBytes}
 use Rattle.chs.specs.declared.ToBlock.{ToBlock}
 use Rattle.chs.specs.declared.ToBlock.the-variants.{Block, Refused as NoBlock}
 use Rattle.chs.specs.Chs.{size, blockOf, addressIn}
-use Rattle.drive.specs.declared.Drive.{Drive}
 use Rattle.drive.specs.Drive.{geometryOf, isProtected}
 use Rattle.drive.proofs.Drives.{Arrays}
 use Rattle.table.specs.declared.Table.{Table}
-use Rattle.table.specs.Table.{noDrive, isSound}
 use Rattle.layout.specs.declared.Packet.{Packet}
 use Rattle.layout.specs.declared.PacketRead.{PacketRead}
 use Rattle.layout.specs.declared.PacketRead.the-variants.{Whole, Refused as NoPacket}
@@ -35,12 +33,12 @@ use Rattle.int13.specs.declared.Job.{Job}
 use Rattle.int13.specs.declared.Outcome.{Outcome}
 use Rattle.int13.specs.declared.Outcome.the-variants.{Answered, Waits}
 use Rattle.int13.specs.declared.Plan.{Plan}
-use Rattle.int13.specs.declared.Plan.the-variants.{Refuse, Clear, Finish, Wait}
+use Rattle.int13.specs.declared.Plan.the-variants.{Clear}
 use Rattle.int13.specs.Answers.{ah, al, dl, isSectors, isWrite, posted}
-use Rattle.int13.specs.Steps.{Checked, unchanged, isDrive, driveAt, driveOf, packetPlace, packetTests, packetRead, packetPlan, packetJob, withCount, carryOut, extended, seekRead, seek, sectorBuffer, sectorJob, sectorRun, sectors, parameters, extensions, resultGiven, resultSteps, result, check}
+use Rattle.int13.specs.Steps.{Checked, isDrive, driveAt, driveOf, packetPlace, verifyOk, packetTests, packetRead, packetPlan, packetJob, carryOut, extended, seekRead, seek, sectorBuffer, sectorJob, sectorRun, sectors, parameters, extensions, resultGiven, result, check}
 use Rattle.int13.specs.Alone.{asked, namedFrom, storeBlock}
-use Rattle.desk.specs.Acceptable.{isTransfer, countOk, rangeOk, packetOk, jobOk}
-use Rattle.isolation.proofs.Sound.{pick-cases, both-intro, Taken, geometry-inside, Good, good-taken}
+use Rattle.desk.specs.Acceptable.{jobOk}
+use Rattle.isolation.proofs.Sound.{pick-cases, Taken, geometry-inside, Good, good-taken}
 
 -- ---- the drive that a number names
 
@@ -166,7 +164,7 @@ module _ (b : Table) (store : ℕ) (g : Good b store) (r : Registers) (w : List 
   unfolding packetPlan readPacket
   extended-says s x =
       pick-cases Plans (not (isDrive b (dl r))) _ _ (λ e. refl) (λ e₁.
-      pick-cases Plans (both (isWrite (ah r)) (not (Rattle.int13.specs.Steps.verifyOk (al r) (driveOf b r .flags)))) _ _ (λ e. refl) (λ e₂.
+      pick-cases Plans (both (isWrite (ah r)) (not (verifyOk (al r) (driveOf b r .flags)))) _ _ (λ e. refl) (λ e₂.
       pick-cases (λ (p : PacketRead). Plans (packetRead (driveOf b r) r (length w) p)) (leb (packetPlace r + 16) (length w)) _ _
       (λ e₃. pick-cases Plans (ltb (packet .size) 16) _ _ (λ e. refl) (λ e₄. packet-says s x (not-false _ e₁) e₃))
       (λ e₃. refl)))

@@ -3,15 +3,14 @@
 use Prim.Native.Nat.{ℕ, zero, suc, _+_, _-_, _*_, _/_, _≤_, _<_, min}
 use mathlib.Core.Path.{_≡_, refl, sym, ap, subst, _∙_}
 use mathlib.Core.Logic.{_≢_}
-use mathlib.Core.Bool.{Bool, true, false}
 use mathlib.Core.List.{List, [], _∷_, _++_}
 use native.Mathlib.Omega.{arith}
 use native.Mathlib.Nat.{zero-add}
 use native.Mathlib.Decide.{ℕ-discrete}
 use lib.ListN.{length, getD}
-use Rattle.memory.specs.Window.{guests, spanLength, windowOf, withWindow}
+use Rattle.memory.specs.Window.{guests, windowOf, withWindow}
 use Rattle.memory.specs.Blocks.{blockLength}
-use Rattle.memory.proofs.Windows.{window-with-same, window-with-other, with-window-same}
+use Rattle.memory.proofs.Windows.{window-with-same, window-with-other}
 use Rattle.int13.specs.declared.Job.{Job}
 use Rattle.int13.specs.declared.Outcome.the-variants.{Answered, Waits}
 use Rattle.int13.specs.Answers.{succeed}
@@ -21,14 +20,14 @@ use Rattle.desk.specs.declared.Stage.{Stage}
 use Rattle.desk.specs.declared.Stage.the-variants.{Vacant, Waiting, Finished}
 use Rattle.desk.specs.declared.Desk.{Desk}
 use Rattle.desk.specs.Parts.{windowSize, stageAt}
-use Rattle.desk.specs.Calls.{quota, later, stageAfter, memoryOf, movedBy, withdrawnWindow}
-use Rattle.isolation.specs.Lists.{Op, turn, withdraw, Call, Out, step, run, after}
+use Rattle.desk.specs.Calls.{quota, later, stageAfter, movedBy, withdrawnWindow}
+use Rattle.isolation.specs.Lists.{Call, Out, step, run, after}
 use Rattle.isolation.specs.Words.{Kind, serves, withdraws, opens, kindOf, NoneOpens, touchIn, movedIn, moved, withdrawalIn, withdrawals, Named, Writes, Unwritten, LeftIf, Left}
 use Rattle.isolation.proofs.Turn.{vacant≢waiting, finished≢waiting}
 use Rattle.isolation.proofs.Moves.{Agree, Alike, Off, SameSize, moves-size, moves-add, moves-alike, moves-off}
 use Rattle.isolation.proofs.Accept.{Inv, Ready, ready}
 use Rattle.isolation.proofs.View.{Lent, Did, same, idle, answer, accepting, serving, giving, withdrawing, view, still, postedOut, servedOut, collectedOut, withdrawnOut, windowIn, window-length, span-lent, quiet-touch, quiet-moved}
-use Rattle.isolation.proofs.Keep.{stage-same, stage-other, waiting-below, inv-step, Fixed, fixed-step, served-size, withdrawn-size, same-guest}
+use Rattle.isolation.proofs.Keep.{stage-same, stage-other, waiting-below, inv-step, fixed-step, served-size, withdrawn-size, same-guest}
 use Rattle.isolation.proofs.Fate.{other-guest, same-request, after-cases}
 
 abbrev pub memory : List ℕ → List ℕ → Memory

@@ -1,29 +1,28 @@
 -- The conditions of `equal` can be met: guest 2 reads 17 blocks, in two parts, while guest 5 writes the block after them.
 -- Assumes nothing.
-use Prim.Native.Nat.{ℕ, zero, suc, _+_, _*_, _/_, _%_, _≤_, _<_}
+use Prim.Native.Nat.{ℕ, _+_}
 use mathlib.Core.Path.{_≡_, refl, sym, ap, subst, _∙_}
 use mathlib.Core.Bool.{Bool, true, false, not}
 use mathlib.Core.List.{List, [], _∷_, _++_}
 use native.Mathlib.Omega.{arith}
-use lib.ListN.{length, getD, replicate, length-replicate}
+use lib.ListN.{length, replicate, length-replicate}
 use lib.Dec.{eqb, ltb}
-use borrow.Author.Tests.{eq-eqb, lt-ltb}
-use Rattle.logic.specs.Logic.{pick, both}
+use borrow.Author.Tests.{eq-eqb}
+use Rattle.logic.specs.Logic.{pick}
 use Rattle.words.specs.Words.{le, leBytes}
 use Rattle.chs.specs.Chs.{inLimits, isValid, blockOf}
 use Rattle.drive.specs.declared.Drive.{Drive}
 use Rattle.drive.specs.Drive.{driveOf, same, busOk, interfaceOk, geometryFits, fieldsOk, inStore, overlap, isBlank, blankNumbers, blankNames}
 use Rattle.table.specs.declared.Table.{Table}
 use Rattle.table.specs.Table.{zeroDrive, headerOf, headerAt, overlapsAny, refusal, driveStep, endStep, stepOf as tableStepOf, stepAt, readFrom, readTable, soundTo, blankTo, isSound}
-use Rattle.memory.specs.Window.{guests, windowOf, withWindow}
-use Rattle.memory.specs.Blocks.{blockLength}
+use Rattle.memory.specs.Window.{guests, windowOf}
 use Rattle.memory.proofs.Windows.{length-with-window}
 use Rattle.int13.specs.declared.Registers.{Registers}
 use Rattle.int13.specs.declared.Job.{Job}
 use Rattle.int13.specs.declared.Outcome.{Outcome}
 use Rattle.int13.specs.declared.Outcome.the-variants.{Waits}
-use Rattle.int13.specs.Steps.{Checked, isDrive, sectors, check}
-use Rattle.int13.specs.Alone.{Memory, storeBlock, alone}
+use Rattle.int13.specs.Steps.{isDrive, sectors, check}
+use Rattle.int13.specs.Alone.{storeBlock, alone}
 use Rattle.desk.specs.declared.Request.{Request}
 use Rattle.desk.specs.declared.Stage.{Stage}
 use Rattle.desk.specs.declared.Stage.the-variants.{Vacant, Waiting}
@@ -33,18 +32,18 @@ use Rattle.desk.specs.declared.Next.{Next}
 use Rattle.desk.specs.declared.Next.the-variants.{Guest}
 use Rattle.desk.specs.declared.OpenAnswer.the-variants.{Opened}
 use Rattle.desk.specs.declared.PostAnswer.{PostAnswer}
-use Rattle.desk.specs.declared.PostAnswer.the-variants.{Waits as PostWaits, Refused as PostRefused}
+use Rattle.desk.specs.declared.PostAnswer.the-variants.{Refused as PostRefused}
 use Rattle.desk.specs.declared.TurnAnswer.{TurnAnswer}
 use Rattle.desk.specs.declared.TurnAnswer.the-variants.{Refused as TurnRefused}
-use Rattle.desk.specs.Parts.{windowSize, vacantRow, stageAt, withStage, withPointer}
+use Rattle.desk.specs.Parts.{windowSize, stageAt, withStage, withPointer}
 use Rattle.desk.specs.Acceptable.{jobOk, rowsOk, accept}
 use Rattle.desk.specs.Calls.{Done, isLent, opened, openOf, postChecked, postRow, postOf, seek, stageAfter, memoryOf, movedBy, serve, serveStage, turnNext, turnOf}
-use Rattle.isolation.specs.Lists.{Op, post, turn, Call, posted, turned, Out, outOf, step, Event, event, run, after}
-use Rattle.isolation.specs.Words.{kindOf, serves, accepts, opens, NoneOpens, Accepted, Waits as WaitsOn, Finishes, moved, withdrawals, Named, Writes, Unwritten, Left}
+use Rattle.isolation.specs.Lists.{Op, post, turn, Call, posted, turned, Out, outOf, step, Event, run, after}
+use Rattle.isolation.specs.Words.{serves, NoneOpens, Accepted, Waits as WaitsOn, Finishes, moved, Named, Writes, Unwritten, Left}
 use Rattle.isolation.specs.Demand.{foundBy, firstBy, Same, Claim}
-use Rattle.isolation.proofs.Moves.{SameSize, moves-size}
+use Rattle.isolation.proofs.Moves.{moves-size}
 use Rattle.isolation.proofs.Sound.{both-intro}
-use Rattle.isolation.proofs.View.{Lent, window-length}
+use Rattle.isolation.proofs.View.{window-length}
 use Rattle.isolation.proofs.Fate.{same-request}
 use Rattle.isolation.proofs.Theorem.{demand}
 

@@ -1,29 +1,26 @@
 -- What one call does to a waiting request, in the words of the demand.
 -- Assumes nothing.
-use Prim.Native.Nat.{ℕ, _+_, _-_, _*_, _%_, _≤_, _<_, min}
+use Prim.Native.Nat.{ℕ, _+_, _-_, _≤_, _<_, min}
 use mathlib.Core.Path.{_≡_, refl, sym, ap, _∙_}
 use mathlib.Core.Logic.{_≢_}
-use mathlib.Core.Bool.{Bool, true, false}
-use mathlib.Core.List.{List}
 use native.Mathlib.Omega.{arith}
 use native.Mathlib.Decide.{ℕ-discrete}
-use borrow.Author.Tests.{ltb-true, ltb-false, eq-eqb, ne-eqb}
-use lib.Dec.{ltb, eqb}
-use Rattle.logic.specs.Logic.{pick}
+use borrow.Author.Tests.{ltb-true, ltb-false, ne-eqb}
+use lib.Dec.{ltb}
 use Rattle.memory.specs.Window.{guests}
 use Rattle.int13.specs.Answers.{succeed}
 use Rattle.desk.specs.declared.Request.{Request}
 use Rattle.desk.specs.declared.Stage.{Stage}
 use Rattle.desk.specs.declared.Stage.the-variants.{Vacant, Waiting, Finished}
 use Rattle.desk.specs.declared.Desk.{Desk}
-use Rattle.desk.specs.Parts.{windowSize, stageAt, next}
+use Rattle.desk.specs.Parts.{stageAt, next}
 use Rattle.desk.specs.Calls.{quota, later, stageAfter}
 use Rattle.isolation.specs.Lists.{Call, Out, step}
-use Rattle.isolation.specs.Words.{Kind, serves, withdraws, opens, kindOf, turnIn, withdrawalIn, movedIn, serviceIn, ifSame}
+use Rattle.isolation.specs.Words.{Kind, withdraws, opens, kindOf, turnIn, withdrawalIn, movedIn, serviceIn, ifSame}
 use Rattle.isolation.proofs.Turn.{dist, dist-less, vacant≢waiting, finished≢waiting}
 use Rattle.isolation.proofs.Sound.{pick-cases}
-use Rattle.isolation.proofs.Accept.{Inv, Ready, ready}
-use Rattle.isolation.proofs.View.{Lent, Did, same, idle, answer, accepting, serving, giving, withdrawing, view, servedOut, withdrawnOut, quiet-turn, quiet-withdrawal, quiet-moved, quiet-service}
+use Rattle.isolation.proofs.Accept.{Inv, ready}
+use Rattle.isolation.proofs.View.{Did, same, idle, answer, accepting, serving, giving, withdrawing, view, servedOut, withdrawnOut, quiet-turn, quiet-withdrawal, quiet-moved, quiet-service}
 use Rattle.isolation.proofs.Keep.{stage-same, stage-other, waiting-below, same-guest}
 
 -- the numbers of one call: turns, and withdrawals, blocks and services of g

@@ -1,19 +1,18 @@
 -- The desk stays acceptable after every call; and what one call leaves alone.
 -- Assumes nothing.
-use Prim.Native.Nat.{ℕ, _+_, _-_, _*_, _%_, _≤_, _<_, min}
+use Prim.Native.Nat.{ℕ, _+_, _-_, _%_, _<_, min}
 use mathlib.Core.Path.{_≡_, refl, sym, ap, _∙_}
-use mathlib.Core.Logic.{_⊎_, inl, inr, ⊎-elim, _≢_}
-use mathlib.Core.Bool.{Bool, true, false}
+use mathlib.Core.Logic.{⊎-elim, _≢_}
+use mathlib.Core.Bool.{true}
 use mathlib.Core.List.{List, [], _∷_}
 use native.Mathlib.Omega.{arith}
 use native.Mathlib.Decide.{ℕ-discrete}
 use borrow.Author.Tests.{ltb-true, lt-ltb, eq-eqb}
 use lib.Dec.{ltb, eqb}
-use lib.ListN.{length, getD, set, length-set, List·getD-eq-default}
+use lib.ListN.{length, length-set, List·getD-eq-default}
 use lib.Seq.{getD-set-same, getD-set-other, length-sets}
-use Rattle.logic.specs.Logic.{pick, both}
 use Rattle.words.specs.Words.{leBytes}
-use Rattle.memory.specs.Window.{guests, windowOf, withWindow, spanLength}
+use Rattle.memory.specs.Window.{guests, windowOf, spanLength}
 use Rattle.memory.proofs.Windows.{window-with-other}
 use Rattle.table.specs.declared.Table.{Table}
 use Rattle.int13.specs.declared.Registers.{Registers}
@@ -21,16 +20,16 @@ use Rattle.int13.specs.Answers.{ah, isSectors}
 use Rattle.int13.specs.Alone.{storeBlock}
 use Rattle.desk.specs.declared.Request.{Request}
 use Rattle.desk.specs.declared.Stage.{Stage}
-use Rattle.desk.specs.declared.Stage.the-variants.{Vacant, Waiting, Finished}
+use Rattle.desk.specs.declared.Stage.the-variants.{Vacant, Waiting}
 use Rattle.desk.specs.declared.Row.{Row}
 use Rattle.desk.specs.declared.Desk.{Desk}
 use Rattle.desk.specs.Parts.{windowSize, vacantRow, stageAt, withStage, withPointer, next}
 use Rattle.desk.specs.Acceptable.{jobOk, movedOk, stageOk}
-use Rattle.desk.specs.Calls.{quota, later, stageAfter, memoryOf, movedBy, withdrawnWindow}
-use Rattle.isolation.specs.Lists.{Op, post, turn, collect, withdraw, Call, Out, step, run, after}
+use Rattle.desk.specs.Calls.{quota, stageAfter, memoryOf, movedBy, withdrawnWindow}
+use Rattle.isolation.specs.Lists.{post, turn, collect, withdraw, Call, Out, step, run, after}
 use Rattle.isolation.specs.Words.{opens, kindOf, NoneOpens, serviceIn, ifSame}
 use Rattle.isolation.proofs.Turn.{lt-or-le, next-lt, vacant≢waiting}
-use Rattle.isolation.proofs.Moves.{SameSize, moves-size}
+use Rattle.isolation.proofs.Moves.{moves-size}
 use Rattle.isolation.proofs.Sound.{pick-cases, both-intro}
 use Rattle.isolation.proofs.Check.{Fresh}
 use Rattle.isolation.proofs.Accept.{Inv, Ready, ready, waiting-job}

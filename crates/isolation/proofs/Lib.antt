@@ -8,6 +8,9 @@ pub mod Keep
 pub mod Fate
 pub mod Bound
 pub mod Equal
+pub mod Posts
+pub mod Finished
+pub mod Requests
 pub mod Theorem
 pub mod Sums
 pub mod Example

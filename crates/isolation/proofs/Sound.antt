@@ -1,24 +1,24 @@
 -- What the rules of the drive table say of each drive, and that a table which was accepted obeys them.
 -- Assumes nothing.
-use Prim.Native.Nat.{ℕ, zero, suc, _+_, _-_, _*_, _≤_, _<_, min}
+use Prim.Native.Nat.{ℕ, zero, suc, _+_, _≤_, _<_}
 use mathlib.Core.Path.{_≡_, refl, sym, ap, _∙_}
-use mathlib.Core.Logic.{_⊎_, inl, inr, ⊎-elim, _≢_}
+use mathlib.Core.Logic.{⊎-elim, _≢_}
 use mathlib.Core.Bool.{Bool, true, false, not}
 use mathlib.Core.List.{List}
 use native.Mathlib.Omega.{arith}
 use native.Mathlib.Numerals.{add-one}
 use native.Mathlib.Decide.{ℕ-discrete}
-use lib.ListN.{length, getD, set, take, drop, replicate, length-set, length-drop, length-take, getD-replicate}
-use lib.Seq.{getD-set-same, getD-set-other, length-take-le}
+use lib.ListN.{length, getD, set, length-set, getD-replicate}
+use lib.Seq.{getD-set-same, getD-set-other}
 use lib.Dec.{leb, ltb, eqb}
-use borrow.Author.Tests.{leb-true, leb-false, ltb-true, lt-ltb, le-leb, eqb-true, eq-eqb, not-false}
+use borrow.Author.Tests.{leb-true, lt-ltb, le-leb, eqb-true, eq-eqb}
 use Rattle.logic.specs.Logic.{pick, both, either}
 use Rattle.logic.proofs.Logic.{both-true}
 use Rattle.words.specs.Words.{part}
 use Rattle.memory.proofs.Sets.{length-part}
 use Rattle.chs.specs.Chs.{inLimits, size}
 use Rattle.drive.specs.declared.Drive.{Drive}
-use Rattle.drive.specs.Drive.{driveOf, geometryOf, geometryFits, busOk, interfaceOk, fieldsOk, inStore, overlap, same, isBlank, blankNumbers, blankNames}
+use Rattle.drive.specs.Drive.{driveOf, geometryOf, geometryFits, busOk, interfaceOk, fieldsOk, inStore, same, isBlank, blankNumbers, blankNames}
 use Rattle.drive.proofs.Drives.{Arrays}
 use Rattle.table.specs.declared.Table.{Table}
 use Rattle.table.specs.declared.Stepped.{Stepped}

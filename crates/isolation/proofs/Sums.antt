@@ -6,11 +6,8 @@ use mathlib.Core.Bool.{false}
 use mathlib.Core.List.{List, [], _∷_, map}
 use lib.ListN.{replicate}
 use Rattle.memory.specs.Window.{guests}
-use Rattle.memory.specs.Blocks.{blocks}
 use Rattle.table.specs.Table.{emptyTable}
 use Rattle.int13.specs.declared.Registers.{Registers}
-use Rattle.int13.specs.declared.Job.{Job}
-use Rattle.int13.specs.Alone.{moves}
 use Rattle.desk.specs.declared.Row.{Row}
 use Rattle.desk.specs.declared.Stage.the-variants.{Waiting}
 use Rattle.desk.specs.declared.Desk.{Desk}

@@ -1,7 +1,7 @@
 -- The turn's search: which guest it finds, and how far it is from the pointer.
 -- Assumes nothing.
 use Prim.Native.Nat.{ℕ, zero, suc, _+_, _-_, _%_, _≤_, _<_}
-use mathlib.Core.Path.{_≡_, refl, sym, ap, _∙_}
+use mathlib.Core.Path.{_≡_, refl, sym, _∙_}
 use mathlib.Core.Logic.{_⊎_, inl, inr, ⊎-elim, _≢_}
 use mathlib.Core.Bool.{Bool, true, false}
 use mathlib.Core.List.{List}
@@ -14,7 +14,6 @@ use Rattle.desk.specs.declared.Request.{Request}
 use Rattle.desk.specs.declared.Stage.{Stage}
 use Rattle.desk.specs.declared.Stage.the-variants.{Vacant, Waiting, Finished}
 use Rattle.desk.specs.declared.Row.{Row}
-use Rattle.desk.specs.declared.Next.{Next}
 use Rattle.desk.specs.declared.Next.the-variants.{Guest, Nobody}
 use Rattle.desk.specs.Parts.{stageIn, isWaiting, next}
 use Rattle.desk.specs.Calls.{seek}

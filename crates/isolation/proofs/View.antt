@@ -1,18 +1,16 @@
 -- What one call does, by cases: each with the facts that hold there, and no test left.
 -- Assumes nothing.
-use Prim.Native.Nat.{ℕ, _+_, _*_, _/_, _≤_, _<_}
-use mathlib.Core.Path.{_≡_, refl, sym, ap, _∙_}
-use mathlib.Core.Bool.{Bool, true, false, not}
+use Prim.Native.Nat.{ℕ, _/_, _≤_, _<_}
+use mathlib.Core.Path.{_≡_, refl, sym, _∙_}
+use mathlib.Core.Bool.{true, not}
 use mathlib.Core.List.{List}
 use native.Mathlib.Omega.{arith}
 use lib.Dec.{ltb, eqb}
 use borrow.Author.Tests.{ltb-true, eqb-true, not-true, not-false}
 use lib.ListN.{length}
-use Rattle.logic.specs.Logic.{pick, both}
 use Rattle.logic.proofs.Logic.{both-true}
-use Rattle.memory.specs.Window.{guests, windowLength, spanLength, windowOf, withWindow}
+use Rattle.memory.specs.Window.{guests, windowLength, spanLength, windowOf}
 use Rattle.memory.proofs.Windows.{span-in, length-window}
-use Rattle.table.specs.declared.Table.{Table}
 use Rattle.table.specs.declared.Written.{Written}
 use Rattle.table.specs.declared.Written.the-variants.{Bytes, Refused as WriteRefused}
 use Rattle.table.specs.Table.{writeAnswer, tableOf}
@@ -20,7 +18,7 @@ use Rattle.int13.specs.declared.Registers.{Registers}
 use Rattle.int13.specs.declared.Job.{Job}
 use Rattle.int13.specs.declared.Outcome.{Outcome}
 use Rattle.int13.specs.declared.Outcome.the-variants.{Answered, Waits}
-use Rattle.int13.specs.Steps.{Checked, check}
+use Rattle.int13.specs.Steps.{check}
 use Rattle.desk.specs.declared.Request.{Request}
 use Rattle.desk.specs.declared.Stage.{Stage}
 use Rattle.desk.specs.declared.Stage.the-variants.{Vacant, Waiting, Finished}

@@ -1,6 +1,6 @@
 -- Demand 3, as one claim about a list of calls at a desk after an opening.
 -- Assumes nothing.
-use Prim.Native.Nat.{ℕ, _+_, _*_, _≤_, _<_}
+use Prim.Native.Nat.{ℕ, _*_, _≤_, _<_}
 use mathlib.Core.Path.{_≡_}
 use mathlib.Core.Bool.{true}
 use mathlib.Core.List.{List, [], _∷_, _++_}
@@ -18,8 +18,8 @@ use Rattle.desk.specs.declared.CollectAnswer.the-variants.{Given}
 use Rattle.desk.specs.Parts.{stageAt}
 use Rattle.desk.specs.Acceptable.{accept}
 use Rattle.desk.specs.Calls.{notAcceptable, openOf}
-use Rattle.isolation.specs.Lists.{Op, post, turn, collect, Call, posted, collected, Out, step, Event, run, after}
-use Rattle.isolation.specs.Words.{refused, kindOf, houseNumber, NoneOpens, turnIn, turns, serviceIn, services, collects, Accepted, Waits, Finishes, Withdraws, turnsFor, Named, Unwritten, Left}
+use Rattle.isolation.specs.Lists.{post, turn, collect, Call, posted, collected, Out, step, Event, run, after}
+use Rattle.isolation.specs.Words.{refused, kindOf, houseNumber, NoneOpens, turns, serviceIn, services, collects, Accepted, Waits, Finishes, Withdraws, turnsFor, Named, Unwritten, Left}
 
 -- ---- a call of the list, and the calls since it
 

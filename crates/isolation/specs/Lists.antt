@@ -6,7 +6,6 @@ use lib.ListN.{length}
 use Rattle.table.specs.declared.Written.{Written}
 use Rattle.int13.specs.declared.Registers.{Registers}
 use Rattle.desk.specs.declared.Desk.{Desk}
-use Rattle.desk.specs.declared.Opening.{Opening}
 use Rattle.desk.specs.declared.OpenAnswer.{OpenAnswer}
 use Rattle.desk.specs.declared.OpenAnswer.the-variants.{Opened, Refused as OpenRefused}
 use Rattle.desk.specs.declared.PostAnswer.{PostAnswer}

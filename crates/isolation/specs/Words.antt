@@ -2,13 +2,11 @@
 -- Assumes nothing.
 use Prim.Native.Nat.{ℕ, zero, suc, _+_, _*_, _/_, _≤_, _<_}
 use mathlib.Core.Path.{_≡_}
-use mathlib.Core.Bool.{Bool, true}
+use mathlib.Core.Bool.{true}
 use mathlib.Core.List.{List, [], _∷_, _++_}
 use lib.Dec.{eqb}
 use Rattle.logic.specs.Logic.{pick}
-use Rattle.words.specs.Words.{part}
 use Rattle.memory.specs.Window.{guests, windowOf}
-use Rattle.memory.specs.Blocks.{blockLength}
 use Rattle.table.specs.declared.Table.{Table}
 use Rattle.table.specs.declared.Written.the-variants.{Bytes, Refused as WriteRefused}
 use Rattle.int13.specs.declared.Registers.{Registers}
@@ -24,7 +22,7 @@ use Rattle.desk.specs.declared.CollectAnswer.the-variants.{Given as CollectGive
 use Rattle.desk.specs.declared.WithdrawAnswer.the-variants.{Given as WithdrawGiven, Refused as WithdrawRefused}
 use Rattle.desk.specs.Parts.{stageAt}
 use Rattle.desk.specs.Acceptable.{part as partLength}
-use Rattle.isolation.specs.Lists.{Op, post, Call, Answer, opening, posted, turned, collected, withdrawn, written, Out, step, Event, run, after}
+use Rattle.isolation.specs.Lists.{post, Call, Answer, opening, posted, turned, collected, withdrawn, written, step, Event, run, after}
 
 -- ---- the answers, in the words of the demand; each later word is a clause for each of these
 
