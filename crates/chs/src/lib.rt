@@ -64,7 +64,7 @@ pub fn in_limits(g: Geometry) -> bool
 }
 
 // How many blocks the geometry has. Asks for the limits, without which the product need not fit in 32 bits.
-pub fn size_of(g: Geometry) -> u32
+fn size_of(g: Geometry) -> u32
     requires { ⌜ inLimits g ≡ true ⌝ }
     ensures { λ r. ⌜ r ≡ size g ⌝ }
 {

@@ -133,13 +133,6 @@ const PACKET_LENGTH: u64 = 16;
 
 // ---- acceptable desks
 
-// C x H x S of a drive, whatever its fields.
-fn geometry_size(d: Drive) -> u64
-    ensures { λ r. ⌜ r ≡ size (geometryOf d) ⌝ }
-{
-    d.c as u64 * d.h as u64 * d.s as u64
-}
-
 // place + n is at most end, with no sum that wraps.
 fn ends_by(place: u64, n: u64, end: u64) -> bool
     ensures { λ r. ⌜ r ≡ leb (place + n) end ⌝ }
@@ -183,7 +176,7 @@ fn range_ok(d: Drive, sectors: bool, start: u64, count: u64) -> bool
 {
     let inside = ends_by(start, count, d.blocks);
     if sectors {
-        return logic::and(inside, ends_by(start, count, geometry_size(d)));
+        return logic::and(inside, ends_by(start, count, drive::geometry_size(d)));
     }
     logic::and(inside, true)
 }

@@ -4,6 +4,7 @@ ghost use mathlib.Core.Path.{_≡_};
 ghost use Prim.Native.Nat.{_+_, _≤_};
 ghost use lib.ListN.{length, replicate};
 ghost use lib.Seq.{sets};
+ghost use Rattle.chs.specs.Chs.{size};
 ghost use Rattle.drive.specs.Drive.{driveLength, driveOf, recordOf, geometryBytes, sizeBytes, nameBytes, busOk, interfaceOk, geometryOf, geometryFits, fieldsOk, inStore, overlap, isProtected, same, blankNumbers, blankNames, isBlank};
 
 // The fields of a record in the paper's order. Flags and the protection byte are kept as the table has them.
@@ -169,15 +170,18 @@ pub fn geometry_of(d: Drive) -> Geometry
     }
 }
 
+// C x H x S, whatever the fields are; three numbers of 16, 16 and 8 bits fit in 64.
+pub fn geometry_size(d: Drive) -> u64
+    ensures { λ r. ⌜ r ≡ size (geometryOf d) ⌝ }
+{
+    d.c as u64 * d.h as u64 * d.s as u64
+}
+
 fn geometry_fits(d: Drive) -> bool
     ensures { λ r. ⌜ r ≡ geometryFits d ⌝ }
 {
-    let g = geometry_of(d);
-    if !chs::in_limits(g) {
-        return false;
-    }
-    let n = chs::size_of(g);
-    n as u64 <= d.blocks
+    let n = geometry_size(d);
+    logic::and(chs::in_limits(geometry_of(d)), n <= d.blocks)
 }
 
 // Every field is as the table's rules say.

@@ -11,8 +11,6 @@ ghost use Prim.Native.Nat.{_+_, _-_, _≤_};
 ghost use lib.Dec.{ltb, eqb};
 ghost use Rattle.logic.specs.Logic.{either};
 ghost use Rattle.chs.specs.declared.ToBlock.the-variants.{Block};
-ghost use Rattle.chs.specs.Chs.{inLimits};
-ghost use Rattle.drive.specs.Drive.{geometryOf};
 ghost use Rattle.int13.specs.Answers.{ah, al, dl, isSectors, isWrite, answer, succeed, stop, refuse, withdraw, posted};
 ghost use Rattle.int13.specs.Steps.{driveCount, isDrive, driveAt, packetPlace, verifyOk, packetJob, packetTests, packetRead, packetPlan, extended, seekRead, seek, sectorBuffer, sectorJob, sectorRun, sectors, geometryGiven, parameters, extensionsGiven, extensions, resultGiven, result, check};
 
@@ -257,14 +255,13 @@ fn sector_job(r: Registers, start: u32) -> Job
     }
 }
 
-// The run of AL blocks from a block of the geometry, whose size asks for the limits: `sectors_02_03` has a block of it.
+// The run of AL blocks from a block of the geometry.
 fn sector_run(d: Drive, r: Registers, window: usize, start: u32) -> Outcome
-    requires { ⌜ inLimits (geometryOf d) ≡ true ⌝ }
     ensures { λ o. ⌜ o ≡ sectorRun d r window (Block start) ⌝ }
 {
     let count = al(r) as u64;
-    let end = chs::size_of(drive::geometry_of(d));
-    if ends_past(end as u64, start as u64, count) {
+    let end = drive::geometry_size(d);
+    if ends_past(end, start as u64, count) {
         return Outcome::Answered(refuse(OUTSIDE, r));
     }
     if ends_past(window as u64, sector_buffer(r), BLOCK_LENGTH * count) {

@@ -123,9 +123,7 @@ enum-known-block-2 : tie.Need-enum-known-block-2
 enum-known-block-2 c = search needs
 
 sector-run-requires : tie.Need-sector-run-requires
-sector-run-requires c κs =
-    let e = rw (c .before .before .before .before .before .geometry-of .ensures) at (sym (c .before .before .before .block-of .ensures) ∙ c .before .block2 .given .1) in
-    block-limits (geometryOf (c .before .before .before .before .before .before .before .before .before .before .before .drive-at .result)) (c .before .before .before .before .address-in .result) (c .before .block2 .given .0 .0) e
+sector-run-requires c κs = search needs
 
 returns-5 : tie.Need-returns-5
 unfolding sectors

@@ -2,20 +2,17 @@ use native.Mathlib.Omega.{arith}
 use native.Mathlib.Nat.{mul-le-mul}
 use Prim.Native.Nat.{_≤_}
 use borrow.Author.Needs.{needs}
-use Rattle.desk.proofs.geometry_size.Statement.{statement}
-use Rattle.desk.proofs.geometry_size.Tie as tie
-use Rattle.desk.proofs.geometry_size.Reads as reads
-use Rattle.desk.proofs.geometry_size.Lts as lts
+use Rattle.drive.proofs.geometry_size.Statement.{statement}
+use Rattle.drive.proofs.geometry_size.Tie as tie
+use Rattle.drive.proofs.geometry_size.Reads as reads
+use Rattle.drive.proofs.geometry_size.Lts as lts
 
--- src/lib.rt:125:5
 cast-result : tie.Need-cast-result
 cast-result c = search needs
 
--- src/lib.rt:125:18
 cast-result-2 : tie.Need-cast-result-2
 cast-result-2 c = search needs
 
--- src/lib.rt:125:5
 mul-result : tie.Need-mul-result
 mul-result c =
     let d = c .before .before .args .d in
@@ -23,11 +20,9 @@ mul-result c =
     let y : d .h ≤ 65535 = search needs in
     omega (arith, mul-le-mul {n₂ = 65535} {m₂ = 65535} x y)
 
--- src/lib.rt:125:31
 cast-result-3 : tie.Need-cast-result-3
 cast-result-3 c = search needs
 
--- src/lib.rt:125:5
 mul-result-2 : tie.Need-mul-result-2
 mul-result-2 c =
     let d = c .before .before .before .args .d in
@@ -36,7 +31,6 @@ mul-result-2 c =
     let z : d .s ≤ 255 = search needs in
     omega (arith, mul-le-mul {n₂ = 4294836225} {m₂ = 255} (mul-le-mul {n₂ = 65535} {m₂ = 65535} x y) z)
 
--- src/lib.rt:122:1
 returns : tie.Need-returns
 returns c = search needs
 
