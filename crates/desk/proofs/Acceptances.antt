@@ -18,10 +18,10 @@ use Rattle.logic.specs.Logic.{pick, both, either}
 use Rattle.logic.proofs.Logic.{both-true}
 use Rattle.drive.specs.declared.Drive.{Drive}
 use Rattle.chs.specs.Chs.{size}
-use Rattle.drive.specs.Drive.{geometryOf, fieldsOk, inStore, isProtected}
+use Rattle.drive.specs.Drive.{geometryOf, isProtected}
 use Rattle.table.specs.declared.Table.{Table}
-use Rattle.table.specs.Table.{noDrive, refusal, firstDrives, soundTo, blankTo, isSound, drivesOf}
-use Rattle.table.proofs.Tables.{refusal-taken}
+use Rattle.table.specs.Table.{isSound, drivesOf}
+use Rattle.table.proofs.Sound.{Obeys, good-obeys}
 use Rattle.int13.specs.declared.Job.{Job}
 use Rattle.int13.specs.Answers.{ah, isSectors, isWrite}
 use Rattle.int13.specs.Steps.{isDrive, driveAt}
@@ -58,68 +58,66 @@ rowsOk-at (suc n) rows b M g l e =
     by-guest (yes y) h f = rw y h
     by-guest (no y) h f = f (omega arith)
 
--- a waiting row's request
-pub record Waits (b : Table) (M : ℕ) (q : Request) : Type 0 where
-  pub drive : isDrive b (q .job .drive) ≡ true
-  pub transfer : isTransfer (ah (q .job .registers)) ≡ true
-  pub count : q .job .count ≤ 128
-  pub range : q .job .start + q .job .count ≤ driveAt b (q .job .drive) .blocks
-  pub buffer : q .job .buffer + 512 * q .job .count ≤ M
-  pub packet : packetOk (ah (q .job .registers)) (q .job .packet) M ≡ true
-  pub moved : q .moved < q .job .count
+-- ---- a job
+
+pub record JobFacts (b : Table) (M : ℕ) (j : Job) : Type 0 where
+  pub drive : isDrive b (j .drive) ≡ true
+  pub count : j .count ≤ 128
+  pub range : j .start + j .count ≤ driveAt b (j .drive) .blocks
+  pub buffer : j .buffer + 512 * j .count ≤ M
+  pub packet : packetOk (ah (j .registers)) (j .packet) M ≡ true
 
 count-most : (s : Bool) (n : ℕ) → leb n (pick s 128 127) ≡ true → n ≤ 128
 count-most true n e = leb-true n 128 e
 count-most false n e = let l : n ≤ 127 = leb-true n 127 e in omega arith
 
-pub waits-facts : (b : Table) (M : ℕ) (q : Request) → stageOk b M (Waiting q) ≡ true → Waits b M q
+pub job-facts : (b : Table) (M : ℕ) (j : Job) → jobOk b M j ≡ true → JobFacts b M j
 unfolding jobOk
-waits-facts b M q e =
-    let p = both-true _ _ e in
-    let p₁ = both-true _ _ (p .0) in
-    let p₂ = both-true _ _ (p₁ .1) in
-    let p₃ = both-true _ _ (p₂ .1) in
-    let p₄ = both-true _ _ (p₃ .1) in
-    let p₅ = both-true _ _ (p₄ .1) in
-    let p₆ = both-true _ _ (p₅ .1) in
-    let r = both-true _ _ (p₄ .0) in
-    let m = both-true (eqb (q .moved % 16) 0) (ltb (q .moved) (q .job .count)) (p .1) in
+job-facts b M j e =
+    let f : ℕ = ah (j .registers) in
+    let free : Bool = not (both (isWrite f) (isProtected (driveAt b (j .drive)))) in
+    let placed : Bool = both (packetOk f (j .packet) M) free in
+    let places : Bool = both (leb (j .buffer + 512 * j .count) M) placed in
+    let blocks : Bool = both (rangeOk b f j) places in
+    let numbers : Bool = both (countOk f (j .count)) blocks in
+    let p₁ = both-true (isDrive b (j .drive)) (both (isTransfer f) numbers) e in
+    let p₂ = both-true (isTransfer f) numbers (p₁ .1) in
+    let p₃ = both-true (countOk f (j .count)) blocks (p₂ .1) in
+    let p₄ = both-true (rangeOk b f j) places (p₃ .1) in
+    let p₅ = both-true (leb (j .buffer + 512 * j .count) M) placed (p₄ .1) in
+    let p₆ = both-true (packetOk f (j .packet) M) free (p₅ .1) in
+    let r = both-true (leb (j .start + j .count) (driveAt b (j .drive) .blocks)) (pick (isSectors f) (leb (j .start + j .count) (size (geometryOf (driveAt b (j .drive))))) true) (p₄ .0) in
     record {
       drive = p₁ .0;
-      transfer = p₂ .0;
-      count = count-most (isSectors (ah (q .job .registers))) (q .job .count) (p₃ .0);
-      range = leb-true (q .job .start + q .job .count) (driveAt b (q .job .drive) .blocks) (r .0);
-      buffer = leb-true (q .job .buffer + 512 * q .job .count) M (p₅ .0);
+      count = count-most (isSectors f) (j .count) (p₃ .0);
+      range = leb-true (j .start + j .count) (driveAt b (j .drive) .blocks) (r .0);
+      buffer = leb-true (j .buffer + 512 * j .count) M (p₅ .0);
       packet = p₆ .0;
-      moved = ltb-true (q .moved) (q .job .count) (m .1);
     }
+
+-- a waiting row's request
+pub record Waits (b : Table) (M : ℕ) (q : Request) : Type 0 where
+  pub ok : jobOk b M (q .job) ≡ true
+  pub job : JobFacts b M (q .job)
+  pub moved : q .moved < q .job .count
+  pub whole : q .moved % 16 ≡ 0
+
+pub waits-facts : (b : Table) (M : ℕ) (q : Request) → stageOk b M (Waiting q) ≡ true → Waits b M q
+waits-facts b M q e =
+    let p = both-true (jobOk b M (q .job)) (movedOk (q .moved) (q .job .count)) e in
+    let m = both-true (eqb (q .moved % 16) 0) (ltb (q .moved) (q .job .count)) (p .1) in
+    record { ok = p .0; job = job-facts b M (q .job) (p .0); moved = ltb-true (q .moved) (q .job .count) (m .1); whole = eqb-true (q .moved % 16) 0 (m .0) }
 
 -- ---- the drives of a sound table
 
-pub soundTo-at : (n : ℕ) (l : List Drive) (store i : ℕ) → i < n → soundTo n l store ≡ true → refusal (firstDrives l i) (getD l i noDrive) store ≡ 0
-unfolding soundTo
-soundTo-at zero l store i h e = absurd (omega arith)
-soundTo-at (suc n) l store i h e =
-    let p = both-true (eqb (refusal (firstDrives l n) (getD l n noDrive) store) 0) (soundTo n l store) e in
-    by-place (ℕ-discrete i n) (eqb-true (refusal (firstDrives l n) (getD l n noDrive) store) 0 (p .0)) (λ q. soundTo-at n l store i q (p .1))
-  where
-    by-place : Dec (i ≡ n) → refusal (firstDrives l n) (getD l n noDrive) store ≡ 0 → (i < n → refusal (firstDrives l i) (getD l i noDrive) store ≡ 0)
-        → refusal (firstDrives l i) (getD l i noDrive) store ≡ 0
-    by-place (yes y) q f = rw y q
-    by-place (no y) q f = f (omega arith)
-
 -- a known drive of a sound table has good fields and lies in the store
-pub drive-sound : (b : Table) (store n : ℕ) → isSound b store ≡ true → isDrive b n ≡ true → (fieldsOk (driveAt b n) ≡ true) × (driveAt b n .first + driveAt b n .blocks ≤ store)
-unfolding isSound isDrive inStore
-drive-sound b store n s k =
-    let s₁ = both-true (leb (b .count) 8) (both (soundTo (b .count) (b .drives) store) (blankTo 8 (b .drives) (b .count))) s in
-    let p = both-true (soundTo (b .count) (b .drives) store) (blankTo 8 (b .drives) (b .count)) (s₁ .1) in
-    let q = both-true _ _ k in
+pub drive-obeys : (b : Table) (store n : ℕ) → isSound b store ≡ true → isDrive b n ≡ true → Obeys (driveAt b n) store
+unfolding isDrive
+drive-obeys b store n s k =
+    let q = both-true (leb 128 n) (ltb n (128 + length (drivesOf b))) k in
     let low : 128 ≤ n = leb-true 128 n (q .0) in
     let high : n < 128 + length (drivesOf b) = ltb-true n (128 + length (drivesOf b)) (q .1) in
-    let i : n - 128 < b .count = omega (arith, length-take (b .count) (b .drives)) in
-    let t = refusal-taken (firstDrives (b .drives) (n - 128)) (driveAt b n) store (soundTo-at (b .count) (b .drives) store (n - 128) i (p .0)) in
-    (t .0, leb-true (driveAt b n .first + driveAt b n .blocks) store (t .1))
+    good-obeys b store (n - 128) s (omega (arith, length-take (b .count) (b .drives)))
 
 -- ---- the tests of the code, one by one
 

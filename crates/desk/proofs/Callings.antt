@@ -39,7 +39,7 @@ use Rattle.desk.specs.declared.WithdrawAnswer.the-variants.{Given as Wit
 use Rattle.desk.specs.Parts.{windowSize, stageIn, stageAt, withStage, isWaiting, next}
 use Rattle.desk.specs.Acceptable.{InRange, accept}
 use Rattle.desk.specs.Calls.{isLent, Done, done, still, writtenOf, writtenOut, postChecked, postRow, postOf, seek, quota, serve, serveStage, turnNext, turnOf, collectStage, collectOf, withdrawnWindow, withdrawStage, withdrawOf}
-use Rattle.desk.proofs.Acceptances.{Accepted, accept-true, rowsOk-at, Waits, waits-facts, drive-sound}
+use Rattle.desk.proofs.Acceptances.{Accepted, accept-true, rowsOk-at, Waits, waits-facts, drive-obeys}
 
 -- ---- stages that a `let .. else` leaves
 
@@ -222,5 +222,5 @@ in-range d arena store g q a l b e fa fs =
     let la = lent-arena d arena store l in
     let ls = lent-store d arena store l in
     let w = waiting-facts d g q a b e in
-    let s = drive-sound (d .table) (d .store / 512) (q .job .drive) (A .sound) (w .drive) in
-    record { guest = b; drive = w .drive; moved = w .moved; buffer = rw la (w .buffer); blocks = omega (arith, s .1, w .range, ls); arena = fa; store = fs }
+    let s = drive-obeys (d .table) (d .store / 512) (q .job .drive) (A .sound) (w .job .drive) in
+    record { guest = b; drive = w .job .drive; moved = w .moved; buffer = rw la (w .job .buffer); blocks = omega (arith, s .inside, w .job .range, ls); arena = fa; store = fs }

@@ -2,3 +2,4 @@ pub mod Searches
 pub mod Acceptances
 pub mod Callings
 pub mod Transfers
+pub mod Vectors

@@ -1,3 +1,4 @@
 pub mod Parts
 pub mod Acceptable
 pub mod Calls
+pub mod Numbers

@@ -12,10 +12,11 @@ use Rattle.logic.specs.Logic.{pick, both}
 use Rattle.logic.proofs.Logic.{both-true, leb-iff}
 use lib.ListN.{length, getD, set, take, drop, replicate, length-append, length-drop}
 use lib.Seq.{sets, take-at, drop-at, drop-drop, take-all, take-add, drop-cons, length-take-le}
+use Rattle.chs.specs.Chs.{inLimits, size}
 use Rattle.words.specs.Words.{Bytes, le, leBytes, part}
 use Rattle.words.proofs.Words.{sets-append, sets-whole, length-leBytes, read-write, write-read, same-bytes, le-lt}
 use Rattle.drive.specs.declared.Drive.{Drive}
-use Rattle.drive.specs.Drive.{driveOf, recordOf, geometryBytes, sizeBytes, nameBytes, Fits, Holds, same, inStore, overlap}
+use Rattle.drive.specs.Drive.{driveOf, recordOf, geometryBytes, sizeBytes, nameBytes, Fits, Holds, same, busOk, interfaceOk, geometryOf, geometryFits, fieldsOk, inStore, overlap}
 
 -- ---- what the code stores
 
@@ -130,11 +131,28 @@ drive-record d f = λ i. record {
   device = at₂₀ (d .bus) (d .interface) (d .path) (d .device) (f .bus) (f .interface) (f .path) (f .device) i;
 }
 
+pub arrays-drive : (r : List ℕ) → length r ≡ 68 → Arrays (driveOf r)
+unfolding driveOf
+arrays-drive r l =
+    let n : (k at : ℕ) → at + k ≤ 68 → length (part k r at) ≡ k = λ k at h. length-take-le k (drop at r) (simp length-drop (omega arith)) in
+    record { bus = n 4 40 (omega arith); interface = n 8 44 (omega arith); path = n 8 52 (omega arith); device = n 8 60 (omega arith) }
+
+-- C x H x S of good fields is at most the blocks
+pub geometry-inside : (d : Drive) → fieldsOk d ≡ true → size (geometryOf d) ≤ d .blocks
+unfolding fieldsOk geometryFits
+geometry-inside d h =
+    let names : Bool = both (busOk (d .bus)) (interfaceOk (d .interface)) in
+    let fits : Bool = both (inLimits (geometryOf d)) (leb (size (geometryOf d)) (d .blocks)) in
+    let p = both-true (leb 1 (d .blocks)) (both (ltb (d .flags) 128) (both fits (both (leb (d .protection) 1) names))) h in
+    let q = both-true (ltb (d .flags) 128) (both fits (both (leb (d .protection) 1) names)) (p .1) in
+    let r = both-true fits (both (leb (d .protection) 1) names) (q .1) in
+    leb-true (size (geometryOf d)) (d .blocks) (both-true (inLimits (geometryOf d)) (leb (size (geometryOf d)) (d .blocks)) (r .0) .1)
+
 -- the drive of a record fits its fields
 pub fits-drive : (r : List ℕ) → Bytes r → length r ≡ 68 → Fits (driveOf r)
 unfolding driveOf
 fits-drive r b l =
-    let n : (k at : ℕ) → at + k ≤ 68 → length (part k r at) ≡ k = λ k at h. length-take-le k (drop at r) (simp length-drop (omega arith)) in
+    let a = arrays-drive r l in
     record {
       cylinders = le-lt 4 r 4 b;
       heads = le-lt 4 r 8 b;
@@ -144,10 +162,10 @@ fits-drive r b l =
       flags = le-lt 2 r 32 b;
       c = le-lt 2 r 34 b;
       h = le-lt 2 r 36 b;
-      bus = n 4 40 (omega arith);
-      interface = n 8 44 (omega arith);
-      path = n 8 52 (omega arith);
-      device = n 8 60 (omega arith);
+      bus = a .bus;
+      interface = a .interface;
+      path = a .path;
+      device = a .device;
     }
 
 -- ---- names

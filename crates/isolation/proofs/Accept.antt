@@ -10,7 +10,7 @@ use lib.ListN.{length, replicate, getD-replicate, List·getD-eq-default}
 use lib.Dec.{leb, ltb, eqb}
 use borrow.Author.Tests.{leb-true, ltb-true, lt-ltb, eqb-true}
 use Rattle.logic.specs.Logic.{pick, both}
-use Rattle.logic.proofs.Logic.{both-true}
+use Rattle.logic.proofs.Logic.{both-true, both-intro, lt-or-le}
 use Rattle.chs.specs.Chs.{size}
 use Rattle.drive.specs.Drive.{geometryOf, isProtected}
 use Rattle.table.specs.declared.Table.{Table}
@@ -31,8 +31,8 @@ use Rattle.desk.specs.declared.OpenAnswer.the-variants.{Opened}
 use Rattle.desk.specs.Parts.{windowSize, storeBlocks, vacantRow, stageIn, stageAt}
 use Rattle.desk.specs.Acceptable.{isTransfer, countOk, rangeOk, packetOk, jobOk, movedOk, stageOk, rowsOk, accept}
 use Rattle.desk.specs.Calls.{openAnswer, openOf}
-use Rattle.isolation.proofs.Turn.{lt-or-le}
-use Rattle.isolation.proofs.Sound.{both-intro, Good, accepted-good}
+use Rattle.table.proofs.Sound.{Good, accepted-good}
+use Rattle.desk.proofs.Acceptances.{job-facts, rowsOk-at, Waits, waits-facts}
 use Rattle.isolation.proofs.Check.{known}
 
 -- ---- acceptable, as facts
@@ -41,13 +41,6 @@ pub record Facts (d : Desk) : Type 0 where
   pub sound : isSound (d .table) (storeBlocks d) ≡ true
   pub pointer : d .pointer < guests
   pub stages : (g : ℕ) → g < guests → stageOk (d .table) (windowSize d) (stageAt d g) ≡ true
-
-rows-facts : (n : ℕ) (rows : List Row) (b : Table) (M g : ℕ) → rowsOk n rows b M ≡ true → g < n → stageOk b M (stageIn rows g) ≡ true
-unfolding rowsOk
-rows-facts zero rows b M g e h = absurd (omega arith)
-rows-facts (suc n) rows b M g e h =
-    let p = both-true (stageOk b M (stageIn rows n)) (rowsOk n rows b M) e in
-    ⊎-elim (λ x. rows-facts n rows b M g (p .1) x) (λ x. let y : g ≡ n = omega arith in rw y (p .0)) (lt-or-le g n)
 
 rows-ok : (n : ℕ) (rows : List Row) (b : Table) (M : ℕ) → ((g : ℕ) → g < n → stageOk b M (stageIn rows g) ≡ true) → rowsOk n rows b M ≡ true
 unfolding rowsOk
@@ -62,7 +55,7 @@ accept-facts d = (there, back)
     there e =
         let p = both-true (isSound (d .table) (storeBlocks d)) (both (ltb (d .pointer) guests) (rowsOk guests (d .rows) (d .table) (windowSize d))) e in
         let q = both-true (ltb (d .pointer) guests) (rowsOk guests (d .rows) (d .table) (windowSize d)) (p .1) in
-        record { sound = p .0; pointer = ltb-true (d .pointer) guests (q .0); stages = λ g h. rows-facts guests (d .rows) (d .table) (windowSize d) g (q .1) h }
+        record { sound = p .0; pointer = ltb-true (d .pointer) guests (q .0); stages = λ g h. rowsOk-at guests (d .rows) (d .table) (windowSize d) g h (q .1) }
 
     back : Facts d → both (isSound (d .table) (storeBlocks d)) (both (ltb (d .pointer) guests) (rowsOk guests (d .rows) (d .table) (windowSize d))) ≡ true
     back f = both-intro _ _ (f .sound) (both-intro _ _ (lt-ltb _ _ (f .pointer)) (rows-ok guests (d .rows) (d .table) (windowSize d) (f .stages)))
@@ -110,52 +103,19 @@ pub record Ready (b : Table) (M S : ℕ) (q : Request) : Type 0 where
   pub whole : q .moved % 16 ≡ 0
   pub packet : packetOk (ah (q .job .registers)) (q .job .packet) M ≡ true
 
--- the tests of a job that the rest uses
-pub record JobFacts (b : Table) (M : ℕ) (j : Job) : Type 0 where
-  pub drive : isDrive b (j .drive) ≡ true
-  pub range : j .start + j .count ≤ driveAt b (j .drive) .blocks
-  pub buffer : j .buffer + blockLength * j .count ≤ M
-  pub packet : packetOk (ah (j .registers)) (j .packet) M ≡ true
-
-job-facts : (b : Table) (M : ℕ) (j : Job) → jobOk b M j ≡ true → JobFacts b M j
-unfolding jobOk
-job-facts b M j e =
-    let f : ℕ = ah (j .registers) in
-    let t₇ : Bool = not (both (isWrite f) (isProtected (driveAt b (j .drive)))) in
-    let t₆ : Bool = both (packetOk f (j .packet) M) t₇ in
-    let t₅ : Bool = both (leb (j .buffer + blockLength * j .count) M) t₆ in
-    let t₄ : Bool = both (rangeOk b f j) t₅ in
-    let t₃ : Bool = both (countOk f (j .count)) t₄ in
-    let t₂ : Bool = both (isTransfer f) t₃ in
-    let p₁ = both-true (isDrive b (j .drive)) t₂ e in
-    let p₂ = both-true (isTransfer f) t₃ (p₁ .1) in
-    let p₃ = both-true (countOk f (j .count)) t₄ (p₂ .1) in
-    let p₄ = both-true (rangeOk b f j) t₅ (p₃ .1) in
-    let p₅ = both-true (leb (j .buffer + blockLength * j .count) M) t₆ (p₄ .1) in
-    let p₆ = both-true (packetOk f (j .packet) M) t₇ (p₅ .1) in
-    let r = both-true (leb (j .start + j .count) (driveAt b (j .drive) .blocks))
-    (pick (isSectors f) (leb (j .start + j .count) (size (geometryOf (driveAt b (j .drive))))) true) (p₄ .0) in
-    record {
-      drive = p₁ .0;
-      range = leb-true (j .start + j .count) (driveAt b (j .drive) .blocks) (r .0);
-      buffer = leb-true (j .buffer + blockLength * j .count) M (p₅ .0);
-      packet = p₆ .0;
-    }
-
 pub job-ready : (b : Table) (M S : ℕ) (q : Request) → Good b (S / blockLength) → jobOk b M (q .job) ≡ true → q .moved < q .job .count → q .moved % 16 ≡ 0 → Ready b M S q
 job-ready b M S q g e m w =
     let f = job-facts b M (q .job) e in
     let k = known b (S / blockLength) (q .job .drive) g (f .drive) in
     record { buffer = f .buffer; range = omega (arith, f .range, k .taken .inside); rest = m; whole = w; packet = f .packet }
 
+pub waits : (d : Desk) (g : ℕ) (q : Request) → Inv d → stageAt d g ≡ Waiting q → Waits (d .table) (windowSize d) q
+waits d g q inv e = waits-facts (d .table) (windowSize d) q (ap (stageOk (d .table) (windowSize d)) (sym e) ∙ inv .stages g)
+
 pub ready : (d : Desk) (g : ℕ) (q : Request) → Inv d → stageAt d g ≡ Waiting q → Ready (d .table) (windowSize d) (d .store) q
 ready d g q inv e =
-    let s : both (jobOk (d .table) (windowSize d) (q .job)) (movedOk (q .moved) (q .job .count)) ≡ true
-    = ap (stageOk (d .table) (windowSize d)) (sym e) ∙ inv .stages g in
-    let p = both-true (jobOk (d .table) (windowSize d) (q .job)) (movedOk (q .moved) (q .job .count)) s in
-    let m = both-true (eqb (q .moved % 16) 0) (ltb (q .moved) (q .job .count)) (p .1) in
-    job-ready (d .table) (windowSize d) (d .store) q (inv .table) (p .0) (ltb-true (q .moved) (q .job .count) (m .1)) (eqb-true (q .moved % 16) 0 (m .0))
+    let w = waits d g q inv e in
+    job-ready (d .table) (windowSize d) (d .store) q (inv .table) (w .ok) (w .moved) (w .whole)
 
 pub waiting-job : (d : Desk) (g : ℕ) (q : Request) → Inv d → stageAt d g ≡ Waiting q → jobOk (d .table) (windowSize d) (q .job) ≡ true
-waiting-job d g q inv e =
-    both-true (jobOk (d .table) (windowSize d) (q .job)) (movedOk (q .moved) (q .job .count)) (ap (stageOk (d .table) (windowSize d)) (sym e) ∙ inv .stages g) .0
+waiting-job d g q inv e = waits d g q inv e .ok

@@ -11,7 +11,7 @@ use lib.Seq.{length-sets}
 use lib.Dec.{leb, ltb, eqb}
 use borrow.Author.Tests.{leb-true, ltb-true, ltb-false, le-leb, eqb-false, not-false}
 use Rattle.logic.specs.Logic.{both, either}
-use Rattle.logic.proofs.Logic.{both-true}
+use Rattle.logic.proofs.Logic.{both-true, pick-cases}
 use Rattle.words.specs.Words.{le, leBytes}
 use Rattle.chs.specs.declared.ToBlock.{ToBlock}
 use Rattle.chs.specs.declared.ToBlock.the-variants.{Block, Refused as NoBlock}
@@ -38,12 +38,13 @@ use Rattle.int13.specs.Answers.{ah, al, dl, isSectors, isWrite, posted}
 use Rattle.int13.specs.Steps.{Checked, isDrive, driveAt, driveOf, packetPlace, verifyOk, packetTests, packetRead, packetPlan, packetJob, carryOut, extended, seekRead, seek, sectorBuffer, sectorJob, sectorRun, sectors, parameters, extensions, resultGiven, result, check}
 use Rattle.int13.specs.Alone.{asked, namedFrom, storeBlock}
 use Rattle.desk.specs.Acceptable.{jobOk}
-use Rattle.isolation.proofs.Sound.{pick-cases, Taken, geometry-inside, Good, good-taken}
+use Rattle.table.proofs.Sound.{Obeys, Good, good-obeys}
+use Rattle.drive.proofs.Drives.{geometry-inside}
 
 -- ---- the drive that a number names
 
 pub record Known (b : Table) (store n : ℕ) : Type 0 where
-  pub taken : Taken (driveAt b n) store
+  pub taken : Obeys (driveAt b n) store
   pub arrays : Arrays (driveAt b n)
 
 pub known : (b : Table) (store n : ℕ) → Good b store → isDrive b n ≡ true → Known b store n
@@ -52,7 +53,7 @@ known b store n g e =
     let p = both-true (leb 128 n) (ltb n (128 + length (take (b .count) (b .drives)))) e in
     let l : length (take (b .count) (b .drives)) ≡ min (b .count) 8 = length-take (b .count) (b .drives) ∙ ap (min (b .count)) (g .eight) in
     let h : n - 128 < b .count = omega (arith, leb-true 128 n (p .0), ltb-true n (128 + length (take (b .count) (b .drives))) (p .1), l) in
-    record { taken = good-taken b store (n - 128) (g .sound) h; arrays = g .arrays (n - 128) h }
+    record { taken = good-obeys b store (n - 128) (g .sound) h; arrays = g .arrays (n - 128) h }
 
 -- ---- a request as the steps make it
 

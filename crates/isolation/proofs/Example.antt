@@ -42,7 +42,7 @@ use Rattle.isolation.specs.Lists.{Op, post, turn, Call, posted, turned, 
 use Rattle.isolation.specs.Words.{serves, NoneOpens, Accepted, Waits as WaitsOn, Finishes, moved, Named, Writes, Unwritten, Left}
 use Rattle.isolation.specs.Demand.{foundBy, firstBy, Same, Claim}
 use Rattle.isolation.proofs.Moves.{moves-size}
-use Rattle.isolation.proofs.Sound.{both-intro}
+use Rattle.logic.proofs.Logic.{both-intro}
 use Rattle.isolation.proofs.View.{window-length}
 use Rattle.isolation.proofs.Fate.{same-request}
 use Rattle.isolation.proofs.Theorem.{demand}

@@ -28,9 +28,9 @@ use Rattle.desk.specs.Acceptable.{jobOk, movedOk, stageOk}
 use Rattle.desk.specs.Calls.{quota, stageAfter, memoryOf, movedBy, withdrawnWindow}
 use Rattle.isolation.specs.Lists.{post, turn, collect, withdraw, Call, Out, step, run, after}
 use Rattle.isolation.specs.Words.{opens, kindOf, NoneOpens, serviceIn, ifSame}
-use Rattle.isolation.proofs.Turn.{lt-or-le, next-lt, vacant≢waiting}
+use Rattle.isolation.proofs.Turn.{next-lt, vacant≢waiting}
 use Rattle.isolation.proofs.Moves.{moves-size}
-use Rattle.isolation.proofs.Sound.{pick-cases, both-intro}
+use Rattle.logic.proofs.Logic.{pick-cases, both-intro, lt-or-le}
 use Rattle.isolation.proofs.Check.{Fresh}
 use Rattle.isolation.proofs.Accept.{Inv, Ready, ready, waiting-job}
 use Rattle.isolation.proofs.View.{Lent, Did, same, idle, answer, accepting, serving, giving, withdrawing, view, windowIn, window-length, span-lent}

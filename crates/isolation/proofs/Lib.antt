@@ -1,6 +1,5 @@
 pub mod Turn
 pub mod Moves
-pub mod Sound
 pub mod Check
 pub mod Accept
 pub mod View

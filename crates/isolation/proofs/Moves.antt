@@ -8,6 +8,7 @@ use mathlib.Core.List.{List}
 use native.Mathlib.Omega.{arith}
 use lib.ListN.{length, getD, drop}
 use lib.Seq.{ext-getD, getD-take, getD-drop}
+use Rattle.logic.proofs.Logic.{lt-or-le}
 use Rattle.logic.specs.Logic.{pick}
 use Rattle.words.specs.Words.{part}
 use Rattle.memory.specs.Blocks.{blockLength, blocks}
@@ -17,7 +18,6 @@ use Rattle.int13.specs.declared.Job.{Job}
 use Rattle.int13.specs.Answers.{ah, isWrite}
 use Rattle.int13.specs.Alone.{Memory, moves}
 use Rattle.isolation.specs.Words.{Named}
-use Rattle.isolation.proofs.Turn.{lt-or-le}
 
 abbrev pub writes : Job → Bool
 writes j = isWrite (ah (j .registers))

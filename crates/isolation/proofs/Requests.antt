@@ -6,6 +6,7 @@ use mathlib.Core.Logic.{⊎-elim}
 use mathlib.Core.List.{List, [], _∷_, _++_}
 use native.Mathlib.Omega.{arith}
 use lib.ListN.{length}
+use Rattle.logic.proofs.Logic.{lt-or-le}
 use Rattle.words.specs.Words.{part}
 use Rattle.memory.specs.Window.{guests, windowLength, windowOf}
 use Rattle.memory.specs.Blocks.{blockLength}
@@ -26,7 +27,7 @@ use Rattle.desk.specs.Acceptable.{jobOk}
 use Rattle.isolation.specs.Lists.{collect, Call, collected, step, run, after}
 use Rattle.isolation.specs.Words.{Kind, refused, plain, opens, answers, accepts, serves, idles, hands, withdraws, kindOf, NoneOpens, total, turnIn, turns, services, movedIn, moved, withdrawalIn, withdrawals, collects, Accepted, Waits, Finishes, turnsFor, Unwritten, Left}
 use Rattle.isolation.specs.Demand.{Ends, finishing as endsFinishing, withdrawing as endsWithdrawing, Same}
-use Rattle.isolation.proofs.Turn.{lt-or-le, dist-lt}
+use Rattle.isolation.proofs.Turn.{dist-lt}
 use Rattle.isolation.proofs.Moves.{Alike, part-agree, moves-size, moves-none}
 use Rattle.isolation.proofs.Accept.{Inv, Ready, ready, job-ready}
 use Rattle.isolation.proofs.View.{answer, view, windowIn, window-length}

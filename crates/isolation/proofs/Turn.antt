@@ -8,6 +8,7 @@ use mathlib.Core.List.{List}
 use native.Mathlib.Omega.{arith}
 use lib.Dec.{ltb}
 use borrow.Author.Tests.{ltb-true, ltb-false}
+use Rattle.logic.proofs.Logic.{lt-or-le}
 use Rattle.logic.specs.Logic.{pick}
 use Rattle.int13.specs.declared.Registers.{Registers}
 use Rattle.desk.specs.declared.Request.{Request}
@@ -17,13 +18,6 @@ use Rattle.desk.specs.declared.Row.{Row}
 use Rattle.desk.specs.declared.Next.the-variants.{Guest, Nobody}
 use Rattle.desk.specs.Parts.{stageIn, isWaiting, next}
 use Rattle.desk.specs.Calls.{seek}
-
-pub lt-or-le : (m n : ℕ) → (m < n) ⊎ (n ≤ m)
-lt-or-le m n = by-test (ltb m n) refl
-  where
-    by-test : (t : Bool) → ltb m n ≡ t → (m < n) ⊎ (n ≤ m)
-    by-test true e = inl (ltb-true m n e)
-    by-test false e = inr (ltb-false m n e)
 
 -- how many guests stand between the pointer and g, counting cyclically
 abbrev pub dist : ℕ → ℕ → ℕ

@@ -8,7 +8,7 @@ use native.Mathlib.Omega.{arith}
 use lib.Dec.{ltb, eqb}
 use borrow.Author.Tests.{ltb-true, eqb-true, not-true, not-false}
 use lib.ListN.{length}
-use Rattle.logic.proofs.Logic.{both-true}
+use Rattle.logic.proofs.Logic.{both-true, pick-cases, true≢false}
 use Rattle.memory.specs.Window.{guests, windowLength, spanLength, windowOf}
 use Rattle.memory.proofs.Windows.{span-in, length-window}
 use Rattle.table.specs.declared.Written.{Written}
@@ -41,7 +41,6 @@ use Rattle.desk.specs.Calls.{isLent, Done, openOf, writtenOf, writtenOut, postC
 use Rattle.isolation.specs.Lists.{Op, openTable, post, turn, collect, withdraw, write, Call, Answer, opening, posted, turned, collected, withdrawn, written, Out, openedDesk, outOf, stepOf, step}
 use Rattle.isolation.specs.Words.{Kind, refused, plain, opens, kindOf, houseNumber, turnIn, serviceIn, movedIn, withdrawalIn, collectIn, touchIn}
 use Rattle.isolation.proofs.Turn.{dist, dist-lt, Found, seek-guest, seek-nobody, vacant≢waiting, finished≢waiting}
-use Rattle.isolation.proofs.Sound.{pick-cases, true≢false}
 use Rattle.isolation.proofs.Check.{Fresh, Says, check-says}
 use Rattle.isolation.proofs.Accept.{Inv, inv-accept}
 

@@ -4,3 +4,4 @@ pub mod WriteRead
 pub mod ReadWrite
 pub mod Needed
 pub mod Vectors
+pub mod Sound

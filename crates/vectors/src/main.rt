@@ -8,12 +8,12 @@ use desk::TurnAnswer;
 use int13::Outcome;
 use int13::Registers;
 use table::Table;
-
 ghost use mathlib.Core.Path.{_≡_};
 ghost use Prim.Native.Nat.{_+_, _≤_};
 ghost use lib.ListN.{length};
 
 const OUTPUT: i32 = 1;
+
 const FIRST_DRIVE: u16 = 0x80;
 
 const STORE_BLOCKS: u64 = 4294967296;

@@ -71,14 +71,14 @@ report-moved-requires c κs =
     let lent = sym (c .before .before .before .before .before .before .before .is-lent .ensures) ∙ not-false _ (c .before .before .before .before .before .before .if2 .left) in
     let w = waiting-facts (a .t1) (a .guest) (c .before .before .stage .given .0 .0) (sym (c .before .before .before .before .before .before .before .before .before .accept .ensures) ∙ not-false _ (c .before .before .before .before .before .before .before .before .if1 .left)) (c .before .before .before .before .before .if3 .left) (c .before .before .stage .given .1) in
     let m : windowSize (a .t1) ≡ windowLength (length (now (a .arena))) = ap (λ (n : ℕ). n / 8) (sym (lent-arena (a .t1) (now (a .arena)) (now (a .store)) lent)) in
-    (c .before .before .before .before .before .if3 .left, ap (packetOk (ah (c .before .before .stage .given .0 .0 .job .registers)) (c .before .before .stage .given .0 .0 .job .packet)) (sym m) ∙ w .packet, omega (arith, w .moved, w .count))
+    (c .before .before .before .before .before .if3 .left, ap (packetOk (ah (c .before .before .stage .given .0 .0 .job .registers)) (c .before .before .stage .given .0 .0 .job .packet)) (sym m) ∙ w .job .packet, omega (arith, w .moved, w .job .count))
 
 -- src/lib.rt:577:9
 withdrawn-requires : tie.Need-withdrawn-requires
 withdrawn-requires c κs =
     let a = c .before .before .before .before .before .before .before .before .before .before .before .before .before .before .before .args in
     let w = waiting-facts (a .t1) (a .guest) (c .before .before .before .before .before .stage .given .0 .0) (sym (c .before .before .before .before .before .before .before .before .before .before .before .before .accept .ensures) ∙ not-false _ (c .before .before .before .before .before .before .before .before .before .before .before .if1 .left)) (c .before .before .before .before .before .before .before .before .if3 .left) (c .before .before .before .before .before .stage .given .1) in
-    (c .before .before .before .before .before .before .before .before .if3 .left, omega (arith, w .moved, w .count))
+    (c .before .before .before .before .before .before .before .before .if3 .left, omega (arith, w .moved, w .job .count))
 
 -- src/lib.rt:547:5
 same-length : tie.Need-same-length

@@ -3,81 +3,45 @@
 use Prim.Native.Nat.{ℕ, zero, suc, _+_, _≤_, _<_}
 use mathlib.Core.Path.{_≡_, refl, sym, ap, _∙_}
 use mathlib.Core.Logic.{⊎-elim, _≢_}
-use mathlib.Core.Bool.{Bool, true, false, not}
+use mathlib.Core.Bool.{Bool, true, false}
 use mathlib.Core.List.{List}
 use native.Mathlib.Omega.{arith}
 use native.Mathlib.Numerals.{add-one}
 use native.Mathlib.Decide.{ℕ-discrete}
-use lib.ListN.{length, getD, set, length-set, getD-replicate}
-use lib.Seq.{getD-set-same, getD-set-other}
+use lib.ListN.{length, getD, set, drop, length-drop, length-set, getD-replicate}
+use lib.Seq.{getD-set-same, getD-set-other, length-take-le}
 use lib.Dec.{leb, ltb, eqb}
 use borrow.Author.Tests.{leb-true, lt-ltb, le-leb, eqb-true, eq-eqb}
-use Rattle.logic.specs.Logic.{pick, both, either}
-use Rattle.logic.proofs.Logic.{both-true}
+use Rattle.logic.specs.Logic.{both, either}
+use Rattle.logic.proofs.Logic.{both-true, both-intro, lt-or-le}
 use Rattle.words.specs.Words.{part}
-use Rattle.memory.proofs.Sets.{length-part}
-use Rattle.chs.specs.Chs.{inLimits, size}
 use Rattle.drive.specs.declared.Drive.{Drive}
-use Rattle.drive.specs.Drive.{driveOf, geometryOf, geometryFits, busOk, interfaceOk, fieldsOk, inStore, same, isBlank, blankNumbers, blankNames}
-use Rattle.drive.proofs.Drives.{Arrays}
+use Rattle.drive.specs.Drive.{driveOf, fieldsOk, inStore, same, isBlank, blankNumbers, blankNames}
+use Rattle.drive.proofs.Drives.{Arrays, arrays-drive}
 use Rattle.table.specs.declared.Table.{Table}
 use Rattle.table.specs.declared.Stepped.{Stepped}
 use Rattle.table.specs.declared.Answer.the-variants.{Accepted}
 use Rattle.table.specs.Table.{noDrive, zeroDrive, emptyTable, overlapsAny, refusal, more, goOn, readFrom, readTable, firstDrives, soundTo, blankTo, isSound}
-use Rattle.table.proofs.Tables.{stepAt-cases, whole-at, refusal-room}
-use Rattle.isolation.proofs.Turn.{lt-or-le}
-
--- ---- a test passed, by what it picks
-
-pub pick-cases : {A : Type 0} (P : A → Type 0) (t : Bool) (x y : A) → (t ≡ true → P x) → (t ≡ false → P y) → P (pick t x y)
-pick-cases P true x y f g = f refl
-pick-cases P false x y f g = g refl
-
-pub both-intro : (a b : Bool) → a ≡ true → b ≡ true → both a b ≡ true
-both-intro a b e f = rw (e, f)
-
-pub true≢false : {A : Type 0} (t : Bool) → t ≡ true → t ≡ false → A
-true≢false t e f = let z : true ≡ false = sym e ∙ f in let y : _≡_ {A = ℕ} 0 1 = cc in absurd (omega arith)
+use Rattle.table.proofs.Tables.{stepAt-cases, whole-at, refusal-room, refusal-taken}
 
 -- ---- a drive that is taken
 
-pub record Taken (d : Drive) (store : ℕ) : Type 0 where
+pub record Obeys (d : Drive) (store : ℕ) : Type 0 where
   pub fields : fieldsOk d ≡ true
   pub inside : d .first + d .blocks ≤ store
 
-taken : (b : Table) (d : Drive) (store : ℕ) → refusal b d store ≡ 0 → Taken d store
-unfolding refusal inStore
-taken b d store h =
-    by-tests (leb 8 (b .count)) (fieldsOk d) (leb (d .first + d .blocks) store) (overlapsAny (b .count) (b .drives) d) refl refl h
-  where
-    by-tests : (a f i o : Bool) → fieldsOk d ≡ f → leb (d .first + d .blocks) store ≡ i → _≡_ {A = ℕ} (pick a 4 (pick (not f) 5 (pick (not i) 6 (pick o 7 0)))) 0 → Taken d store
-    by-tests true f i o e₁ e₂ h = absurd (omega arith)
-    by-tests false false i o e₁ e₂ h = absurd (omega arith)
-    by-tests false true false o e₁ e₂ h = absurd (omega arith)
-    by-tests false true true o e₁ e₂ h = record { fields = e₁; inside = leb-true _ _ e₂ }
-
--- C x H x S is at most the blocks
-pub geometry-inside : (d : Drive) → fieldsOk d ≡ true → size (geometryOf d) ≤ d .blocks
-unfolding fieldsOk geometryFits
-geometry-inside d h =
-    let names : Bool = both (busOk (d .bus)) (interfaceOk (d .interface)) in
-    let fits : Bool = both (inLimits (geometryOf d)) (leb (size (geometryOf d)) (d .blocks)) in
-    let p = both-true (leb 1 (d .blocks)) (both (ltb (d .flags) 128) (both fits (both (leb (d .protection) 1) names))) h in
-    let q = both-true (ltb (d .flags) 128) (both fits (both (leb (d .protection) 1) names)) (p .1) in
-    let r = both-true fits (both (leb (d .protection) 1) names) (q .1) in
-    leb-true (size (geometryOf d)) (d .blocks) (both-true (inLimits (geometryOf d)) (leb (size (geometryOf d)) (d .blocks)) (r .0) .1)
+refusal-obeys : (b : Table) (d : Drive) (store : ℕ) → refusal b d store ≡ 0 → Obeys d store
+unfolding inStore
+refusal-obeys b d store h = let t = refusal-taken b d store h in record { fields = t .0; inside = leb-true (d .first + d .blocks) store (t .1) }
 
 -- ---- a sound table
 
-sound-at : (n i : ℕ) (l : List Drive) (store : ℕ) → i < n → soundTo n l store ≡ true → Taken (getD l i noDrive) store
+sound-at : (n i : ℕ) (l : List Drive) (store : ℕ) → i < n → soundTo n l store ≡ true → Obeys (getD l i noDrive) store
 unfolding soundTo
 sound-at zero i l store h e = absurd (omega arith)
 sound-at (suc n) i l store h e =
     let p = both-true (eqb (refusal (firstDrives l n) (getD l n noDrive) store) 0) (soundTo n l store) e in
-    ⊎-elim
-    (λ x. sound-at n i l store x (p .1))
-    (λ x. let y : i ≡ n = omega arith in rw y (taken (firstDrives l n) (getD l n noDrive) store (eqb-true _ _ (p .0))))
-    (lt-or-le i n)
+    ⊎-elim (λ x. sound-at n i l store x (p .1)) (λ x. let y : i ≡ n = omega arith in rw y (refusal-obeys (firstDrives l n) (getD l n noDrive) store (eqb-true _ _ (p .0)))) (lt-or-le i n)
 
 -- what a desk's table obeys: the rules, eight places, and the lengths that the types of the names say
 pub record Good (b : Table) (store : ℕ) : Type 0 where
@@ -85,9 +49,9 @@ pub record Good (b : Table) (store : ℕ) : Type 0 where
   pub eight : length (b .drives) ≡ 8
   pub arrays : (i : ℕ) → i < b .count → Arrays (getD (b .drives) i noDrive)
 
-pub good-taken : (b : Table) (store i : ℕ) → isSound b store ≡ true → i < b .count → Taken (getD (b .drives) i noDrive) store
+pub good-obeys : (b : Table) (store i : ℕ) → isSound b store ≡ true → i < b .count → Obeys (getD (b .drives) i noDrive) store
 unfolding isSound
-good-taken b store i e h =
+good-obeys b store i e h =
     let p = both-true (leb (b .count) 8) (both (soundTo (b .count) (b .drives) store) (blankTo 8 (b .drives) (b .count))) e in
     let q = both-true (soundTo (b .count) (b .drives) store) (blankTo 8 (b .drives) (b .count)) (p .1) in
     sound-at (b .count) i (b .drives) store h (q .0)
@@ -146,17 +110,6 @@ so-more store b d s a z =
     at i h (yes x) = rw (x, getD-set-same (b .drives) (b .count) d noDrive (omega (arith, s .eight, refusal-room b d store z))) a
     at i h (no x) = rw (getD-set-other (b .drives) (b .count) i d noDrive x) (s .arrays i (omega arith))
 
-arrays-part : (t : List ℕ) (at : ℕ) → at + 68 ≤ length t → Arrays (driveOf (part 68 t at))
-unfolding driveOf
-arrays-part t at h =
-    let n : length (part 68 t at) ≡ 68 = length-part 68 t at h in
-    record {
-      bus = length-part 4 (part 68 t at) 40 (omega arith);
-      interface = length-part 8 (part 68 t at) 44 (omega arith);
-      path = length-part 8 (part 68 t at) 52 (omega arith);
-      device = length-part 8 (part 68 t at) 60 (omega arith);
-    }
-
 so-read : (k : ℕ) (t : List ℕ) (store at : ℕ) (b : Table) → So store b → readFrom k t store at b .answer ≡ Accepted → So store (readFrom k t store at b .table)
 unfolding readFrom
 so-read zero t store at b s e = let z : _≡_ {A = ℕ} 0 1 = cc in absurd (omega arith)
@@ -168,7 +121,7 @@ so-read (suc k) t store at b s e =
     (λ h z q.
     let w = whole-at t at 1 h in
     so-read k t store (at + 68) (more b (driveOf (part 68 t at)))
-    (so-more store b (driveOf (part 68 t at)) s (arrays-part t at (omega (arith, w .whole, w .header))) z) q)
+    (so-more store b (driveOf (part 68 t at)) s (arrays-drive (part 68 t at) (length-take-le 68 (drop at t) (simp length-drop (omega (arith, w .whole, w .header))))) z) q)
     e
 
 blank-all : (n : ℕ) (l : List Drive) (count : ℕ) → ((i : ℕ) → i < n → either (ltb i count) (isBlank (getD l i noDrive)) ≡ true) → blankTo n l count ≡ true

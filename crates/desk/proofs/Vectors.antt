@@ -1,0 +1,100 @@
+-- Calls at small desks, by number: the order of the house numbers, both stages that refuse a post, what a collect leaves, and the pointer.
+-- Assumes nothing.
+use mathlib.Core.Path.{_≡_, refl}
+use mathlib.Core.Bool.{Bool, true, false}
+use mathlib.Core.List.{List, [], _∷_, map}
+use Prim.Native.Nat.{ℕ, zero, suc}
+use lib.ListN.{length, replicate, set}
+use Rattle.words.specs.Words.{leBytes}
+use Rattle.drive.specs.Drive.{recordOf, isBlank, blankNumbers, blankNames, same}
+use Rattle.table.specs.declared.Table.{Table}
+use Rattle.table.specs.Table.{emptyTable, headerOf, headerAt, refusal, endStep, stepOf, stepAt, readFrom, readTable, recordsOf, bytesOf, tableOf, writeAnswer, writeOut, writtenNumbers, soundTo, blankTo, isSound}
+use Rattle.words.specs.Words.{le}
+use Rattle.int13.specs.declared.Registers.{Registers}
+use Rattle.int13.specs.Steps.{isDrive, parameters, extensions, packetPlan, seek as seekSteps, sectors, result, check}
+use Rattle.desk.specs.declared.Request.{Request}
+use Rattle.desk.specs.declared.Row.{Row}
+use Rattle.desk.specs.declared.Stage.{Stage}
+use Rattle.desk.specs.declared.Stage.the-variants.{Vacant, Waiting, Finished}
+use Rattle.desk.specs.declared.Desk.{Desk}
+use Rattle.desk.specs.declared.Next.{Next}
+use Rattle.desk.specs.declared.Next.the-variants.{Guest, Nobody}
+use Rattle.desk.specs.Parts.{vacantRow}
+use Rattle.desk.specs.Acceptable.{jobOk, rowsOk, accept}
+use Rattle.desk.specs.Calls.{openOf, writtenOf, writtenOut, postOf, seek, turnOf, collectOf, withdrawOf}
+use Rattle.desk.specs.Numbers.{openNumbers, postNumbers, turnNumbers, collectNumbers, withdrawNumbers}
+
+-- 41h of drive 80h
+abbrev registers : Registers
+registers = record { ax = 0x4107; bx = 0x55AA; cx = 3; dx = 0x80; ds = 4; si = 5; es = 6; carry = true }
+
+abbrev row : Stage → Row
+row s = record { stage = s }
+
+-- a desk with no drives, for an arena of 8 bytes and a store of none, with a stage at guest 3
+abbrev desk : Stage → ℕ → Desk
+desk s pointer = record { rows = set (replicate 8 vacantRow) 3 (row s); pointer = pointer; table = emptyTable; arena = 8; store = 0 }
+
+abbrev arena : List ℕ
+arena = replicate 8 7
+
+-- the house numbers of post, turn, collect, withdraw and write at a desk, for a guest, an arena, a store and a buffer
+abbrev houses : Desk → ℕ → List ℕ → List ℕ → List ℕ → List (List ℕ)
+houses d g a s out =
+    postNumbers (postOf d g registers a s .answer) ∷ turnNumbers (turnOf d a s .answer) ∷ collectNumbers (collectOf d g a s .answer)
+    ∷ withdrawNumbers (withdrawOf d g a s .answer) ∷ writtenNumbers (writtenOf d (length out)) ∷ []
+
+-- a bad pointer, wrong lengths, no guest and a short buffer: 25. An acceptable desk with wrong lengths (24, where they are lent; a turn's
+-- also with no row waiting), then with right ones and no guest (20), then by its row: vacant
+pub order : houses (desk Vacant 8) 8 [] arena []
+    ∷ houses (desk Vacant 0) 8 [] [] []
+    ∷ houses (desk Vacant 0) 8 arena (1 ∷ []) []
+    ∷ houses (desk Vacant 0) 8 arena [] []
+    ∷ houses (desk Vacant 0) 3 arena [] (replicate 4 0)
+    ∷ []
+    ≡ ((25 ∷ []) ∷ (25 ∷ []) ∷ (25 ∷ []) ∷ (25 ∷ []) ∷ (25 ∷ []) ∷ [])
+    ∷ ((24 ∷ []) ∷ (24 ∷ []) ∷ (20 ∷ []) ∷ (24 ∷ []) ∷ (19 ∷ []) ∷ [])
+    ∷ ((24 ∷ []) ∷ (24 ∷ []) ∷ (20 ∷ []) ∷ (24 ∷ []) ∷ (19 ∷ []) ∷ [])
+    ∷ ((20 ∷ []) ∷ (256 ∷ []) ∷ (20 ∷ []) ∷ (20 ∷ []) ∷ (19 ∷ []) ∷ [])
+    ∷ ((0 ∷ 0x0107 ∷ 0x55AA ∷ 3 ∷ 0x80 ∷ 4 ∷ 5 ∷ 6 ∷ 1 ∷ []) ∷ (256 ∷ []) ∷ (22 ∷ []) ∷ (23 ∷ []) ∷ (0 ∷ 4 ∷ []) ∷ [])
+    ∷ []
+unfolding postOf turnOf collectOf withdrawOf writtenOf postNumbers turnNumbers collectNumbers withdrawNumbers writtenNumbers writeAnswer tableOf bytesOf recordsOf leBytes accept rowsOk isSound soundTo blankTo isBlank blankNumbers blankNames same seek check isDrive parameters extensions
+order = refl
+
+-- a finished row refuses a post (21) and a withdrawal (23), and is collected once; any registers may stand in it
+abbrev finished : Desk
+finished = desk (Finished registers) 0
+
+pub finished-row : postNumbers (postOf finished 3 registers arena [] .answer)
+    ∷ withdrawNumbers (withdrawOf finished 3 arena [] .answer)
+    ∷ collectNumbers (collectOf finished 3 [] [] .answer)
+    ∷ collectNumbers (collectOf (collectOf finished 3 [] [] .desk) 3 [] [] .answer)
+    ∷ []
+    ≡ (21 ∷ []) ∷ (23 ∷ []) ∷ (0 ∷ 0x4107 ∷ 0x55AA ∷ 3 ∷ 0x80 ∷ 4 ∷ 5 ∷ 6 ∷ 1 ∷ []) ∷ (22 ∷ []) ∷ []
+unfolding postOf collectOf withdrawOf postNumbers collectNumbers withdrawNumbers accept rowsOk isSound soundTo blankTo isBlank blankNumbers blankNames same
+finished-row = refl
+
+-- a request that waits, whatever it asks
+abbrev waiting : Row
+waiting = row (Waiting (record { job = record { registers = registers; drive = 0x80; start = 0; count = 1; buffer = 0; packet = 0 }; moved = 0 }))
+
+-- the search begins at the pointer, that row included, and goes round; a finished row is passed over
+pub searches : map (seek (set (set (set (replicate 8 vacantRow) 0 waiting) 7 waiting) 3 (row (Finished registers))) 8) (7 ∷ 0 ∷ 1 ∷ 3 ∷ [])
+    ≡ Guest 7 ∷ Guest 0 ∷ Guest 7 ∷ Guest 7 ∷ []
+unfolding seek
+searches = refl
+
+-- openings: a table of no drives with the largest lengths; a table that is refused, whose place counts from its first byte
+pub openings : openNumbers (openOf (4 ∷ 0 ∷ 0 ∷ 0 ∷ []) 18446744073709551615 18446744073709551615 .answer)
+    ∷ openNumbers (openOf (4 ∷ 0 ∷ 0 ∷ 0 ∷ 0 ∷ []) 0 0 .answer)
+    ∷ openNumbers (openOf [] 0 0 .answer)
+    ∷ []
+    ≡ (0 ∷ []) ∷ (8 ∷ 4 ∷ []) ∷ (1 ∷ 0 ∷ []) ∷ []
+unfolding openOf openNumbers le headerOf headerAt endStep stepOf stepAt readFrom readTable
+openings = refl
+
+-- a table write lays four bytes and leaves the rest of the buffer; a short buffer stays
+pub writes : writtenOut (desk Vacant 0) (9 ∷ 9 ∷ 9 ∷ 9 ∷ 9 ∷ 9 ∷ []) ∷ writtenOut (desk Vacant 0) (9 ∷ 9 ∷ 9 ∷ []) ∷ writtenOut (desk Vacant 8) (9 ∷ 9 ∷ 9 ∷ 9 ∷ []) ∷ []
+    ≡ (4 ∷ 0 ∷ 0 ∷ 0 ∷ 9 ∷ 9 ∷ []) ∷ (9 ∷ 9 ∷ 9 ∷ []) ∷ (9 ∷ 9 ∷ 9 ∷ 9 ∷ []) ∷ []
+unfolding writtenOut writeOut tableOf bytesOf recordsOf leBytes accept rowsOk isSound soundTo blankTo isBlank blankNumbers blankNames same
+writes = refl
