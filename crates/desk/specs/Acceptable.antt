@@ -16,7 +16,7 @@ use Rattle.memory.specs.Blocks.{blockLength}
 use Rattle.int13.specs.declared.Job.{Job}
 use Rattle.int13.specs.Answers.{ah, isSectors, isWrite}
 use Rattle.int13.specs.Alone.{storeBlock}
-use Rattle.int13.specs.Steps.{isDrive, driveAt, mostBlocks, mostSectors}
+use Rattle.int13.specs.Steps.{isDrive, driveAt, mostBlocks, mostRun}
 use Rattle.desk.specs.declared.Request.{Request}
 use Rattle.desk.specs.declared.Stage.{Stage}
 use Rattle.desk.specs.declared.Stage.the-variants.{Vacant, Waiting, Finished}
@@ -34,7 +34,7 @@ isTransfer f = either (isSectors f) (either (eqb f 0x42) (eqb f 0x43))
 
 -- a count within its function's limit
 abbrev pub countOk : ℕ → ℕ → Bool
-countOk f n = leb n (pick (isSectors f) mostSectors mostBlocks)
+countOk f n = leb n (pick (isSectors f) mostRun mostBlocks)
 
 -- a block range inside that drive, and the geometry for 02h and 03h
 abbrev pub rangeOk : Table → ℕ → Job → Bool

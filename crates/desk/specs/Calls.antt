@@ -14,7 +14,7 @@ use Rattle.table.specs.declared.Answer.the-variants.{Accepted, Refused as Table
 use Rattle.table.specs.declared.Reading.{Reading}
 use Rattle.table.specs.declared.Written.{Written}
 use Rattle.table.specs.declared.Written.the-variants.{Bytes, Refused as WriteRefused}
-use Rattle.table.specs.Table.{readTable, writeAnswer, writeOut}
+use Rattle.table.specs.Table.{emptyTable, readTable, writeAnswer, writeOut}
 use Rattle.int13.specs.declared.Registers.{Registers}
 use Rattle.int13.specs.declared.Job.{Job}
 use Rattle.int13.specs.declared.Outcome.{Outcome}
@@ -87,6 +87,14 @@ still d x arena store = record { desk = d; answer = x; arena = arena; store = st
 abbrev pub opened : Table → ℕ → ℕ → Desk
 opened b arena store = record { rows = replicate guests vacantRow; pointer = 0; table = b; arena = arena; store = store }
 
+-- no desk to go on with: its pointer is no guest's, so that every call at it is 25
+abbrev pub closed : ℕ → ℕ → Desk
+closed arena store = record { rows = replicate guests vacantRow; pointer = guests; table = emptyTable; arena = arena; store = store }
+
+abbrev pub openDesk : Answer → Table → ℕ → ℕ → Desk
+openDesk Accepted b arena store = opened b arena store
+openDesk (TableRefused n place) b arena store = closed arena store
+
 abbrev pub openAnswer : Answer → OpenAnswer
 openAnswer Accepted = Opened
 openAnswer (TableRefused n place) = OpenRefused n place
@@ -94,7 +102,7 @@ openAnswer (TableRefused n place) = OpenRefused n place
 unfoldable pub openOf : List ℕ → ℕ → ℕ → Opening
 openOf t arena store =
     record {
-      desk = opened (readTable t (store / blockLength) .table) arena store;
+      desk = openDesk (readTable t (store / blockLength) .answer) (readTable t (store / blockLength) .table) arena store;
       answer = openAnswer (readTable t (store / blockLength) .answer);
     }
 

@@ -15,7 +15,7 @@ ghost use lib.ListN.{length};
 ghost use Rattle.logic.specs.Logic.{pick, both};
 ghost use Rattle.chs.specs.Chs.{size};
 ghost use Rattle.drive.specs.Drive.{geometryOf};
-ghost use Rattle.desk.specs.Parts.{isWaiting};
+ghost use Rattle.desk.specs.Parts.{isWaiting, withPointer};
 ghost use Rattle.desk.specs.Acceptable.{packetOk, movedOk, jobOk, stageOk, rowsOk, accept, InRange};
 ghost use mathlib.Core.List.{List, []};
 ghost use Rattle.memory.specs.Window.{windowLength, spanLength, windowOf, withWindow};
@@ -23,7 +23,7 @@ ghost use Rattle.memory.specs.Blocks.{blocks};
 ghost use Rattle.int13.specs.Answers.{ah};
 ghost use Rattle.int13.specs.Alone.{storeBlock, moves};
 ghost use Rattle.desk.specs.declared.Stage.the-variants.{Waiting};
-ghost use Rattle.desk.specs.Calls.{done, openOf, writtenOf, writtenOut, postChecked, postOf, seek, quota, stageAfter, serve, turnOf, collectOf, withdrawnWindow, withdrawStage, withdrawOf};
+ghost use Rattle.desk.specs.Calls.{done, opened, openOf, writtenOf, writtenOut, postChecked, postOf, seek, quota, stageAfter, serve, turnOf, collectOf, withdrawnWindow, withdrawStage, withdrawOf};
 
 // A request with the number of blocks that have moved.
 pub struct Request {
@@ -374,6 +374,22 @@ fn report_moved(q: Request, guest: usize, arena: &mut [u8])
     memory::put_word_in(arena, guest, m, at, q.moved as u16);
 }
 
+// A desk with all rows vacant.
+fn vacant(pointer: usize, b: Table, arena: u64, store: u64) -> Desk
+    ensures { λ d. ⌜ d ≡ withPointer (opened b arena store) pointer ⌝ }
+{
+    let row = Row {
+        stage: Stage::Vacant,
+    };
+    Desk {
+        rows: [row; 8],
+        pointer,
+        table: b,
+        arena,
+        store,
+    }
+}
+
 impl Desk {
     // Arena and store have the lengths of the opening.
     fn is_lent(self, arena: usize, store: usize) -> bool
@@ -382,32 +398,27 @@ impl Desk {
         logic::and(arena as u64 == self.arena, store as u64 == self.store)
     }
 
-    // Reads the table; a desk with all rows vacant, or the table's refusal with its place.
+    // Reads the table; a desk with all rows vacant, or the table's refusal with its place and a desk at which every call is 25.
     pub fn open(t: &[u8], arena: u64, store: u64) -> Opening
         ensures { λ r. ⌜ r ≡ openOf (now (t .entry)) arena store ⌝ }
     {
         let reading = table::read_table(t, store / BLOCK_LENGTH);
-        let b = reading.table;
-        let row = Row {
-            stage: Stage::Vacant,
-        };
-        let desk = Desk {
-            rows: [row; 8],
-            pointer: 0,
-            table: b,
-            arena,
-            store,
-        };
         let answer = reading.answer;
         match answer {
-            Answer::Accepted => Opening {
-                desk,
-                answer: OpenAnswer::Opened,
-            },
-            Answer::Refused(n, place) => Opening {
-                desk,
-                answer: OpenAnswer::Refused(n, place),
-            },
+            Answer::Accepted => {
+                let b = reading.table;
+                Opening {
+                    desk: vacant(0, b, arena, store),
+                    answer: OpenAnswer::Opened,
+                }
+            }
+            Answer::Refused(n, place) => {
+                let none = table::empty_table();
+                Opening {
+                    desk: vacant(8, none, arena, store),
+                    answer: OpenAnswer::Refused(n, place),
+                }
+            }
         }
     }
 

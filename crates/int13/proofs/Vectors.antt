@@ -13,7 +13,7 @@ use Rattle.drive.specs.Drive.{driveOf, same, busOk, interfaceOk, geometryFits, 
 use Rattle.table.specs.declared.Table.{Table}
 use Rattle.table.specs.Table.{headerOf, headerAt, overlapsAny, refusal, driveStep, endStep, stepOf, stepAt, zeroDrive, emptyTable, readFrom, readTable}
 use Rattle.layout.specs.Packet.{packetAt, readPacket}
-use Rattle.layout.specs.ResultBuffer.{returnedSize, geometryBytes, blockBytes, interfaceBytes, pathBytes, sum, wholeResult, resultBytes, resultAnswer}
+use Rattle.layout.specs.ResultBuffer.{returnedSize, parameterBytes, blockBytes, interfaceBytes, pathBytes, sum, wholeResult, resultBytes, resultAnswer}
 use Rattle.int13.specs.declared.Registers.{Registers}
 use Rattle.int13.specs.declared.Outcome.{Outcome}
 use Rattle.int13.specs.declared.Outcome.the-variants.{Answered, Waits}
@@ -686,5 +686,5 @@ pub results : map shown
     ∷ ((0x0100 ∷ 1 ∷ []) ∷ (9 ∷ 9 ∷ 9 ∷ 9 ∷ 25 ∷ 0 ∷ replicate 27 7) ∷ [])
     ∷ ((0x0100 ∷ 1 ∷ []) ∷ (9 ∷ 9 ∷ 9 ∷ 9 ∷ 26 ∷ []) ∷ [])
     ∷ []
-unfolding le leBytes inLimits isValid blockOf readPacket packetAt returnedSize geometryBytes blockBytes interfaceBytes pathBytes sum wholeResult resultBytes resultAnswer isDrive verifyOk packetTests packetPlan seek sectors parameters extensions result check
+unfolding le leBytes inLimits isValid blockOf readPacket packetAt returnedSize parameterBytes blockBytes interfaceBytes pathBytes sum wholeResult resultBytes resultAnswer isDrive verifyOk packetTests packetPlan seek sectors parameters extensions result check
 results = refl

@@ -124,8 +124,8 @@ seek b r w =
 
 -- ---- 02h, 03h
 
-abbrev pub mostSectors : ℕ
-mostSectors = 128
+abbrev pub mostRun : ℕ
+mostRun = 128
 
 -- the buffer stands at ES:BX
 abbrev pub sectorBuffer : Registers → ℕ
@@ -146,7 +146,7 @@ unfoldable pub sectors : Table → Registers → ℕ → Outcome
 sectors b r M =
     pick (not (isDrive b (dl r))) (Answered (refuse badParameter r))
     (pick (eqb (al r) 0) (Answered (refuse badParameter r))
-    (pick (ltb mostSectors (al r)) (Answered (refuse badBuffer r))
+    (pick (ltb mostRun (al r)) (Answered (refuse badBuffer r))
     (pick (both (isWrite (ah r)) (isProtected (driveOf b r))) (Answered (refuse writeProtected r))
     (sectorRun (driveOf b r) r M (blockOf (geometryOf (driveOf b r)) (addressIn (r .cx) (r .dx)))))))
 

@@ -233,7 +233,7 @@ const BLOCK_LENGTH: u64 = 512;
 // ---- 02h, 03h: read and write sectors
 
 // The most sectors of one call.
-const MOST_SECTORS: u8 = 128;
+const MOST_RUN: u8 = 128;
 
 // The buffer stands at ES:BX.
 fn sector_buffer(r: Registers) -> u64
@@ -281,7 +281,7 @@ fn sectors_02_03(b: Table, r: Registers, window: usize) -> Outcome
     if count == 0 {
         return Outcome::Answered(refuse(BAD_PARAMETER, r));
     }
-    if MOST_SECTORS < count {
+    if MOST_RUN < count {
         return Outcome::Answered(refuse(BAD_BUFFER, r));
     }
     let d = drive_at(b, n);

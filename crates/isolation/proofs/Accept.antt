@@ -1,9 +1,9 @@
 -- An acceptable desk, as facts, both ways; and what each waiting row of it has room for.
 -- Assumes nothing.
 use Prim.Native.Nat.{ℕ, zero, suc, _+_, _*_, _/_, _%_, _≤_, _<_}
-use mathlib.Core.Path.{_≡_, refl, sym, ap, _∙_}
+use mathlib.Core.Path.{_≡_, refl, sym, ap, subst, _∙_}
 use mathlib.Core.Logic.{⊎-elim, _↔_}
-use mathlib.Core.Bool.{Bool, true, not}
+use mathlib.Core.Bool.{Bool, true, false, not}
 use mathlib.Core.List.{List}
 use native.Mathlib.Omega.{arith}
 use lib.ListN.{length, replicate, getD-replicate, List·getD-eq-default}
@@ -12,11 +12,11 @@ use borrow.Author.Tests.{leb-true, ltb-true, lt-ltb, eqb-true}
 use Rattle.logic.specs.Logic.{pick, both}
 use Rattle.logic.proofs.Logic.{both-true, both-intro, lt-or-le}
 use Rattle.chs.specs.Chs.{size}
-use Rattle.drive.specs.Drive.{geometryOf, isProtected}
+use Rattle.drive.specs.Drive.{same, blankNumbers, blankNames, isBlank}
 use Rattle.table.specs.declared.Table.{Table}
 use Rattle.table.specs.declared.Answer.{Answer}
 use Rattle.table.specs.declared.Answer.the-variants.{Accepted, Refused as TableRefused}
-use Rattle.table.specs.Table.{isSound, readTable}
+use Rattle.table.specs.Table.{soundTo, blankTo, isSound, readTable}
 use Rattle.memory.specs.Window.{guests}
 use Rattle.memory.specs.Blocks.{blockLength}
 use Rattle.int13.specs.declared.Job.{Job}
@@ -30,7 +30,7 @@ use Rattle.desk.specs.declared.Desk.{Desk}
 use Rattle.desk.specs.declared.OpenAnswer.the-variants.{Opened}
 use Rattle.desk.specs.Parts.{windowSize, storeBlocks, vacantRow, stageIn, stageAt}
 use Rattle.desk.specs.Acceptable.{isTransfer, countOk, rangeOk, packetOk, jobOk, movedOk, stageOk, rowsOk, accept}
-use Rattle.desk.specs.Calls.{openAnswer, openOf}
+use Rattle.desk.specs.Calls.{opened, closed, openDesk, openAnswer, openOf}
 use Rattle.table.proofs.Sound.{Good, accepted-good}
 use Rattle.desk.proofs.Acceptances.{job-facts, rowsOk-at, Waits, waits-facts}
 use Rattle.isolation.proofs.Check.{known}
@@ -78,20 +78,35 @@ all-vacant g =
     (λ x. ap (λ (r : Row). r .stage) (List·getD-eq-default (replicate guests vacantRow) vacantRow x))
     (lt-or-le g guests)
 
+passed : (x : Answer) → openAnswer x ≡ Opened → x ≡ Accepted
+passed Accepted e = refl
+passed (TableRefused n place) e = let z : _≡_ {A = ℕ} 0 1 = cc in absurd (omega arith)
+
 -- an opening that passed gives such a desk
-pub inv-opened : (t : List ℕ) (arena store : ℕ) → openOf t arena store .answer ≡ Opened → Inv (openOf t arena store .desk)
+pub opened-desk : (t : List ℕ) (arena store : ℕ) → openOf t arena store .answer ≡ Opened → openOf t arena store .desk ≡ opened (readTable t (store / blockLength) .table) arena store
 unfolding openOf
+opened-desk t arena store e =
+    ap (λ (x : Answer). openDesk x (readTable t (store / blockLength) .table) arena store) (passed (readTable t (store / blockLength) .answer) e)
+
+-- its table was accepted
+pub opened-table : (t : List ℕ) (arena store : ℕ) → openOf t arena store .answer ≡ Opened → readTable t (store / blockLength) .answer ≡ Accepted
+unfolding openOf
+opened-table t arena store e = passed (readTable t (store / blockLength) .answer) e
+
+pub inv-opened : (t : List ℕ) (arena store : ℕ) → openOf t arena store .answer ≡ Opened → Inv (openOf t arena store .desk)
 inv-opened t arena store e =
-    record {
+    subst Inv (sym (opened-desk t arena store e))
+    (record {
       rows = refl;
-      table = accepted-good t (store / blockLength) (passed (readTable t (store / blockLength) .answer) e);
+      table = accepted-good t (store / blockLength) (opened-table t arena store e);
       pointer = omega arith;
       stages = λ g. ap (stageOk (readTable t (store / blockLength) .table) (arena / guests)) (all-vacant g);
-    }
-  where
-    passed : (x : Answer) → openAnswer x ≡ Opened → x ≡ Accepted
-    passed Accepted e = refl
-    passed (TableRefused n place) e = let z : _≡_ {A = ℕ} 0 1 = cc in absurd (omega arith)
+    })
+
+-- at a desk whose opening was refused every call is 25
+pub closed-refused : (arena store : ℕ) → accept (closed arena store) ≡ false
+unfolding accept isSound soundTo blankTo isBlank blankNumbers blankNames same rowsOk
+closed-refused arena store = refl
 
 -- ---- a waiting row
 

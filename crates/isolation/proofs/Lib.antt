@@ -13,3 +13,4 @@ pub mod Requests
 pub mod Theorem
 pub mod Sums
 pub mod Example
+pub mod Written

@@ -10,7 +10,7 @@ use Rattle.words.specs.Words.{le, leBytes}
 use Rattle.chs.specs.Chs.{inLimits, isValid, blockOf, blockNumbers}
 use Rattle.drive.specs.declared.Drive.{Drive}
 use Rattle.drive.specs.Drive.{driveOf, same, pci, ata, busOk, interfaceOk, geometryFits, fieldsOk, inStore, overlap}
-use Rattle.layout.specs.ResultBuffer.{returnedSize, geometryBytes, blockBytes, interfaceBytes, pathBytes, sum, wholeResult, resultBytes, resultAnswer, resultNumbers}
+use Rattle.layout.specs.ResultBuffer.{returnedSize, parameterBytes, blockBytes, interfaceBytes, pathBytes, sum, wholeResult, resultBytes, resultAnswer, resultNumbers}
 use Rattle.memory.specs.Window.{guests}
 use Rattle.table.specs.Table.{emptyTable, headerOf, headerAt, overlapsAny, refusal, driveStep, endStep, stepOf, stepAt, readFrom, readTable}
 use Rattle.int13.specs.Steps.{driveAt, geometryGiven}
@@ -110,5 +110,5 @@ pub sums :
     ∷ (0 ∷ 2 ∷ 16 ∷ 0 ∷ 5 ∷ 16 ∷ 0 ∷ 2 ∷ 16 ∷ 0 ∷ 5 ∷ 16 ∷ 0 ∷ 2 ∷ 8 ∷ 0 ∷ 5 ∷ 8 ∷ [])
     ∷ (0 ∷ 1 ∷ 16 ∷ 0 ∷ 2 ∷ 16 ∷ 0 ∷ 3 ∷ 16 ∷ 0 ∷ 4 ∷ 16 ∷ 0 ∷ 5 ∷ 16 ∷ 0 ∷ 6 ∷ 16 ∷ 0 ∷ 7 ∷ 16 ∷ 0 ∷ 0 ∷ 16 ∷ [])
     ∷ []
-unfolding seek stageAfter turnNumbers blockNumbers blockOf inLimits isValid le leBytes driveOf same busOk interfaceOk geometryFits fieldsOk inStore overlap headerOf headerAt overlapsAny refusal driveStep endStep stepOf stepAt readFrom readTable resultNumbers resultAnswer returnedSize resultBytes wholeResult geometryBytes blockBytes interfaceBytes pathBytes sum
+unfolding seek stageAfter turnNumbers blockNumbers blockOf inLimits isValid le leBytes driveOf same busOk interfaceOk geometryFits fieldsOk inStore overlap headerOf headerAt overlapsAny refusal driveStep endStep stepOf stepAt readFrom readTable resultNumbers resultAnswer returnedSize resultBytes wholeResult parameterBytes blockBytes interfaceBytes pathBytes sum
 sums = refl

@@ -18,7 +18,7 @@ use Rattle.desk.specs.Calls.{openOf}
 use Rattle.isolation.specs.Lists.{post, turn, collect, Call, posted, collected, step, Event, run, after}
 use Rattle.isolation.specs.Words.{refused, opens, kindOf, NoneOpens, turns, serviceIn, services, collects, Accepted, Waits, Finishes, turnsFor, Unwritten, Left}
 use Rattle.isolation.specs.Demand.{foundBy, askedBy, firstBy, Ends, Same, SameAtOnce, Claim, Demand}
-use Rattle.isolation.proofs.Accept.{Inv, inv-accept, inv-opened}
+use Rattle.isolation.proofs.Accept.{Inv, inv-accept, inv-opened, opened-desk}
 use Rattle.isolation.proofs.View.{same, answer, view}
 use Rattle.isolation.proofs.Keep.{reached, turn-spares}
 use Rattle.isolation.proofs.Bound.{opens-front, opens-rest, opens-cons, opens-upto, after-at, after-none}
@@ -43,8 +43,7 @@ module _ (t : List ℕ) (arena store : ℕ) (calls : List Call) (passed : openOf
     pub later : NoneOpens (run (step d c .desk) rest)
 
   opened-sizes : (d₀ .arena ≡ arena) × (d₀ .store ≡ store) × (d₀ .table ≡ readTable t (store / blockLength) .table)
-  unfolding openOf
-  opened-sizes = (refl, refl, refl)
+  opened-sizes = let e = opened-desk t arena store passed in (ap (λ (d : Desk). d .arena) e, ap (λ (d : Desk). d .store) e, ap (λ (d : Desk). d .table) e)
 
   at : (pre rest : List Call) (c : Call) → calls ≡ pre ++ c ∷ rest → At c (after d₀ pre) rest
   at pre rest c e =

@@ -19,7 +19,8 @@ use Rattle.drive.specs.declared.Drive.{Drive}
 use Rattle.drive.proofs.Drives.{Arrays}
 use Rattle.layout.specs.declared.ResultAnswer.the-variants.{Written, Refused}
 use Rattle.layout.specs.Packet.{badParameter}
-use Rattle.layout.specs.ResultBuffer.{leastSize, pointerSize, pathSize, returnedSize, flagsShown, blockLength, pointerOffset, pointerSegment, pathKey, pathLength, geometryBytes, blockBytes, interfaceBytes, pathBytes, summedBytes, sum, checksum, wholeResult, resultBytes, resultAnswer, written, resultOut}
+use Rattle.layout.specs.ResultBuffer.{leastSize, pointerSize, pathSize, returnedSize, flagsShown, pointerOffset, pointerSegment, pathKey, pathLength, parameterBytes, blockBytes, interfaceBytes, pathBytes, summedBytes, sum, checksum, wholeResult, resultBytes, resultAnswer, written, resultOut}
+use Rattle.memory.specs.Blocks.{blockLength}
 
 -- ---- the sum
 
@@ -45,9 +46,9 @@ sum-checksum l =
 
 -- ---- what the code stores
 
-pub geometry-stores : (s : List ℕ) (d : Drive) (n : ℕ) → sets s 0 (geometryBytes d n)
+pub geometry-stores : (s : List ℕ) (d : Drive) (n : ℕ) → sets s 0 (parameterBytes d n)
     ≡ sets (sets (sets (sets (sets s 0 (leBytes 2 n)) 2 (leBytes 2 (flagsShown d))) 4 (leBytes 4 (d .cylinders))) 8 (leBytes 4 (d .heads))) 12 (leBytes 4 (d .sectors))
-unfolding geometryBytes
+unfolding parameterBytes
 geometry-stores s d n = simp (sets-append, length-leBytes)
 
 pub block-stores : (s : List ℕ) (d : Drive) → sets s 16 (blockBytes d)
@@ -68,8 +69,8 @@ path-stores s d hp hd = simp (sets-append, hp, hd)
 
 -- ---- lengths
 
-length-geometry : (d : Drive) (n : ℕ) → length (geometryBytes d n) ≡ 16
-unfolding geometryBytes
+length-geometry : (d : Drive) (n : ℕ) → length (parameterBytes d n) ≡ 16
+unfolding parameterBytes
 length-geometry d n = simp (length-append, length-leBytes)
 
 length-blocks : (d : Drive) → length (blockBytes d) ≡ 14
@@ -98,12 +99,12 @@ length-result d n f h = length-take-le n (wholeResult d n) (omega (arith, length
 
 -- the bytes before the checksum, in place, are what it is made of
 summed-part : (d : Drive) (n : ℕ) (rest : List ℕ) → Arrays d
-    → part 35 ((geometryBytes d n ++ (blockBytes d ++ summedBytes d)) ++ rest) 30 ≡ summedBytes d
+    → part 35 ((parameterBytes d n ++ (blockBytes d ++ summedBytes d)) ++ rest) 30 ≡ summedBytes d
 summed-part d n rest f =
-    let front : length (geometryBytes d n ++ blockBytes d) ≡ 30 = simp (length-append, length-geometry, length-blocks) in
+    let front : length (parameterBytes d n ++ blockBytes d) ≡ 30 = simp (length-append, length-geometry, length-blocks) in
     let x : List ℕ = summedBytes d ++ rest in
-    let a : (geometryBytes d n ++ (blockBytes d ++ summedBytes d)) ++ rest ≡ (geometryBytes d n ++ blockBytes d) ++ x = simp append-assoc in
-    rw (a, drop-at (geometryBytes d n ++ blockBytes d) x 30 front) (take-at (summedBytes d) rest 35 (length-summed d f))
+    let a : (parameterBytes d n ++ (blockBytes d ++ summedBytes d)) ++ rest ≡ (parameterBytes d n ++ blockBytes d) ++ x = simp append-assoc in
+    rw (a, drop-at (parameterBytes d n ++ blockBytes d) x 30 front) (take-at (summedBytes d) rest 35 (length-summed d f))
 
 -- a run of stores from the start
 sets-front : (s head : List ℕ) → length head ≤ length s → sets s 0 head ≡ head ++ drop (length head) s
@@ -118,16 +119,16 @@ sets-last s head x h =
 
 -- four runs, the checksum of what they left at 30 to 64, and its store at 65
 pub whole-stores : {o₁ o₂ o₃ o₄ o₅ : List ℕ} {byte : ℕ} (s : List ℕ) (d : Drive) (n : ℕ) → Arrays d → length s ≡ 66
-    → o₁ ≡ sets s 0 (geometryBytes d n) → o₂ ≡ sets o₁ 16 (blockBytes d) → o₃ ≡ sets o₂ 30 (interfaceBytes d) → o₄ ≡ sets o₃ 48 (pathBytes d)
+    → o₁ ≡ sets s 0 (parameterBytes d n) → o₂ ≡ sets o₁ 16 (blockBytes d) → o₃ ≡ sets o₂ 30 (interfaceBytes d) → o₄ ≡ sets o₃ 48 (pathBytes d)
     → byte ≡ checksum (part 35 o₄ 30) → o₅ ≡ set o₄ 65 byte → o₅ ≡ wholeResult d n
 unfolding wholeResult
-whole-stores {o₄ = o₄} {o₅ = o₅} s d n f l e₁ e₂ e₃ e₄ eb e₅ = joined (geometryBytes d n ++ (blockBytes d ++ summedBytes d)) refl
+whole-stores {o₄ = o₄} {o₅ = o₅} s d n f l e₁ e₂ e₃ e₄ eb e₅ = joined (parameterBytes d n ++ (blockBytes d ++ summedBytes d)) refl
   where
-    joined : (head : List ℕ) → head ≡ geometryBytes d n ++ (blockBytes d ++ summedBytes d) → o₅ ≡ wholeResult d n
+    joined : (head : List ℕ) → head ≡ parameterBytes d n ++ (blockBytes d ++ summedBytes d) → o₅ ≡ wholeResult d n
     joined head e =
         let k : length head ≡ 65 = rw e (simp (length-append, length-geometry, length-blocks, length-interface d f, length-paths d f)) in
         let w : o₄ ≡ sets s 0 head = rw (e₄, e₃, e₂, e₁, e) (simp (sets-append, length-geometry, length-blocks, length-interface d f)) in
-        let q = summed-part d n (drop (length (geometryBytes d n ++ (blockBytes d ++ summedBytes d))) s) f in
+        let q = summed-part d n (drop (length (parameterBytes d n ++ (blockBytes d ++ summedBytes d))) s) f in
         let p : part 35 o₄ 30 ≡ summedBytes d = rw (w, sets-front s head (omega arith), e) q in
         let t = rw k at (sets-last s head (checksum (summedBytes d)) (omega arith)) in
         rw (e₅, eb, p, w) (t ∙ rw e (simp append-assoc))
@@ -139,10 +140,10 @@ pub path-part : (d : Drive) (n : ℕ) → Arrays d → part 36 (wholeResult d n)
 unfolding wholeResult
 path-part d n f =
     let x : List ℕ = summedBytes d ++ (checksum (summedBytes d) ∷ []) in
-    let front : length (geometryBytes d n ++ blockBytes d) ≡ 30 = simp (length-append, length-geometry, length-blocks) in
-    let a : geometryBytes d n ++ (blockBytes d ++ x) ≡ (geometryBytes d n ++ blockBytes d) ++ x = sym (append-assoc (geometryBytes d n) (blockBytes d) x) in
+    let front : length (parameterBytes d n ++ blockBytes d) ≡ 30 = simp (length-append, length-geometry, length-blocks) in
+    let a : parameterBytes d n ++ (blockBytes d ++ x) ≡ (parameterBytes d n ++ blockBytes d) ++ x = sym (append-assoc (parameterBytes d n) (blockBytes d) x) in
     let l : length x ≤ 36 = simp (length-append, length-interface d f, length-paths d f) (omega arith) in
-    rw (a, drop-at (geometryBytes d n ++ blockBytes d) x 30 front) (take-all 36 x l)
+    rw (a, drop-at (parameterBytes d n ++ blockBytes d) x 30 front) (take-all 36 x l)
 
 -- the sum of bytes 30 to 65 is zero modulo 256
 pub sum-path : (d : Drive) → Arrays d → sum (part 36 (resultBytes d 66) 30) % 256 ≡ 0
@@ -155,11 +156,11 @@ sum-path d f =
 
 -- past the size word the 26- and 30-byte results are prefixes of the 66-byte one
 pub prefix-least : (d : Drive) → drop 2 (resultBytes d 26) ≡ take 24 (drop 2 (resultBytes d 66))
-unfolding resultBytes wholeResult geometryBytes blockBytes leBytes
+unfolding resultBytes wholeResult parameterBytes blockBytes leBytes
 prefix-least d = refl
 
 pub prefix-pointer : (d : Drive) → drop 2 (resultBytes d 30) ≡ take 28 (drop 2 (resultBytes d 66))
-unfolding resultBytes wholeResult geometryBytes blockBytes leBytes
+unfolding resultBytes wholeResult parameterBytes blockBytes leBytes
 prefix-pointer d = refl
 
 -- ---- the answer

@@ -7,6 +7,7 @@ use lib.Dec.{leb, ltb}
 use Rattle.logic.specs.Logic.{pick, both}
 use Rattle.words.specs.Words.{leBytes}
 use Rattle.drive.specs.declared.Drive.{Drive}
+use Rattle.memory.specs.Blocks.{blockLength}
 use Rattle.layout.specs.Packet.{badParameter}
 use Rattle.layout.specs.declared.ResultAnswer.{ResultAnswer}
 use Rattle.layout.specs.declared.ResultAnswer.the-variants.{Written, Refused}
@@ -33,10 +34,6 @@ returnedSize asked = pick (ltb asked pointerSize) leastSize (pick (ltb asked pat
 abbrev pub flagsShown : Drive → ℕ
 flagsShown d = d .flags
 
--- bytes in a block
-abbrev pub blockLength : ℕ
-blockLength = 512
-
 -- FFFFh:FFFFh
 abbrev pub pointerOffset : ℕ
 pointerOffset = 65535
@@ -53,8 +50,8 @@ abbrev pub pathLength : ℕ
 pathLength = 36
 
 -- offsets 0, 2, 4, 8, 12: returned size, flags, physical cylinders, heads, sectors
-unfoldable pub geometryBytes : Drive → ℕ → List ℕ
-geometryBytes d n = leBytes 2 n ++ (leBytes 2 (flagsShown d) ++ (leBytes 4 (d .cylinders) ++ (leBytes 4 (d .heads) ++ leBytes 4 (d .sectors))))
+unfoldable pub parameterBytes : Drive → ℕ → List ℕ
+parameterBytes d n = leBytes 2 n ++ (leBytes 2 (flagsShown d) ++ (leBytes 4 (d .cylinders) ++ (leBytes 4 (d .heads) ++ leBytes 4 (d .sectors))))
 
 -- offsets 16, 24, 26, 28: blocks, bytes in a block, offset and segment of the pointer
 unfoldable pub blockBytes : Drive → List ℕ
@@ -83,7 +80,7 @@ summedBytes d = interfaceBytes d ++ pathBytes d
 
 -- all 66 bytes, with the returned size n
 unfoldable pub wholeResult : Drive → ℕ → List ℕ
-wholeResult d n = geometryBytes d n ++ (blockBytes d ++ (summedBytes d ++ (checksum (summedBytes d) ∷ [])))
+wholeResult d n = parameterBytes d n ++ (blockBytes d ++ (summedBytes d ++ (checksum (summedBytes d) ∷ [])))
 
 -- the returned bytes
 unfoldable pub resultBytes : Drive → ℕ → List ℕ

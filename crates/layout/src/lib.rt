@@ -6,7 +6,7 @@ ghost use Prim.Native.Nat.{_%_, _≤_};
 ghost use lib.ListN.{length};
 ghost use lib.Seq.{sets};
 ghost use Rattle.layout.specs.Packet.{linear, readPacket};
-ghost use Rattle.layout.specs.ResultBuffer.{pathSize, returnedSize, flagsShown, geometryBytes, blockBytes, interfaceBytes, pathBytes, sum, checksum, wholeResult, resultAnswer, resultOut};
+ghost use Rattle.layout.specs.ResultBuffer.{pathSize, returnedSize, flagsShown, parameterBytes, blockBytes, interfaceBytes, pathBytes, sum, checksum, wholeResult, resultAnswer, resultOut};
 
 // AH 01h.
 const BAD_PARAMETER: u8 = 1;
@@ -100,7 +100,7 @@ fn flags_shown(d: Drive) -> u16
 // The four runs of a result are written in a buffer of 66 bytes, which `result_of` makes.
 fn put_geometry(d: Drive, n: u16, out: &mut [u8])
     requires { ⌜ pathSize ≤ length (now out) ⌝ }
-    ensures { λ _. ⌜ now (out .exit) ≡ sets (now (out .entry)) 0 (geometryBytes d n) ⌝ }
+    ensures { λ _. ⌜ now (out .exit) ≡ sets (now (out .entry)) 0 (parameterBytes d n) ⌝ }
 {
     words::store16(out, 0, n);
     words::store16(out, 2, flags_shown(d));

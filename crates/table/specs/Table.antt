@@ -69,10 +69,14 @@ isKind kind = either (eqb kind endKind) (eqb kind driveKind)
 abbrev pub recordLength : ℕ → ℕ
 recordLength kind = pick (eqb kind endKind) endLength driveLength
 
+-- the length word and the kind
+abbrev pub headerLength : ℕ
+headerLength = 4
+
 -- checks 1, 3, 2, 1 of a record, from the bytes left, its length word and its kind
 unfoldable pub headerOf : ℕ → ℕ → ℕ → Header
 headerOf left size kind =
-    pick (ltb left 4) (Bad cutOff)
+    pick (ltb left headerLength) (Bad cutOff)
     (pick (not (isKind kind)) (Bad unknownKind)
     (pick (not (eqb size (recordLength kind))) (Bad wrongLength)
     (pick (ltb left (recordLength kind)) (Bad cutOff)
@@ -82,6 +86,10 @@ unfoldable pub headerAt : List ℕ → ℕ → Header
 headerAt t at = headerOf (length t - at) (le 2 t at) (le 2 t (at + 2))
 
 -- ---- a drive, among those before it: checks 4, 5, 6, 7
+
+-- "Drives: 0 to 8"
+abbrev pub mostDrives : ℕ
+mostDrives = 8
 
 -- the value of a place that holds no drive
 abbrev pub noDrive : Drive
@@ -95,7 +103,7 @@ overlapsAny (suc n) l d = either (overlap d (getD l n noDrive)) (overlapsAny n l
 -- the refusal of a drive, or 0 where it is taken
 unfoldable pub refusal : Table → Drive → ℕ → ℕ
 refusal b d store =
-    pick (leb 8 (b .count)) ninthDrive
+    pick (leb mostDrives (b .count)) ninthDrive
     (pick (not (fieldsOk d)) badField
     (pick (not (inStore d store)) pastStore
     (pick (overlapsAny (b .count) (b .drives) d) overlapping
@@ -135,7 +143,7 @@ abbrev pub zeroDrive : Drive
 zeroDrive = record { cylinders = 0; heads = 0; sectors = 0; blocks = 0; first = 0; flags = 0; c = 0; h = 0; s = 0; protection = 0; bus = replicate 4 0; interface = replicate 8 0; path = replicate 8 0; device = replicate 8 0 }
 
 abbrev pub emptyTable : Table
-emptyTable = record { drives = replicate 8 zeroDrive; count = 0 }
+emptyTable = record { drives = replicate mostDrives zeroDrive; count = 0 }
 
 abbrev pub reading : Answer → Table → Reading
 reading a b = record { answer = a; table = b }
@@ -226,4 +234,4 @@ blankTo (suc n) l count = both (either (ltb n count) (isBlank (getD l n noDrive)
 
 -- at most eight drives, each of which the reader would take, and blank places past them
 unfoldable pub isSound : Table → ℕ → Bool
-isSound b store = both (leb (b .count) 8) (both (soundTo (b .count) (b .drives) store) (blankTo 8 (b .drives) (b .count)))
+isSound b store = both (leb (b .count) mostDrives) (both (soundTo (b .count) (b .drives) store) (blankTo mostDrives (b .drives) (b .count)))

@@ -43,7 +43,7 @@ pub struct Table {
 }
 
 // What the first four bytes of a record and the bytes left say: a whole record of a kind, or its refusal.
-pub enum Header {
+enum Header {
     Whole(u16),
     Bad(u8),
 }

@@ -7,7 +7,7 @@ use Rattle.chs.specs.declared.ToBlock.the-variants.{Block, Refused}
 use Rattle.chs.specs.Chs.{blockOf, addressIn}
 use Rattle.drive.specs.Drive.{geometryOf, isProtected}
 use Rattle.int13.specs.Answers.{ah, al, dl, isWrite}
-use Rattle.int13.specs.Steps.{isDrive, driveOf, mostSectors, sectors}
+use Rattle.int13.specs.Steps.{isDrive, driveOf, mostRun, sectors}
 use Rattle.int13.proofs.Steps.{block-limits}
 use borrow.Author.Needs.{needs}
 use Rattle.int13.proofs.sectors_02_03.Statement.{statement}
@@ -36,7 +36,7 @@ known c = rw (c .before .before .dl .ensures) at (sym (c .before .is-drive .ensu
 some : (c : tie.Else2) → eqb (al (c .before .before .before .before .before .args .r)) 0 ≡ false
 some c = ne-eqb _ _ (λ e. c .if2 .left (c .before .al .ensures ∙ e))
 
-few : (c : tie.Else3) → ltb mostSectors (al (c .before .before .before .before .before .before .args .r)) ≡ false
+few : (c : tie.Else3) → ltb mostRun (al (c .before .before .before .before .before .before .args .r)) ≡ false
 few c = le-ltb _ _ (rw (c .before .before .al .ensures) at (c .if3 .left))
 
 allowed : (c : tie.Else4) → both (isWrite (ah (c .before .before .before .before .before .before .before .before .before .before .before .before .args .r))) (isProtected (driveOf (c .before .before .before .before .before .before .before .before .before .before .before .before .args .b) (c .before .before .before .before .before .before .before .before .before .before .before .before .args .r))) ≡ false
@@ -76,7 +76,7 @@ refuse-requires-3 c κs = search needs
 returns-3 : tie.Need-returns-3
 unfolding sectors
 returns-3 c =
-    let many : ltb mostSectors (al (c .before .before .before .before .before .before .before .args .r)) ≡ true = lt-ltb _ _ (rw (c .before .before .before .al .ensures) at (c .before .if3 .taken)) in
+    let many : ltb mostRun (al (c .before .before .before .before .before .before .before .args .r)) ≡ true = lt-ltb _ _ (rw (c .before .before .before .al .ensures) at (c .before .if3 .taken)) in
     rw (known (c .before .before .before .before), some (c .before .before), many, c .refuse3 .ensures)
 
 drive-at-requires : tie.Need-drive-at-requires
