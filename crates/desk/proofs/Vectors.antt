@@ -4,13 +4,18 @@ use mathlib.Core.Path.{_≡_, refl}
 use mathlib.Core.Bool.{Bool, true, false}
 use mathlib.Core.List.{List, [], _∷_, map}
 use Prim.Native.Nat.{ℕ, zero, suc}
-use lib.ListN.{length, replicate, set}
+use lib.ListN.{length, replicate, set, take}
 use Rattle.words.specs.Words.{leBytes}
-use Rattle.drive.specs.Drive.{recordOf, isBlank, blankNumbers, blankNames, same}
+use Rattle.chs.specs.Chs.{inLimits, isValid, blockOf}
+use Rattle.memory.specs.Window.{spanStart, spanLength}
+use Rattle.layout.specs.Packet.{readPacket}
+use Rattle.drive.specs.Drive.{driveOf, isBlank, blankNumbers, blankNames, same, busOk, interfaceOk, geometryFits, fieldsOk, inStore, overlap}
 use Rattle.table.specs.declared.Table.{Table}
-use Rattle.table.specs.Table.{emptyTable, headerOf, headerAt, refusal, endStep, stepOf, stepAt, readFrom, readTable, recordsOf, bytesOf, tableOf, writeAnswer, writeOut, writtenNumbers, soundTo, blankTo, isSound}
+use Rattle.table.specs.Table.{emptyTable, headerOf, headerAt, overlapsAny, refusal, driveStep, endStep, stepOf, stepAt, readFrom, readTable, recordsOf, bytesOf, tableOf, writeAnswer, writeOut, writtenNumbers, soundTo, blankTo, isSound}
 use Rattle.words.specs.Words.{le}
 use Rattle.int13.specs.declared.Registers.{Registers}
+use Rattle.int13.specs.declared.Outcome.{Outcome}
+use Rattle.int13.specs.declared.Outcome.the-variants.{Answered, Waits}
 use Rattle.int13.specs.Steps.{isDrive, parameters, extensions, packetPlan, seek as seekSteps, sectors, result, check}
 use Rattle.desk.specs.declared.Request.{Request}
 use Rattle.desk.specs.declared.Row.{Row}
@@ -21,7 +26,7 @@ use Rattle.desk.specs.declared.Next.{Next}
 use Rattle.desk.specs.declared.Next.the-variants.{Guest, Nobody}
 use Rattle.desk.specs.Parts.{vacantRow}
 use Rattle.desk.specs.Acceptable.{jobOk, rowsOk, accept}
-use Rattle.desk.specs.Calls.{openOf, writtenOf, writtenOut, postOf, seek, turnOf, collectOf, withdrawOf}
+use Rattle.desk.specs.Calls.{openOf, writtenOf, writtenOut, postRow, postOf, seek, turnOf, collectStage, collectOf, withdrawStage, withdrawOf}
 use Rattle.desk.specs.Numbers.{openNumbers, postNumbers, turnNumbers, collectNumbers, withdrawNumbers}
 
 -- 41h of drive 80h
@@ -98,3 +103,59 @@ pub writes : writtenOut (desk Vacant 0) (9 ∷ 9 ∷ 9 ∷ 9 ∷ 9 ∷ 9 ∷ [])
     ≡ (4 ∷ 0 ∷ 0 ∷ 0 ∷ 9 ∷ 9 ∷ []) ∷ (9 ∷ 9 ∷ 9 ∷ []) ∷ (9 ∷ 9 ∷ 9 ∷ 9 ∷ []) ∷ []
 unfolding writtenOut writeOut tableOf bytesOf recordsOf leBytes accept rowsOk isSound soundTo blankTo isBlank blankNumbers blankNames same
 writes = refl
+
+-- ---- a waiting row, in calls that have passed their tests; windows of 16 bytes, with the packet at place 0
+
+-- the drive's record: blocks, C, H and S 17, 1, 1 and 17
+abbrev tableBytes : List ℕ
+tableBytes =
+    68 ∷ 0 ∷ 1 ∷ 0 ∷ 2 ∷ 0 ∷ 0 ∷ 0 ∷ 16 ∷ 0 ∷ 0 ∷ 0 ∷ 63 ∷ 0 ∷ 0 ∷ 0 ∷ 17 ∷ 0 ∷ 0 ∷ 0 ∷ 0 ∷ 0 ∷ 0 ∷ 0
+    ∷ 0 ∷ 0 ∷ 0 ∷ 0 ∷ 0 ∷ 0 ∷ 0 ∷ 0
+    ∷ 2 ∷ 0 ∷ 1 ∷ 0 ∷ 1 ∷ 0 ∷ 17 ∷ 0 ∷ 80 ∷ 67 ∷ 73 ∷ 0 ∷ 65 ∷ 84 ∷ 65 ∷ 0 ∷ 0 ∷ 0 ∷ 0 ∷ 0 ∷ 0 ∷ 31 ∷ 1 ∷ 0 ∷ 0 ∷ 0 ∷ 0 ∷ 0
+    ∷ 0 ∷ 0 ∷ 0 ∷ 0 ∷ 0 ∷ 0 ∷ 0 ∷ 0
+    ∷ 4 ∷ 0 ∷ 0 ∷ 0 ∷ []
+
+-- 42h, and 02h of 17 sectors
+abbrev packetCall : Registers
+packetCall = record { ax = 0x4205; bx = 0; cx = 3; dx = 0x80; ds = 0; si = 8; es = 6; carry = false }
+
+abbrev sectorCall : Registers
+sectorCall = record { ax = 0x0211; bx = 0; cx = 1; dx = 0x80; ds = 4; si = 5; es = 0; carry = false }
+
+abbrev partly : Registers → ℕ → Stage
+partly r packet = Waiting (record { job = record { registers = r; drive = 0x80; start = 0; count = 17; buffer = 0; packet = packet }; moved = 16 })
+
+abbrev small : Desk
+small = record { rows = replicate 8 vacantRow; pointer = 0; table = emptyTable; arena = 128; store = 0 }
+
+-- a post is refused (21) and a collect (22); a withdrawal after 16 of 17 blocks gives them in AL for 02h, and leaves the window; for 42h AL
+-- stays and the packet's count word gives them, over whatever lies there. The guest is 1
+pub waiting-row : postNumbers (postRow small 1 registers (replicate 128 7) [] (partly packetCall 0) .answer)
+    ∷ collectNumbers (collectStage small 1 (partly packetCall 0) [] [] .answer)
+    ∷ withdrawNumbers (withdrawStage small 1 (partly sectorCall 0) (replicate 128 7) [] .answer)
+    ∷ take 24 (withdrawStage small 1 (partly sectorCall 0) (replicate 128 7) [] .arena)
+    ∷ withdrawNumbers (withdrawStage small 1 (partly packetCall 0) (replicate 128 7) [] .answer)
+    ∷ take 24 (withdrawStage small 1 (partly packetCall 0) (replicate 128 7) [] .arena)
+    ∷ []
+    ≡ (21 ∷ [])
+    ∷ (22 ∷ [])
+    ∷ (0 ∷ 0x8010 ∷ 0 ∷ 1 ∷ 0x80 ∷ 4 ∷ 5 ∷ 0 ∷ 1 ∷ [])
+    ∷ replicate 24 7
+    ∷ (0 ∷ 0x8005 ∷ 0 ∷ 3 ∷ 0x80 ∷ 0 ∷ 8 ∷ 6 ∷ 1 ∷ [])
+    ∷ (7 ∷ 7 ∷ 7 ∷ 7 ∷ 7 ∷ 7 ∷ 7 ∷ 7 ∷ 7 ∷ 7 ∷ 7 ∷ 7 ∷ 7 ∷ 7 ∷ 7 ∷ 7 ∷ 7 ∷ 7 ∷ 16 ∷ 0 ∷ 7 ∷ 7 ∷ 7 ∷ 7 ∷ [])
+    ∷ []
+unfolding postNumbers collectNumbers withdrawNumbers leBytes spanStart spanLength
+waiting-row = refl
+
+-- with no window 02h is 09h, 42h and 48h are 01h, and 08h and 41h still succeed
+abbrev call : ℕ → Registers
+call ax = record { ax = ax; bx = 0x55AA; cx = 1; dx = 0x80; ds = 0; si = 0; es = 0; carry = false }
+
+abbrev firstNumber : Outcome → ℕ
+firstNumber (Answered r) = r .ax
+firstNumber (Waits j) = 0xFFFF
+
+pub no-window : map (λ (ax : ℕ). firstNumber (check (readTable tableBytes 17 .table) (call ax) [] .outcome)) (0x0201 ∷ 0x4200 ∷ 0x4700 ∷ 0x4800 ∷ 0x0800 ∷ 0x4100 ∷ [])
+    ≡ 0x0900 ∷ 0x0100 ∷ 0x0100 ∷ 0x0100 ∷ 0x0000 ∷ 0x3000 ∷ []
+unfolding check sectors packetPlan seekSteps result parameters extensions isDrive blockOf isValid readPacket le leBytes inLimits driveOf same busOk interfaceOk geometryFits fieldsOk inStore overlap headerOf headerAt overlapsAny refusal driveStep endStep stepOf stepAt readFrom readTable
+no-window = refl
