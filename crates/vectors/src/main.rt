@@ -1,7 +1,9 @@
-// Runs document 01's "run by program" cases and its sums, a line for each. The functions are called on the paper's 72-byte table and a
-// window of 65,536 bytes; the turns of P9 are given at a desk with a drive of 64 blocks.
+// Runs document 01's "run by program" cases, its sums, and the sources' worked values that it keeps: the last blocks of the geometries of
+// 528 MB and 8.4 GB, and the answer of 41h. A line for each. The functions are called on the paper's 72-byte table and a window of 65,536
+// bytes; the turns of P9 and P10 are given at desks with a drive of 64 blocks.
 use chs::Address;
 use chs::Geometry;
+use chs::ToAddress;
 use chs::ToBlock;
 use desk::Desk;
 use desk::TurnAnswer;
@@ -45,6 +47,14 @@ fn table_bytes(blocks: u16, c: u8, h: u8, protection: u8) -> [u8; 72] {
     t
 }
 
+// P6: 1024/255/63 and as many blocks as it has addresses.
+fn largest_table() -> [u8; 72] {
+    let mut t = table_bytes(0x0400, 0, 255, 0);
+    t[18] = 0xFB;
+    t[35] = 0x04;
+    t
+}
+
 fn say(text: &[u8]) {
     io::write_all(OUTPUT, text);
 }
@@ -79,6 +89,14 @@ fn say_outcome(outcome: Outcome) {
             say(b"\n");
         }
     }
+}
+
+fn say_address(a: Address) {
+    io::print_decimal(OUTPUT, a.cylinder as u64);
+    say(b"/");
+    io::print_decimal(OUTPUT, a.head as u64);
+    say(b"/");
+    io::print_decimal(OUTPUT, a.sector as u64);
 }
 
 // A packet of 16 bytes whose buffer is at 0:0. Both callers have seen that it fits.
@@ -148,6 +166,41 @@ fn geometry_call(b: Table, window: &mut [u8]) {
     say(b"\n");
 }
 
+// 41h.
+fn extensions_call(b: Table, window: &mut [u8]) {
+    let asked = Registers {
+        bx: 0x55AA,
+        ..registers(0x4100, 0, FIRST_DRIVE)
+    };
+    let outcome = int13::check(b, asked, window);
+    let Outcome::Answered(r) = outcome else {
+        return;
+    };
+    say_word(b"41h: AX ", r.ax);
+    say_word(b" BX ", r.bx);
+    say_word(b" CX ", r.cx);
+    say(b"\n");
+}
+
+// The address of a block in the geometry 1024/h/63.
+fn address_case(h: u32, n: u64) {
+    let g = Geometry { c: 1024, h, s: 63 };
+    say(b"block ");
+    io::print_decimal(OUTPUT, n);
+    let a = chs::address_of(g, n);
+    match a {
+        ToAddress::At(x) => {
+            say(b" is ");
+            say_address(x);
+        }
+        ToAddress::Refused(code) => {
+            say(b" AH ");
+            io::print_hex(OUTPUT, code as u64, 2);
+        }
+    }
+    say(b"\n");
+}
+
 // The block of an address in the geometry of the sums, 1024/16/63.
 fn block_case(cylinder: u32, head: u32, sector: u32) {
     let g = Geometry {
@@ -160,11 +213,7 @@ fn block_case(cylinder: u32, head: u32, sector: u32) {
         head,
         sector,
     };
-    io::print_decimal(OUTPUT, cylinder as u64);
-    say(b"/");
-    io::print_decimal(OUTPUT, head as u64);
-    say(b"/");
-    io::print_decimal(OUTPUT, sector as u64);
+    say_address(a);
     let b = chs::block_of(g, a);
     match b {
         ToBlock::Block(n) => {
@@ -218,6 +267,13 @@ fn blocks() {
     block_case(0, 0, 0);
 }
 
+fn last_blocks() {
+    address_case(16, 1032191);
+    address_case(16, 1032192);
+    address_case(255, 16450559);
+    address_case(255, 16450560);
+}
+
 fn ranges(b: Table, window: &mut [u8]) {
     say(b"start 2047 count 1: ");
     packet_call(b, 0x4200, 2047, 1, window);
@@ -257,6 +313,7 @@ fn functions(window: &mut [u8]) {
     let b = reading.table;
     ranges(b, window);
     counts(b, window);
+    extensions_call(b, window);
     geometry_call(b, window);
     small_sizes(b, window);
     large_sizes(b, window);
@@ -269,6 +326,13 @@ fn protected(window: &mut [u8]) {
     let b = reading.table;
     say(b"protected, start 2048 count 1: ");
     packet_call(b, 0x4300, 2048, 1, window);
+}
+
+fn largest(window: &mut [u8]) {
+    let t = largest_table();
+    let reading = table::read_table(&t, STORE_BLOCKS);
+    let b = reading.table;
+    geometry_call(b, window);
 }
 
 fn two_turns(desk: Desk, arena: &mut [u8], store: &mut [u8]) -> Desk {
@@ -306,6 +370,36 @@ fn turns(arena: &mut [u8], store: &mut [u8]) {
     seven_turns(both, arena, store);
 }
 
+fn lower_wait(desk: Desk, arena: &mut [u8], store: &[u8]) -> Desk {
+    let one = wait_40(desk, 0, arena, store);
+    let two = wait_40(one, 1, arena, store);
+    let three = wait_40(two, 2, arena, store);
+    wait_40(three, 3, arena, store)
+}
+
+fn upper_wait(desk: Desk, arena: &mut [u8], store: &[u8]) -> Desk {
+    let one = wait_40(desk, 4, arena, store);
+    let two = wait_40(one, 5, arena, store);
+    let three = wait_40(two, 6, arena, store);
+    wait_40(three, 7, arena, store)
+}
+
+fn nine_turns(desk: Desk, arena: &mut [u8], store: &mut [u8]) {
+    let first = one_turn(desk, arena, store);
+    let next = four_turns(first, arena, store);
+    four_turns(next, arena, store);
+}
+
+// P10: the first turn leaves pointer 1 and all eight waiting, and eight follow.
+fn eight_guests(arena: &mut [u8], store: &mut [u8]) {
+    let t = table_bytes(64, 1, 1, 0);
+    let opening = Desk::open(&t, arena.len() as u64, store.len() as u64);
+    let desk = opening.desk;
+    let half = lower_wait(desk, arena, &store[..]);
+    let all = upper_wait(half, arena, &store[..]);
+    nine_turns(all, arena, store);
+}
+
 fn zero_arena() -> [u8; 163840]
     ensures { λ r. ⌜ 163840 ≡ length r ⌝ }
 {
@@ -321,9 +415,12 @@ fn zero_store() -> [u8; 32768]
 fn main() {
     let mut window = io::large_buffer();
     blocks();
+    last_blocks();
     protected(&mut window);
     functions(&mut window);
+    largest(&mut window);
     let mut arena = zero_arena();
     let mut store = zero_store();
     turns(&mut arena, &mut store);
+    eight_guests(&mut arena, &mut store);
 }
