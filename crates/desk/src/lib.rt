@@ -548,6 +548,16 @@ impl Desk {
         self.served(guest, q)
     }
 
+    // A turn over a desk that is lent for change.
+    pub fn turn_lent(&mut self, arena: &mut [u8], store: &mut [u8]) -> TurnAnswer
+        ensures { λ r. ⌜ done (now (self .exit)) r (now (arena .exit)) (now (store .exit)) ≡ turnOf (now (self .entry)) (now (arena .entry)) (now (store .entry)) ⌝ }
+    {
+        let d = *self;
+        let t = d.turn(arena, store);
+        *self = t.desk;
+        t.answer
+    }
+
     // Hands the finished registers out and vacates the row.
     pub fn collect(self, guest: usize) -> Collected
         ensures { λ r. ⌜ ((arena store : List ℕ) → done (r .desk) (r .answer) arena store ≡ collectOf self guest arena store) ⌝ }

@@ -231,6 +231,47 @@ pub fn step_at(t: &[u8], at: usize, b: Table, store: u64) -> Stepped
     }
 }
 
+// ---- the reader that holds its bytes
+
+// The bytes of a table and the place of its next record.
+pub struct Reader<'a> {
+    pub bytes: &'a [u8],
+    pub at: usize,
+}
+
+impl<'a> Reader<'a> {
+    // The reader at the first record.
+    pub fn new(bytes: &'a [u8]) -> Self
+        ensures { λ r. ⌜ (r .bytes ≡ bytes .entry) × (r .at ≡ 0) ⌝ }
+    {
+        Reader { bytes, at: 0 }
+    }
+
+    // The record at the reader's place.
+    pub fn step(self, b: Table, store: u64) -> Stepped
+        ensures { λ r. ⌜ r ≡ stepAt (now (self .entry .bytes)) (self .entry .at) b store ⌝ }
+    {
+        step_at(self.bytes, self.at, b, store)
+    }
+
+    // The reader, handed back at the next place.
+    pub fn moved(self, at: usize) -> Self
+        ensures { λ q. ⌜ (q .bytes ≡ self .entry .bytes) × (q .at ≡ at) ⌝ }
+    {
+        Reader {
+            bytes: self.bytes,
+            at,
+        }
+    }
+}
+
+// The record at a place, by a reader.
+pub fn record_at(t: &[u8], at: usize, b: Table, store: u64) -> Stepped
+    ensures { λ r. ⌜ r ≡ stepAt (now (t .entry)) at b store ⌝ }
+{
+    Reader::new(t).moved(at).step(b, store)
+}
+
 // ---- the whole table
 
 fn zero_drive() -> Drive
@@ -273,7 +314,7 @@ pub fn read_table(t: &[u8], store: u64) -> Reading
     let mut b = empty_table();
     let mut left: usize = 9;
     while 0 < left {
-        let r = step_at(t, at, b, store);
+        let r = record_at(t, at, b, store);
         b = r.table;
         let s = r.step;
         match s {

@@ -11,7 +11,7 @@ use Rattle.table.proofs.read_table.Tie as tie
 use Rattle.table.proofs.read_table.Reads as reads
 use Rattle.table.proofs.read_table.Lts as lts
 use Rattle.table.proofs.empty_table.Reads as empty-table-reads
-use Rattle.table.proofs.step_at.Reads as step-at-reads
+use Rattle.table.proofs.record_at.Reads as record-at-reads
 
 abbrev Inv-loop : tie.InvT-loop
 Inv-loop t store at₀ b₀ left₀ at b left = readFrom left t store at b ≡ readFrom left₀ t store at₀ b₀
@@ -28,8 +28,8 @@ loop-holds : tie.Need-loop-holds Inv-loop μ-loop
 loop-holds c = refl
 
 -- src/lib.rt:276:13
-step-at-requires : tie.Need-step-at-requires Inv-loop μ-loop
-step-at-requires c κs = search needs
+record-at-requires : tie.Need-record-at-requires Inv-loop μ-loop
+record-at-requires c κs = search needs
 
 -- src/lib.rt:280:24
 enum-known-s : tie.Need-enum-known-s Inv-loop μ-loop
@@ -45,7 +45,7 @@ unfolding readTable
 returns c =
     let l = c .before .before .before .before .before in
     let a = c .before .before .before .before .before .before .before .before .args in
-    readFrom-step (l .loop .left) (now (a .t)) (a .store) (l .loop .at) (l .loop .b) (c .before .before .before .before .loop-test .taken) (c .before .before .before .step-at .ensures) (c .enum-told .given .1)
+    readFrom-step (l .loop .left) (now (a .t)) (a .store) (l .loop .at) (l .loop .b) (c .before .before .before .before .loop-test .taken) (c .before .before .before .record-at .ensures) (c .enum-told .given .1)
     ∙ l .loop .inv ∙ ap (readFrom 9 (now (a .t)) (a .store) 0) (c .before .before .before .before .before .before .empty-table .ensures)
 
 -- src/lib.rt:289:27
@@ -58,7 +58,7 @@ unfolding readTable
 returns-2 c =
     let l = c .before .before .before .before .before .before in
     let a = c .before .before .before .before .before .before .before .before .before .args in
-    readFrom-step (l .loop .left) (now (a .t)) (a .store) (l .loop .at) (l .loop .b) (c .before .before .before .before .before .loop-test .taken) (c .before .before .before .before .step-at .ensures) (c .before .s2 .given .1)
+    readFrom-step (l .loop .left) (now (a .t)) (a .store) (l .loop .at) (l .loop .b) (c .before .before .before .before .before .loop-test .taken) (c .before .before .before .before .record-at .ensures) (c .before .s2 .given .1)
     ∙ l .loop .inv ∙ ap (readFrom 9 (now (a .t)) (a .store) 0) (c .before .before .before .before .before .before .before .empty-table .ensures)
 
 -- src/lib.rt:296:9
@@ -74,7 +74,7 @@ loop-again : tie.Need-loop-again Inv-loop μ-loop
 loop-again c =
     let l = c .before .before .before .before .before .before in
     let a = c .before .before .before .before .before .before .before .before .before .args in
-    readFrom-step (l .loop .left) (now (a .t)) (a .store) (l .loop .at) (l .loop .b) (c .before .before .before .before .before .loop-test .taken) (c .before .before .before .before .step-at .ensures) (c .before .s .given .1) ∙ l .loop .inv
+    readFrom-step (l .loop .left) (now (a .t)) (a .store) (l .loop .at) (l .loop .b) (c .before .before .before .before .before .loop-test .taken) (c .before .before .before .before .record-at .ensures) (c .before .s .given .1) ∙ l .loop .inv
 
 -- src/lib.rt:269:1
 returns-3 : tie.Need-returns-3 Inv-loop μ-loop
@@ -92,7 +92,7 @@ read-table-spec =
     μ-loop
     empty-table-requires
     loop-holds
-    step-at-requires
+    record-at-requires
     enum-known-s
     enum-told
     returns
