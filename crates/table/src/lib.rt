@@ -1,4 +1,4 @@
-// The drive table: a cursor that reads one record, the reader of a whole table, and the writer.
+// The drive table: a cursor that reads one record, a reader that holds its bytes, the whole table, and the writer.
 use drive::Drive;
 ghost use mathlib.Core.Path.{_≡_};
 ghost use Prim.Native.Nat.{_+_, _-_, _*_, _≤_, _<_, min};

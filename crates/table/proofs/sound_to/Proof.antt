@@ -18,43 +18,43 @@ Inv-loop n store drives sound₀ i₀ sound i = (i ≤ n) × (sound ≡ soundTo 
 abbrev μ-loop : tie.MeasureT-loop
 μ-loop n store drives sound₀ i₀ sound i = n - i
 
--- src/lib.rt:376:5
+-- src/lib.rt:417:5
 loop-holds : tie.Need-loop-holds Inv-loop μ-loop
 unfolding soundTo
 loop-holds c = (search needs, refl)
 
--- src/lib.rt:377:17
+-- src/lib.rt:418:17
 mul-d : tie.Need-mul-d Inv-loop μ-loop
 mul-d c = search needs
 
--- src/lib.rt:377:17
+-- src/lib.rt:418:17
 array-copy-out-d : tie.Need-array-copy-out-d Inv-loop μ-loop
 array-copy-out-d c = search needs
 
--- src/lib.rt:379:28
+-- src/lib.rt:420:28
 refusal-of-requires : tie.Need-refusal-of-requires Inv-loop μ-loop
 refusal-of-requires c κs = search needs
 
--- src/lib.rt:379:9
+-- src/lib.rt:420:9
 and-requires : tie.Need-and-requires Inv-loop μ-loop
 and-requires c κs = search needs
 
--- src/lib.rt:380:9
+-- src/lib.rt:421:9
 add-i : tie.Need-add-i Inv-loop μ-loop
 add-i c = search needs
 
--- src/lib.rt:376:5
+-- src/lib.rt:417:5
 loop-less : tie.Need-loop-less Inv-loop μ-loop
 loop-less c = search needs
 
--- src/lib.rt:376:5
+-- src/lib.rt:417:5
 loop-again : tie.Need-loop-again Inv-loop μ-loop
 loop-again c =
     let h = c .before .before .before .before in
     let a = h .before .args in
     (search needs, soundTo-more (h .loop .i) (a .t2) (a .store) (h .loop .inv .1) (c .and .ensures) (ap (λ (n : ℕ). eqb n 0) (c .before .refusal-of .ensures)))
 
--- src/lib.rt:369:1
+-- src/lib.rt:410:1
 returns : tie.Need-returns Inv-loop μ-loop
 returns c =
     let h = c .before in
