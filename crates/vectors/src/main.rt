@@ -1,6 +1,6 @@
-// Runs document 01's "run by program" cases, its sums, and the sources' worked values that it keeps: the last blocks of the geometries of
-// 528 MB and 8.4 GB, and the answer of 41h. A line for each. The functions are called on the paper's 72-byte table and a window of 65,536
-// bytes; the turns of P9 and P10 are given at desks with a drive of 64 blocks.
+// Runs document 01's "run by program" cases and its sums, and from the sources the end of the geometry of 528 MB (1024/16/63) and the answer
+// of 41h, beside the end of the largest geometry that document 01 allows. A line for each. The functions are called on the paper's 72-byte
+// table and a window of 65,536 bytes; the turns of P9 and P10 are given at desks with a drive of 64 blocks.
 use chs::Address;
 use chs::Geometry;
 use chs::ToAddress;
