@@ -14,3 +14,4 @@ pub mod Theorem
 pub mod Sums
 pub mod Example
 pub mod Written
+pub mod Fits
