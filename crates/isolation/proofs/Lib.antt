@@ -15,3 +15,4 @@ pub mod Sums
 pub mod Example
 pub mod Written
 pub mod Fits
+pub mod Blocks
