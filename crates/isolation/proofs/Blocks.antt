@@ -2,23 +2,23 @@
 -- Assumes nothing.
 use Prim.Native.Nat.{ℕ}
 use mathlib.Core.Path.{_≡_, refl, sym, ap, ap₂, subst, _∙_}
-use mathlib.Core.Bool.{true}
+use mathlib.Core.Bool.{true, false}
 use mathlib.Core.List.{List, [], _∷_, _++_, map}
 use lib.Dec.{eqb}
 use lib.ListN.{length}
-use borrow.Author.Tests.{eq-eqb, eqb-true}
+use borrow.Author.Tests.{eq-eqb, ne-eqb, eqb-true}
 use Rattle.logic.proofs.Logic.{pick-cases}
 use Rattle.memory.specs.Window.{windowLength}
 use Rattle.desk.specs.declared.Desk.{Desk}
 use Rattle.desk.specs.declared.OpenAnswer.{OpenAnswer}
 use Rattle.desk.specs.declared.OpenAnswer.the-variants.{Opened}
 use Rattle.desk.specs.Acceptable.{accept}
-use Rattle.desk.specs.Calls.{openOf}
-use Rattle.image.specs.Image.{image, blockSize, deskOf, accepted, laid, FitsDesk}
-use Rattle.isolation.specs.Lists.{Op, openTable, post, turn, collect, withdraw, write, Call, opening, Out, openedDesk, stepOf, step, run, after}
+use Rattle.desk.specs.Calls.{openOf, writtenOf, writtenOut, postOf, turnOf, collectOf, withdrawOf}
+use Rattle.image.specs.Image.{image, blockSize, isImage, deskOf, accepted, laid, FitsDesk}
+use Rattle.isolation.specs.Lists.{Op, openTable, post, turn, collect, withdraw, write, Call, opening, Out, openedDesk, stepOf, step, Event, run, after}
 use Rattle.isolation.specs.Words.{Kind, opens, kindOf, houseNumber, NoneOpens}
-use Rattle.isolation.specs.Blocks.{FitsOp, FitsCalls, OutBlock, blockAfter, outBlock, stepBlockOf, stepBlock, EventBlock, runBlock, afterBlock, NoneOpensBlock, imageOut, imageEvent, ClaimBlock, DemandBlock}
-use Rattle.isolation.proofs.Accept.{Inv, inv-accept, inv-opened}
+use Rattle.isolation.specs.Blocks.{FitsOp, FitsCalls, OutBlock, blockAfter, outBlock, left25, stepBlockOf, stepBlock, EventBlock, runBlock, afterBlock, NoneOpensBlock, imageOut, imageEvent, ClaimBlock, DemandBlock}
+use Rattle.isolation.proofs.Accept.{Inv, inv-accept, inv-opened, closed-refused}
 use Rattle.isolation.proofs.View.{Did, same, idle, answer, accepting, serving, giving, withdrawing, Quiet, refusing, writing, view}
 use Rattle.isolation.proofs.Keep.{inv-step}
 use Rattle.isolation.proofs.Bound.{opens-front}
@@ -81,6 +81,32 @@ opens-first b t a s c e =
     subst (λ (o : Op). stepBlockOf b o (c .arena) (c .store) .answer ≡ opening Opened → Opens t a s (stepBlockOf b o (c .arena) (c .store))) (sym e)
     (opens-block b t a s (c .arena) (c .store))
 
+-- ---- 25
+
+-- at a block that is not accepted, and for an opening has another size
+is-25 : (b : List ℕ) (c : Call) → accepted b ≡ false → ((t : List ℕ) (a s : ℕ) → c .op ≡ openTable t a s → length b ≡ blockSize → ⊥)
+    → stepBlock b c ≡ left25 b (c .op) (c .arena) (c .store)
+unfolding stepBlock accepted postOf turnOf collectOf withdrawOf writtenOf writtenOut
+is-25 b c e n = by-op (c .op) n
+  where
+    by-op : (o : Op) → ((t : List ℕ) (a s : ℕ) → o ≡ openTable t a s → length b ≡ blockSize → ⊥) → stepBlockOf b o (c .arena) (c .store) ≡ left25 b o (c .arena) (c .store)
+    by-op (openTable t a s) n = rw (ne-eqb (length b) blockSize (n t a s refl))
+    by-op (post g r) n = rw e
+    by-op turn n = rw e
+    by-op (collect g) n = rw e
+    by-op (withdraw g) n = rw e
+    by-op (write out) n = rw e
+
+-- every call but an opening is 25 at a block that is not accepted
+pub not-accepted : (b : List ℕ) (c : Call) → accepted b ≡ false → ((t : List ℕ) (a s : ℕ) → c .op ≡ openTable t a s → ⊥)
+    → stepBlock b c ≡ left25 b (c .op) (c .arena) (c .store)
+not-accepted b c e n = is-25 b c e (λ t a s o l. n t a s o)
+
+-- and every call at a block of another size
+pub other-size : (b : List ℕ) (c : Call) → (length b ≡ blockSize → ⊥) → stepBlock b c ≡ left25 b (c .op) (c .arena) (c .store)
+unfolding accepted deskOf isImage
+other-size b c n = is-25 b c (rw (ne-eqb (length b) blockSize n) (closed-refused 0 0)) (λ t a s o l. n l)
+
 -- ---- a list of calls
 
 -- what holds of every desk of a list
@@ -132,6 +158,11 @@ module _ (desk-image : (d : Desk) → FitsDesk d → deskOf (image d) ≡ d) (le
       let rest = subst (λ (o : OutBlock). NoneOpensBlock (runBlock (o .block) cs)) (step-same d c h here) (n .1) in
       (here, none-opens cs (step d c .desk) (held-step d c h (t .0) here) (t .1) rest)
 
+  -- and the other way
+  opens-image : (es : List Event) → NoneOpens es → NoneOpensBlock (map imageEvent es)
+  opens-image [] n = tt
+  opens-image (e ∷ es) n = (n .0, opens-image es (n .1))
+
   -- ---- the claim
 
   module _ (t : List ℕ) (arena store : ℕ) (calls : List Call) (passed : openOf t arena store .answer ≡ Opened) (held : Held (openOf t arena store .desk))
@@ -168,13 +199,24 @@ module _ (desk-image : (d : Desk) → FitsDesk d → deskOf (image d) ≡ d) (le
           demand = demand t arena store calls passed none;
         }
 
+  held-opened : (t : List ℕ) (arena store : ℕ) → FitsOp (openTable t arena store) → openOf t arena store .answer ≡ Opened → Held (openOf t arena store .desk)
+  held-opened t arena store f e = record { inv = inv-opened t arena store e; fits = fits-opened t arena store (f .0) (f .1) (f .2) e }
+
   -- DEMAND 3 on blocks of bytes
   pub demand-block : DemandBlock
   demand-block b t arena store first calls e f x fit none =
       let o = opens-first b t arena store first e x in
-      let g : FitsOp (openTable t arena store) = subst FitsOp e f in
-      let h : Held (openOf t arena store .desk)
-      = record { inv = inv-opened t arena store (o .passed); fits = fits-opened t arena store (g .0) (g .1) (g .2) (o .passed) } in
+      let h = held-opened t arena store (subst FitsOp e f) (o .passed) in
       subst (λ (y : List ℕ). ClaimBlock t (openOf t arena store .desk) (windowLength arena) y calls) (sym (o .block))
       (claim t arena store calls (o .passed) h fit
       (none-opens calls (openOf t arena store .desk) h fit (subst (λ (y : List ℕ). NoneOpensBlock (runBlock y calls)) (o .block) none)))
+
+  -- its last condition, from the same one of the desks
+  pub none-block : (b t : List ℕ) (arena store : ℕ) (first : Call) (calls : List Call) → first .op ≡ openTable t arena store → FitsOp (first .op)
+      → stepBlock b first .answer ≡ opening Opened → FitsCalls calls
+      → NoneOpens (run (openOf t arena store .desk) calls) → NoneOpensBlock (runBlock (stepBlock b first .block) calls)
+  none-block b t arena store first calls e f x fit none =
+      let o = opens-first b t arena store first e x in
+      let h = held-opened t arena store (subst FitsOp e f) (o .passed) in
+      subst NoneOpensBlock (sym (ap (λ (y : List ℕ). runBlock y calls) (o .block) ∙ run-same calls (openOf t arena store .desk) h fit none))
+      (opens-image (run (openOf t arena store .desk) calls) none)

@@ -16,3 +16,4 @@ pub mod Example
 pub mod Written
 pub mod Fits
 pub mod Blocks
+pub mod ExampleBlock

@@ -9,11 +9,16 @@ use lib.ListN.{length}
 use Rattle.logic.specs.Logic.{pick}
 use Rattle.words.specs.Words.{Bytes}
 use Rattle.memory.specs.Window.{windowLength}
+use Rattle.table.specs.declared.Written.the-variants.{Refused as WriteRefused}
 use Rattle.desk.specs.declared.Desk.{Desk}
 use Rattle.desk.specs.declared.OpenAnswer.the-variants.{Opened, Refused as OpenRefused}
+use Rattle.desk.specs.declared.PostAnswer.the-variants.{Refused as PostRefused}
+use Rattle.desk.specs.declared.TurnAnswer.the-variants.{Refused as TurnRefused}
+use Rattle.desk.specs.declared.CollectAnswer.the-variants.{Refused as CollectRefused}
+use Rattle.desk.specs.declared.WithdrawAnswer.the-variants.{Refused as WithdrawRefused}
 use Rattle.desk.specs.Calls.{notAcceptable, openOf}
 use Rattle.image.specs.Image.{image, blockSize, deskOf, accepted, laid, FitsRegisters}
-use Rattle.isolation.specs.Lists.{Op, openTable, post, turn, collect, withdraw, write, Call, Answer, opening, Out, stepOf, Event, run}
+use Rattle.isolation.specs.Lists.{Op, openTable, post, turn, collect, withdraw, write, Call, Answer, opening, posted, turned, collected, withdrawn, written, Out, stepOf, Event, run}
 use Rattle.isolation.specs.Words.{Kind, refused, plain, opens, answers, accepts, serves, idles, hands, withdraws, kindOf, houseNumber}
 use Rattle.isolation.specs.Demand.{Claim}
 
@@ -54,14 +59,22 @@ blockAfter b d (withdraws g) = laid b d
 abbrev pub outBlock : List ℕ → Out → OutBlock
 outBlock b o = record { block = blockAfter b (o .desk) (kindOf (o .answer)); answer = o .answer; arena = o .arena; store = o .store }
 
--- what a call leaves that is 25 for the block's size
-abbrev pub wrongSize : List ℕ → List ℕ → List ℕ → OutBlock
-wrongSize b arena store = record { block = b; answer = opening (OpenRefused notAcceptable 0); arena = arena; store = store }
+-- 25, which changes nothing, not even a table write's buffer; an opening's has no place in the table
+abbrev pub answer25 : Op → Answer
+answer25 (openTable t a s) = opening (OpenRefused notAcceptable 0)
+answer25 (post g r) = posted g (PostRefused notAcceptable)
+answer25 turn = turned (TurnRefused notAcceptable)
+answer25 (collect g) = collected g (CollectRefused notAcceptable)
+answer25 (withdraw g) = withdrawn g (WithdrawRefused notAcceptable)
+answer25 (write out) = written (WriteRefused notAcceptable) out
 
--- the call at the desk that the block is the image of. Of a block that is none, deskOf gives a desk at which every call is 25; an opening
--- needs no desk, and looks at the size alone
+abbrev pub left25 : List ℕ → Op → List ℕ → List ℕ → OutBlock
+left25 b o arena store = record { block = b; answer = answer25 o; arena = arena; store = store }
+
+-- the call at the desk that the block is the image of: of a block that is none, a desk at which every call is 25. An opening needs no desk,
+-- and looks at the size alone
 abbrev pub stepBlockOf : List ℕ → Op → List ℕ → List ℕ → OutBlock
-stepBlockOf b (openTable t a s) arena store = pick (eqb (length b) blockSize) (outBlock b (stepOf (deskOf b) (openTable t a s) arena store)) (wrongSize b arena store)
+stepBlockOf b (openTable t a s) arena store = pick (eqb (length b) blockSize) (outBlock b (stepOf (deskOf b) (openTable t a s) arena store)) (left25 b (openTable t a s) arena store)
 stepBlockOf b (post g r) arena store = outBlock b (stepOf (deskOf b) (post g r) arena store)
 stepBlockOf b turn arena store = outBlock b (stepOf (deskOf b) turn arena store)
 stepBlockOf b (collect g) arena store = outBlock b (stepOf (deskOf b) (collect g) arena store)
