@@ -4,6 +4,7 @@ use Prim.Native.Nat.{ℕ}
 use mathlib.Core.Path.{_≡_, refl, sym, ap, ap₂, subst, _∙_}
 use mathlib.Core.Bool.{true, false}
 use mathlib.Core.List.{List, [], _∷_, _++_, map}
+use native.Mathlib.Omega.{arith}
 use lib.Dec.{eqb}
 use lib.ListN.{length}
 use borrow.Author.Tests.{eq-eqb, ne-eqb, eqb-true}
@@ -11,13 +12,13 @@ use Rattle.logic.proofs.Logic.{pick-cases}
 use Rattle.memory.specs.Window.{windowLength}
 use Rattle.desk.specs.declared.Desk.{Desk}
 use Rattle.desk.specs.declared.OpenAnswer.{OpenAnswer}
-use Rattle.desk.specs.declared.OpenAnswer.the-variants.{Opened}
+use Rattle.desk.specs.declared.OpenAnswer.the-variants.{Opened, Refused as OpenRefused}
 use Rattle.desk.specs.Acceptable.{accept}
 use Rattle.desk.specs.Calls.{openOf, writtenOf, writtenOut, postOf, turnOf, collectOf, withdrawOf}
 use Rattle.image.specs.Image.{image, blockSize, isImage, deskOf, accepted, laid, FitsDesk}
 use Rattle.isolation.specs.Lists.{Op, openTable, post, turn, collect, withdraw, write, Call, opening, Out, openedDesk, stepOf, step, Event, run, after}
 use Rattle.isolation.specs.Words.{Kind, opens, kindOf, houseNumber, NoneOpens}
-use Rattle.isolation.specs.Blocks.{FitsOp, FitsCalls, OutBlock, blockAfter, outBlock, left25, stepBlockOf, stepBlock, EventBlock, runBlock, afterBlock, NoneOpensBlock, imageOut, imageEvent, ClaimBlock, DemandBlock}
+use Rattle.isolation.specs.Blocks.{FitsOp, FitsCalls, OutBlock, blockAfter, outBlock, numberOf, left25, stepBlockOf, stepBlock, EventBlock, runBlock, afterBlock, NoneOpensBlock, imageOut, imageEvent, ClaimBlock, DemandBlock}
 use Rattle.isolation.proofs.Accept.{Inv, inv-accept, inv-opened, closed-refused}
 use Rattle.isolation.proofs.View.{Did, same, idle, answer, accepting, serving, giving, withdrawing, Quiet, refusing, writing, view}
 use Rattle.isolation.proofs.Keep.{inv-step}
@@ -25,6 +26,7 @@ use Rattle.isolation.proofs.Bound.{opens-front}
 use Rattle.isolation.proofs.Posts.{different}
 use Rattle.isolation.proofs.Fits.{fits-opened, fits-step}
 use Rattle.isolation.proofs.Theorem.{demand}
+use Rattle.isolation.proofs.Refusals.{LowOpening, opening-low}
 
 -- ---- one call
 
@@ -107,6 +109,23 @@ pub other-size : (b : List ℕ) (c : Call) → (length b ≡ blockSize → ⊥) 
 unfolding accepted deskOf isImage
 other-size b c n = is-25 b c (rw (ne-eqb (length b) blockSize n) (closed-refused 0 0)) (λ t a s o l. n l)
 
+-- a call at a desk that is no 25 by its house number is none
+never-25 : (d : Desk) (c : Call) → (houseNumber (step d c .answer) ≡ 25 → ⊥) → numberOf (step d c .answer) ≡ 25 → ⊥
+unfolding step
+never-25 d c n x = by-op (c .op) n x
+  where
+    by-opening : (y : OpenAnswer) → LowOpening y → numberOf (opening y) ≡ 25 → ⊥
+    by-opening Opened l x = omega arith
+    by-opening (OpenRefused k place) l x = omega arith
+
+    by-op : (o : Op) → (houseNumber (stepOf d o (c .arena) (c .store) .answer) ≡ 25 → ⊥) → numberOf (stepOf d o (c .arena) (c .store) .answer) ≡ 25 → ⊥
+    by-op (openTable t a s) n x = by-opening (openOf t a s .answer) (opening-low t a s) x
+    by-op (post g r) n x = n x
+    by-op turn n x = n x
+    by-op (collect g) n x = n x
+    by-op (withdraw g) n x = n x
+    by-op (write out) n x = n x
+
 -- ---- a list of calls
 
 -- what holds of every desk of a list
@@ -183,11 +202,11 @@ module _ (desk-image : (d : Desk) → FitsDesk d → deskOf (image d) ≡ d) (le
         let a = at pre rest e in
         ap (λ (b : List ℕ). accept (deskOf b)) (a .1) ∙ ap accept (desk-image (after d₀ pre) (a .0 .fits)) ∙ inv-accept (after d₀ pre) (a .0 .inv)
 
-    never25 : (pre rest : List Call) (c : Call) → calls ≡ pre ++ c ∷ rest → houseNumber (stepBlock (afterBlock (image d₀) pre) c .answer) ≡ 25 → ⊥
+    never25 : (pre rest : List Call) (c : Call) → calls ≡ pre ++ c ∷ rest → numberOf (stepBlock (afterBlock (image d₀) pre) c .answer) ≡ 25 → ⊥
     never25 pre rest c e x =
         let a = at pre (c ∷ rest) e in
-        demand t arena store calls passed none .never25 pre rest c e
-        (sym (ap (λ (b : List ℕ). houseNumber (stepBlock b c .answer)) (a .1) ∙ ap (λ (o : OutBlock). houseNumber (o .answer)) (step-image (after d₀ pre) c (a .0 .fits))) ∙ x)
+        never-25 (after d₀ pre) c (demand t arena store calls passed none .never25 pre rest c e)
+        (sym (ap (λ (b : List ℕ). numberOf (stepBlock b c .answer)) (a .1) ∙ ap (λ (o : OutBlock). numberOf (o .answer)) (step-image (after d₀ pre) c (a .0 .fits))) ∙ x)
 
     claim : ClaimBlock t d₀ (windowLength arena) (image d₀) calls
     claim =

@@ -15,5 +15,6 @@ pub mod Sums
 pub mod Example
 pub mod Written
 pub mod Fits
+pub mod Refusals
 pub mod Blocks
 pub mod ExampleBlock

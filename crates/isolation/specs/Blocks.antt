@@ -1,4 +1,4 @@
--- Demand 3 at a desk block: a call at a block of bytes, a list of calls, and the demand over them. "A desk block of another size is 25."
+-- Demand 3 at a desk block: a call at a block of bytes, a list of calls, and the demand over them.
 -- Assumes nothing.
 use Prim.Native.Nat.{ℕ, _^_, _<_}
 use mathlib.Core.Path.{_≡_}
@@ -68,6 +68,16 @@ answer25 (collect g) = collected g (CollectRefused notAcceptable)
 answer25 (withdraw g) = withdrawn g (WithdrawRefused notAcceptable)
 answer25 (write out) = written (WriteRefused notAcceptable) out
 
+-- the number of a refusal, else 0; a refused opening's is a table's number, or 25
+abbrev pub numberOf : Answer → ℕ
+numberOf (opening Opened) = 0
+numberOf (opening (OpenRefused n place)) = n
+numberOf (posted g x) = houseNumber (posted g x)
+numberOf (turned x) = houseNumber (turned x)
+numberOf (collected g x) = houseNumber (collected g x)
+numberOf (withdrawn g x) = houseNumber (withdrawn g x)
+numberOf (written x out) = houseNumber (written x out)
+
 abbrev pub left25 : List ℕ → Op → List ℕ → List ℕ → OutBlock
 left25 b o arena store = record { block = b; answer = answer25 o; arena = arena; store = store }
 
@@ -123,10 +133,10 @@ pub record ClaimBlock (t : List ℕ) (d₀ : Desk) (m : ℕ) (b₀ : List ℕ) (
   -- the calls at the block are those at the desk, one by one: the block is its image, answer, arena and store are the same
   pub begins : b₀ ≡ image d₀
   pub same : runBlock b₀ calls ≡ map imageEvent (run d₀ calls)
-  -- every call gets a block that is accepted and leaves one: none is answered 25
+  -- every call gets a block that is accepted and leaves one: none is answered 25, openings included
   pub acceptable : (pre rest : List Call) → calls ≡ pre ++ rest → accepted (afterBlock b₀ pre) ≡ true
   pub never25 : (pre rest : List Call) (c : Call) → calls ≡ pre ++ c ∷ rest
-      → houseNumber (stepBlock (afterBlock b₀ pre) c .answer) ≡ notAcceptable → ⊥
+      → numberOf (stepBlock (afterBlock b₀ pre) c .answer) ≡ notAcceptable → ⊥
   -- and demand 3 holds of them
   pub demand : Claim t d₀ m calls
 
