@@ -14,12 +14,14 @@ use Rattle.desk.specs.declared.Desk.{Desk}
 use Rattle.desk.specs.declared.OpenAnswer.{OpenAnswer}
 use Rattle.desk.specs.declared.OpenAnswer.the-variants.{Opened, Refused as OpenRefused}
 use Rattle.desk.specs.Acceptable.{accept}
+use Rattle.desk.proofs.Acceptances.{closed-refused}
 use Rattle.desk.specs.Calls.{openOf, writtenOf, writtenOut, postOf, turnOf, collectOf, withdrawOf}
 use Rattle.image.specs.Image.{image, blockSize, isImage, deskOf, accepted, laid, FitsDesk}
+use Rattle.image.proofs.Laws.{length-image, desk-image}
 use Rattle.isolation.specs.Lists.{Op, openTable, post, turn, collect, withdraw, write, Call, opening, Out, openedDesk, stepOf, step, Event, run, after}
 use Rattle.isolation.specs.Words.{Kind, opens, kindOf, houseNumber, NoneOpens}
 use Rattle.isolation.specs.Blocks.{FitsOp, FitsCalls, OutBlock, blockAfter, outBlock, numberOf, left25, stepBlockOf, stepBlock, EventBlock, runBlock, afterBlock, NoneOpensBlock, imageOut, imageEvent, ClaimBlock, DemandBlock}
-use Rattle.isolation.proofs.Accept.{Inv, inv-accept, inv-opened, closed-refused}
+use Rattle.isolation.proofs.Accept.{Inv, inv-accept, inv-opened}
 use Rattle.isolation.proofs.View.{Did, same, idle, answer, accepting, serving, giving, withdrawing, Quiet, refusing, writing, view}
 use Rattle.isolation.proofs.Keep.{inv-step}
 use Rattle.isolation.proofs.Bound.{opens-front}
@@ -145,97 +147,96 @@ fits-front : (cs ds : List Call) → FitsCalls (cs ++ ds) → FitsCalls cs
 fits-front [] ds t = tt
 fits-front (c ∷ cs) ds t = (t .0, fits-front cs ds (t .1))
 
-module _ (desk-image : (d : Desk) → FitsDesk d → deskOf (image d) ≡ d) (length-image : (d : Desk) → FitsDesk d → length (image d) ≡ blockSize) where
-  step-image : (d : Desk) (c : Call) → FitsDesk d → stepBlock (image d) c ≡ outBlock (image d) (step d c)
-  step-image d c f = step-at (image d) d c (length-image d f) (desk-image d f)
+step-image : (d : Desk) (c : Call) → FitsDesk d → stepBlock (image d) c ≡ outBlock (image d) (step d c)
+step-image d c f = step-at (image d) d c (length-image d f) (desk-image d f)
 
-  step-same : (d : Desk) (c : Call) → Held d → (kindOf (step d c .answer) ≡ opens → ⊥) → stepBlock (image d) c ≡ imageOut (step d c)
-  step-same d c h n =
-      step-image d c (h .fits)
-      ∙ ap (λ (b : List ℕ). record { block = b; answer = step d c .answer; arena = step d c .arena; store = step d c .store })
-      (block-did d c (step d c) (length-image d (h .fits)) (view d (h .inv) c n))
+step-same : (d : Desk) (c : Call) → Held d → (kindOf (step d c .answer) ≡ opens → ⊥) → stepBlock (image d) c ≡ imageOut (step d c)
+step-same d c h n =
+    step-image d c (h .fits)
+    ∙ ap (λ (b : List ℕ). record { block = b; answer = step d c .answer; arena = step d c .arena; store = step d c .store })
+    (block-did d c (step d c) (length-image d (h .fits)) (view d (h .inv) c n))
 
-  run-same : (cs : List Call) (d : Desk) → Held d → FitsCalls cs → NoneOpens (run d cs) → runBlock (image d) cs ≡ map imageEvent (run d cs)
-  unfolding run runBlock
-  run-same [] d h t n = refl
-  run-same (c ∷ cs) d h t n =
-      ap₂ (λ (o : OutBlock) (es : List EventBlock). record { block = image d; call = c; out = o } ∷ es) (step-same d c h (n .0))
-      (ap (λ (o : OutBlock). runBlock (o .block) cs) (step-same d c h (n .0)) ∙ run-same cs (step d c .desk) (held-step d c h (t .0) (n .0)) (t .1) (n .1))
+run-same : (cs : List Call) (d : Desk) → Held d → FitsCalls cs → NoneOpens (run d cs) → runBlock (image d) cs ≡ map imageEvent (run d cs)
+unfolding run runBlock
+run-same [] d h t n = refl
+run-same (c ∷ cs) d h t n =
+    ap₂ (λ (o : OutBlock) (es : List EventBlock). record { block = image d; call = c; out = o } ∷ es) (step-same d c h (n .0))
+    (ap (λ (o : OutBlock). runBlock (o .block) cs) (step-same d c h (n .0)) ∙ run-same cs (step d c .desk) (held-step d c h (t .0) (n .0)) (t .1) (n .1))
 
-  after-same : (cs : List Call) (d : Desk) → Held d → FitsCalls cs → NoneOpens (run d cs) → afterBlock (image d) cs ≡ image (after d cs)
-  unfolding run after afterBlock
-  after-same [] d h t n = refl
-  after-same (c ∷ cs) d h t n =
-      ap (λ (o : OutBlock). afterBlock (o .block) cs) (step-same d c h (n .0)) ∙ after-same cs (step d c .desk) (held-step d c h (t .0) (n .0)) (t .1) (n .1)
+after-same : (cs : List Call) (d : Desk) → Held d → FitsCalls cs → NoneOpens (run d cs) → afterBlock (image d) cs ≡ image (after d cs)
+unfolding run after afterBlock
+after-same [] d h t n = refl
+after-same (c ∷ cs) d h t n =
+    ap (λ (o : OutBlock). afterBlock (o .block) cs) (step-same d c h (n .0)) ∙ after-same cs (step d c .desk) (held-step d c h (t .0) (n .0)) (t .1) (n .1)
 
-  -- no opening passes at the desks where none does at the blocks
-  none-opens : (cs : List Call) (d : Desk) → Held d → FitsCalls cs → NoneOpensBlock (runBlock (image d) cs) → NoneOpens (run d cs)
-  unfolding run runBlock
-  none-opens [] d h t n = tt
-  none-opens (c ∷ cs) d h t n =
-      let here : kindOf (step d c .answer) ≡ opens → ⊥ = λ x. n .0 (ap (λ (o : OutBlock). kindOf (o .answer)) (step-image d c (h .fits)) ∙ x) in
-      let rest = subst (λ (o : OutBlock). NoneOpensBlock (runBlock (o .block) cs)) (step-same d c h here) (n .1) in
-      (here, none-opens cs (step d c .desk) (held-step d c h (t .0) here) (t .1) rest)
+-- no opening passes at the desks where none does at the blocks
+none-opens : (cs : List Call) (d : Desk) → Held d → FitsCalls cs → NoneOpensBlock (runBlock (image d) cs) → NoneOpens (run d cs)
+unfolding run runBlock
+none-opens [] d h t n = tt
+none-opens (c ∷ cs) d h t n =
+    let here : kindOf (step d c .answer) ≡ opens → ⊥ = λ x. n .0 (ap (λ (o : OutBlock). kindOf (o .answer)) (step-image d c (h .fits)) ∙ x) in
+    let rest = subst (λ (o : OutBlock). NoneOpensBlock (runBlock (o .block) cs)) (step-same d c h here) (n .1) in
+    (here, none-opens cs (step d c .desk) (held-step d c h (t .0) here) (t .1) rest)
 
-  -- and the other way
-  opens-image : (es : List Event) → NoneOpens es → NoneOpensBlock (map imageEvent es)
-  opens-image [] n = tt
-  opens-image (e ∷ es) n = (n .0, opens-image es (n .1))
+-- and the other way
+opens-image : (es : List Event) → NoneOpens es → NoneOpensBlock (map imageEvent es)
+opens-image [] n = tt
+opens-image (e ∷ es) n = (n .0, opens-image es (n .1))
 
-  -- ---- the claim
+-- ---- the claim
 
-  module _ (t : List ℕ) (arena store : ℕ) (calls : List Call) (passed : openOf t arena store .answer ≡ Opened) (held : Held (openOf t arena store .desk))
-      (fit : FitsCalls calls) (none : NoneOpens (run (openOf t arena store .desk) calls)) where
-    abbrev d₀ : Desk
-    d₀ = openOf t arena store .desk
+module _ (t : List ℕ) (arena store : ℕ) (calls : List Call) (passed : openOf t arena store .answer ≡ Opened) (held : Held (openOf t arena store .desk))
+    (fit : FitsCalls calls) (none : NoneOpens (run (openOf t arena store .desk) calls)) where
+  abbrev d₀ : Desk
+  d₀ = openOf t arena store .desk
 
-    -- before the calls rest
-    at : (pre rest : List Call) → calls ≡ pre ++ rest → Held (after d₀ pre) × (afterBlock (image d₀) pre ≡ image (after d₀ pre))
-    at pre rest e =
-        let n = opens-front pre rest d₀ (subst (λ (l : List Call). NoneOpens (run d₀ l)) e none) in
-        let f = fits-front pre rest (subst FitsCalls e fit) in
-        (held-after pre d₀ held f n, after-same pre d₀ held f n)
+  -- before the calls rest
+  at : (pre rest : List Call) → calls ≡ pre ++ rest → Held (after d₀ pre) × (afterBlock (image d₀) pre ≡ image (after d₀ pre))
+  at pre rest e =
+      let n = opens-front pre rest d₀ (subst (λ (l : List Call). NoneOpens (run d₀ l)) e none) in
+      let f = fits-front pre rest (subst FitsCalls e fit) in
+      (held-after pre d₀ held f n, after-same pre d₀ held f n)
 
-    acceptable : (pre rest : List Call) → calls ≡ pre ++ rest → accepted (afterBlock (image d₀) pre) ≡ true
-    unfolding accepted
-    acceptable pre rest e =
-        let a = at pre rest e in
-        ap (λ (b : List ℕ). accept (deskOf b)) (a .1) ∙ ap accept (desk-image (after d₀ pre) (a .0 .fits)) ∙ inv-accept (after d₀ pre) (a .0 .inv)
+  acceptable : (pre rest : List Call) → calls ≡ pre ++ rest → accepted (afterBlock (image d₀) pre) ≡ true
+  unfolding accepted
+  acceptable pre rest e =
+      let a = at pre rest e in
+      ap (λ (b : List ℕ). accept (deskOf b)) (a .1) ∙ ap accept (desk-image (after d₀ pre) (a .0 .fits)) ∙ inv-accept (after d₀ pre) (a .0 .inv)
 
-    never25 : (pre rest : List Call) (c : Call) → calls ≡ pre ++ c ∷ rest → numberOf (stepBlock (afterBlock (image d₀) pre) c .answer) ≡ 25 → ⊥
-    never25 pre rest c e x =
-        let a = at pre (c ∷ rest) e in
-        never-25 (after d₀ pre) c (demand t arena store calls passed none .never25 pre rest c e)
-        (sym (ap (λ (b : List ℕ). numberOf (stepBlock b c .answer)) (a .1) ∙ ap (λ (o : OutBlock). numberOf (o .answer)) (step-image (after d₀ pre) c (a .0 .fits))) ∙ x)
+  never25 : (pre rest : List Call) (c : Call) → calls ≡ pre ++ c ∷ rest → numberOf (stepBlock (afterBlock (image d₀) pre) c .answer) ≡ 25 → ⊥
+  never25 pre rest c e x =
+      let a = at pre (c ∷ rest) e in
+      never-25 (after d₀ pre) c (demand t arena store calls passed none .never25 pre rest c e)
+      (sym (ap (λ (b : List ℕ). numberOf (stepBlock b c .answer)) (a .1) ∙ ap (λ (o : OutBlock). numberOf (o .answer)) (step-image (after d₀ pre) c (a .0 .fits))) ∙ x)
 
-    claim : ClaimBlock t d₀ (windowLength arena) (image d₀) calls
-    claim =
-        record {
-          begins = refl;
-          same = run-same calls d₀ held fit none;
-          acceptable = acceptable;
-          never25 = never25;
-          demand = demand t arena store calls passed none;
-        }
+  claim : ClaimBlock t d₀ (windowLength arena) (image d₀) calls
+  claim =
+      record {
+        begins = refl;
+        same = run-same calls d₀ held fit none;
+        acceptable = acceptable;
+        never25 = never25;
+        demand = demand t arena store calls passed none;
+      }
 
-  held-opened : (t : List ℕ) (arena store : ℕ) → FitsOp (openTable t arena store) → openOf t arena store .answer ≡ Opened → Held (openOf t arena store .desk)
-  held-opened t arena store f e = record { inv = inv-opened t arena store e; fits = fits-opened t arena store (f .0) (f .1) (f .2) e }
+held-opened : (t : List ℕ) (arena store : ℕ) → FitsOp (openTable t arena store) → openOf t arena store .answer ≡ Opened → Held (openOf t arena store .desk)
+held-opened t arena store f e = record { inv = inv-opened t arena store e; fits = fits-opened t arena store (f .0) (f .1) (f .2) e }
 
-  -- DEMAND 3 on blocks of bytes
-  pub demand-block : DemandBlock
-  demand-block b t arena store first calls e f x fit none =
-      let o = opens-first b t arena store first e x in
-      let h = held-opened t arena store (subst FitsOp e f) (o .passed) in
-      subst (λ (y : List ℕ). ClaimBlock t (openOf t arena store .desk) (windowLength arena) y calls) (sym (o .block))
-      (claim t arena store calls (o .passed) h fit
-      (none-opens calls (openOf t arena store .desk) h fit (subst (λ (y : List ℕ). NoneOpensBlock (runBlock y calls)) (o .block) none)))
+-- DEMAND 3 on blocks of bytes
+pub demand-block : DemandBlock
+demand-block b t arena store first calls e f x fit none =
+    let o = opens-first b t arena store first e x in
+    let h = held-opened t arena store (subst FitsOp e f) (o .passed) in
+    subst (λ (y : List ℕ). ClaimBlock t (openOf t arena store .desk) (windowLength arena) y calls) (sym (o .block))
+    (claim t arena store calls (o .passed) h fit
+    (none-opens calls (openOf t arena store .desk) h fit (subst (λ (y : List ℕ). NoneOpensBlock (runBlock y calls)) (o .block) none)))
 
-  -- its last condition, from the same one of the desks
-  pub none-block : (b t : List ℕ) (arena store : ℕ) (first : Call) (calls : List Call) → first .op ≡ openTable t arena store → FitsOp (first .op)
-      → stepBlock b first .answer ≡ opening Opened → FitsCalls calls
-      → NoneOpens (run (openOf t arena store .desk) calls) → NoneOpensBlock (runBlock (stepBlock b first .block) calls)
-  none-block b t arena store first calls e f x fit none =
-      let o = opens-first b t arena store first e x in
-      let h = held-opened t arena store (subst FitsOp e f) (o .passed) in
-      subst NoneOpensBlock (sym (ap (λ (y : List ℕ). runBlock y calls) (o .block) ∙ run-same calls (openOf t arena store .desk) h fit none))
-      (opens-image (run (openOf t arena store .desk) calls) none)
+-- its last condition, from the same one of the desks
+pub none-block : (b t : List ℕ) (arena store : ℕ) (first : Call) (calls : List Call) → first .op ≡ openTable t arena store → FitsOp (first .op)
+    → stepBlock b first .answer ≡ opening Opened → FitsCalls calls
+    → NoneOpens (run (openOf t arena store .desk) calls) → NoneOpensBlock (runBlock (stepBlock b first .block) calls)
+none-block b t arena store first calls e f x fit none =
+    let o = opens-first b t arena store first e x in
+    let h = held-opened t arena store (subst FitsOp e f) (o .passed) in
+    subst NoneOpensBlock (sym (ap (λ (y : List ℕ). runBlock y calls) (o .block) ∙ run-same calls (openOf t arena store .desk) h fit none))
+    (opens-image (run (openOf t arena store .desk) calls) none)
