@@ -7,11 +7,10 @@ use native.Mathlib.Omega.{arith}
 use lib.ListN.{length, replicate}
 use Rattle.words.specs.Words.{Bytes, le, leBytes}
 use Rattle.words.proofs.Words.{bytes-leBytes}
-use Rattle.desk.specs.declared.Desk.{Desk}
 use Rattle.desk.specs.declared.Opening.{Opening}
 use Rattle.desk.specs.declared.OpenAnswer.the-variants.{Opened}
 use Rattle.desk.specs.Calls.{openOf}
-use Rattle.image.specs.Image.{image, blockSize, deskOf, FitsRegisters, FitsDesk}
+use Rattle.image.specs.Image.{blockSize, FitsRegisters}
 use Rattle.isolation.specs.Lists.{openTable, Call, opening, run}
 use Rattle.isolation.specs.Words.{NoneOpens}
 use Rattle.isolation.specs.Blocks.{FitsCalls, stepBlock, ClaimBlock}
@@ -25,8 +24,7 @@ bytes-table = bytes-leBytes 72 (le 72 table₁ 0)
 abbrev zeros : List ℕ
 zeros = replicate blockSize 0
 
-module _ (desk-image : (d : Desk) → FitsDesk d → deskOf (image d) ≡ d) (length-image : (d : Desk) → FitsDesk d → length (image d) ≡ blockSize)
-    (a s : List ℕ) (la : length a ≡ arenaLength) (ls : length s ≡ storeLength) where
+module _ (a s : List ℕ) (la : length a ≡ arenaLength) (ls : length s ≡ storeLength) where
   abbrev first : Call
   first = record { op = openTable table₁ arenaLength storeLength; arena = a; store = s }
 
@@ -48,5 +46,5 @@ module _ (desk-image : (d : Desk) → FitsDesk d → deskOf (image d) ≡ d) (le
 
   pub example-block : ClaimBlock table₁ (openOf table₁ arenaLength storeLength .desk) 8704 (stepBlock zeros first .block) (calls a s)
   example-block =
-      demand-block desk-image length-image zeros table₁ arenaLength storeLength first (calls a s) refl (bytes-table, omega arith, omega arith) passes fit
-      (none-block desk-image length-image zeros table₁ arenaLength storeLength first (calls a s) refl (bytes-table, omega arith, omega arith) passes fit none)
+      demand-block zeros table₁ arenaLength storeLength first (calls a s) refl (bytes-table, omega arith, omega arith) passes fit
+      (none-block zeros table₁ arenaLength storeLength first (calls a s) refl (bytes-table, omega arith, omega arith) passes fit none)

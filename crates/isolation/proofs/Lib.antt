@@ -18,3 +18,4 @@ pub mod Fits
 pub mod Refusals
 pub mod Blocks
 pub mod ExampleBlock
+pub mod Exported

@@ -2,3 +2,4 @@ pub mod Lists
 pub mod Words
 pub mod Demand
 pub mod Blocks
+pub mod Exported
