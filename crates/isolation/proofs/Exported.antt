@@ -24,7 +24,7 @@ use Rattle.desk.specs.declared.WithdrawAnswer.{WithdrawAnswer}
 use Rattle.desk.specs.declared.WithdrawAnswer.the-variants.{Given as WithdrawGiven, Refused as WithdrawRefused}
 use Rattle.desk.specs.Parts.{stageAt}
 use Rattle.desk.specs.Acceptable.{accept}
-use Rattle.desk.specs.Calls.{Done, still, notAcceptable, noGuest, collectStage, openOf, postOf, turnOf, collectOf, withdrawOf}
+use Rattle.desk.specs.Calls.{Done, done, notAcceptable, noGuest, collectStage, openOf, postOf, turnOf, collectOf, withdrawOf}
 use Rattle.desk.specs.Numbers.{openNumbers, collectNumbers}
 use Rattle.image.specs.Image.{blockSize, deskOf, laid}
 use Rattle.exports.specs.Exports.{Left, left, over, openBlock, openCall, writeCall, given, changed, postBlock, postLeft, postCall, turnBlock, turnLeft, turnCall, collectBlock, collectLeft, collectCall, withdrawBlock, withdrawLeft, withdrawCall}
@@ -65,7 +65,7 @@ pub record Alike (x y : Done CollectAnswer) : Type 0 where
 
 -- by the two tests and the stage
 abbrev collectBy : Desk → ℕ → Bool → Bool → Stage → List ℕ → List ℕ → Done CollectAnswer
-collectBy d g p q x a s = pick p (still d (CollectRefused notAcceptable) a s) (pick q (still d (CollectRefused noGuest) a s) (collectStage d g x a s))
+collectBy d g p q x a s = pick p (done d (CollectRefused notAcceptable) a s) (pick q (done d (CollectRefused noGuest) a s) (collectStage d g x a s))
 
 collect-alike : (d : Desk) (g : ℕ) (a s a' s' : List ℕ) → Alike (collectOf d g a s) (collectOf d g a' s')
 unfolding collectOf
