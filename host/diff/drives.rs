@@ -180,7 +180,8 @@ pub fn any_table(chance: &mut Chance, store_blocks: u64) -> Vec<u8> {
             let at = record + chance.below(4) as usize;
             bytes[at.min(length as usize - 1)] = chance.one_of(&[0, 1, 2, 4, 5, 0x43, 0x44, 0x45, 0xFF]);
         }
-        6 if chance.percent(30) => {
+        6 if chance.percent(20) => bytes.clear(),
+        7 if chance.percent(30) => {
             let random = chance.below(200) as usize;
             bytes = chance.bytes(random);
         }

@@ -128,7 +128,7 @@ pub struct Run {
 }
 
 const TABLE_ROOM: usize = 1024;
-const SPARE_ROOM: usize = 4096;
+const SPARE_ROOM: usize = 1 << 17;
 
 impl World {
     fn new(chance: &mut Chance) -> World {
@@ -710,7 +710,7 @@ impl Run {
         let call = match self.chance.below(3) {
             0 => Call::Window {
                 arena_length: self.chance.one_of(&[0, 1, 7, 8, 9, 63, 64, 65, 4103, u64::MAX, u64::MAX - 7, 1 << 63, any, any >> 40]),
-                guest: self.guest(),
+                guest: self.chance.one_of(&[0, 1, 2, 3, 4, 5, 6, 7, 8, 9, 1 << 32, 1 << 61, u64::MAX, any]),
             },
             1 => {
                 let part = |chance: &mut Chance, end: u32| {

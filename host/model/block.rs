@@ -49,20 +49,19 @@ pub fn read(bytes: &[u8]) -> Option<Desk> {
     if pointer >= GUESTS as u64 {
         return None;
     }
-    let drives = read_drives(bytes, count, store_length / BLOCK_SIZE)?;
-    let mut rows = [Row::Vacant; GUESTS];
-    for (guest, row) in rows.iter_mut().enumerate() {
-        *row = read_row(&words(bytes, ROW_WORDS * guest), &drives, window_length(arena_length))?;
+    let mut desk = Desk { rows: [Row::Vacant; GUESTS], drives: Drives::default(), pointer, arena_length, store_length };
+    read_drives(bytes, count, store_length / BLOCK_SIZE, &mut desk.drives)?;
+    for (guest, row) in desk.rows.iter_mut().enumerate() {
+        *row = read_row(&words(bytes, ROW_WORDS * guest), &desk.drives, window_length(arena_length))?;
     }
-    Some(Desk { rows, drives, pointer, arena_length, store_length })
+    Some(desk)
 }
 
 /// "a desk whose table obeys the rules below": its fields, the store and the overlaps.
-fn read_drives(bytes: &[u8], count: u64, store_blocks: u64) -> Option<Drives> {
+fn read_drives(bytes: &[u8], count: u64, store_blocks: u64, drives: &mut Drives) -> Option<()> {
     if count > MOST_DRIVES as u64 {
         return None;
     }
-    let mut drives = Drives::default();
     for place in 0..MOST_DRIVES {
         let at: Words<DRIVE_WORDS> = words(bytes, DRIVES_AT + DRIVE_WORDS * place);
         if place as u64 >= count {
@@ -76,7 +75,7 @@ fn read_drives(bytes: &[u8], count: u64, store_blocks: u64) -> Option<Drives> {
         drives.place[place] = drive;
         drives.count = place + 1;
     }
-    Some(drives)
+    Some(())
 }
 
 /// Every field within its width.

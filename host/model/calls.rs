@@ -29,20 +29,17 @@ fn accepted(desk: &[u8]) -> Result<Desk, u32> {
     block::read(desk).ok_or(NOT_ACCEPTED)
 }
 
-fn accepted_with(desk: &[u8], arena: &[u8], store: &[u8]) -> Result<Desk, u32> {
-    let read = accepted(desk)?;
-    if arena.len() as u64 != read.arena_length || store.len() as u64 != read.store_length {
-        return Err(LENGTH_DIFFERS);
-    }
-    Ok(read)
+fn same_lengths(desk: &Desk, arena: &[u8], store: &[u8]) -> Result<(), u32> {
+    if arena.len() as u64 == desk.arena_length && store.len() as u64 == desk.store_length { Ok(()) } else { Err(LENGTH_DIFFERS) }
 }
 
 fn guest_of(guest: u64) -> Result<usize, u32> {
     if guest < GUESTS as u64 { Ok(guest as usize) } else { Err(NO_SUCH_GUEST) }
 }
 
-fn number(answer: Result<u32, u32>) -> u32 {
-    answer.unwrap_or_else(|refusal| refusal)
+/// Runs a call whose tests leave it early with their number.
+fn number(call: impl FnOnce() -> Result<u32, u32>) -> u32 {
+    call().unwrap_or_else(|refusal| refusal)
 }
 
 // ---- the calls
@@ -68,7 +65,8 @@ pub fn open(desk: &mut [u8], table: &[u8], arena_length: u64, store_length: u64,
 }
 
 pub fn write(desk: &[u8], out: &mut [u8], written: &mut u64) -> u32 {
-    number(accepted(desk).and_then(|read| {
+    number(|| {
+        let read = accepted(desk)?;
         let length = table::length(&read.drives);
         if out.len() < length {
             return Err(BUFFER_SHORT);
@@ -76,11 +74,13 @@ pub fn write(desk: &[u8], out: &mut [u8], written: &mut u64) -> u32 {
         table::write(&read.drives, out);
         *written = length as u64;
         Ok(DONE)
-    }))
+    })
 }
 
 pub fn post(desk: &mut [u8], arena: &mut [u8], store: &[u8], guest: u64, registers: &mut Registers) -> u32 {
-    number(accepted_with(desk, arena, store).and_then(|read| {
+    number(|| {
+        let read = accepted(desk)?;
+        same_lengths(&read, arena, store)?;
         let row = guest_of(guest)?;
         let Row::Vacant = read.rows[row] else {
             return Err(ROW_NOT_VACANT);
@@ -95,7 +95,7 @@ pub fn post(desk: &mut [u8], arena: &mut [u8], store: &[u8], guest: u64, registe
                 Ok(NOTHING_YET)
             }
         }
-    }))
+    })
 }
 
 /// "the first waiting row at or after the pointer, counting cyclically".
@@ -121,9 +121,11 @@ fn move_blocks(desk: &Desk, request: &Request, blocks: u64, window: &mut [u8], s
 }
 
 pub fn turn(desk: &mut [u8], arena: &mut [u8], store: &mut [u8], guest: &mut u64, moved: &mut u64) -> u32 {
-    number(accepted_with(desk, arena, store).map(|read| {
+    number(|| {
+        let read = accepted(desk)?;
+        same_lengths(&read, arena, store)?;
         let Some((row, request)) = next_waiting(&read) else {
-            return NOTHING_YET;
+            return Ok(NOTHING_YET);
         };
         let blocks = TURN_BLOCKS.min(request.count - request.moved);
         move_blocks(&read, &request, blocks, parts::window(arena, row as u64), store);
@@ -137,12 +139,13 @@ pub fn turn(desk: &mut [u8], arena: &mut [u8], store: &mut [u8], guest: &mut u64
         block::put_pointer(desk, ((row + 1) % GUESTS) as u64);
         *guest = row as u64;
         *moved = blocks;
-        DONE
-    }))
+        Ok(DONE)
+    })
 }
 
 pub fn collect(desk: &mut [u8], guest: u64, registers: &mut Registers) -> u32 {
-    number(accepted(desk).and_then(|read| {
+    number(|| {
+        let read = accepted(desk)?;
         let row = guest_of(guest)?;
         let Row::Finished(finished) = read.rows[row] else {
             return Err(NOT_FINISHED);
@@ -150,11 +153,13 @@ pub fn collect(desk: &mut [u8], guest: u64, registers: &mut Registers) -> u32 {
         block::put_row(desk, row, &Row::Vacant);
         *registers = finished;
         Ok(DONE)
-    }))
+    })
 }
 
 pub fn withdraw(desk: &mut [u8], arena: &mut [u8], store: &[u8], guest: u64, registers: &mut Registers) -> u32 {
-    number(accepted_with(desk, arena, store).and_then(|read| {
+    number(|| {
+        let read = accepted(desk)?;
+        same_lengths(&read, arena, store)?;
         let row = guest_of(guest)?;
         let Row::Waiting(request) = read.rows[row] else {
             return Err(NOT_WAITING);
@@ -165,7 +170,7 @@ pub fn withdraw(desk: &mut [u8], arena: &mut [u8], store: &[u8], guest: u64, reg
         block::put_row(desk, row, &Row::Vacant);
         *registers = steps::stopped(request.registers, WITHDRAWN, request.moved);
         Ok(DONE)
-    }))
+    })
 }
 
 pub fn window(arena_length: u64, guest: u64, start: &mut u64, length: &mut u64) -> u32 {

@@ -89,6 +89,10 @@ fn record_of(drive: &Drive, record: &mut [u8]) {
     record[60..68].copy_from_slice(&drive.device_path);
 }
 
+const HOST_BUSES: [[u8; 4]; 2] = [*b"ISA\0", *b"PCI\0"];
+const INTERFACE_TYPES: [[u8; 8]; 6] =
+    [*b"ATA\0\0\0\0\0", *b"ATAPI\0\0\0", *b"SCSI\0\0\0\0", *b"USB\0\0\0\0\0", *b"1394\0\0\0\0", *b"FIBRE\0\0\0"];
+
 /// 5 "a field". The names are compared whole, with their NULs.
 pub fn fields_obey(drive: &Drive) -> bool {
     drive.blocks >= 1
@@ -98,11 +102,8 @@ pub fn fields_obey(drive: &Drive) -> bool {
         && (1..=63).contains(&drive.sectors)
         && drive.geometry_blocks() <= drive.blocks
         && drive.protection <= 1
-        && matches!(&drive.host_bus, b"ISA\0" | b"PCI\0")
-        && matches!(
-            &drive.interface_type,
-            b"ATA\0\0\0\0\0" | b"ATAPI\0\0\0" | b"SCSI\0\0\0\0" | b"USB\0\0\0\0\0" | b"1394\0\0\0\0" | b"FIBRE\0\0\0"
-        )
+        && HOST_BUSES.contains(&drive.host_bus)
+        && INTERFACE_TYPES.contains(&drive.interface_type)
 }
 
 /// 6 "first + blocks above the store", turned round.
