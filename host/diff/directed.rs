@@ -6,11 +6,12 @@
 use crate::chance::Chance;
 use crate::drives::{self, paper_drive, Drive};
 use crate::random::Run;
-use crate::service::{Lent, Library, Model, Service};
+use crate::service::{Lent, Library, Model, Place, Service};
 use model::addresses::{Address, Geometry};
 use model::{Registers, DESK_SIZE};
 use std::panic::{catch_unwind, AssertUnwindSafe};
 use std::process::ExitCode;
+use std::sync::atomic::{AtomicUsize, Ordering};
 
 const DONE: u32 = 0;
 const NOTHING_YET: u32 = 256;
@@ -51,9 +52,9 @@ impl<'a> Stand<'a> {
         let mut chance = Chance::new(7);
         let mut stand = Stand {
             service,
-            desk: Lent::holding(&chance.bytes(DESK_SIZE), true),
-            arena: Lent::holding(&chance.bytes(arena_length), true),
-            store: Lent::holding(&chance.bytes(store_length), true),
+            desk: Lent::holding(&chance.bytes(DESK_SIZE), Place::END),
+            arena: Lent::holding(&chance.bytes(arena_length), Place::END),
+            store: Lent::holding(&chance.bytes(store_length), Place::END),
         };
         let answer = stand.open_again(&drives::table(drives), arena_length as u64, store_length as u64);
         assert_eq!(answer, (DONE, UNWRITTEN), "opening");
@@ -223,7 +224,7 @@ fn small_drive(first: u64, blocks: u64) -> Drive {
 
 fn a1_order_of_house_numbers(service: &dyn Service) {
     let mut stand = Stand::paper(service, 1024);
-    stand.arena = Lent::holding(&[0; 100], true);
+    stand.arena = Lent::holding(&[0; 100], Place::END);
     let good = stand.desk.bytes().to_vec();
     stand.set_word(POINTER, 8);
     assert_eq!(stand.post(9, by_packet(0x42, 0)).0, 25, "post: desk, arena and guest are bad");
@@ -253,7 +254,7 @@ fn a2_store_length_alone(service: &dyn Service) {
     stand.packet(2, 0, 1, (0, 0x200), 0);
     let length = stand.store.bytes().len();
     for wrong in [0, 512, length - 1, length + 1] {
-        stand.store = Lent::holding(&vec![9; wrong], true);
+        stand.store = Lent::holding(&vec![9; wrong], Place::END);
         let before = stand.all();
         assert_eq!(stand.post(2, by_packet(0x42, 0)), (24, by_packet(0x42, 0)), "post");
         assert_eq!(stand.post(2, registers(0x41, 7, 0x80)), (24, registers(0x41, 7, 0x80)), "post of 41h");
@@ -267,7 +268,7 @@ fn a2_arena_length_alone(service: &dyn Service) {
     let mut stand = Stand::paper(service, 1024);
     assert_eq!(stand.post_packet(3, 0x42, 1, 0).0, NOTHING_YET);
     for wrong in [0, 8, 8191, 8193] {
-        stand.arena = Lent::holding(&vec![9; wrong], true);
+        stand.arena = Lent::holding(&vec![9; wrong], Place::END);
         let before = stand.all();
         assert_eq!(stand.post(2, by_packet(0x42, 0)), (24, by_packet(0x42, 0)), "post");
         assert_eq!(stand.turn(), (24, UNWRITTEN, UNWRITTEN), "turn");
@@ -305,7 +306,7 @@ fn a3_table_refused(service: &dyn Service) {
 fn a3_wrong_size_first(service: &dyn Service) {
     let good = drives::table(&[paper_drive()]);
     for size in [0, 1, DESK_SIZE - 1, DESK_SIZE + 1, 2 * DESK_SIZE] {
-        let mut desk = Lent::holding(&vec![0x77; size], true);
+        let mut desk = Lent::holding(&vec![0x77; size], Place::END);
         for table in [&good[..], &good[..71], &[]] {
             let mut place = UNWRITTEN;
             assert_eq!(service.open(desk.bytes_mut(), table, 8192, 2048 * 512, &mut place), 25);
@@ -323,7 +324,7 @@ fn a4_idle(service: &dyn Service) {
     assert_eq!(stand.turn(), (NOTHING_YET, UNWRITTEN, UNWRITTEN), "a finished row is not served");
     assert!(stand.all() == before, "something changed");
     assert_eq!(stand.word(POINTER), 5);
-    stand.store = Lent::holding(&[0; 512], true);
+    stand.store = Lent::holding(&[0; 512], Place::END);
     assert_eq!(stand.turn(), (24, UNWRITTEN, UNWRITTEN), "lengths come before idle");
 }
 
@@ -768,8 +769,8 @@ fn b14_addresses(service: &dyn Service) {
 // ---- c: the drive table
 
 fn opened(service: &dyn Service, table: &[u8], store_blocks: u64) -> (u32, u64) {
-    let mut desk = Lent::holding(&[0; DESK_SIZE], true);
-    let table = Lent::holding(table, true);
+    let mut desk = Lent::holding(&[0; DESK_SIZE], Place::END);
+    let table = Lent::holding(table, Place::END);
     let mut place = UNWRITTEN;
     (service.open(desk.bytes_mut(), table.bytes(), 0, 512 * store_blocks, &mut place), place)
 }
@@ -876,13 +877,13 @@ fn c7_written_back(service: &dyn Service) {
         let list = drives::drives(&mut chance, 100);
         let table = drives::table(&list);
         let stand = Stand::open(service, &list, 0, 100 * 512);
-        let mut out = Lent::holding(&[0x3C; 600], true);
+        let mut out = Lent::holding(&[0x3C; 600], Place::END);
         assert_eq!(stand.write(out.bytes_mut()), (DONE, table.len() as u64), "round {round}");
         assert!(out.bytes()[..table.len()] == table[..], "the bytes that were opened");
         assert!(out.bytes()[table.len()..].iter().all(|byte| *byte == 0x3C), "bytes past it stay");
-        out.set_length(table.len(), true);
+        out.set_length(table.len(), Place::END);
         assert_eq!(stand.write(out.bytes_mut()), (DONE, table.len() as u64));
-        out.set_length(table.len() - 1, true);
+        out.set_length(table.len() - 1, Place::END);
         out.bytes_mut().fill(0x3C);
         assert_eq!(stand.write(out.bytes_mut()), (19, UNWRITTEN));
         assert!(out.bytes().iter().all(|byte| *byte == 0x3C));
@@ -1116,7 +1117,7 @@ fn d9_wrong_size(service: &dyn Service) {
     for size in [0, 1, 8, DESK_SIZE - 8, DESK_SIZE - 1, DESK_SIZE + 1, DESK_SIZE + 8, 2 * DESK_SIZE] {
         let mut bytes = good.clone();
         bytes.resize(size, 0);
-        stand.desk = Lent::holding(&bytes, true);
+        stand.desk = Lent::holding(&bytes, Place::END);
         stand.refused_everywhere("size");
         let before = stand.all();
         assert_eq!(stand.open_again(&drives::table(&[]), 0, 0), (25, UNWRITTEN));
@@ -1332,6 +1333,52 @@ fn g2_run_by_program(service: &dyn Service) {
     assert_eq!(stand.post_packet(0, 0x43, 1, 2048).1.ah(), 0x03, "protected and out of range");
 }
 
+/// A call touches the window of its own guest and the blocks that it moves, and nothing else of arena and store: it does not even read
+/// there. So another guest may run on in its own window meanwhile. While a call runs all other pages are taken away.
+fn g5_no_other_memory_is_touched(service: &dyn Service) {
+    const WINDOW: usize = 16 * 4096;
+    let drive = Drive { first: 16, blocks: 256, cylinders: 4, heads: 1, sectors: 63, ..paper_drive() };
+    let mut stand = Stand::open(service, &[drive], 8 * WINDOW, 300 * 4096);
+    let own = |guest: usize| guest * WINDOW..(guest + 1) * WINDOW;
+    let nothing = 0..0;
+    for guest in 0..8 {
+        for ah in [0x42, 0x43, 0x02, 0x03] {
+            // blocks 32 to 71 of the drive, to or from the second page of the window; by sector that is 0/0/33 and on
+            stand.packet(guest, 0, 40, (0, 0x1000), 32);
+            let given = if ah < 0x40 { Registers { bx: 0x1000, ..by_sector(ah, 40, 0, 0, 33) } } else { by_packet(ah, 0) };
+            for withdrawn in [false, true] {
+                stand.arena.keep_only(Some(own(guest)));
+                stand.store.keep_only(Some(nothing.clone()));
+                assert_eq!(stand.post(guest as u64, given).0, NOTHING_YET);
+                for (from, blocks) in [(48, 16), (64, 16), (80, 8)] {
+                    stand.store.keep_only(Some(512 * from..512 * (from + blocks)));
+                    assert_eq!(stand.turn(), (DONE, guest as u64, blocks as u64));
+                    if withdrawn {
+                        stand.store.keep_only(Some(nothing.clone()));
+                        assert_eq!(stand.withdraw(guest as u64).0, DONE);
+                        break;
+                    }
+                }
+                stand.arena.keep_only(Some(nothing.clone()));
+                stand.store.keep_only(Some(nothing.clone()));
+                assert_eq!(stand.turn().0, NOTHING_YET, "idle");
+                assert_eq!(stand.collect(guest as u64).0, if withdrawn { 22 } else { DONE });
+                assert!(stand.accepted());
+                stand.arena.keep_only(None);
+                stand.store.keep_only(None);
+                stand.packet(guest, 0, 40, (0, 0x1000), 32);
+            }
+        }
+        stand.arena.keep_only(Some(own(guest)));
+        stand.store.keep_only(Some(nothing.clone()));
+        for ah in [0x08, 0x41, 0x44, 0x47, 0x48, 0x15] {
+            assert_eq!(stand.post(guest as u64, by_packet(ah, 0)).0, DONE);
+        }
+        stand.arena.keep_only(None);
+        stand.store.keep_only(None);
+    }
+}
+
 /// Every handled function with every AL and DL, and every unknown one: what is answered at once leaves the block as it was.
 fn g3_answered_at_once_leaves_the_desk(service: &dyn Service) {
     let mut stand = Stand::paper(service, 1024);
@@ -1405,7 +1452,15 @@ const CASES: &[(&str, fn(&dyn Service))] = cases![
     g1_sums,
     g2_run_by_program,
     g3_answered_at_once_leaves_the_desk,
+    g5_no_other_memory_is_touched,
 ];
+
+/// The case that runs, for the message when the machine stops it.
+static CASE: AtomicUsize = AtomicUsize::new(usize::MAX);
+
+pub fn doing() -> Option<&'static str> {
+    CASES.get(CASE.load(Ordering::Relaxed)).map(|case| case.0)
+}
 
 /// Different desks, arenas and stores on different threads at the same time, each compared with the model call by call.
 fn g5_desks_on_threads() -> Result<(), String> {
@@ -1420,7 +1475,8 @@ pub fn run() -> ExitCode {
     let not_null = Library::default();
     let services: [(&str, &dyn Service); 3] = [("library", &not_null), ("library, NULL for empty", &null), ("model", &Model)];
     let mut failed = 0;
-    for (name, case) in CASES {
+    for (number, (name, case)) in CASES.iter().enumerate() {
+        CASE.store(number, Ordering::Relaxed);
         for (whose, service) in services {
             if let Err(panic) = catch_unwind(AssertUnwindSafe(|| case(service))) {
                 let text = panic.downcast_ref::<String>().map(String::as_str).or(panic.downcast_ref::<&str>().copied());
@@ -1429,6 +1485,7 @@ pub fn run() -> ExitCode {
             }
         }
     }
+    CASE.store(usize::MAX, Ordering::Relaxed);
     if let Err(what) = g5_desks_on_threads() {
         println!("directed: g5_desks_on_threads FAILED: {what}");
         failed += 1;

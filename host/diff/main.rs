@@ -26,10 +26,13 @@ extern "C" {
 const SIGSEGV: i32 = 11;
 const SIGBUS: i32 = 7;
 
-/// The machine stopped a call at memory that was not lent to it. What is printed allocates nothing that the call could have hurt.
+/// The machine stopped a call at memory that was not lent to it.
 extern "C" fn stopped(_: i32) {
     let (seed, call) = (random::SEED.load(Ordering::Relaxed), random::CALL.load(Ordering::Relaxed));
-    eprintln!("diff: seed {seed}, call {call}: the library touched memory that was not lent to it");
+    match directed::doing() {
+        Some(case) => eprintln!("directed: {case} FAILED: the library touched memory that it must not touch"),
+        None => eprintln!("diff: seed {seed}, call {call}: the library touched memory that was not lent to it"),
+    }
     unsafe { _exit(1) }
 }
 

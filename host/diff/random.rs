@@ -4,14 +4,14 @@
 
 use crate::chance::Chance;
 use crate::drives::{self, Drive};
-use crate::service::{Lent, Library, Model, Service};
+use crate::service::{Lent, Library, Model, Place, Service};
 use crate::tally::Tally;
 use model::addresses::{Address, Geometry};
 use model::parts::{Desk, Row};
 use model::{Registers, DESK_SIZE};
 use std::sync::atomic::{AtomicU64, Ordering};
 
-/// For the message when the machine stops a call: see `main`.
+/// For the message when the machine stops a call: see `main`. Where several runs go on at the same time it is one of theirs.
 pub static SEED: AtomicU64 = AtomicU64::new(0);
 pub static CALL: AtomicU64 = AtomicU64::new(0);
 
@@ -155,13 +155,13 @@ impl World {
         let store = chance.bytes(store_length as usize);
         // opening looks at the size of the block alone: it is opened over random bytes
         let desk = chance.bytes(DESK_SIZE);
-        let at_end = chance.percent(70);
+        let place = place(chance);
         World {
             drives,
             window,
-            desk: Lent::holding(&desk, at_end),
-            arena: Lent::holding(&arena, at_end),
-            store: Lent::holding(&store, at_end),
+            desk: Lent::holding(&desk, place),
+            arena: Lent::holding(&arena, place),
+            store: Lent::holding(&store, place),
             model_desk: desk,
             model_arena: arena,
             model_store: store,
@@ -233,7 +233,7 @@ impl Run {
     fn call(&mut self, call: Call, desk: Slice, arena: Slice, store: Slice, table: Vec<u8>) -> Result<Outcome, String> {
         self.calls += 1;
         CALL.store(self.calls, Ordering::Relaxed);
-        let at_end = self.chance.percent(70);
+        let place = place(&mut self.chance);
         self.spare.library.null_for_empty.set(self.chance.percent(50));
         let before = [self.chance.any(), self.chance.any(), self.chance.any()];
         let before = if matches!(call, Call::Block { .. } | Call::Address { .. }) { before.map(|n| n & 0xFFFF_FFFF) } else { before };
@@ -241,10 +241,10 @@ impl Run {
         let mut out = self.chance.bytes(room);
 
         let spare = &mut self.spare;
-        lay(&mut spare.table, &table, at_end);
-        lay(&mut spare.out, &out, at_end);
+        lay(&mut spare.table, &table, place);
+        lay(&mut spare.out, &out, place);
         for (slice, lent) in [(&desk, &mut spare.desk), (&arena, &mut spare.arena), (&store, &mut spare.store)] {
-            lay(lent, if let Slice::Other(bytes) = slice { bytes } else { &[] }, at_end);
+            lay(lent, if let Slice::Other(bytes) = slice { bytes } else { &[] }, place);
         }
         let world = &mut self.world;
         let own = |slice: &Slice| matches!(slice, Slice::Own);
@@ -750,8 +750,13 @@ fn known(drive: &model::parts::Drive) -> Drive {
     }
 }
 
-fn lay(lent: &mut Lent, bytes: &[u8], at_end: bool) {
-    lent.set_length(bytes.len(), at_end);
+/// Mostly against a page that nobody may touch; else at any address.
+fn place(chance: &mut Chance) -> Place {
+    Place { at_end: chance.percent(70), gap: if chance.percent(70) { 0 } else { chance.between(1, 7) as usize } }
+}
+
+fn lay(lent: &mut Lent, bytes: &[u8], place: Place) {
+    lent.set_length(bytes.len(), place);
     lent.bytes_mut().copy_from_slice(bytes);
 }
 

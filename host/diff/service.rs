@@ -242,8 +242,20 @@ const PRIVATE_ANONYMOUS: i32 = 0x22;
 const MARGIN: usize = 64;
 const MARGIN_BYTE: u8 = 0xC5;
 
-/// A slice to lend. It ends where a page begins that nobody may touch, or starts where such a page ends: a call that reads or writes
-/// past that end is stopped by the machine. At the other end lie bytes that are looked at after the call.
+/// Where a slice lies in its memory: against the page after it or against the one before it, or up to seven bytes away from there, so
+/// that it starts at any address.
+#[derive(Clone, Copy)]
+pub struct Place {
+    pub at_end: bool,
+    pub gap: usize,
+}
+
+impl Place {
+    pub const END: Place = Place { at_end: true, gap: 0 };
+}
+
+/// A slice to lend, between two pages that nobody may touch: a call that reads or writes past the end it lies against is stopped by the
+/// machine. The bytes between the slice and the pages are looked at after the call.
 pub struct Lent {
     map: *mut u8,
     pages: usize,
@@ -259,31 +271,35 @@ impl Lent {
         assert!(map as isize != -1, "no memory for {room} bytes");
         let mut lent = Lent { map: map.cast(), pages, start: PAGE, length: 0 };
         lent.protect(READ_WRITE);
-        lent.set_length(0, true);
+        lent.set_length(0, Place::END);
         lent
     }
 
-    pub fn holding(bytes: &[u8], at_end: bool) -> Lent {
+    pub fn holding(bytes: &[u8], place: Place) -> Lent {
         let mut lent = Lent::with_room(bytes.len());
-        lent.set_length(bytes.len(), at_end);
+        lent.set_length(bytes.len(), place);
         lent.bytes_mut().copy_from_slice(bytes);
         lent
     }
 
-    /// Lays the slice against the page after it, or against the one before it.
-    pub fn set_length(&mut self, length: usize, at_end: bool) {
+    pub fn set_length(&mut self, length: usize, place: Place) {
         assert!(length + MARGIN <= (self.pages - 2) * PAGE);
         self.length = length;
-        self.start = if at_end { (self.pages - 1) * PAGE - length } else { PAGE };
-        let (before, after) = self.margins();
+        self.start = if place.at_end { self.end_of_room() - place.gap - length } else { PAGE + place.gap };
+        let (front, back) = self.margins();
         unsafe {
-            std::slice::from_raw_parts_mut(self.map.add(self.start - before), before).fill(MARGIN_BYTE);
-            std::slice::from_raw_parts_mut(self.map.add(self.start + length), after).fill(MARGIN_BYTE);
+            std::slice::from_raw_parts_mut(self.map.add(self.start - front), front).fill(MARGIN_BYTE);
+            std::slice::from_raw_parts_mut(self.map.add(self.start + length), back).fill(MARGIN_BYTE);
         }
     }
 
+    fn end_of_room(&self) -> usize {
+        (self.pages - 1) * PAGE
+    }
+
+    /// How many bytes before and after the slice are looked at.
     fn margins(&self) -> (usize, usize) {
-        if self.start == PAGE { (0, MARGIN) } else { (MARGIN, 0) }
+        (MARGIN.min(self.start - PAGE), MARGIN.min(self.end_of_room() - self.start - self.length))
     }
 
     fn protect(&self, how: i32) {
@@ -296,6 +312,17 @@ impl Lent {
         self.protect(if on { READ } else { READ_WRITE });
     }
 
+    /// Takes everything but a part of the slice away, or gives it all back. Slice and part begin and end with pages.
+    pub fn keep_only(&self, part: Option<std::ops::Range<usize>>) {
+        let Some(part) = part else { return self.protect(READ_WRITE) };
+        assert!([self.start, self.length, part.start, part.end].iter().all(|n| n % PAGE == 0));
+        self.protect(NOBODY);
+        if !part.is_empty() {
+            let done = unsafe { mprotect(self.map.add(self.start + part.start).cast(), part.len(), READ_WRITE) };
+            assert_eq!(done, 0, "mprotect");
+        }
+    }
+
     pub fn bytes(&self) -> &[u8] {
         unsafe { std::slice::from_raw_parts(self.map.add(self.start), self.length) }
     }
@@ -305,11 +332,11 @@ impl Lent {
     }
 
     pub fn margin_intact(&self) -> bool {
-        let (before, after) = self.margins();
+        let (front, back) = self.margins();
         let (front, back) = unsafe {
             (
-                std::slice::from_raw_parts(self.map.add(self.start - before), before),
-                std::slice::from_raw_parts(self.map.add(self.start + self.length), after),
+                std::slice::from_raw_parts(self.map.add(self.start - front), front),
+                std::slice::from_raw_parts(self.map.add(self.start + self.length), back),
             )
         };
         front.iter().chain(back).all(|byte| *byte == MARGIN_BYTE)

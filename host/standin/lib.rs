@@ -147,6 +147,10 @@ pub unsafe extern "C" fn edd_turn(
     desk: *mut u8, desk_len: usize, arena: *mut u8, arena_len: usize, store: *mut u8, store_len: usize, guest: &mut u64, moved: &mut u64,
 ) -> u32 {
     let (desk, arena, store) = unsafe { (lent_mut(desk, desk_len), lent_mut(arena, arena_len), lent_mut(store, store_len)) };
+    #[cfg(fault = "reads_other_window")]
+    if !arena.is_empty() {
+        unsafe { arena.as_ptr().read_volatile() };
+    }
     #[cfg(fault = "packet_read_again")]
     if desk.len() == 2400 && words::get(desk, 298) == arena.len() as u64 {
         for guest in 0..8 {
