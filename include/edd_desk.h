@@ -1,0 +1,280 @@
+/*
+ * edd_desk.h - the INT 13h disk service as a desk: a guest posts, the host gives turns, the guest collects.
+ *
+ * Link libexports.a. C11 and C++17. "Document 01" is the paper of rules; this header says what a caller needs of it.
+ *
+ *
+ * The parts
+ *
+ *   desk    EDD_DESK_SIZE bytes that hold the whole state of one service: the drives, one row for each guest, the turn
+ *           pointer, and the arena and store length of the opening. To the host they are opaque (docs/BLOCK.md names
+ *           every word, for a debugger). They may be copied, kept in a file and put back: they hold no address.
+ *   arena   the memory of all guests. Guest g, 0 to 7, has the window that starts at g * M, M = arena length / 8 rounded
+ *           down (edd_window). Every segment:offset address of a guest counts from the start of its window: 16 * segment
+ *           + offset, never wrapped. Up to seven bytes at the end of the arena belong to nobody.
+ *   store   the blocks of all drives, 512 bytes each. Which drive has which blocks stands in the drive table.
+ *   table   the drive table, records as document 01 has them: 0 to 8 drives, numbered 80h upward in table order.
+ *
+ *
+ * What every call keeps to
+ *
+ *   All input has an answer. Registers, packets, tables, desk blocks and lengths may hold anything. The result is EDD_DONE
+ *   (0), a number that says why the call was refused, or EDD_NOTHING_YET (256) where there is nothing to hand out yet.
+ *
+ *   A refusal changes nothing, and neither does 256 behind any pointer but the desk's: there a post keeps the request
+ *   that waits. No register, count or byte of arena, store or buffer is written. The one exception is *place of edd_open,
+ *   which is written when the table is refused (1 to 8) and at no other time.
+ *
+ *   The caller owns everything. The library keeps no pointer after a call returns, allocates nothing, starts nothing, and
+ *   has no variable of its own: no static record, no cache, no errno.
+ *
+ *   What may run at the same time. Calls that are lent the same desk, or the same arena, or the same store run one at a
+ *   time: that is the host's own lock, one for each desk with its arena and store. While a call runs nobody else writes
+ *   what it was lent, nor reads what it was lent for change. Calls with different desks, arenas and stores need no lock
+ *   and may run on any threads. Since nothing is shared inside the library, no request can meet another's scratch data.
+ *
+ *   What is lent to one call must not overlap: desk, arena, store, table and buffer among each other, the places of the
+ *   results, and the register pointers among each other too. This is the caller's duty and is not tested.
+ *
+ *   Pointers. A slice is a pointer and its length in bytes. NULL with length 0 is an empty slice. No other pointer may be
+ *   NULL: not a slice of length above 0, and not the place of a result or a register. No alignment is asked of a slice;
+ *   the places of results and registers are aligned as their types ask.
+ *
+ *   The interface may grow by change request. What stands here keeps its name, order and meaning; a call that needs more
+ *   arguments comes under a new name, and a new number for a refusal is a number that is not used here.
+ *
+ *
+ * What is proved of every list of calls at one desk after an opening
+ *
+ *   A request that waits is served in at least one of any eight successive turns not refused. So, unless withdrawn, it
+ *   finishes within 8 * ceil(n / 16) such turns, n being its number of blocks. A turn changes no other guest's row or
+ *   window. Registers, window and blocks of a finished request are those of the same request served alone when it was
+ *   posted, whatever the other guests posted, as long as the host leaves that window and the store alone meanwhile and no
+ *   other guest writes a block that the request names.
+ *
+ *
+ * Example: one block of drive 80h to 0000:0200 of guest 2. The result is 0, AH of a BIOS refusal, or -1.
+ *
+ *   #include "edd_desk.h"
+ *
+ *   int read_first_block(uint8_t *desk, const uint8_t *table, size_t table_len, uint8_t *arena, size_t arena_len,
+ *                        uint8_t *store, size_t store_len)
+ *   {
+ *       uint64_t place = 0, served = 0, moved = 0;
+ *       uint16_t ax = 0x0201, bx = 0x0200, cx = 0x0001, dx = 0x0080, ds = 0, si = 0, es = 0, carry = 0;
+ *
+ *       if (edd_open(desk, EDD_DESK_SIZE, table, table_len, arena_len, store_len, &place) != EDD_DONE)
+ *           return -1;
+ *       uint32_t answer = edd_post(desk, EDD_DESK_SIZE, arena, arena_len, store, store_len, 2,
+ *                                  &ax, &bx, &cx, &dx, ds, si, es, &carry);
+ *       while (answer == EDD_NOTHING_YET || answer == EDD_NOT_FINISHED) {
+ *           if (edd_turn(desk, EDD_DESK_SIZE, arena, arena_len, store, store_len, &served, &moved) != EDD_DONE)
+ *               return -1;
+ *           answer = edd_collect(desk, EDD_DESK_SIZE, 2, &ax, &bx, &cx, &dx, &ds, &si, &es, &carry);
+ *       }
+ *       if (answer != EDD_DONE)
+ *           return -1;
+ *       return carry ? ax >> 8 : 0;
+ *   }
+ *
+ * End of the example.
+ */
+#ifndef EDD_DESK_H
+#define EDD_DESK_H
+
+#include <stddef.h>
+#include <stdint.h>
+
+#ifdef __cplusplus
+extern "C" {
+#endif
+
+/* ---- sizes */
+
+#define EDD_DESK_SIZE 2400     /* bytes of a desk block; edd_desk_size() answers the same */
+#define EDD_BLOCK_SIZE 512     /* bytes of a block of the store */
+#define EDD_GUESTS 8           /* guests are 0 to 7 */
+#define EDD_DRIVES 8           /* drives of a table, at most */
+#define EDD_TABLE_SIZE_MAX 548 /* bytes of the longest table: eight drives of 68 and the end record of 4 */
+#define EDD_TURN_BLOCKS 16     /* blocks that one turn moves, at most */
+
+/* ---- results of every call */
+
+#define EDD_DONE 0
+#define EDD_NOTHING_YET 256 /* edd_post: the request waits for turns. edd_turn: no request waits. */
+
+/* Refusals of a drive table, by edd_open. *place says where: the start of the record, for 8 the first byte too many. */
+#define EDD_TABLE_CUT_OFF 1     /* the table stops inside a record or before the end record: lend all of it */
+#define EDD_TABLE_LENGTH 2      /* the record's length is wrong for its kind: mend its word 0 (68, end record 4) */
+#define EDD_TABLE_KIND 3        /* unknown kind of record: this library knows drives (1) and the end (0) */
+#define EDD_TABLE_NINTH_DRIVE 4 /* more than eight drives: use a second desk */
+#define EDD_TABLE_FIELD 5       /* a field of the drive breaks its rule: mend the record */
+#define EDD_TABLE_STORE 6       /* first + blocks is past the store: lend a longer store or mend the record */
+#define EDD_TABLE_OVERLAP 7     /* the drive shares a block with an earlier one: mend its first block */
+#define EDD_TABLE_TRAILING 8    /* a byte follows the end record: lend the table without it */
+
+/* House refusals. Where several apply the order is 25, 24, 20, then 19, 21, 22 or 23. */
+#define EDD_BUFFER_SHORT 19      /* edd_write: the buffer is shorter than the table: EDD_TABLE_SIZE_MAX is always enough */
+#define EDD_NO_SUCH_GUEST 20     /* guest is 8 or more: a fault of the host */
+#define EDD_ROW_NOT_VACANT 21    /* edd_post: the guest has a request that waits, or registers to collect: collect first */
+#define EDD_NOT_FINISHED 22      /* edd_collect: nothing to collect: post, or give more turns */
+#define EDD_NOT_WAITING 23       /* edd_withdraw: no request waits: if it has finished, collect it */
+#define EDD_LENGTH_DIFFERS 24    /* arena or store is not as long as at the opening: lend the same, or open again */
+#define EDD_DESK_NOT_ACCEPTED 25 /* the desk block has another size, was never opened or was damaged: open it again */
+
+/* Refusal of edd_block and edd_address: outside the geometry, or the geometry outside its limits. It is 04h of INT 13h. */
+#define EDD_OUTSIDE 4
+
+/* ---- AH when carry is set, in registers that edd_post, edd_collect or edd_withdraw hand out. They are the guest's. */
+
+#define EDD_AH_BAD_PARAMETER 0x01   /* unknown function or drive, or a bad parameter */
+#define EDD_AH_WRITE_PROTECTED 0x03 /* write to a protected drive */
+#define EDD_AH_NOT_FOUND 0x04       /* blocks outside the drive or its geometry */
+#define EDD_AH_NO_PARAMETERS 0x07   /* 08h on an unknown drive */
+#define EDD_AH_BUFFER 0x09          /* transfer buffer outside the window, or AL above 128 */
+#define EDD_AH_WITHDRAWN 0x80       /* withdrawn by the host */
+
+/* ---- the calls */
+
+/*
+ * The size of a desk block, EDD_DESK_SIZE. A host that loads the library at run time compares the two.
+ */
+uint64_t edd_desk_size(void);
+
+/*
+ * Opens a desk: reads the drive table, keeps the two lengths, makes all rows vacant and the turn pointer 0.
+ *
+ *   desk, desk_len    the block to write. Only its size is looked at: any bytes may stand in it, also those of a desk in
+ *                     use, whose requests are then gone.
+ *   table, table_len  the drive table, whole and with nothing behind it
+ *   arena_length      length in bytes of the arena that later calls will be lent; any number
+ *   store_length      length in bytes of the store that later calls will be lent; any number. It has store_length / 512
+ *                     blocks, rounded down.
+ *   place             where the table is refused
+ *
+ * 0         done: the whole block is written. *place is not.
+ * 1 to 8    table refused: *place is written, nothing else.
+ * 25        desk_len is not EDD_DESK_SIZE. Tested first. Nothing is written, *place neither.
+ */
+uint32_t edd_open(uint8_t *desk, size_t desk_len, const uint8_t *table, size_t table_len, uint64_t arena_length,
+                  uint64_t store_length, uint64_t *place);
+
+/*
+ * Writes the desk's drives as a table again: byte for byte the one that was opened.
+ *
+ *   desk, desk_len  is only read
+ *   out, out_len    the buffer for the table. Bytes past the table stay.
+ *   written         the length of the table in bytes
+ *
+ * 0         done: the table stands at the start of the buffer, *written is its length.
+ * 25, 19    refused, in this order of tests. Nothing is written.
+ */
+uint32_t edd_write(const uint8_t *desk, size_t desk_len, uint8_t *out, size_t out_len, uint64_t *written);
+
+/*
+ * Posts a guest's INT 13h registers. The function is AH. 02h, 03h, 08h, 41h, 42h, 43h, 44h, 47h and 48h are known.
+ * 02h and 03h, and 42h and 43h with a count above 0, wait for turns if every test of their parameters passes. All else
+ * is answered at once, and leaves the row vacant: there is nothing to collect.
+ *
+ *   desk, desk_len         changed when the request waits
+ *   arena, arena_len       the whole arena. Only the guest's window is read. A 48h that succeeds writes its result there;
+ *                          a 42h, 43h or 44h refused by the BIOS rules after its packet's size byte was found good writes
+ *                          0 to the packet's count word. Nothing else is written.
+ *   store, store_len       the whole store. Only the length is looked at.
+ *   guest                  0 to 7
+ *   ax, bx, cx, dx, carry  read (but for carry, whose value on the way in is never looked at) and, on 0, written
+ *   ds, si, es             read. No answer changes them.
+ *
+ * 0               answered at once: the registers are the guest's. Carry is 0, or 1 with the reason in AH.
+ * 256             the row waits: give turns, then collect. No register is written, carry neither.
+ * 25, 24, 20, 21  refused, in this order of tests. Nothing is written.
+ *
+ * The packet is read here and never again: the guest may use its memory as it likes from now on. Where it lay is kept,
+ * for a withdrawal.
+ */
+uint32_t edd_post(uint8_t *desk, size_t desk_len, uint8_t *arena, size_t arena_len, const uint8_t *store,
+                  size_t store_len, uint64_t guest, uint16_t *ax, uint16_t *bx, uint16_t *cx, uint16_t *dx, uint16_t ds,
+                  uint16_t si, uint16_t es, uint16_t *carry);
+
+/*
+ * Gives one turn: serves the first waiting row at or after the turn pointer, counting cyclically. It moves that request's
+ * next 16 blocks, or what remains if fewer, in ascending order; then the pointer is the served guest plus 1, modulo 8.
+ * When all blocks are moved the row is finished, and the guest can collect.
+ *
+ *   desk, desk_len    the served row and the pointer change
+ *   arena, arena_len  the whole arena. A read (02h, 42h) writes the blocks into the served guest's window.
+ *   store, store_len  the whole store. A write (03h, 43h) writes the blocks.
+ *   guest, moved      whom the turn served and how many blocks were moved, 1 to 16
+ *
+ * 0         a request was served.
+ * 256       idle: no row waits. Nothing is written, the pointer stays.
+ * 25, 24    refused, in this order of tests. Nothing is written.
+ */
+uint32_t edd_turn(uint8_t *desk, size_t desk_len, uint8_t *arena, size_t arena_len, uint8_t *store, size_t store_len,
+                  uint64_t *guest, uint64_t *moved);
+
+/*
+ * Hands out a finished request's registers, once, and makes the guest's row vacant.
+ *
+ *   desk, desk_len  the guest's row changes
+ *   guest           0 to 7
+ *   ax to carry     written only. Carry is 0 or 1.
+ *
+ * 0           done. A request that was served to its end has the posted registers with carry 0 and AH 0.
+ * 25, 20, 22  refused, in this order of tests. Nothing is written.
+ */
+uint32_t edd_collect(uint8_t *desk, size_t desk_len, uint64_t guest, uint16_t *ax, uint16_t *bx, uint16_t *cx,
+                     uint16_t *dx, uint16_t *ds, uint16_t *si, uint16_t *es, uint16_t *carry);
+
+/*
+ * Ends a request that waits. Blocks that turns have moved stay moved. The row is vacant at once: there is nothing to
+ * collect.
+ *
+ *   desk, desk_len    the guest's row changes
+ *   arena, arena_len  the whole arena. For 42h and 43h the number of blocks moved is written to the packet's count word,
+ *                     at the place of the post, over whatever lies there now.
+ *   store, store_len  the whole store. Only the length is looked at.
+ *   guest             0 to 7
+ *   ax to carry       written only: the posted registers with carry 1 and AH 80h; for 02h and 03h AL is the number of
+ *                     blocks moved
+ *
+ * 0               done.
+ * 25, 24, 20, 23  refused, in this order of tests. Nothing is written.
+ */
+uint32_t edd_withdraw(uint8_t *desk, size_t desk_len, uint8_t *arena, size_t arena_len, const uint8_t *store,
+                      size_t store_len, uint64_t guest, uint16_t *ax, uint16_t *bx, uint16_t *cx, uint16_t *dx,
+                      uint16_t *ds, uint16_t *si, uint16_t *es, uint16_t *carry);
+
+/*
+ * Where a guest's window lies in an arena of that length: bytes *start to *start + *length - 1. For a guest of 8 or more
+ * both are 0. Needs no desk.
+ *
+ * 0         always. *start and *length are written.
+ */
+uint32_t edd_window(uint64_t arena_length, uint64_t guest, uint64_t *start, uint64_t *length);
+
+/*
+ * The block of a cylinder, head and sector in a geometry of C cylinders, H heads and S sectors:
+ * (cylinder * H + head) * S + sector - 1. Needs no desk.
+ *
+ * 0         done: *block is written.
+ * 4         C is not 1 to 1024, H not 1 to 255, S not 1 to 63, or the address is not cylinder < C, head < H, sector 1 to
+ *           S. Nothing is written.
+ */
+uint32_t edd_block(uint32_t C, uint32_t H, uint32_t S, uint32_t cylinder, uint32_t head, uint32_t sector,
+                   uint32_t *block);
+
+/*
+ * The reverse: the one address that gives the block. Needs no desk.
+ *
+ * 0         done: *cylinder, *head and *sector are written.
+ * 4         C, H or S outside the limits above, or the block is not below C * H * S. Nothing is written.
+ */
+uint32_t edd_address(uint32_t C, uint32_t H, uint32_t S, uint64_t block, uint32_t *cylinder, uint32_t *head,
+                     uint32_t *sector);
+
+#ifdef __cplusplus
+}
+#endif
+
+#endif
