@@ -156,24 +156,18 @@ static void compare(struct guest *g, const uint8_t *window, uint64_t at, uint64_
         fail(g, "%s at %05llx is not what it must be", what, (unsigned long long)at);
 }
 
-/*
- * Makes the request and checks everything that came back. All that touches the window happens under the lock. The guest
- * gives the lock up only inside monitor_int13, while the request waits, and then leaves its window alone.
- */
-static void make(struct guest *g, struct request *q)
+/* What the guest has written in its memory goes into its window. */
+static void lay_down(struct guest *g, const struct request *q, uint8_t *window)
 {
-    struct monitor *m = g->monitor;
-    uint8_t *window = monitor_window(m, g->number);
-    struct registers r = q->given;
-    uint64_t moved;
-
-    monitor_lock(m);
     for (unsigned i = 0; i < q->parts; i++)
         memcpy(window + q->laid[i].at, g->memory + q->laid[i].at, q->laid[i].length);
+}
 
-    enum ending ending = monitor_int13(m, g->number, &r, q->blocks, q->patience, &moved);
-
-    /* What the request has done, on the guest's own copies. */
+/* What the request has done to the guest's memory and disk, on the guest's own copies. */
+static void follow(struct guest *g, struct request *q, enum ending ending, uint64_t moved)
+{
+    if (moved > q->blocks)
+        moved = q->blocks; /* check_answer finds that */
     if (q->write && q->disk)
         memcpy(q->disk, g->memory + q->buffer, moved * EDD_BLOCK_SIZE);
     else if (moved)
@@ -189,8 +183,40 @@ static void make(struct guest *g, struct request *q)
         else
             set_al(&q->wanted, (unsigned)moved);
     }
+}
 
-    /* And whether the window holds the same. 16 bytes on either side of a buffer are looked at as well. */
+/* The number moved, and the registers. */
+static void check_answer(struct guest *g, const struct request *q, const struct registers *r, enum ending ending,
+                         uint64_t moved)
+{
+    int good = ending == FINISHED    ? moved == q->blocks
+               : ending == WITHDRAWN ? moved < q->blocks && moved % EDD_TURN_BLOCKS == 0
+                                     : moved == 0 && (q->blocks == 0 || q->wanted.carry);
+    if (!good)
+        fail(g, "AH=%02x: %llu blocks moved of %llu", q->given.ax >> 8, (unsigned long long)moved,
+             (unsigned long long)q->blocks);
+    if (memcmp(r, &q->wanted, sizeof *r) != 0)
+        fail(g, "AH=%02x: AX %04x carry %u, not AX %04x carry %u, or another register changed", q->given.ax >> 8, r->ax,
+             r->carry, q->wanted.ax, q->wanted.carry);
+}
+
+/*
+ * Makes the request and checks everything that came back. All that touches the window happens under the lock. The guest
+ * gives the lock up only inside monitor_int13, while the request waits, and then leaves its window alone.
+ */
+static void make(struct guest *g, struct request *q)
+{
+    struct monitor *m = g->monitor;
+    uint8_t *window = monitor_window(m, g->number);
+    struct registers r = q->given;
+    uint64_t moved;
+
+    monitor_lock(m);
+    lay_down(g, q, window);
+    enum ending ending = monitor_int13(m, g->number, &r, q->blocks, q->patience, &moved);
+    follow(g, q, ending, moved);
+
+    /* Does the window hold the same? 16 bytes on either side of a buffer are looked at as well. */
     for (unsigned i = 0; i < q->parts; i++)
         compare(g, window, q->laid[i].at, q->laid[i].length, "its packet, result or data");
     if (q->blocks && !q->write)
@@ -199,14 +225,7 @@ static void make(struct guest *g, struct request *q)
         compare(g, window, 0, WINDOW_SIZE, "its memory");
     monitor_unlock(m);
 
-    uint64_t must = ending == ANSWERED ? 0 : q->blocks;
-    if (ending == WITHDRAWN ? moved >= q->blocks || moved % EDD_TURN_BLOCKS != 0 : moved != must)
-        fail(g, "%llu blocks moved of %llu", (unsigned long long)moved, (unsigned long long)q->blocks);
-    if (ending == ANSWERED && q->blocks && q->wanted.carry == 0)
-        fail(g, "a transfer of %llu blocks was answered at once", (unsigned long long)q->blocks);
-    if (memcmp(&r, &q->wanted, sizeof r) != 0)
-        fail(g, "AH=%02x: AX %04x carry %u, not AX %04x carry %u, or another register changed", q->given.ax >> 8, r.ax,
-             r.carry, q->wanted.ax, q->wanted.carry);
+    check_answer(g, q, &r, ending, moved);
 }
 
 /* ---- the parts of a request */
