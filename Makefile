@@ -1,33 +1,36 @@
 # What can be made here; `make` alone lists it. Everything is built below target/.
 #
-# LIBDIR is the directory of libexports.a. `make demo LIBDIR=target/standin` runs the demo over the stand-in of the host tests.
+# LIBDIR is the directory of libexports.a: `make demo LIBDIR=target/standin` takes another library with the same interface.
 
 LIBDIR ?= target/staticlib
-LIBRARY = $(LIBDIR)/libexports.a
-MODEL = target/standin/libexports.a
 REQUESTS ?= 4000
 SEED ?= 1
 
-# C11 and POSIX for the demo's threads. A program of your own needs neither flag to include edd_desk.h.
+LIBRARY = $(LIBDIR)/libexports.a
+OVER = $(notdir $(LIBDIR))
+DEMO = target/demo/$(OVER)/demo
 CFLAGS ?= -O2 -g
-DEMO_CFLAGS = -std=c11 -D_POSIX_C_SOURCE=200809L -Wall -Wextra -Wshadow -Wconversion $(CFLAGS)
+HOST_CFLAGS = -std=c11 -D_POSIX_C_SOURCE=200809L -Wall -Wextra -Wshadow -Wconversion $(CFLAGS) -Iinclude
+CALLS = desk_size open write post turn collect withdraw window block address
+MODEL = $(if $(shell command -v rustc),target/bench/model.so)
 
 help:
 	@echo 'make demo    eight guests on OpenMP threads over one desk; REQUESTS=$(REQUESTS) of each, SEED=$(SEED)'
 	@echo 'make tsan    the demo under ThreadSanitizer: no report, and a wrong lock is reported'
-	@echo 'make bench   ratios: turn against memcpy, calls against the model, cost of each call (docs/PERFORMANCE.md)'
-	@echo 'make test    the host tests (host/test); they use what `make check` or `rt check` left in target/'
-	@echo 'make check   the gate (.ci/run): everything proved from nothing, then all tests; long'
-	@echo 'make clean   removes target/, the proved library too'
+	@echo 'make bench   what a call costs, as ratios to memcpy and to the model (docs/PERFORMANCE.md)'
+	@echo 'make test    the host tests (host/test), on what `make check` or `rt check` left in target/'
+	@echo 'make check   the gate (.ci/run): everything proved from nothing, then all tests; it takes long'
+	@echo 'make clean   removes target/, the built library too'
 
-demo: target/demo/demo
-	target/demo/demo -r $(REQUESTS) -s $(SEED)
+demo: $(DEMO)
+	$(DEMO) -r $(REQUESTS) -s $(SEED)
 
-tsan: $(LIBRARY) need-cc
-	CC='$(CC)' host/demo/tsan $(LIBDIR)
+tsan: $(LIBRARY)
+	host/demo/tsan $(LIBDIR)
 
-bench: target/bench/bench target/bench/library.so target/bench/model.so
-	target/bench/bench target/bench/library.so target/bench/model.so
+bench: target/bench/bench target/bench/$(OVER).so $(MODEL)
+	@[ -n '$(MODEL)' ] || echo 'no rustc: the model is not built, and nothing is compared with it'
+	target/bench/bench target/bench/$(OVER).so $(MODEL)
 
 test:
 	host/test
@@ -40,8 +43,33 @@ clean:
 
 # ---- the library
 
-# rt proves and builds it; only its sources are looked at here, since a proof does not change what is built.
+# A proof does not change what is built, so only the sources count.
 target/staticlib/libexports.a: host/build crates.txt $(wildcard crates/*/src/*.rt)
-	@command -v rt >/dev/null || { echo 'rt is not on the PATH: install the Rattle kit (README.md, "What must be on the machine")'; exit 1; }
+	@command -v rt >/dev/null || { echo 'rt is not on the PATH: install the Rattle kit (README.md)'; exit 1; }
 	host/build
 
+# ---- the demo
+
+$(DEMO): $(wildcard host/demo/*.[ch]) include/edd_desk.h $(LIBRARY) | need-cc
+	@mkdir -p $(@D)
+	$(CC) $(HOST_CFLAGS) -fopenmp $(wildcard host/demo/*.c) -L$(LIBDIR) -lexports -o $@
+
+# ---- the benchmark: the library and the model as shared objects, since both have the same names
+
+target/bench/bench: $(wildcard host/bench/*.[ch]) include/edd_desk.h | need-cc
+	@mkdir -p $(@D)
+	$(CC) $(HOST_CFLAGS) $(wildcard host/bench/*.c) -ldl -o $@
+
+target/bench/$(OVER).so: $(LIBRARY) | need-cc
+	@mkdir -p $(@D)
+	$(CC) -shared $(CALLS:%=-Wl,-u,edd_%) $< -o $@
+
+target/bench/model.so: $(wildcard host/model/*.rs host/standin/*.rs)
+	@mkdir -p $(@D)
+	rustc --edition 2021 -C opt-level=3 --crate-type rlib --crate-name model host/model/lib.rs --out-dir $(@D)
+	rustc --edition 2021 -C opt-level=3 --crate-type cdylib --crate-name standin --extern model=$(@D)/libmodel.rlib host/standin/lib.rs -o $@
+
+need-cc:
+	@command -v $(firstword $(CC)) >/dev/null || { echo 'no C compiler $(CC): install gcc, or set CC'; exit 1; }
+
+.PHONY: help demo tsan bench test check clean need-cc
