@@ -477,7 +477,7 @@ static void wrong(struct guest *g)
     uint64_t blocks = disk->blocks;
     uint64_t size = (uint64_t)disk->cylinders * disk->heads * disk->sectors;
 
-    switch (between(g, 0, 14)) {
+    switch (between(g, 0, 15)) {
     case 0: wrong_registers(g, 0x15, 0x80 + g->number, 0x01); break;              /* unknown function */
     case 1: wrong_registers(g, 0x42, 0x7f, 0x01); break;                          /* unknown drive */
     case 2: wrong_registers(g, 0x02, 0x88, 0x01); break;
@@ -493,6 +493,7 @@ static void wrong(struct guest *g)
     case 12: wrong_packet(g, 0x42, 15, 1, 0x8000, 0, 0x01, 0); break;             /* packet too short */
     case 13: wrong_packet(g, 0x42, 16, 1, WINDOW_SIZE - 511, 0, 0x09, 1); break;  /* buffer past the window */
     case 14: wrong_packet(g, 0x43, 16, 1, 0x8000, 0, 0x01, 0); break;             /* AL above 2 */
+    case 15: wrong_packet(g, 0x47, 16, 1, 0x8000, blocks, 0x04, 0); break;        /* seek past the drive */
     }
 }
 
