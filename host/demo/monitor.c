@@ -65,9 +65,7 @@ uint8_t *monitor_window(struct monitor *m, unsigned guest)
 
 static uint32_t post(struct monitor *m, unsigned guest, struct registers *r)
 {
-    tsan_lent_for_change(m->desk, sizeof m->desk, TSAN_DESK);
-    tsan_lent_for_change(m->arena, m->arena_length, TSAN_ARENA);
-    tsan_lent_to_read(m->store, m->store_length, TSAN_STORE);
+    tsan_lend(m);
     uint32_t number = edd_post(m->desk, sizeof m->desk, m->arena, m->arena_length, m->store, m->store_length, guest,
                                &r->ax, &r->bx, &r->cx, &r->dx, r->ds, r->si, r->es, &r->carry);
     if (number != EDD_DONE && number != EDD_NOTHING_YET)
@@ -77,7 +75,7 @@ static uint32_t post(struct monitor *m, unsigned guest, struct registers *r)
 
 static uint32_t collect(struct monitor *m, unsigned guest, struct registers *r)
 {
-    tsan_lent_for_change(m->desk, sizeof m->desk, TSAN_DESK);
+    tsan_lend(m);
     uint32_t number = edd_collect(m->desk, sizeof m->desk, guest, &r->ax, &r->bx, &r->cx, &r->dx, &r->ds, &r->si, &r->es,
                                   &r->carry);
     if (number != EDD_DONE && number != EDD_NOT_FINISHED)
@@ -87,9 +85,7 @@ static uint32_t collect(struct monitor *m, unsigned guest, struct registers *r)
 
 static uint32_t withdraw(struct monitor *m, unsigned guest, struct registers *r)
 {
-    tsan_lent_for_change(m->desk, sizeof m->desk, TSAN_DESK);
-    tsan_lent_for_change(m->arena, m->arena_length, TSAN_ARENA);
-    tsan_lent_to_read(m->store, m->store_length, TSAN_STORE);
+    tsan_lend(m);
     uint32_t number = edd_withdraw(m->desk, sizeof m->desk, m->arena, m->arena_length, m->store, m->store_length, guest,
                                    &r->ax, &r->bx, &r->cx, &r->dx, &r->ds, &r->si, &r->es, &r->carry);
     if (number != EDD_DONE && number != EDD_NOT_WAITING)
@@ -170,9 +166,7 @@ int monitor_turn(struct monitor *m)
 
     monitor_lock(m);
     for (;;) {
-        tsan_lent_for_change(m->desk, sizeof m->desk, TSAN_DESK);
-        tsan_lent_for_change(m->arena, m->arena_length, TSAN_ARENA);
-        tsan_lent_for_change(m->store, m->store_length, TSAN_STORE);
+        tsan_lend(m);
         number = edd_turn(m->desk, sizeof m->desk, m->arena, m->arena_length, m->store, m->store_length, &guest, &moved);
         if (number != EDD_NOTHING_YET || m->running == 0)
             break;
