@@ -1,0 +1,784 @@
+//! Random calls, library against model, call by call: the answer, every value behind a pointer, and every byte of desk, arena, store and
+//! buffer must be the same. The calls go to worlds, each an arena, a store and a desk opened over them; most calls are good enough that
+//! requests wait, are served in parts, finish, are collected or withdrawn, with eight guests in between each other.
+
+use crate::chance::Chance;
+use crate::drives::{self, Drive};
+use crate::service::{Lent, Library, Model, Service};
+use crate::tally::Tally;
+use model::addresses::{Address, Geometry};
+use model::parts::{Desk, Row};
+use model::{Registers, DESK_SIZE};
+use std::sync::atomic::{AtomicU64, Ordering};
+
+/// For the message when the machine stops a call: see `main`.
+pub static SEED: AtomicU64 = AtomicU64::new(0);
+pub static CALL: AtomicU64 = AtomicU64::new(0);
+
+/// A call with its arguments; the slices it is lent are in `Lending`.
+#[derive(Clone, Debug)]
+pub enum Call {
+    Open { arena_length: u64, store_length: u64 },
+    Write,
+    Post { guest: u64, registers: Registers },
+    Turn,
+    Collect { guest: u64, registers: Registers },
+    Withdraw { guest: u64, registers: Registers },
+    Window { arena_length: u64, guest: u64 },
+    Block { geometry: [u32; 3], address: [u32; 3] },
+    Address { geometry: [u32; 3], block: u64 },
+}
+
+/// What a call left behind its pointers. What it did not write still holds what was there before, which is the same on both sides.
+#[derive(Clone, Copy, PartialEq, Eq, Debug)]
+pub struct Outcome {
+    pub answer: u32,
+    pub numbers: [u64; 3],
+    pub registers: Registers,
+}
+
+struct Slices<'a> {
+    desk: &'a mut [u8],
+    arena: &'a mut [u8],
+    store: &'a mut [u8],
+    table: &'a [u8],
+    out: &'a mut [u8],
+}
+
+fn perform(service: &dyn Service, call: &Call, lent: Slices, before: [u64; 3]) -> Outcome {
+    let mut n = before;
+    let mut r = Registers::default();
+    let Slices { desk, arena, store, table, out } = lent;
+    let geometry = |g: &[u32; 3]| Geometry { cylinders: g[0], heads: g[1], sectors: g[2] };
+    let answer = match call {
+        Call::Open { arena_length, store_length } => service.open(desk, table, *arena_length, *store_length, &mut n[0]),
+        Call::Write => service.write(desk, out, &mut n[0]),
+        Call::Post { guest, registers } => {
+            r = *registers;
+            service.post(desk, arena, store, *guest, &mut r)
+        }
+        Call::Turn => {
+            let [guest, moved, _] = &mut n;
+            service.turn(desk, arena, store, guest, moved)
+        }
+        Call::Collect { guest, registers } => {
+            r = *registers;
+            service.collect(desk, *guest, &mut r)
+        }
+        Call::Withdraw { guest, registers } => {
+            r = *registers;
+            service.withdraw(desk, arena, store, *guest, &mut r)
+        }
+        Call::Window { arena_length, guest } => {
+            let [start, length, _] = &mut n;
+            service.window(*arena_length, *guest, start, length)
+        }
+        Call::Block { geometry: g, address: a } => {
+            let mut block = n[0] as u32;
+            let answer = service.block(geometry(g), Address { cylinder: a[0], head: a[1], sector: a[2] }, &mut block);
+            n[0] = u64::from(block);
+            answer
+        }
+        Call::Address { geometry: g, block } => {
+            let mut at = Address { cylinder: n[0] as u32, head: n[1] as u32, sector: n[2] as u32 };
+            let answer = service.address(geometry(g), *block, &mut at);
+            n = [at.cylinder, at.head, at.sector].map(u64::from);
+            answer
+        }
+    };
+    Outcome { answer, numbers: n, registers: r }
+}
+
+/// The world's own slice, or another one for this call only.
+enum Slice {
+    Own,
+    Other(Vec<u8>),
+}
+
+/// An arena and a store, twice, with a desk that was opened over them.
+struct World {
+    drives: Vec<Drive>,
+    window: u64,
+    desk: Lent,
+    arena: Lent,
+    store: Lent,
+    model_desk: Vec<u8>,
+    model_arena: Vec<u8>,
+    model_store: Vec<u8>,
+}
+
+/// Slices for one call, and the one thing of the library that is a choice of the caller.
+struct Spare {
+    desk: Lent,
+    arena: Lent,
+    store: Lent,
+    table: Lent,
+    out: Lent,
+    library: Library,
+}
+
+pub struct Run {
+    chance: Chance,
+    seed: u64,
+    calls: u64,
+    wanted: u64,
+    tally: Tally,
+    world: World,
+    spare: Spare,
+}
+
+const TABLE_ROOM: usize = 1024;
+const SPARE_ROOM: usize = 4096;
+
+impl World {
+    fn new(chance: &mut Chance) -> World {
+        // windows below a packet, below a block, of some parts of sixteen, of a whole AL of 128, above 1 MiB
+        let window = match chance.weighed(&[(3, 0), (4, 1), (25, 2), (45, 3), (12, 4), (1, 5)]) {
+            0 => chance.one_of(&[0, 0, 1, 2, 15, 16, 17]),
+            1 => chance.between(18, 1100),
+            2 => chance.between(512, 5000),
+            3 => chance.between(5000, 24_000),
+            4 => chance.between(66_000, 70_000),
+            _ => chance.between(0x10_FFEF, 0x11_2000),
+        };
+        let blocks = match chance.weighed(&[(1, 0), (8, 1), (40, 2), (40, 3), (2, 4)]) {
+            0 => 0,
+            1 => chance.between(1, 12),
+            2 => chance.between(12, 120),
+            3 => chance.between(120, 400),
+            _ => 2048,
+        };
+        let arena_length = 8 * window + if chance.percent(50) { chance.below(8) } else { 0 };
+        let store_length = 512 * blocks + if chance.percent(50) { chance.below(512) } else { 0 };
+        let drives = drives::drives(chance, blocks);
+        let arena = chance.bytes(arena_length as usize);
+        let store = chance.bytes(store_length as usize);
+        // opening looks at the size of the block alone: it is opened over random bytes
+        let desk = chance.bytes(DESK_SIZE);
+        let at_end = chance.percent(70);
+        World {
+            drives,
+            window,
+            desk: Lent::holding(&desk, at_end),
+            arena: Lent::holding(&arena, at_end),
+            store: Lent::holding(&store, at_end),
+            model_desk: desk,
+            model_arena: arena,
+            model_store: store,
+        }
+    }
+
+    fn rows(&self) -> Option<Desk> {
+        model::block::read(&self.model_desk)
+    }
+
+    /// The host writes into a guest's window, on both sides; what would fall outside is dropped.
+    fn poke(&mut self, guest: u64, place: u64, bytes: &[u8]) {
+        for (i, byte) in bytes.iter().enumerate() {
+            let at = place + i as u64;
+            if guest < 8 && at < self.window {
+                let at = (guest * self.window + at) as usize;
+                self.model_arena[at] = *byte;
+                self.arena.bytes_mut()[at] = *byte;
+            }
+        }
+    }
+
+    fn set_desk(&mut self, bytes: &[u8]) {
+        self.model_desk.copy_from_slice(bytes);
+        self.desk.bytes_mut().copy_from_slice(bytes);
+    }
+}
+
+impl Run {
+    pub fn new(seed: u64, wanted: u64) -> Run {
+        let mut chance = Chance::new(seed);
+        let world = World::new(&mut chance);
+        let spare = Spare {
+            desk: Lent::with_room(2 * DESK_SIZE),
+            arena: Lent::with_room(SPARE_ROOM),
+            store: Lent::with_room(SPARE_ROOM),
+            table: Lent::with_room(TABLE_ROOM),
+            out: Lent::with_room(TABLE_ROOM),
+            library: Library::default(),
+        };
+        SEED.store(seed, Ordering::Relaxed);
+        Run { chance, seed, calls: 0, wanted, tally: Tally::default(), world, spare }
+    }
+
+    /// Runs all calls; the summary, or what differed.
+    pub fn run(mut self) -> Result<Tally, String> {
+        while self.calls < self.wanted {
+            self.world = World::new(&mut self.chance);
+            self.tally.worlds += 1;
+            self.open_world()?;
+            let length = if self.world.window > 60_000 { 250 } else { self.chance.between(50, 800) };
+            let end = (self.calls + length).min(self.wanted);
+            while self.calls < end {
+                self.step()?;
+            }
+        }
+        Ok(self.tally)
+    }
+
+    fn open_world(&mut self) -> Result<(), String> {
+        let table = drives::table(&self.world.drives);
+        let (arena_length, store_length) = (self.world.model_arena.len() as u64, self.world.model_store.len() as u64);
+        let opened = self.call(Call::Open { arena_length, store_length }, Slice::Own, Slice::Own, Slice::Own, table)?;
+        if opened.answer == 0 { Ok(()) } else { Err(format!("a good table was refused with {}", opened.answer)) }
+    }
+
+    // ---- one call, both ways
+
+    fn call(&mut self, call: Call, desk: Slice, arena: Slice, store: Slice, table: Vec<u8>) -> Result<Outcome, String> {
+        self.calls += 1;
+        CALL.store(self.calls, Ordering::Relaxed);
+        let at_end = self.chance.percent(70);
+        self.spare.library.null_for_empty.set(self.chance.percent(50));
+        let before = [self.chance.any(), self.chance.any(), self.chance.any()];
+        let before = if matches!(call, Call::Block { .. } | Call::Address { .. }) { before.map(|n| n & 0xFFFF_FFFF) } else { before };
+        let room = self.room_for_write();
+        let mut out = self.chance.bytes(room);
+
+        let spare = &mut self.spare;
+        lay(&mut spare.table, &table, at_end);
+        lay(&mut spare.out, &out, at_end);
+        for (slice, lent) in [(&desk, &mut spare.desk), (&arena, &mut spare.arena), (&store, &mut spare.store)] {
+            lay(lent, if let Slice::Other(bytes) = slice { bytes } else { &[] }, at_end);
+        }
+        let world = &mut self.world;
+        let own = |slice: &Slice| matches!(slice, Slice::Own);
+        let lent_desk = if own(&desk) { &mut world.desk } else { &mut spare.desk };
+        let lent_arena = if own(&arena) { &mut world.arena } else { &mut spare.arena };
+        let lent_store = if own(&store) { &mut world.store } else { &mut spare.store };
+
+        let only_read = matches!(call, Call::Post { .. } | Call::Withdraw { .. });
+        lent_store.set_read_only(only_read);
+        lent_desk.set_read_only(matches!(call, Call::Write));
+        spare.table.set_read_only(true);
+        let by_library = perform(
+            &spare.library,
+            &call,
+            Slices {
+                desk: lent_desk.bytes_mut(),
+                arena: lent_arena.bytes_mut(),
+                store: lent_store.bytes_mut(),
+                table: spare.table.bytes(),
+                out: spare.out.bytes_mut(),
+            },
+            before,
+        );
+        spare.table.set_read_only(false);
+        lent_desk.set_read_only(false);
+        lent_store.set_read_only(false);
+
+        let (mut other_desk, mut other_arena, mut other_store) = (desk, arena, store);
+        let model_desk = pick(&mut other_desk, &mut world.model_desk);
+        let model_arena = pick(&mut other_arena, &mut world.model_arena);
+        let model_store = pick(&mut other_store, &mut world.model_store);
+        let by_model = perform(
+            &Model,
+            &call,
+            Slices { desk: model_desk, arena: model_arena, store: model_store, table: &table, out: &mut out },
+            before,
+        );
+
+        let lends_memory = matches!(call, Call::Post { .. } | Call::Turn | Call::Withdraw { .. });
+        let mut found = None;
+        if by_library != by_model {
+            found = Some(format!("library {by_library:?}\nmodel   {by_model:?}"));
+        }
+        found = found.or_else(|| difference("desk", lent_desk, model_desk));
+        if lends_memory {
+            found = found.or_else(|| difference("arena", lent_arena, model_arena));
+            found = found.or_else(|| difference("store", lent_store, model_store));
+        }
+        found = found.or_else(|| difference("buffer", &spare.out, &out));
+        found = found.or_else(|| difference("table", &spare.table, &table));
+        if let Some(what) = found {
+            let lengths = format!(
+                "desk {}, arena {}, store {}, table {}, buffer {}",
+                model_desk.len(), model_arena.len(), model_store.len(), table.len(), out.len()
+            );
+            return Err(format!("seed {}, call {}: {call:x?}\nlengths: {lengths}\n{what}", self.seed, self.calls));
+        }
+        self.tally.add(&call, &by_model);
+        Ok(by_model)
+    }
+
+    /// Buffers around the length of the world's table, for edd_write.
+    fn room_for_write(&mut self) -> usize {
+        let table = 68 * self.world.drives.len() + 4;
+        match self.chance.below(6) {
+            0 => table,
+            1 => table - 1,
+            2 => table + self.chance.below(100) as usize,
+            3 => self.chance.below(4) as usize,
+            4 => self.chance.below(table as u64) as usize,
+            _ => 548,
+        }
+    }
+
+    // ---- what is called
+
+    fn step(&mut self) -> Result<(), String> {
+        match self.chance.weighed(&[(86, 0), (6, 1), (3, 2), (2, 3), (3, 4)]) {
+            0 => self.at_desk(Slice::Own),
+            1 => self.hostile_block(),
+            2 => {
+                let desk = self.wrong_size();
+                self.at_desk(desk)
+            }
+            3 => self.opening(),
+            _ => self.without_desk(),
+        }
+    }
+
+    /// One call at a desk, mostly with the world's arena and store.
+    fn at_desk(&mut self, desk: Slice) -> Result<(), String> {
+        // turns and collects are rarer where there is nothing to serve or to hand out
+        let (waiting, finished) = self.rows_by_stage();
+        let kind = self.chance.weighed(&[(30, 0), (4 + 6 * waiting, 1), (2 + 6 * finished, 2), (3 + waiting / 2, 3), (3, 4)]);
+        let arena = self.memory(self.world.model_arena.len());
+        let store = self.memory(self.world.model_store.len());
+        let call = match kind {
+            0 => self.post(),
+            1 => Call::Turn,
+            2 => Call::Collect { guest: self.guest_in(|row| matches!(row, Row::Finished(_))), registers: self.registers() },
+            3 => Call::Withdraw { guest: self.guest_in(|row| matches!(row, Row::Waiting(_))), registers: self.registers() },
+            _ => Call::Write,
+        };
+        self.call(call, desk, arena, store, Vec::new())?;
+        // the host and the guests write memory between calls
+        if self.chance.percent(3) {
+            let (guest, place, bytes) = (self.chance.below(8), self.chance.below(self.world.window.max(1)), self.chance.bytes(40));
+            self.world.poke(guest, place, &bytes);
+        }
+        Ok(())
+    }
+
+    /// The world's own memory, or sometimes a slice of another length; by chance it may have the same.
+    fn memory(&mut self, own: usize) -> Slice {
+        if self.chance.percent(97) {
+            return Slice::Own;
+        }
+        let length = match self.chance.below(4) {
+            0 => 0,
+            1 => own.wrapping_add(1),
+            2 => own.wrapping_sub(1),
+            _ => self.chance.below(3000) as usize,
+        };
+        Slice::Other(self.chance.bytes(length.min(SPARE_ROOM)))
+    }
+
+    fn rows_by_stage(&self) -> (u64, u64) {
+        let Some(desk) = self.world.rows() else { return (2, 2) };
+        let count = |wanted: fn(&Row) -> bool| desk.rows.iter().filter(|row| wanted(row)).count() as u64;
+        (count(|row| matches!(row, Row::Waiting(_))), count(|row| matches!(row, Row::Finished(_))))
+    }
+
+    /// A desk block of another size, with the world's bytes as far as they go.
+    fn wrong_size(&mut self) -> Slice {
+        let size = match self.chance.below(5) {
+            0 => 0,
+            1 => DESK_SIZE - self.chance.between(1, 8) as usize,
+            2 => DESK_SIZE + self.chance.between(1, 8) as usize,
+            3 => self.chance.below(DESK_SIZE as u64) as usize,
+            _ => 2 * DESK_SIZE,
+        };
+        let mut bytes = self.world.model_desk.clone();
+        bytes.resize(size, 0);
+        Slice::Other(bytes)
+    }
+
+    fn guest(&mut self) -> u64 {
+        if self.chance.percent(97) {
+            return self.chance.below(8);
+        }
+        self.chance.weighed(&[(4, 8), (1, 9), (1, 256), (1, 1 << 32), (1, 1 << 61), (1, u64::MAX - 7), (1, u64::MAX)])
+    }
+
+    /// A guest, mostly one whose row is as wanted.
+    fn guest_in(&mut self, wanted: impl Fn(&Row) -> bool) -> u64 {
+        let guest = self.guest();
+        if guest < 8 && self.chance.percent(80) {
+            if let Some(desk) = self.world.rows() {
+                return (0..8).map(|i| (guest + i) % 8).find(|g| wanted(&desk.rows[*g as usize])).unwrap_or(guest);
+            }
+        }
+        guest
+    }
+
+    fn registers(&mut self) -> Registers {
+        let mut r = || self.chance.word();
+        Registers { ax: r(), bx: r(), cx: r(), dx: r(), ds: r(), si: r(), es: r(), carry: r() }
+    }
+
+    // ---- posts
+
+    fn post(&mut self) -> Call {
+        let guest = self.guest_in(|row| matches!(row, Row::Vacant));
+        let function = self.chance.weighed(&[
+            (22, 0x42), (22, 0x43), (14, 0x02), (13, 0x03), (6, 0x44), (6, 0x47), (8, 0x48), (4, 0x41), (4, 0x08), (2, 0xFFFF),
+        ]);
+        let mut r = self.registers();
+        r.carry = self.chance.one_of(&[0, 1, r.carry]);
+        r.set_ah(if function == 0xFFFF { self.chance.byte() } else { function as u8 });
+        let drive = self.drive(&mut r);
+        match r.ah() {
+            0x02 | 0x03 => self.sectors(&mut r, drive),
+            0x41 if self.chance.percent(80) => r.bx = 0x55AA,
+            0x42 | 0x43 | 0x44 | 0x47 => self.packet(guest, &mut r, drive),
+            0x48 => self.result_buffer(guest, &mut r),
+            _ => {}
+        }
+        Call::Post { guest, registers: r }
+    }
+
+    /// A drive of the table in DL, or sometimes a number that is none.
+    fn drive(&mut self, r: &mut Registers) -> Option<Drive> {
+        let count = self.world.drives.len() as u64;
+        let odd = self.chance.one_of(&[0, 0x7F, 0x80 + count, 0xFF, u64::from(r.dl())]);
+        let number = if count > 0 && self.chance.percent(95) { 0x80 + self.chance.below(count) } else { odd };
+        r.dx = r.dx & 0xFF00 | number as u16 & 0xFF;
+        self.world.drives.get((number as usize).wrapping_sub(0x80)).copied()
+    }
+
+    /// How many blocks: mostly what the window and the drive have room for.
+    fn count(&mut self, drive: &Drive, most: u64) -> u64 {
+        let room = (self.world.window / 512).min(drive.blocks).min(most);
+        match self.chance.below(40) {
+            0 => 0,
+            1 => self.chance.one_of(&[most, most + 1, 128, 129, 255, 256, 65535]),
+            2 => room,
+            3 => room + 1,
+            4 => 16.min(room),
+            5 => 17.min(room),
+            _ if room > 0 => self.chance.between(1, room),
+            _ => 1,
+        }
+    }
+
+    /// The first block: mostly one from which the count fits.
+    fn start(&mut self, blocks: u64, count: u64) -> u64 {
+        let last = blocks.saturating_sub(count);
+        match self.chance.below(50) {
+            0 => last,
+            1 => last + 1,
+            2 => blocks,
+            3 => u64::MAX,
+            4 => 0u64.wrapping_sub(count),
+            5 => self.chance.any(),
+            6 => self.chance.one_of(&[1 << 32, 1 << 63, blocks + (1 << 32)]),
+            _ => self.chance.between(0, last),
+        }
+    }
+
+    /// A place in the window from which `length` bytes fit, mostly.
+    fn place(&mut self, length: u64) -> u64 {
+        let last = self.world.window.saturating_sub(length);
+        match self.chance.below(40) {
+            0 => last,
+            1 => last + 1,
+            2 => self.world.window,
+            3 => self.chance.between(last, last + length),
+            4 => 0,
+            _ => self.chance.between(0, last),
+        }
+    }
+
+    /// A segment and an offset that give the place, as far as there are some.
+    fn split(&mut self, place: u64) -> (u16, u16) {
+        let highest = (place / 16).min(0xFFFF);
+        let lowest = place.saturating_sub(0xFFFF).div_ceil(16).min(highest);
+        let segment = self.chance.between(lowest, highest);
+        (segment as u16, (place - 16 * segment).min(0xFFFF) as u16)
+    }
+
+    fn sectors(&mut self, r: &mut Registers, drive: Option<Drive>) {
+        let Some(drive) = drive else { return };
+        let count = self.count(&drive, 128).min(255);
+        r.set_al(count as u8);
+        let block = self.start(drive.geometry(), count);
+        let (h, s) = (u64::from(drive.heads), u64::from(drive.sectors));
+        let (mut cylinder, mut head, mut sector) = (block / s / h, block / s % h, block % s + 1);
+        if self.chance.percent(8) {
+            match self.chance.below(5) {
+                0 => sector = 0,
+                1 => sector = s + 1,
+                2 => head = h,
+                3 => cylinder = u64::from(drive.cylinders),
+                _ => (cylinder, head, sector) = (self.chance.any(), self.chance.any(), self.chance.any()),
+            }
+        }
+        r.cx = ((cylinder & 0xFF) << 8 | (cylinder >> 8 & 3) << 6 | sector & 0x3F) as u16;
+        r.dx = (head as u16) << 8 | r.dx & 0xFF;
+        let buffer = self.place(512 * count);
+        (r.es, r.bx) = self.split(buffer);
+    }
+
+    fn packet(&mut self, guest: u64, r: &mut Registers, drive: Option<Drive>) {
+        if r.ah() == 0x43 && self.chance.percent(97) {
+            r.set_al(self.chance.weighed(&[(20, 0), (12, 1), (6, 2), (1, 3)]));
+        }
+        let place = self.place(16);
+        (r.ds, r.si) = self.split(place);
+        let Some(drive) = drive else { return };
+        let count = self.count(&drive, 127);
+        let start = self.start(drive.blocks, count);
+        let buffer = self.place(512 * count);
+        let (segment, offset) = if self.chance.percent(2) { (0xFFFF, 0xFFFF) } else { self.split(buffer) };
+        let size = self.chance.weighed(&[(40, 16), (4, 24), (2, 255), (2, 15), (1, 0)]);
+        let mut packet = vec![size, self.chance.byte()];
+        packet.extend((count as u16).to_le_bytes());
+        packet.extend(offset.to_le_bytes());
+        packet.extend(segment.to_le_bytes());
+        packet.extend(start.to_le_bytes());
+        if self.chance.percent(3) {
+            packet[self.chance.below(16) as usize] ^= 1 << self.chance.below(8);
+        }
+        if self.chance.percent(98) {
+            self.world.poke(guest, place, &packet);
+        }
+    }
+
+    fn result_buffer(&mut self, guest: u64, r: &mut Registers) {
+        let from_end = self.chance.one_of(&[0, 1, 2, 25, 26, 29, 30, 65, 66, 67]);
+        let place = if self.chance.percent(50) { self.place(66) } else { self.world.window.saturating_sub(from_end) };
+        (r.ds, r.si) = self.split(place);
+        let size = self.chance.one_of(&[0, 25, 26, 29, 30, 65, 66, 74, 0xFFFF, r.ax]);
+        self.world.poke(guest, place, &size.to_le_bytes());
+    }
+
+    // ---- openings
+
+    fn opening(&mut self) -> Result<(), String> {
+        let (own_arena, own_store) = (self.world.model_arena.len() as u64, self.world.model_store.len() as u64);
+        // most are tried on another block, since one that passes ends the world's list
+        let desk = match self.chance.below(10) {
+            0 => self.wrong_size(),
+            1..=5 => Slice::Other(self.chance.bytes(DESK_SIZE)),
+            6 => {
+                // the opened block is lent with its own lengths: 2^64 - 1 can match no slice
+                return self.absurd_lengths();
+            }
+            _ => Slice::Own,
+        };
+        let is_own = matches!(desk, Slice::Own);
+        let any = self.chance.any();
+        let (arena_length, store_length) = if is_own {
+            (own_arena, own_store)
+        } else {
+            (
+                self.chance.one_of(&[own_arena, 0, 7, 8, u64::MAX, any]),
+                self.chance.one_of(&[own_store, own_store, own_store, 0, 511, 512, 1 << 41, u64::MAX, any]),
+            )
+        };
+        let table = drives::any_table(&mut self.chance, store_length / 512);
+        let opened = self.call(Call::Open { arena_length, store_length }, desk, Slice::Own, Slice::Own, table)?;
+        if is_own && opened.answer == 0 {
+            // the drives that the posts are made for are those that now stand in the block
+            self.world.drives = self.world.rows().map(|desk| desk.drives.known().iter().map(known).collect()).unwrap_or_default();
+        }
+        Ok(())
+    }
+
+    /// Opens with lengths that no slice has, and makes a few calls at that desk.
+    fn absurd_lengths(&mut self) -> Result<(), String> {
+        let kept = self.world.model_desk.clone();
+        let length = self.chance.one_of(&[u64::MAX, u64::MAX - 7, 1 << 63]);
+        let drives = drives::drives(&mut self.chance, 40);
+        let call = Call::Open { arena_length: length, store_length: length };
+        self.call(call, Slice::Own, Slice::Own, Slice::Own, drives::table(&drives))?;
+        for _ in 0..4 {
+            self.at_desk(Slice::Own)?;
+        }
+        self.world.set_desk(&kept);
+        Ok(())
+    }
+
+    // ---- hostile blocks
+
+    /// The world's block with something changed, and a few calls at it. Now and then one that is accepted is kept.
+    fn hostile_block(&mut self) -> Result<(), String> {
+        let kept = self.world.model_desk.clone();
+        let mut bytes = kept.clone();
+        let changes = self.chance.weighed(&[(12, 1), (3, 2), (1, 5)]);
+        for _ in 0..changes {
+            self.change_block(&mut bytes);
+        }
+        self.world.set_desk(&bytes);
+        let room = Slice::Other(Vec::new());
+        let looked = self.call(Call::Write, Slice::Own, Slice::Other(Vec::new()), room, Vec::new())?;
+        self.tally.hostile(looked.answer != 25);
+        let more = if looked.answer == 25 { self.chance.between(0, 2) } else { self.chance.between(2, 8) };
+        for _ in 0..more {
+            self.at_desk(Slice::Own)?;
+        }
+        let own_lengths = |b: &[u8]| b[8 * 298..] == kept[8 * 298..] && b[8 * 184..8 * 297] == kept[8 * 184..8 * 297];
+        let accepted = self.world.rows().is_some();
+        if !(accepted && own_lengths(&self.world.model_desk) && self.chance.percent(30)) {
+            self.world.set_desk(&kept);
+        }
+        Ok(())
+    }
+
+    fn change_block(&mut self, bytes: &mut [u8]) {
+        let get = |bytes: &[u8], word: usize| u64::from_le_bytes(bytes[8 * word..][..8].try_into().unwrap());
+        let guest = self.chance.below(8) as usize;
+        let row = 23 * self.waiting_row().unwrap_or(guest);
+        let at = match self.chance.below(10) {
+            0 => {
+                let at = self.chance.below(DESK_SIZE as u64) as usize;
+                bytes[at] ^= 1 << self.chance.below(8);
+                return;
+            }
+            1 => return self.change_row(bytes, guest),
+            2..=5 => row + self.chance.below(23) as usize,
+            6 => row + self.chance.between(9, 14) as usize,
+            7 => 184 + 14 * self.chance.below(self.world.drives.len().max(1) as u64) as usize + self.chance.below(14) as usize,
+            8 => 296 + self.chance.below(4) as usize,
+            _ => self.chance.below(300) as usize,
+        };
+        let old = get(bytes, at);
+        let (count, m) = (get(bytes, row + 11), self.world.window);
+        let blocks = self.world.drives.first().map_or(0, |d| d.blocks);
+        let mut values = vec![
+            u64::MAX, u64::MAX, u64::MAX - 15, 0, 1, 1 << 16, 1 << 32, 1 << 63, old.wrapping_add(1), old.wrapping_sub(1),
+            old ^ 1 << self.chance.below(64), old.wrapping_add(16), old & !15, self.chance.any(), u64::from(self.chance.word()),
+        ];
+        values.extend([m, m.wrapping_sub(16), m.wrapping_sub(15), m.wrapping_sub(count.wrapping_mul(512)), m.wrapping_sub(511)]);
+        values.extend([blocks, blocks.wrapping_sub(count), 0u64.wrapping_sub(count), 128, 127, 0x80, 0x81, 2, 8]);
+        values.extend([0x0201, 0x0302, 0x4200, 0x4300, 0x4400, old & 0xFF | 0x0200, old & 0xFF | 0x4200]);
+        let value = self.chance.one_of(&values);
+        bytes[8 * at..8 * at + 8].copy_from_slice(&value.to_le_bytes());
+    }
+
+    fn waiting_row(&mut self) -> Option<usize> {
+        let from = self.chance.below(8) as usize;
+        let desk = self.world.rows()?;
+        (0..8).map(|i| (from + i) % 8).find(|g| matches!(desk.rows[*g], Row::Waiting(_)))
+    }
+
+    /// A whole row made anew: a copy of another, a finished one with any registers, or a request made up from a drive.
+    fn change_row(&mut self, bytes: &mut [u8], guest: usize) {
+        let mut words = [0u64; 23];
+        match self.chance.below(3) {
+            0 => {
+                let from = 184 * self.chance.below(8) as usize;
+                bytes.copy_within(from..from + 184, 184 * guest);
+                return;
+            }
+            1 => {
+                words[0] = 2;
+                words[15..22].fill_with(|| u64::from(self.chance.word()));
+                words[22] = self.chance.weighed(&[(5, 0), (5, 1), (1, 2)]);
+            }
+            _ => {
+                let Some(place) = (self.world.drives.len() as u64).checked_sub(1).map(|last| self.chance.between(0, last)) else {
+                    return;
+                };
+                let drive = self.world.drives[place as usize];
+                let function = self.chance.one_of(&[0x02, 0x03, 0x42, 0x43]);
+                let (limit, blocks) = if function < 0x40 { (128, drive.geometry()) } else { (127, drive.blocks) };
+                words[0] = 1;
+                words[1..8].fill_with(|| u64::from(self.chance.word()));
+                words[1] = function << 8 | words[1] & 0xFF;
+                words[8] = self.chance.below(2);
+                words[9] = 0x80 + place;
+                words[11] = self.count(&drive, limit);
+                words[10] = self.start(blocks, words[11]);
+                words[12] = self.place(words[11].wrapping_mul(512));
+                words[13] = if function < 0x40 { 0 } else { self.place(16) };
+                words[14] = self.chance.below(words[11] + 1) & !15;
+            }
+        }
+        for (i, word) in words.iter().enumerate() {
+            bytes[184 * guest + 8 * i..][..8].copy_from_slice(&word.to_le_bytes());
+        }
+    }
+
+    // ---- windows and addresses
+
+    fn without_desk(&mut self) -> Result<(), String> {
+        let any = self.chance.any();
+        let limit = |chance: &mut Chance, most: u32| {
+            let small = chance.between(1, u64::from(most)) as u32;
+            chance.weighed(&[(12, small), (1, 0), (2, most), (1, most + 1), (1, u32::MAX), (1, 1 << 16)])
+        };
+        let geometry = [limit(&mut self.chance, 1024), limit(&mut self.chance, 255), limit(&mut self.chance, 63)];
+        let call = match self.chance.below(3) {
+            0 => Call::Window {
+                arena_length: self.chance.one_of(&[0, 1, 7, 8, 9, 63, 64, 65, 4103, u64::MAX, u64::MAX - 7, 1 << 63, any, any >> 40]),
+                guest: self.guest(),
+            },
+            1 => {
+                let part = |chance: &mut Chance, end: u32| {
+                    let inside = chance.below(u64::from(end.max(1))) as u32;
+                    chance.weighed(&[(10, inside), (1, 0), (1, end.wrapping_sub(1)), (1, end), (1, u32::MAX)])
+                };
+                let [c, h, s] = geometry;
+                let address = [part(&mut self.chance, c), part(&mut self.chance, h), part(&mut self.chance, s.saturating_add(1))];
+                Call::Block { geometry, address }
+            }
+            _ => {
+                let size = geometry.iter().map(|n| u64::from(*n)).fold(1u64, u64::saturating_mul);
+                let inside = self.chance.below(size.max(1));
+                let block = self.chance.one_of(&[inside, inside, inside, size.wrapping_sub(1), size, 0, 1 << 32, u64::MAX, inside + (1 << 32)]);
+                Call::Address { geometry, block }
+            }
+        };
+        self.call(call, Slice::Own, Slice::Own, Slice::Own, Vec::new())?;
+        Ok(())
+    }
+}
+
+fn known(drive: &model::parts::Drive) -> Drive {
+    Drive {
+        physical: [drive.physical_cylinders, drive.physical_heads, drive.physical_sectors],
+        blocks: drive.blocks,
+        first: drive.first,
+        flags: drive.flags,
+        cylinders: drive.cylinders,
+        heads: drive.heads,
+        sectors: drive.sectors,
+        protection: drive.protection,
+        host_bus: drive.host_bus,
+        interface_type: drive.interface_type,
+        interface_path: drive.interface_path,
+        device_path: drive.device_path,
+    }
+}
+
+fn lay(lent: &mut Lent, bytes: &[u8], at_end: bool) {
+    lent.set_length(bytes.len(), at_end);
+    lent.bytes_mut().copy_from_slice(bytes);
+}
+
+fn pick<'a>(slice: &'a mut Slice, own: &'a mut Vec<u8>) -> &'a mut [u8] {
+    match slice {
+        Slice::Own => own,
+        Slice::Other(bytes) => bytes,
+    }
+}
+
+/// The first byte that differs, named.
+fn difference(what: &str, lent: &Lent, model: &[u8]) -> Option<String> {
+    if !lent.margin_intact() {
+        return Some(format!("{what}: the library wrote beside it"));
+    }
+    if lent.bytes() == model {
+        return None;
+    }
+    let at = lent.bytes().iter().zip(model).position(|(a, b)| a != b)?;
+    let mut text = format!("{what} byte {at}: library {:02x}, model {:02x}", lent.bytes()[at], model[at]);
+    if what == "desk" {
+        let word = at / 8;
+        text += &match word {
+            0..=183 => format!(" (word {word}: guest {}, word {} of its row)", word / 23, word % 23),
+            184..=295 => format!(" (word {word}: drive place {}, word {})", (word - 184) / 14, (word - 184) % 14),
+            _ => format!(" (word {word})"),
+        };
+    }
+    Some(text)
+}

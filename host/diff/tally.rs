@@ -1,0 +1,121 @@
+//! What a run met: calls per kind, answers per number, AH per function, hostile blocks. A run of some length must have met everything
+//! on the list below; otherwise it did not test what it is for.
+
+use crate::random::{Call, Outcome};
+use std::collections::BTreeMap;
+
+#[derive(Default)]
+pub struct Tally {
+    pub worlds: u64,
+    answers: BTreeMap<(&'static str, u32), u64>,
+    codes: BTreeMap<(u8, u32), u64>,
+    withdrawn: BTreeMap<u8, u64>,
+    parts: BTreeMap<u64, u64>,
+    hostile_accepted: u64,
+    hostile_refused: u64,
+}
+
+/// AH of an answered post, or this for a request that waits.
+const WAITS: u32 = 256;
+/// Functions that document 01 does not handle are counted together, under FFh.
+const UNKNOWN: u8 = 0xFF;
+const HANDLED: [u8; 9] = [0x02, 0x03, 0x08, 0x41, 0x42, 0x43, 0x44, 0x47, 0x48];
+
+const EXPECTED_ANSWERS: [(&str, &[u32]); 9] = [
+    ("open", &[0, 1, 2, 3, 4, 5, 6, 7, 8, 25]),
+    ("write", &[0, 19, 25]),
+    ("post", &[0, 20, 21, 24, 25, 256]),
+    ("turn", &[0, 24, 25, 256]),
+    ("collect", &[0, 20, 22, 25]),
+    ("withdraw", &[0, 20, 23, 24, 25]),
+    ("window", &[0]),
+    ("block", &[0, 4]),
+    ("address", &[0, 4]),
+];
+
+const EXPECTED_CODES: [(u8, &[u32]); 10] = [
+    (0x02, &[0x01, 0x04, 0x09, WAITS]),
+    (0x03, &[0x01, 0x03, 0x04, 0x09, WAITS]),
+    (0x08, &[0x00, 0x07]),
+    (0x41, &[0x30, 0x01]),
+    (0x42, &[0x00, 0x01, 0x04, 0x09, WAITS]),
+    (0x43, &[0x00, 0x01, 0x03, 0x04, 0x09, WAITS]),
+    (0x44, &[0x00, 0x01, 0x04]),
+    (0x47, &[0x00, 0x01, 0x04]),
+    (0x48, &[0x00, 0x01]),
+    (UNKNOWN, &[0x01]),
+];
+
+impl Tally {
+    pub fn add(&mut self, call: &Call, outcome: &Outcome) {
+        let kind = match call {
+            Call::Open { .. } => "open",
+            Call::Write => "write",
+            Call::Post { .. } => "post",
+            Call::Turn => "turn",
+            Call::Collect { .. } => "collect",
+            Call::Withdraw { .. } => "withdraw",
+            Call::Window { .. } => "window",
+            Call::Block { .. } => "block",
+            Call::Address { .. } => "address",
+        };
+        *self.answers.entry((kind, outcome.answer)).or_default() += 1;
+        match call {
+            Call::Post { registers, .. } if matches!(outcome.answer, 0 | 256) => {
+                let function = if HANDLED.contains(&registers.ah()) { registers.ah() } else { UNKNOWN };
+                let code = if outcome.answer == 0 { u32::from(outcome.registers.ah()) } else { WAITS };
+                *self.codes.entry((function, code)).or_default() += 1;
+            }
+            Call::Withdraw { .. } if outcome.answer == 0 => {
+                *self.withdrawn.entry(outcome.registers.ah()).or_default() += 1;
+            }
+            Call::Turn if outcome.answer == 0 => *self.parts.entry(outcome.numbers[1]).or_default() += 1,
+            _ => {}
+        }
+    }
+
+    pub fn hostile(&mut self, accepted: bool) {
+        *(if accepted { &mut self.hostile_accepted } else { &mut self.hostile_refused }) += 1;
+    }
+
+    /// What the run should have met and did not.
+    pub fn missing(&self) -> Vec<String> {
+        let mut missing = Vec::new();
+        for (kind, numbers) in EXPECTED_ANSWERS {
+            missing.extend(numbers.iter().filter(|n| !self.answers.contains_key(&(kind, **n))).map(|n| format!("{kind} {n}")));
+        }
+        for (function, codes) in EXPECTED_CODES {
+            let never = codes.iter().filter(|c| !self.codes.contains_key(&(function, **c)));
+            missing.extend(never.map(|c| format!("{function:02x}h answered {}", code_name(*c))));
+        }
+        missing.extend((1..=16).filter(|k| !self.parts.contains_key(k)).map(|k| format!("a turn that moves {k}")));
+        if self.hostile_accepted == 0 || self.hostile_refused == 0 {
+            missing.push("hostile blocks of both kinds".into());
+        }
+        missing
+    }
+
+    pub fn print(&self) {
+        for (kind, _) in EXPECTED_ANSWERS {
+            let of_kind: Vec<_> = self.answers.iter().filter(|(key, _)| key.0 == kind).collect();
+            let total: u64 = of_kind.iter().map(|(_, times)| **times).sum();
+            let list: Vec<String> = of_kind.iter().map(|((_, number), times)| format!("{number}: {times}")).collect();
+            println!("{kind:9}{total:8} calls; answers {}", list.join(", "));
+        }
+        for (function, _) in EXPECTED_CODES {
+            let of_function = self.codes.iter().filter(|(key, _)| key.0 == function);
+            let list: Vec<String> = of_function.map(|((_, code), times)| format!("{}: {times}", code_name(*code))).collect();
+            let name = if function == UNKNOWN { "other".into() } else { format!("{function:02x}h") };
+            println!("post {name:5} AH {}", list.join(", "));
+        }
+        let withdrawn: Vec<String> = self.withdrawn.iter().map(|(ah, times)| format!("{ah:02x}h: {times}")).collect();
+        println!("withdraw   AH {}", withdrawn.join(", "));
+        let parts: Vec<String> = self.parts.iter().map(|(k, times)| format!("{k}: {times}")).collect();
+        println!("blocks moved by a turn {}", parts.join(", "));
+        println!("hostile blocks: {} accepted, {} refused; worlds: {}", self.hostile_accepted, self.hostile_refused, self.worlds);
+    }
+}
+
+fn code_name(code: u32) -> String {
+    if code == WAITS { "waits".into() } else { format!("{code:02x}h") }
+}

@@ -1,0 +1,225 @@
+//! The desk as a block of bytes (docs/BLOCK.md), and document 01's rule when a block is accepted ("Calls the host makes").
+
+use crate::parts::{inside, window_length, Desk, Drive, Drives, Registers, Request, Row, BLOCK_SIZE, GUESTS, MOST_DRIVES};
+use crate::steps::Function;
+use crate::table::check_drive;
+
+const ROW_WORDS: usize = 23;
+const DRIVE_WORDS: usize = 14;
+const DRIVES_AT: usize = GUESTS * ROW_WORDS;
+const COUNT_AT: usize = DRIVES_AT + MOST_DRIVES * DRIVE_WORDS;
+const POINTER_AT: usize = COUNT_AT + 1;
+const ARENA_LENGTH_AT: usize = COUNT_AT + 2;
+const STORE_LENGTH_AT: usize = COUNT_AT + 3;
+const WORDS: usize = COUNT_AT + 4;
+pub const DESK_SIZE: usize = 8 * WORDS;
+
+const VACANT: u64 = 0;
+const WAITING: u64 = 1;
+const FINISHED: u64 = 2;
+
+type Words<const N: usize> = [u64; N];
+
+fn words<const N: usize>(bytes: &[u8], from: usize) -> Words<N> {
+    let mut out = [0; N];
+    for (word, bytes) in out.iter_mut().zip(bytes[8 * from..].chunks_exact(8)) {
+        *word = u64::from_le_bytes(bytes.try_into().unwrap());
+    }
+    out
+}
+
+fn put<const N: usize>(bytes: &mut [u8], from: usize, words: &Words<N>) {
+    for (bytes, word) in bytes[8 * from..].chunks_exact_mut(8).zip(words) {
+        bytes.copy_from_slice(&word.to_le_bytes());
+    }
+}
+
+fn all_zero(words: &[u64]) -> bool {
+    words.iter().fold(0, |or, word| or | word) == 0
+}
+
+// ---- reading: none is a block that is the image of no desk, or of one that is not acceptable (25)
+
+/// The desk of an acceptable block.
+pub fn read(bytes: &[u8]) -> Option<Desk> {
+    if bytes.len() != DESK_SIZE {
+        return None;
+    }
+    let [count, pointer, arena_length, store_length] = words(bytes, COUNT_AT);
+    if pointer >= GUESTS as u64 {
+        return None;
+    }
+    let drives = read_drives(bytes, count, store_length / BLOCK_SIZE)?;
+    let mut rows = [Row::Vacant; GUESTS];
+    for (guest, row) in rows.iter_mut().enumerate() {
+        *row = read_row(&words(bytes, ROW_WORDS * guest), &drives, window_length(arena_length))?;
+    }
+    Some(Desk { rows, drives, pointer, arena_length, store_length })
+}
+
+/// "a desk whose table obeys the rules below": its fields, the store and the overlaps.
+fn read_drives(bytes: &[u8], count: u64, store_blocks: u64) -> Option<Drives> {
+    if count > MOST_DRIVES as u64 {
+        return None;
+    }
+    let mut drives = Drives::default();
+    for place in 0..MOST_DRIVES {
+        let at: Words<DRIVE_WORDS> = words(bytes, DRIVES_AT + DRIVE_WORDS * place);
+        if place as u64 >= count {
+            if !all_zero(&at) {
+                return None;
+            }
+            continue;
+        }
+        let drive = read_drive(&at)?;
+        check_drive(&drive, drives.known(), store_blocks).ok()?;
+        drives.place[place] = drive;
+        drives.count = place + 1;
+    }
+    Some(drives)
+}
+
+/// Every field within its width.
+fn read_drive(at: &Words<DRIVE_WORDS>) -> Option<Drive> {
+    Some(Drive {
+        physical_cylinders: at[0].try_into().ok()?,
+        physical_heads: at[1].try_into().ok()?,
+        physical_sectors: at[2].try_into().ok()?,
+        blocks: at[3],
+        first: at[4],
+        flags: at[5].try_into().ok()?,
+        cylinders: at[6].try_into().ok()?,
+        heads: at[7].try_into().ok()?,
+        sectors: at[8].try_into().ok()?,
+        protection: at[9].try_into().ok()?,
+        host_bus: u32::try_from(at[10]).ok()?.to_le_bytes(),
+        interface_type: at[11].to_le_bytes(),
+        interface_path: at[12].to_le_bytes(),
+        device_path: at[13].to_le_bytes(),
+    })
+}
+
+fn read_registers(at: &[u64]) -> Option<Registers> {
+    Some(Registers {
+        ax: at[0].try_into().ok()?,
+        bx: at[1].try_into().ok()?,
+        cx: at[2].try_into().ok()?,
+        dx: at[3].try_into().ok()?,
+        ds: at[4].try_into().ok()?,
+        si: at[5].try_into().ok()?,
+        es: at[6].try_into().ok()?,
+        carry: if at[7] <= 1 { at[7] as u16 } else { return None },
+    })
+}
+
+fn read_row(at: &Words<ROW_WORDS>, drives: &Drives, window_length: u64) -> Option<Row> {
+    let (request, finished) = (&at[1..15], &at[15..23]);
+    match at[0] {
+        VACANT if all_zero(request) && all_zero(finished) => Some(Row::Vacant),
+        WAITING if all_zero(finished) => {
+            let request = Request {
+                registers: read_registers(&at[1..9])?,
+                drive: at[9],
+                start: at[10],
+                count: at[11],
+                buffer: at[12],
+                packet: at[13],
+                moved: at[14],
+            };
+            may_wait(&request, drives, window_length).then_some(Row::Waiting(request))
+        }
+        FINISHED if all_zero(request) => Some(Row::Finished(read_registers(finished)?)),
+        _ => None,
+    }
+}
+
+/// "each waiting row names a drive, a block range inside that drive (and the geometry for 02h and 03h), a count within its
+/// function's limit, a buffer and any packet inside the window, no write to a protected drive, and a moved number that is a multiple
+/// of 16 below the count". A row of 02h or 03h has no packet; its word is 0.
+fn may_wait(request: &Request, drives: &Drives, window_length: u64) -> bool {
+    let Some(function) = Function::of(request.registers.ah()) else {
+        return false;
+    };
+    let Some(drive) = drives.numbered(request.drive) else {
+        return false;
+    };
+    let range_end = if function.has_packet() { drive.blocks } else { drive.geometry_blocks() };
+    let packet_inside = if function.has_packet() { inside(request.packet, 16, window_length) } else { request.packet == 0 };
+    request.count <= function.limit()
+        && inside(request.start, request.count, range_end)
+        && inside(request.buffer, BLOCK_SIZE * request.count, window_length)
+        && packet_inside
+        && !(function.writes() && drive.is_protected())
+        && request.moved % 16 == 0
+        && request.moved < request.count
+}
+
+// ---- writing
+
+fn register_words(of: &Registers) -> Words<8> {
+    [of.ax, of.bx, of.cx, of.dx, of.ds, of.si, of.es, of.carry].map(u64::from)
+}
+
+fn row_words(row: &Row) -> Words<ROW_WORDS> {
+    let mut at = [0; ROW_WORDS];
+    match row {
+        Row::Vacant => at[0] = VACANT,
+        Row::Waiting(request) => {
+            at[0] = WAITING;
+            at[1..9].copy_from_slice(&register_words(&request.registers));
+            at[9] = request.drive;
+            at[10] = request.start;
+            at[11] = request.count;
+            at[12] = request.buffer;
+            at[13] = request.packet;
+            at[14] = request.moved;
+        }
+        Row::Finished(registers) => {
+            at[0] = FINISHED;
+            at[15..23].copy_from_slice(&register_words(registers));
+        }
+    }
+    at
+}
+
+fn drive_words(drive: &Drive) -> Words<DRIVE_WORDS> {
+    [
+        u64::from(drive.physical_cylinders),
+        u64::from(drive.physical_heads),
+        u64::from(drive.physical_sectors),
+        drive.blocks,
+        drive.first,
+        u64::from(drive.flags),
+        u64::from(drive.cylinders),
+        u64::from(drive.heads),
+        u64::from(drive.sectors),
+        u64::from(drive.protection),
+        u64::from(u32::from_le_bytes(drive.host_bus)),
+        u64::from_le_bytes(drive.interface_type),
+        u64::from_le_bytes(drive.interface_path),
+        u64::from_le_bytes(drive.device_path),
+    ]
+}
+
+/// One row of a block that was read, for a call that changed it.
+pub fn put_row(bytes: &mut [u8], guest: usize, row: &Row) {
+    put(bytes, ROW_WORDS * guest, &row_words(row));
+}
+
+pub fn put_pointer(bytes: &mut [u8], pointer: u64) {
+    put(bytes, POINTER_AT, &[pointer]);
+}
+
+/// The whole block of a desk.
+pub fn write(bytes: &mut [u8], desk: &Desk) {
+    for (guest, row) in desk.rows.iter().enumerate() {
+        put_row(bytes, guest, row);
+    }
+    for (place, drive) in desk.drives.place.iter().enumerate() {
+        put(bytes, DRIVES_AT + DRIVE_WORDS * place, &drive_words(drive));
+    }
+    put(bytes, COUNT_AT, &[desk.drives.count as u64]);
+    put_pointer(bytes, desk.pointer);
+    put(bytes, ARENA_LENGTH_AT, &[desk.arena_length]);
+    put(bytes, STORE_LENGTH_AT, &[desk.store_length]);
+}

@@ -1,0 +1,195 @@
+//! Document 01, "Calls the host makes", with the house numbers of "Numbers given back". The calls of include/edd_desk.h, with slices
+//! and references for its pointers.
+
+use crate::addresses::{Address, Geometry};
+use crate::block;
+use crate::parts::{self, Desk, Registers, Request, Row, BLOCK_SIZE, GUESTS};
+use crate::steps::{self, Function, Outcome, WITHDRAWN};
+use crate::table;
+
+pub const DONE: u32 = 0;
+/// post: the row waits; turn: idle. The paper gives these no number.
+pub const NOTHING_YET: u32 = 256;
+
+const BUFFER_SHORT: u32 = 19;
+const NO_SUCH_GUEST: u32 = 20;
+const ROW_NOT_VACANT: u32 = 21;
+const NOT_FINISHED: u32 = 22;
+const NOT_WAITING: u32 = 23;
+const LENGTH_DIFFERS: u32 = 24;
+const NOT_ACCEPTED: u32 = 25;
+const OUTSIDE: u32 = 4;
+
+/// "It moves the next 16 blocks".
+const TURN_BLOCKS: u64 = 16;
+
+// ---- the tests in their order: 25, 24, 20, then the row or 19
+
+fn accepted(desk: &[u8]) -> Result<Desk, u32> {
+    block::read(desk).ok_or(NOT_ACCEPTED)
+}
+
+fn accepted_with(desk: &[u8], arena: &[u8], store: &[u8]) -> Result<Desk, u32> {
+    let read = accepted(desk)?;
+    if arena.len() as u64 != read.arena_length || store.len() as u64 != read.store_length {
+        return Err(LENGTH_DIFFERS);
+    }
+    Ok(read)
+}
+
+fn guest_of(guest: u64) -> Result<usize, u32> {
+    if guest < GUESTS as u64 { Ok(guest as usize) } else { Err(NO_SUCH_GUEST) }
+}
+
+fn number(answer: Result<u32, u32>) -> u32 {
+    answer.unwrap_or_else(|refusal| refusal)
+}
+
+// ---- the calls
+
+pub fn desk_size() -> u64 {
+    block::DESK_SIZE as u64
+}
+
+pub fn open(desk: &mut [u8], table: &[u8], arena_length: u64, store_length: u64, place: &mut u64) -> u32 {
+    if desk.len() != block::DESK_SIZE {
+        return NOT_ACCEPTED;
+    }
+    match table::read(table, store_length / BLOCK_SIZE) {
+        Err(refusal) => {
+            *place = refusal.place;
+            refusal.number
+        }
+        Ok(drives) => {
+            block::write(desk, &Desk { rows: [Row::Vacant; GUESTS], drives, pointer: 0, arena_length, store_length });
+            DONE
+        }
+    }
+}
+
+pub fn write(desk: &[u8], out: &mut [u8], written: &mut u64) -> u32 {
+    number(accepted(desk).and_then(|read| {
+        let length = table::length(&read.drives);
+        if out.len() < length {
+            return Err(BUFFER_SHORT);
+        }
+        table::write(&read.drives, out);
+        *written = length as u64;
+        Ok(DONE)
+    }))
+}
+
+pub fn post(desk: &mut [u8], arena: &mut [u8], store: &[u8], guest: u64, registers: &mut Registers) -> u32 {
+    number(accepted_with(desk, arena, store).and_then(|read| {
+        let row = guest_of(guest)?;
+        let Row::Vacant = read.rows[row] else {
+            return Err(ROW_NOT_VACANT);
+        };
+        match steps::steps(&read.drives, parts::window(arena, guest), *registers) {
+            Outcome::Answered(answer) => {
+                *registers = answer;
+                Ok(DONE)
+            }
+            Outcome::Waits(request) => {
+                block::put_row(desk, row, &Row::Waiting(request));
+                Ok(NOTHING_YET)
+            }
+        }
+    }))
+}
+
+/// "the first waiting row at or after the pointer, counting cyclically".
+fn next_waiting(desk: &Desk) -> Option<(usize, Request)> {
+    (0..GUESTS).map(|step| (desk.pointer as usize + step) % GUESTS).find_map(|guest| match desk.rows[guest] {
+        Row::Waiting(request) => Some((guest, request)),
+        _ => None,
+    })
+}
+
+/// Moves blocks `request.moved` to `request.moved + blocks` of the request. An acceptable row's ranges lie inside store and window.
+fn move_blocks(desk: &Desk, request: &Request, blocks: u64, window: &mut [u8], store: &mut [u8]) {
+    let drive = desk.drives.numbered(request.drive).expect("an acceptable row names a drive");
+    let length = (BLOCK_SIZE * blocks) as usize;
+    let at = (request.buffer + BLOCK_SIZE * request.moved) as usize;
+    let in_store = (BLOCK_SIZE * (drive.first + request.start + request.moved)) as usize;
+    let (memory, blocks) = (&mut window[at..at + length], &mut store[in_store..in_store + length]);
+    if Function::of(request.registers.ah()).is_some_and(Function::writes) {
+        blocks.copy_from_slice(memory);
+    } else {
+        memory.copy_from_slice(blocks);
+    }
+}
+
+pub fn turn(desk: &mut [u8], arena: &mut [u8], store: &mut [u8], guest: &mut u64, moved: &mut u64) -> u32 {
+    number(accepted_with(desk, arena, store).map(|read| {
+        let Some((row, request)) = next_waiting(&read) else {
+            return NOTHING_YET;
+        };
+        let blocks = TURN_BLOCKS.min(request.count - request.moved);
+        move_blocks(&read, &request, blocks, parts::window(arena, row as u64), store);
+        let after = request.moved + blocks;
+        let next = if after == request.count {
+            Row::Finished(steps::succeeded(request.registers))
+        } else {
+            Row::Waiting(Request { moved: after, ..request })
+        };
+        block::put_row(desk, row, &next);
+        block::put_pointer(desk, ((row + 1) % GUESTS) as u64);
+        *guest = row as u64;
+        *moved = blocks;
+        DONE
+    }))
+}
+
+pub fn collect(desk: &mut [u8], guest: u64, registers: &mut Registers) -> u32 {
+    number(accepted(desk).and_then(|read| {
+        let row = guest_of(guest)?;
+        let Row::Finished(finished) = read.rows[row] else {
+            return Err(NOT_FINISHED);
+        };
+        block::put_row(desk, row, &Row::Vacant);
+        *registers = finished;
+        Ok(DONE)
+    }))
+}
+
+pub fn withdraw(desk: &mut [u8], arena: &mut [u8], store: &[u8], guest: u64, registers: &mut Registers) -> u32 {
+    number(accepted_with(desk, arena, store).and_then(|read| {
+        let row = guest_of(guest)?;
+        let Row::Waiting(request) = read.rows[row] else {
+            return Err(NOT_WAITING);
+        };
+        if Function::of(request.registers.ah()).is_some_and(Function::has_packet) {
+            steps::set_count(parts::window(arena, guest), request.packet, request.moved as u16);
+        }
+        block::put_row(desk, row, &Row::Vacant);
+        *registers = steps::stopped(request.registers, WITHDRAWN, request.moved);
+        Ok(DONE)
+    }))
+}
+
+pub fn window(arena_length: u64, guest: u64, start: &mut u64, length: &mut u64) -> u32 {
+    (*start, *length) = parts::window_place(arena_length, guest);
+    DONE
+}
+
+/// edd_block; the name `block` is the module's.
+pub fn block_number(geometry: Geometry, address: Address, block: &mut u32) -> u32 {
+    match geometry.block(address) {
+        Some(found) => {
+            *block = found;
+            DONE
+        }
+        None => OUTSIDE,
+    }
+}
+
+pub fn address(geometry: Geometry, block: u64, address: &mut Address) -> u32 {
+    match geometry.address(block) {
+        Some(found) => {
+            *address = found;
+            DONE
+        }
+        None => OUTSIDE,
+    }
+}

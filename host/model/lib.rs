@@ -1,0 +1,23 @@
+//! An independent implementation of document 01, written from the paper and from the table of words in docs/BLOCK.md, and from
+//! nothing that is proved. The differential test (host/diff) compares the library with it, and the benchmark measures against it.
+//!
+//! Each file is a section of the paper, each function one of its sentences:
+//!   parts      Parts of the desk
+//!   table      The drive table
+//!   addresses  cylinder, head and sector, from 02h and 03h of "Steps of each function"
+//!   steps      Steps of each function, with the BIOS answers of "Numbers given back"
+//!   block      the desk as a block of bytes, and when it is accepted, from "Calls the host makes"
+//!   calls      Calls the host makes, with the house numbers of "Numbers given back"
+//!
+//! `calls` has the exported calls under their C names without `edd_`, on slices and references in place of pointers.
+
+pub mod addresses;
+pub mod block;
+pub mod calls;
+pub mod parts;
+pub mod steps;
+pub mod table;
+
+pub use block::DESK_SIZE;
+pub use calls::{address, block_number, collect, desk_size, open, post, turn, window, withdraw, write};
+pub use parts::Registers;

@@ -1,0 +1,312 @@
+//! Document 01, "Steps of each function", and the BIOS answers of "Numbers given back".
+
+use crate::addresses::{address_in, Geometry};
+use crate::parts::{inside, linear, Drive, Drives, Registers, Request, BLOCK_SIZE};
+use crate::table::{qword, word};
+
+const BAD_PARAMETER: u8 = 0x01;
+const WRITE_PROTECTED: u8 = 0x03;
+const OUTSIDE: u8 = 0x04;
+const NO_PARAMETERS: u8 = 0x07;
+const BAD_BUFFER: u8 = 0x09;
+pub const WITHDRAWN: u8 = 0x80;
+
+const PACKET_SIZE: u64 = 16;
+const PACKET_COUNT: usize = 2;
+const MOST_BY_PACKET: u64 = 127;
+const MOST_BY_AL: u64 = 128;
+
+/// What a post comes to: registers at once, or a request that waits.
+#[derive(Clone, Copy, PartialEq, Eq, Debug)]
+pub enum Outcome {
+    Answered(Registers),
+    Waits(Request),
+}
+
+/// What a request moves: which way, by which form of address, how many at most.
+#[derive(Clone, Copy, PartialEq, Eq, Debug)]
+pub enum Function {
+    ReadSectors,
+    WriteSectors,
+    ReadBlocks,
+    WriteBlocks,
+}
+
+impl Function {
+    /// The functions whose requests wait; the others never have a row.
+    pub fn of(ah: u8) -> Option<Function> {
+        match ah {
+            0x02 => Some(Function::ReadSectors),
+            0x03 => Some(Function::WriteSectors),
+            0x42 => Some(Function::ReadBlocks),
+            0x43 => Some(Function::WriteBlocks),
+            _ => None,
+        }
+    }
+    pub fn writes(self) -> bool {
+        matches!(self, Function::WriteSectors | Function::WriteBlocks)
+    }
+    pub fn has_packet(self) -> bool {
+        matches!(self, Function::ReadBlocks | Function::WriteBlocks)
+    }
+    pub fn limit(self) -> u64 {
+        if self.has_packet() {
+            MOST_BY_PACKET
+        } else {
+            MOST_BY_AL
+        }
+    }
+}
+
+/// The steps of the function in AH, for a guest's registers and its window.
+pub fn steps(drives: &Drives, window: &mut [u8], posted: Registers) -> Outcome {
+    let given = Registers { carry: 0, ..posted };
+    match given.ah() {
+        0x02 | 0x03 => read_write_sectors(drives, window, given),
+        0x08 => Outcome::Answered(drive_parameters(drives, given)),
+        0x41 => Outcome::Answered(check_extensions(drives, given)),
+        0x42..=0x44 => blocks_by_packet(drives, window, given),
+        0x47 => Outcome::Answered(seek(drives, window, given)),
+        0x48 => Outcome::Answered(extended_parameters(drives, window, given)),
+        _ => Outcome::Answered(refused(given, BAD_PARAMETER)),
+    }
+}
+
+/// "Success clears carry and sets AH = 0".
+pub fn succeeded(given: Registers) -> Registers {
+    let mut out = Registers { carry: 0, ..given };
+    out.set_ah(0);
+    out
+}
+
+/// "BIOS answers set carry and AH = code". 02h and 03h also set AL: to 0 here, to the blocks moved when withdrawn.
+pub fn stopped(given: Registers, code: u8, moved: u64) -> Registers {
+    let mut out = Registers { carry: 1, ..given };
+    if matches!(given.ah(), 0x02 | 0x03) {
+        out.set_al(moved as u8);
+    }
+    out.set_ah(code);
+    out
+}
+
+fn refused(given: Registers, code: u8) -> Registers {
+    stopped(given, code, 0)
+}
+
+fn drive_in_dl<'a>(drives: &'a Drives, given: &Registers) -> Option<&'a Drive> {
+    drives.numbered(u64::from(given.dl()))
+}
+
+// ---- 42h, 43h, 44h, 47h
+
+struct Packet {
+    place: u64,
+    count: u64,
+    buffer: u64,
+    start: u64,
+}
+
+/// "16 packet bytes at DS:SI inside the window (01h); size byte at least 16 (01h)".
+fn packet(window: &[u8], given: &Registers) -> Result<Packet, u8> {
+    let place = linear(given.ds, given.si);
+    if !inside(place, PACKET_SIZE, window.len() as u64) {
+        return Err(BAD_PARAMETER);
+    }
+    let bytes = &window[place as usize..][..PACKET_SIZE as usize];
+    if u64::from(bytes[0]) < PACKET_SIZE {
+        return Err(BAD_PARAMETER);
+    }
+    Ok(Packet {
+        place,
+        count: u64::from(word(bytes, PACKET_COUNT)),
+        buffer: linear(word(bytes, 6), word(bytes, 4)),
+        start: qword(bytes, 8),
+    })
+}
+
+/// The packet's count word.
+pub fn set_count(window: &mut [u8], packet: u64, count: u16) {
+    let at = packet as usize + PACKET_COUNT;
+    window[at..at + 2].copy_from_slice(&count.to_le_bytes());
+}
+
+/// The tests of 42h, 43h and 44h that come before the size byte is found good.
+fn packet_for_blocks<'a>(drives: &'a Drives, window: &[u8], given: &Registers) -> Result<(&'a Drive, Packet), u8> {
+    let drive = drive_in_dl(drives, given).ok_or(BAD_PARAMETER)?;
+    if given.ah() == 0x43 {
+        let verify_supported = drive.flags & 1 << 3 != 0;
+        if given.al() > 2 || given.al() == 2 && !verify_supported {
+            return Err(BAD_PARAMETER);
+        }
+    }
+    Ok((drive, packet(window, given)?))
+}
+
+/// Those that come after it, in the paper's order.
+fn blocks_fit(drive: &Drive, asked: &Packet, window_length: u64, function: u8) -> Result<(), u8> {
+    if asked.count > MOST_BY_PACKET {
+        return Err(BAD_PARAMETER);
+    }
+    if function == 0x43 && drive.is_protected() {
+        return Err(WRITE_PROTECTED);
+    }
+    if !inside(asked.start, asked.count, drive.blocks) {
+        return Err(OUTSIDE);
+    }
+    if function != 0x44 && !inside(asked.buffer, BLOCK_SIZE * asked.count, window_length) {
+        return Err(BAD_BUFFER);
+    }
+    Ok(())
+}
+
+fn blocks_by_packet(drives: &Drives, window: &mut [u8], given: Registers) -> Outcome {
+    let (drive, asked) = match packet_for_blocks(drives, window, &given) {
+        Ok(found) => found,
+        Err(code) => return Outcome::Answered(refused(given, code)),
+    };
+    if let Err(code) = blocks_fit(drive, &asked, window.len() as u64, given.ah()) {
+        set_count(window, asked.place, 0);
+        return Outcome::Answered(refused(given, code));
+    }
+    if given.ah() == 0x44 || asked.count == 0 {
+        return Outcome::Answered(succeeded(given));
+    }
+    Outcome::Waits(Request {
+        registers: given,
+        drive: u64::from(given.dl()),
+        start: asked.start,
+        count: asked.count,
+        buffer: asked.buffer,
+        packet: asked.place,
+        moved: 0,
+    })
+}
+
+fn seek(drives: &Drives, window: &[u8], given: Registers) -> Registers {
+    let answer = drive_in_dl(drives, &given).ok_or(BAD_PARAMETER).and_then(|drive| {
+        let asked = packet(window, &given)?;
+        if asked.start < drive.blocks { Ok(()) } else { Err(OUTSIDE) }
+    });
+    match answer {
+        Ok(()) => succeeded(given),
+        Err(code) => refused(given, code),
+    }
+}
+
+// ---- 02h, 03h
+
+/// The first block of a run by cylinder, head and sector, once every test has passed.
+fn sector_run(drives: &Drives, window_length: u64, given: &Registers) -> Result<u64, u8> {
+    let drive = drive_in_dl(drives, given).ok_or(BAD_PARAMETER)?;
+    let count = u64::from(given.al());
+    if count == 0 {
+        return Err(BAD_PARAMETER);
+    }
+    if count > MOST_BY_AL {
+        return Err(BAD_BUFFER);
+    }
+    if given.ah() == 0x03 && drive.is_protected() {
+        return Err(WRITE_PROTECTED);
+    }
+    let geometry = Geometry {
+        cylinders: u32::from(drive.cylinders),
+        heads: u32::from(drive.heads),
+        sectors: u32::from(drive.sectors),
+    };
+    let block = u64::from(geometry.block(address_in(given.cx, given.dx)).ok_or(OUTSIDE)?);
+    if !inside(block, count, drive.geometry_blocks()) {
+        return Err(OUTSIDE);
+    }
+    if !inside(linear(given.es, given.bx), BLOCK_SIZE * count, window_length) {
+        return Err(BAD_BUFFER);
+    }
+    Ok(block)
+}
+
+fn read_write_sectors(drives: &Drives, window: &[u8], given: Registers) -> Outcome {
+    match sector_run(drives, window.len() as u64, &given) {
+        Err(code) => Outcome::Answered(refused(given, code)),
+        Ok(start) => Outcome::Waits(Request {
+            registers: given,
+            drive: u64::from(given.dl()),
+            start,
+            count: u64::from(given.al()),
+            buffer: linear(given.es, given.bx),
+            packet: 0,
+            moved: 0,
+        }),
+    }
+}
+
+// ---- 08h, 41h, 48h
+
+fn drive_parameters(drives: &Drives, given: Registers) -> Registers {
+    let Some(drive) = drive_in_dl(drives, &given) else {
+        return refused(given, NO_PARAMETERS);
+    };
+    let last_cylinder = drive.cylinders - 1;
+    let cl = (last_cylinder >> 8) << 6 | u16::from(drive.sectors);
+    let mut out = succeeded(given);
+    out.set_al(0);
+    out.cx = (last_cylinder & 0xFF) << 8 | cl;
+    out.dx = (drive.heads - 1) << 8 | drives.count as u16;
+    out
+}
+
+fn check_extensions(drives: &Drives, given: Registers) -> Registers {
+    if drive_in_dl(drives, &given).is_none() || given.bx != 0x55AA {
+        return refused(given, BAD_PARAMETER);
+    }
+    Registers { ax: 0x3000, bx: 0xAA55, cx: 0x0001, carry: 0, ..given }
+}
+
+const RESULT_SIZE: usize = 66;
+
+/// "Below 26: 01h; 26 to 29 returns 26; 30 to 65 returns 30; from 66, 66."
+fn returned_size(asked: u16) -> Option<usize> {
+    match asked {
+        0..=25 => None,
+        26..=29 => Some(26),
+        30..=65 => Some(30),
+        _ => Some(RESULT_SIZE),
+    }
+}
+
+/// The whole result buffer, by its places.
+fn result_of(drive: &Drive, returned: usize) -> [u8; RESULT_SIZE] {
+    let mut result = [0; RESULT_SIZE];
+    result[0..2].copy_from_slice(&(returned as u16).to_le_bytes());
+    result[2..4].copy_from_slice(&drive.flags.to_le_bytes());
+    result[4..8].copy_from_slice(&drive.physical_cylinders.to_le_bytes());
+    result[8..12].copy_from_slice(&drive.physical_heads.to_le_bytes());
+    result[12..16].copy_from_slice(&drive.physical_sectors.to_le_bytes());
+    result[16..24].copy_from_slice(&drive.blocks.to_le_bytes());
+    result[24..26].copy_from_slice(&512u16.to_le_bytes());
+    result[26..30].copy_from_slice(&[0xFF; 4]);
+    result[30..32].copy_from_slice(&0xBEDDu16.to_le_bytes());
+    result[32] = 0x24;
+    result[36..40].copy_from_slice(&drive.host_bus);
+    result[40..48].copy_from_slice(&drive.interface_type);
+    result[48..56].copy_from_slice(&drive.interface_path);
+    result[56..64].copy_from_slice(&drive.device_path);
+    result[65] = result[30..65].iter().fold(0u8, |sum, byte| sum.wrapping_sub(*byte));
+    result
+}
+
+fn extended_parameters(drives: &Drives, window: &mut [u8], given: Registers) -> Registers {
+    let place = linear(given.ds, given.si);
+    let length = window.len() as u64;
+    let returned = drive_in_dl(drives, &given).and_then(|drive| {
+        if !inside(place, 2, length) {
+            return None;
+        }
+        let returned = returned_size(word(window, place as usize))?;
+        inside(place, returned as u64, length).then_some((drive, returned))
+    });
+    let Some((drive, returned)) = returned else {
+        return refused(given, BAD_PARAMETER);
+    };
+    let result = result_of(drive, returned);
+    window[place as usize..][..returned].copy_from_slice(&result[..returned]);
+    succeeded(given)
+}

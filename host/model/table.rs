@@ -1,0 +1,167 @@
+//! Document 01, "The drive table".
+
+use crate::parts::{inside, Drive, Drives, MOST_DRIVES};
+
+const HEADER: usize = 4;
+const END: (u16, usize) = (0, 4);
+const DRIVE: (u16, usize) = (1, 68);
+
+/// A refusal: its number, 1 to 8, and the place.
+#[derive(Clone, Copy, PartialEq, Eq, Debug)]
+pub struct Refusal {
+    pub number: u32,
+    pub place: u64,
+}
+
+enum Record {
+    End,
+    Drive,
+}
+
+pub fn word(bytes: &[u8], at: usize) -> u16 {
+    u16::from_le_bytes(bytes[at..at + 2].try_into().unwrap())
+}
+
+pub fn dword(bytes: &[u8], at: usize) -> u32 {
+    u32::from_le_bytes(bytes[at..at + 4].try_into().unwrap())
+}
+
+pub fn qword(bytes: &[u8], at: usize) -> u64 {
+    u64::from_le_bytes(bytes[at..at + 8].try_into().unwrap())
+}
+
+/// "1 fewer than 4 bytes left; 3 unknown kind; 2 wrong length for the kind; 1 record cut off".
+fn header(left: &[u8]) -> Result<Record, u32> {
+    if left.len() < HEADER {
+        return Err(1);
+    }
+    let kind = word(left, 2);
+    let (record, length) = match kind {
+        k if k == END.0 => (Record::End, END.1),
+        k if k == DRIVE.0 => (Record::Drive, DRIVE.1),
+        _ => return Err(3),
+    };
+    if usize::from(word(left, 0)) != length {
+        return Err(2);
+    }
+    if left.len() < length {
+        return Err(1);
+    }
+    Ok(record)
+}
+
+/// The fields of a drive's record, by their places.
+fn drive_of(record: &[u8]) -> Drive {
+    Drive {
+        physical_cylinders: dword(record, 4),
+        physical_heads: dword(record, 8),
+        physical_sectors: dword(record, 12),
+        blocks: qword(record, 16),
+        first: qword(record, 24),
+        flags: word(record, 32),
+        cylinders: word(record, 34),
+        heads: word(record, 36),
+        sectors: record[38],
+        protection: record[39],
+        host_bus: record[40..44].try_into().unwrap(),
+        interface_type: record[44..52].try_into().unwrap(),
+        interface_path: record[52..60].try_into().unwrap(),
+        device_path: record[60..68].try_into().unwrap(),
+    }
+}
+
+fn record_of(drive: &Drive, record: &mut [u8]) {
+    record[0..2].copy_from_slice(&(DRIVE.1 as u16).to_le_bytes());
+    record[2..4].copy_from_slice(&DRIVE.0.to_le_bytes());
+    record[4..8].copy_from_slice(&drive.physical_cylinders.to_le_bytes());
+    record[8..12].copy_from_slice(&drive.physical_heads.to_le_bytes());
+    record[12..16].copy_from_slice(&drive.physical_sectors.to_le_bytes());
+    record[16..24].copy_from_slice(&drive.blocks.to_le_bytes());
+    record[24..32].copy_from_slice(&drive.first.to_le_bytes());
+    record[32..34].copy_from_slice(&drive.flags.to_le_bytes());
+    record[34..36].copy_from_slice(&drive.cylinders.to_le_bytes());
+    record[36..38].copy_from_slice(&drive.heads.to_le_bytes());
+    record[38] = drive.sectors;
+    record[39] = drive.protection;
+    record[40..44].copy_from_slice(&drive.host_bus);
+    record[44..52].copy_from_slice(&drive.interface_type);
+    record[52..60].copy_from_slice(&drive.interface_path);
+    record[60..68].copy_from_slice(&drive.device_path);
+}
+
+/// 5 "a field". The names are compared whole, with their NULs.
+pub fn fields_obey(drive: &Drive) -> bool {
+    drive.blocks >= 1
+        && drive.flags < 1 << 7
+        && (1..=1024).contains(&drive.cylinders)
+        && (1..=255).contains(&drive.heads)
+        && (1..=63).contains(&drive.sectors)
+        && drive.geometry_blocks() <= drive.blocks
+        && drive.protection <= 1
+        && matches!(&drive.host_bus, b"ISA\0" | b"PCI\0")
+        && matches!(
+            &drive.interface_type,
+            b"ATA\0\0\0\0\0" | b"ATAPI\0\0\0" | b"SCSI\0\0\0\0" | b"USB\0\0\0\0\0" | b"1394\0\0\0\0" | b"FIBRE\0\0\0"
+        )
+}
+
+/// 6 "first + blocks above the store", turned round.
+pub fn lies_in_store(drive: &Drive, store_blocks: u64) -> bool {
+    inside(drive.first, drive.blocks, store_blocks)
+}
+
+/// 7 "overlap with an earlier drive". Both drives lie in the store, so the sums do not wrap.
+pub fn overlaps(drive: &Drive, earlier: &[Drive]) -> bool {
+    earlier.iter().any(|e| drive.first < e.first + e.blocks && e.first < drive.first + drive.blocks)
+}
+
+/// The rules that the drive after `earlier` breaks first: 4, 5, 6, 7 in this order.
+pub fn check_drive(drive: &Drive, earlier: &[Drive], store_blocks: u64) -> Result<(), u32> {
+    if earlier.len() == MOST_DRIVES {
+        Err(4)
+    } else if !fields_obey(drive) {
+        Err(5)
+    } else if !lies_in_store(drive, store_blocks) {
+        Err(6)
+    } else if overlaps(drive, earlier) {
+        Err(7)
+    } else {
+        Ok(())
+    }
+}
+
+/// Reads a whole table for a store of that many blocks.
+pub fn read(table: &[u8], store_blocks: u64) -> Result<Drives, Refusal> {
+    let mut drives = Drives::default();
+    let mut place = 0;
+    loop {
+        let refused = |number| Refusal { number, place: place as u64 };
+        match header(&table[place..]).map_err(refused)? {
+            Record::End if table.len() == place + END.1 => return Ok(drives),
+            Record::End => return Err(Refusal { number: 8, place: (place + END.1) as u64 }),
+            Record::Drive => {
+                let drive = drive_of(&table[place..place + DRIVE.1]);
+                check_drive(&drive, drives.known(), store_blocks).map_err(refused)?;
+                drives.place[drives.count] = drive;
+                drives.count += 1;
+                place += DRIVE.1;
+            }
+        }
+    }
+}
+
+/// The length of the drives as a table.
+pub fn length(drives: &Drives) -> usize {
+    DRIVE.1 * drives.count + END.1
+}
+
+/// Lays the drives out as a table again; the caller has seen to the room.
+pub fn write(drives: &Drives, out: &mut [u8]) {
+    let mut place = 0;
+    for drive in drives.known() {
+        record_of(drive, &mut out[place..place + DRIVE.1]);
+        place += DRIVE.1;
+    }
+    out[place..place + 2].copy_from_slice(&(END.1 as u16).to_le_bytes());
+    out[place + 2..place + 4].copy_from_slice(&END.0.to_le_bytes());
+}

@@ -1,0 +1,233 @@
+//! The model behind the C interface of include/edd_desk.h, as a library of the same name. It stands in for the proved library when
+//! the test program itself is to be tried: host/standin/try_faults builds it once with each fault below and expects every one to be found.
+//!
+//! A fault is chosen with `--cfg fault="NAME"`. Without one the stand-in is the model.
+
+use model::addresses::{Address, Geometry};
+use model::Registers;
+use std::slice::{from_raw_parts, from_raw_parts_mut};
+
+/// The slice of a pointer and a length; a null pointer with length 0 is an empty one.
+unsafe fn lent<'a>(start: *const u8, length: usize) -> &'a [u8] {
+    if length == 0 { &[] } else { unsafe { from_raw_parts(start, length) } }
+}
+
+unsafe fn lent_mut<'a>(start: *mut u8, length: usize) -> &'a mut [u8] {
+    if length == 0 { &mut [] } else { unsafe { from_raw_parts_mut(start, length) } }
+}
+
+#[cfg(any(fault = "lengths_before_desk", fault = "static_scratch", fault = "carry_kept", fault = "pointer_stays", fault = "packet_word_free"))]
+mod words {
+    pub fn get(desk: &[u8], word: usize) -> u64 {
+        u64::from_le_bytes(desk[8 * word..8 * word + 8].try_into().unwrap())
+    }
+    pub fn set(desk: &mut [u8], word: usize, value: u64) {
+        desk[8 * word..8 * word + 8].copy_from_slice(&value.to_le_bytes());
+    }
+}
+
+#[no_mangle]
+pub extern "C" fn edd_desk_size() -> u64 {
+    model::desk_size()
+}
+
+#[no_mangle]
+pub unsafe extern "C" fn edd_open(
+    desk: *mut u8, desk_len: usize, table: *const u8, table_len: usize, arena_length: u64, store_length: u64, place: &mut u64,
+) -> u32 {
+    let (desk, table) = unsafe { (lent_mut(desk, desk_len), lent(table, table_len)) };
+    #[cfg(fault = "place_on_25")]
+    if desk.len() != 2400 {
+        *place = 0;
+    }
+    #[cfg(fault = "reads_past_table")]
+    unsafe {
+        table.as_ptr().add(table.len()).read_volatile();
+    }
+    #[cfg(fault = "store_length_narrowed")]
+    let store_length = u64::from(store_length as u32);
+    model::open(desk, table, arena_length, store_length, place)
+}
+
+#[no_mangle]
+pub unsafe extern "C" fn edd_write(desk: *const u8, desk_len: usize, out: *mut u8, out_len: usize, written: &mut u64) -> u32 {
+    let (desk, out) = unsafe { (lent(desk, desk_len), lent_mut(out, out_len)) };
+    #[cfg(fault = "written_on_19")]
+    if out.len() < 4 {
+        *written = 4;
+    }
+    #[cfg(fault = "packet_word_free")]
+    let desk = &packet_words_cleared(desk)[..];
+    let answer = model::write(desk, out, written);
+    #[cfg(fault = "clears_rest_of_buffer")]
+    if answer == 0 {
+        out[*written as usize..].fill(0);
+    }
+    #[cfg(fault = "writes_before_buffer")]
+    if answer == 0 {
+        unsafe { out.as_mut_ptr().sub(1).write_volatile(0) };
+    }
+    answer
+}
+
+/// A reader that does not look at the packet word of a row of 02h or 03h.
+#[cfg(fault = "packet_word_free")]
+fn packet_words_cleared(desk: &[u8]) -> Vec<u8> {
+    let mut copy = desk.to_vec();
+    if desk.len() == 2400 {
+        for guest in 0..8 {
+            if words::get(desk, 23 * guest) == 1 && matches!(words::get(desk, 23 * guest + 1) >> 8, 2 | 3) {
+                words::set(&mut copy, 23 * guest + 13, 0);
+            }
+        }
+    }
+    copy
+}
+
+#[no_mangle]
+pub unsafe extern "C" fn edd_post(
+    desk: *mut u8, desk_len: usize, arena: *mut u8, arena_len: usize, store: *const u8, store_len: usize, guest: u64, ax: &mut u16,
+    bx: &mut u16, cx: &mut u16, dx: &mut u16, ds: u16, si: u16, es: u16, carry: &mut u16,
+) -> u32 {
+    let (desk, arena, store) = unsafe { (lent_mut(desk, desk_len), lent_mut(arena, arena_len), lent(store, store_len)) };
+    let given = Registers { ax: *ax, bx: *bx, cx: *cx, dx: *dx, ds, si, es, carry: *carry };
+    #[cfg(fault = "lengths_before_desk")]
+    if desk.len() == 2400 && words::get(desk, 298) != arena.len() as u64 {
+        return 24;
+    }
+    #[cfg(fault = "store_length_unseen")]
+    let store = if desk.len() == 2400 {
+        let length = u64::from_le_bytes(desk[2392..2400].try_into().unwrap());
+        if length <= store.len() as u64 { &store[..length as usize] } else { store }
+    } else {
+        store
+    };
+    let mut out = given;
+    let answer = model::post(desk, arena, store, guest, &mut out);
+    #[cfg(fault = "al_kept")]
+    if answer == 0 && given.ax >> 8 == 2 && out.carry == 1 {
+        out.set_al(given.al());
+    }
+    #[cfg(fault = "seek_clears_count")]
+    if answer == 0 && given.ax >> 8 == 0x47 && out.ah() == 4 {
+        model::steps::set_count(model::parts::window(arena, guest), model::parts::linear(ds, si), 0);
+    }
+    #[cfg(fault = "static_scratch")]
+    if answer == 256 {
+        // the fault that was reported: the start of a request kept in a static that every guest shares
+        static START: std::sync::atomic::AtomicU64 = std::sync::atomic::AtomicU64::new(0);
+        let at = 23 * guest as usize + 10;
+        let before = START.swap(words::get(desk, at), std::sync::atomic::Ordering::Relaxed);
+        words::set(desk, at, before);
+    }
+    #[cfg(fault = "carry_kept")]
+    if answer == 256 {
+        words::set(desk, 23 * guest as usize + 8, u64::from(given.carry & 1));
+    }
+    #[cfg(fault = "carry_on_256")]
+    if answer == 256 {
+        *carry = 0;
+    }
+    if answer == 0 {
+        (*ax, *bx, *cx, *dx, *carry) = (out.ax, out.bx, out.cx, out.dx, out.carry);
+    }
+    answer
+}
+
+#[no_mangle]
+pub unsafe extern "C" fn edd_turn(
+    desk: *mut u8, desk_len: usize, arena: *mut u8, arena_len: usize, store: *mut u8, store_len: usize, guest: &mut u64, moved: &mut u64,
+) -> u32 {
+    let (desk, arena, store) = unsafe { (lent_mut(desk, desk_len), lent_mut(arena, arena_len), lent_mut(store, store_len)) };
+    #[cfg(fault = "search_from_zero")]
+    let pointer = if desk.len() == 2400 { std::mem::replace(&mut desk[8 * 297], 0) } else { 0 };
+    let answer = model::turn(desk, arena, store, guest, moved);
+    #[cfg(fault = "search_from_zero")]
+    if desk.len() == 2400 && answer != 0 {
+        desk[8 * 297] = pointer;
+    }
+    #[cfg(fault = "pointer_stays")]
+    if answer == 0 && *guest == 7 {
+        words::set(desk, 297, 7);
+    }
+    #[cfg(fault = "last_block_lost")]
+    if answer == 0 && *moved == 16 {
+        if let Some(byte) = store.last_mut() {
+            *byte ^= 1;
+        }
+    }
+    #[cfg(fault = "guest_on_idle")]
+    if answer == 256 {
+        *guest = 0;
+    }
+    answer
+}
+
+#[no_mangle]
+pub unsafe extern "C" fn edd_collect(
+    desk: *mut u8, desk_len: usize, guest: u64, ax: &mut u16, bx: &mut u16, cx: &mut u16, dx: &mut u16, ds: &mut u16, si: &mut u16,
+    es: &mut u16, carry: &mut u16,
+) -> u32 {
+    let desk = unsafe { lent_mut(desk, desk_len) };
+    let mut out = Registers::default();
+    let answer = model::collect(desk, guest, &mut out);
+    #[cfg(fault = "segments_swapped")]
+    std::mem::swap(&mut out.ds, &mut out.es);
+    if answer == 0 {
+        (*ax, *bx, *cx, *dx) = (out.ax, out.bx, out.cx, out.dx);
+        (*ds, *si, *es, *carry) = (out.ds, out.si, out.es, out.carry);
+    }
+    answer
+}
+
+#[no_mangle]
+pub unsafe extern "C" fn edd_withdraw(
+    desk: *mut u8, desk_len: usize, arena: *mut u8, arena_len: usize, store: *const u8, store_len: usize, guest: u64, ax: &mut u16,
+    bx: &mut u16, cx: &mut u16, dx: &mut u16, ds: &mut u16, si: &mut u16, es: &mut u16, carry: &mut u16,
+) -> u32 {
+    let (desk, arena, store) = unsafe { (lent_mut(desk, desk_len), lent_mut(arena, arena_len), lent(store, store_len)) };
+    let mut out = Registers::default();
+    #[cfg(fault = "withdrawn_count_one_byte")]
+    let before = arena.to_vec();
+    let answer = model::withdraw(desk, arena, store, guest, &mut out);
+    #[cfg(fault = "withdrawn_count_one_byte")]
+    if answer == 0 && out.ds | out.si != 0 {
+        let start = guest as usize * (arena.len() / 8);
+        let high = start + model::parts::linear(out.ds, out.si) as usize + 3;
+        if high < arena.len() {
+            arena[high] = before[high];
+        }
+    }
+    if answer == 0 {
+        (*ax, *bx, *cx, *dx) = (out.ax, out.bx, out.cx, out.dx);
+        (*ds, *si, *es, *carry) = (out.ds, out.si, out.es, out.carry);
+    }
+    answer
+}
+
+#[no_mangle]
+pub extern "C" fn edd_window(arena_length: u64, guest: u64, start: &mut u64, length: &mut u64) -> u32 {
+    let answer = model::window(arena_length, guest, start, length);
+    #[cfg(fault = "window_of_guest_8")]
+    if guest == 8 {
+        *start = arena_length / 8 * 8;
+    }
+    answer
+}
+
+#[no_mangle]
+pub extern "C" fn edd_block(c: u32, h: u32, s: u32, cylinder: u32, head: u32, sector: u32, block: &mut u32) -> u32 {
+    model::block_number(Geometry { cylinders: c, heads: h, sectors: s }, Address { cylinder, head, sector }, block)
+}
+
+#[no_mangle]
+pub extern "C" fn edd_address(
+    c: u32, h: u32, s: u32, block: u64, cylinder: &mut u32, head: &mut u32, sector: &mut u32,
+) -> u32 {
+    #[cfg(fault = "block_narrowed")]
+    let block = u64::from(block as u32);
+    let mut at = Address { cylinder: *cylinder, head: *head, sector: *sector };
+    let answer = model::address(Geometry { cylinders: c, heads: h, sectors: s }, block, &mut at);
+    (*cylinder, *head, *sector) = (at.cylinder, at.head, at.sector);
+    answer
+}
