@@ -28,7 +28,7 @@ static void line(void)
     printf("\n");
 }
 
-/* A call changes the desk, so the block is put back before each call of a batch. What that takes alone, for so many rounds. */
+/* A call changes the desk, so the block is put back before each call of a batch. What that takes alone, in so many rounds. */
 static double put_back(uint8_t *desk, const uint8_t *ready, unsigned rounds)
 {
     double begun = nanoseconds();
@@ -36,7 +36,7 @@ static double put_back(uint8_t *desk, const uint8_t *ready, unsigned rounds)
         memcpy(desk, ready, EDD_DESK_SIZE);
         settle();
     }
-    return nanoseconds() - begun;
+    return (nanoseconds() - begun) / rounds;
 }
 
 /* ---- 1. a turn of sixteen blocks against memcpy of the same bytes */
@@ -44,7 +44,7 @@ static double put_back(uint8_t *desk, const uint8_t *ready, unsigned rounds)
 enum mover { LIBRARY, MODEL, MEMCPY, MOVERS };
 
 /* In cache: the same sixteen blocks again and again. The desk is put back before each turn, and that is taken off. */
-static double turn_hot(enum mover mover, unsigned function)
+static void turn_hot(struct times *t, int batch, enum mover mover, unsigned function)
 {
     static struct place p;
     static uint8_t ready[EDD_DESK_SIZE];
@@ -67,9 +67,9 @@ static double turn_hot(enum mover mover, unsigned function)
             place_turn(&p, s, &guest, &moved);
         settle();
     }
-    double taken = nanoseconds() - begun;
+    t->with[batch] = (nanoseconds() - begun) / rounds;
+    t->alone[batch] = put_back(p.desk, ready, rounds);
     expect(mover == MEMCPY || moved == EDD_TURN_BLOCKS, "sixteen blocks moved");
-    return (taken - put_back(p.desk, ready, rounds)) / rounds;
 }
 
 /*
@@ -82,7 +82,7 @@ static double turn_hot(enum mover mover, unsigned function)
 #define WALK_BYTES ((size_t)WALK_BLOCKS * EDD_BLOCK_SIZE)
 #define WALK_PLACES ((WALK_ARENA / EDD_GUESTS - BUFFER) / WALK_BYTES)
 
-static double turn_cold(enum mover mover, unsigned function)
+static void turn_cold(struct times *time, int batch, enum mover mover, unsigned function)
 {
     static struct place p;
     static size_t round; /* goes on over all batches of all movers */
@@ -118,45 +118,59 @@ static double turn_cold(enum mover mover, unsigned function)
         sum += nanoseconds() - begun;
         expect(mover == MEMCPY || total == turns * EDD_TURN_BLOCKS, "sixteen blocks in each turn");
     }
-    return sum / (double)(rounds * turns);
+    time->with[batch] = sum / (double)(rounds * turns);
+    time->alone[batch] = 0;
 }
 
 static void ratio_cell(const struct times *above, const struct times *below)
 {
-    struct times r = ratios(above, below);
-    printf("  %5.2f (%.2f-%.2f)", median(&r), best(&r), worst(&r));
+    printf("   %7.2f /%6.2f", best(above) / best(below), median(above) / median(below));
 }
 
-/* The ratios of the medians that the aims are about: read, then write, not in cache. */
+static void time_cell(const struct times *t)
+{
+    printf(" %5.0f /%5.0f", best(t), median(t));
+}
+
+/* The ratios that the aims are about, of the best times not in cache: read, then write. */
 static double to_memcpy[2], to_model[2];
 
 static void table_turn(void)
 {
-    printf("1. A turn of 16 blocks against memcpy of the same 8 KiB, and against the model's turn.\n"
-           "   ratio: median of %d batches, smallest and largest in brackets; ns: medians\n\n", BATCHES);
-    printf("   %-26s %-20s %-20s %9s %9s %9s\n", "", " library / memcpy", " library / model", "library", "model", "memcpy");
+    static const char *const names[] = { "read (42h), in cache", "write (43h), in cache", "read (42h), not in cache",
+                                         "write (43h), not in cache" };
+    printf("1. A turn of 16 blocks against memcpy of the same 8 KiB, and against the model's turn.\n\n");
+    printf("   %-28s  library / memcpy   library / model    library, ns    model, ns   memcpy, ns\n", "");
     for (unsigned row = 0; row < 4; row++) {
         unsigned cold = row / 2, function = row % 2 ? 0x43 : 0x42;
         struct times t[MOVERS];
-        memset(t, 0, sizeof t);
-        for (int b = 0; b < BATCHES; b++)
-            for (enum mover m = LIBRARY; m < MOVERS; m++)
-                if (m != MODEL || service_count == 2)
-                    t[m].batch[b] = cold ? turn_cold(m, function) : turn_hot(m, function);
-        printf("   %-26s", row == 0   ? "read (42h), in cache"
-                           : row == 1 ? "write (43h), in cache"
-                           : row == 2 ? "read (42h), not in cache"
-                                      : "write (43h), not in cache");
+        for (int b = 0; b < BATCHES; b++) {
+            for (enum mover m = LIBRARY; m < MOVERS; m++) {
+                if (m == MODEL && service_count < 2)
+                    continue;
+                if (cold)
+                    turn_cold(&t[m], b, m, function);
+                else
+                    turn_hot(&t[m], b, m, function);
+            }
+        }
+        printf("   %-28s", names[row]);
         ratio_cell(&t[LIBRARY], &t[MEMCPY]);
         if (service_count == 2)
             ratio_cell(&t[LIBRARY], &t[MODEL]);
         else
-            printf("  %-18s", "-");
-        printf(" %9.0f %9.0f %9.0f\n", median(&t[LIBRARY]), median(&t[MODEL]), median(&t[MEMCPY]));
+            printf("   %16s", "-");
+        printf(" ");
+        time_cell(&t[LIBRARY]);
+        if (service_count == 2)
+            time_cell(&t[MODEL]);
+        else
+            printf(" %12s", "-");
+        time_cell(&t[MEMCPY]);
+        printf("\n");
         if (cold) {
-            struct times a = ratios(&t[LIBRARY], &t[MEMCPY]), b = ratios(&t[LIBRARY], &t[MODEL]);
-            to_memcpy[row % 2] = median(&a);
-            to_model[row % 2] = service_count == 2 ? median(&b) : 0;
+            to_memcpy[row % 2] = best(&t[LIBRARY]) / best(&t[MEMCPY]);
+            to_model[row % 2] = service_count == 2 ? best(&t[LIBRARY]) / best(&t[MODEL]) : 0;
         }
     }
     printf("\n   not in cache: a walk over %zu MiB of store and %zu MiB of guest memory\n", LARGE / MIB, LARGE / MIB);
@@ -196,19 +210,23 @@ static void table_request(void)
         { "02h, 128 blocks (8 turns)", 0x02, 128 },
     };
     printf("2. A whole request, post and turns and collect, in cache, against the model with the same checks.\n\n");
-    printf("   %-26s %-20s %9s %9s\n", "", " library / model", "library", "model");
+    printf("   %-28s   library / model    library, ns    model, ns\n", "");
     for (unsigned i = 0; i < sizeof requests / sizeof requests[0]; i++) {
         struct times t[2];
         memset(t, 0, sizeof t);
         for (int b = 0; b < BATCHES; b++)
             for (unsigned s = 0; s < service_count; s++)
-                t[s].batch[b] = whole_request(&services[s], requests[i].function, requests[i].count);
-        printf("   %-26s", requests[i].name);
+                t[s].with[b] = whole_request(&services[s], requests[i].function, requests[i].count);
+        printf("   %-28s", requests[i].name);
         if (service_count == 2)
             ratio_cell(&t[0], &t[1]);
         else
-            printf("  %-18s", "-");
-        printf(" %9.0f %9.0f\n", median(&t[0]), median(&t[1]));
+            printf("   %16s", "-");
+        printf(" ");
+        time_cell(&t[0]);
+        if (service_count == 2)
+            time_cell(&t[1]);
+        printf("\n");
     }
     line();
 }
@@ -398,24 +416,7 @@ static void prepare(struct place *p, const struct service *s, const struct call 
         p->desk[8 * 22] = 1; /* a word of guest 0's row that must be 0 in a vacant row (docs/BLOCK.md) */
 }
 
-/* The times of a call with the desk put back before it, and of putting it back alone: the difference is the call's. */
-struct cell {
-    struct times with, alone;
-};
-
-static double best_of(const struct cell *c)
-{
-    double cost = best(&c->with) - best(&c->alone);
-    return cost > 0 ? cost : 0;
-}
-
-static double median_of(const struct cell *c)
-{
-    double cost = median(&c->with) - median(&c->alone);
-    return cost > 0 ? cost : 0;
-}
-
-static void one_batch(struct cell *cell, int batch, const struct service *s, const struct call *c, const struct setting *at)
+static void one_batch(struct times *t, int batch, const struct service *s, const struct call *c, const struct setting *at)
 {
     static struct place p;
     static uint8_t ready[EDD_DESK_SIZE];
@@ -435,8 +436,8 @@ static void one_batch(struct cell *cell, int batch, const struct service *s, con
             answer = got;
         settle();
     }
-    cell->with.batch[batch] = (nanoseconds() - begun) / rounds;
-    cell->alone.batch[batch] = put_back(p.desk, ready, rounds) / rounds;
+    t->with[batch] = (nanoseconds() - begun) / rounds;
+    t->alone[batch] = put_back(p.desk, ready, rounds);
     expect(answer == c->answer, c->name);
 }
 
@@ -460,7 +461,7 @@ static struct summary table_calls(const struct setting *settings, unsigned count
     printf(" %12s  %s\n", service_count == 2 ? "model" : "", service_count == 2 ? "library / model" : "");
 
     for (unsigned i = 0; i < CALLS; i++) {
-        struct cell t[SETTINGS], model;
+        struct times t[SETTINGS], model;
         const struct setting *last = &settings[count - 1];
         memset(t, 0, sizeof t);
         memset(&model, 0, sizeof model);
@@ -472,9 +473,9 @@ static struct summary table_calls(const struct setting *settings, unsigned count
         }
         printf("   %-28s", calls[i].name);
         for (unsigned k = 0; k < count; k++) {
-            double cost = best_of(&t[k]);
+            double cost = best(&t[k]);
             if (can(&calls[i], &settings[k]))
-                printf(" %5.0f /%5.0f", cost, median_of(&t[k]));
+                time_cell(&t[k]);
             else
                 printf(" %12s", "-");
             if (cost > sum.most && !(calls[i].make == turn && calls[i].stage == WAITING)) {
@@ -482,14 +483,14 @@ static struct summary table_calls(const struct setting *settings, unsigned count
                 sum.slowest = calls[i].name;
             }
         }
-        if (best_of(&t[0]) >= 50 && best_of(&t[count - 1]) / best_of(&t[0]) > sum.growth) {
-            sum.growth = best_of(&t[count - 1]) / best_of(&t[0]);
+        if (best(&t[0]) >= 50 && best(&t[count - 1]) / best(&t[0]) > sum.growth) {
+            sum.growth = best(&t[count - 1]) / best(&t[0]);
             sum.grew = calls[i].name;
         }
         if (service_count == 2 && can(&calls[i], last)) {
-            printf(" %5.0f /%5.0f", best_of(&model), median_of(&model));
-            if (best_of(&model) >= 20)
-                printf("  %5.2f", best_of(&t[count - 1]) / best_of(&model));
+            time_cell(&model);
+            if (best(&model) >= 20)
+                printf("  %5.2f", best(&t[count - 1]) / best(&model));
         }
         printf("\n");
     }
@@ -538,14 +539,15 @@ int main(int argc, char **argv)
     memset(store, 2, LARGE);
     memset(arena, 1, LARGE);
 
+    printf("Of %d batches: best / median. Ratios likewise: of the best times / of the medians.\n\n", BATCHES);
     table_turn();
     table_request();
-    printf("3. Each call, by the number of drives. ns, best / median of %d batches of 2000 calls; ratio of the best. Arena and store\n"
-           "   1 MiB, other rows vacant. The model with 8 drives.\n\n", BATCHES);
+    printf("3. Each call, by the number of drives; ns. Arena and store 1 MiB, other rows vacant. The model with 8 drives, the ratio of\n"
+           "   the best times.\n\n");
     struct summary by_drives = table_calls(drives, 4);
-    printf("4. Each call, by the length of arena and store (in this order), 8 drives, other rows vacant. The model with 1G, 1G.\n\n");
+    printf("4. Each call, by the length of arena and store (in this order), 8 drives; ns. Other rows vacant. The model with 1G, 1G.\n\n");
     struct summary by_size = table_calls(sizes, 6);
-    printf("5. Each call, by the rows of the other guests that wait, 8 drives. The model with 7 waiting.\n\n");
+    printf("5. Each call, by the rows of the other guests that wait, 8 drives; ns. The model with 7 waiting.\n\n");
     struct summary by_rows = table_calls(rows, 2);
 
     printf("Aims\n");

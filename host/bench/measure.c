@@ -1,6 +1,7 @@
 #include "measure.h"
 
 #include <stdlib.h>
+#include <string.h>
 #include <time.h>
 
 double nanoseconds(void)
@@ -16,32 +17,27 @@ static int by_value(const void *a, const void *b)
     return (x > y) - (x < y);
 }
 
-static struct times sorted(const struct times *t)
+/* The value at a place of the sorted batches. */
+static double at(const double *batches, int place)
 {
-    struct times copy = *t;
-    qsort(copy.batch, BATCHES, sizeof copy.batch[0], by_value);
-    return copy;
+    double sorted[BATCHES];
+    memcpy(sorted, batches, sizeof sorted);
+    qsort(sorted, BATCHES, sizeof sorted[0], by_value);
+    return sorted[place];
+}
+
+static double cost(const struct times *t, int place)
+{
+    double taken = at(t->with, place) - at(t->alone, place);
+    return taken > 0 ? taken : 0;
 }
 
 double best(const struct times *t)
 {
-    return sorted(t).batch[0];
-}
-
-double worst(const struct times *t)
-{
-    return sorted(t).batch[BATCHES - 1];
+    return cost(t, 0);
 }
 
 double median(const struct times *t)
 {
-    return sorted(t).batch[BATCHES / 2];
-}
-
-struct times ratios(const struct times *above, const struct times *below)
-{
-    struct times r;
-    for (int i = 0; i < BATCHES; i++)
-        r.batch[i] = above->batch[i] / below->batch[i];
-    return r;
+    return cost(t, BATCHES / 2);
 }

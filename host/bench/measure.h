@@ -1,6 +1,7 @@
 /*
- * measure.h - times of batches. The machine may be shared, so nothing is taken from one batch: a figure is the best of all batches or
- * their median, and what is compared is measured in turn, batch by batch, so that a slow moment meets both.
+ * measure.h - times of batches. The machine may be shared, so nothing is taken from one batch: a figure is the best of all batches,
+ * with their median beside it to show the spread, and what is compared is measured in turn, batch by batch, so that a slow moment meets
+ * both.
  */
 #ifndef MEASURE_H
 #define MEASURE_H
@@ -9,18 +10,16 @@
 
 #define BATCHES 25
 
-/* Nanoseconds per call, one for each batch. */
+/* Nanoseconds per call, one for each batch: the call with what must be done before it, and that alone (0 if nothing must). */
 struct times {
-    double batch[BATCHES];
+    double with[BATCHES], alone[BATCHES];
 };
 
 double nanoseconds(void);
-double best(const struct times *t);
-double worst(const struct times *t);
-double median(const struct times *t);
 
-/* The ratios of neighbouring batches. */
-struct times ratios(const struct times *above, const struct times *below);
+/* What the call itself takes: the best batch, and the median. */
+double best(const struct times *t);
+double median(const struct times *t);
 
 /* The compiler may not move, merge or drop work on memory across this. */
 static inline void settle(void)
