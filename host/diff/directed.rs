@@ -1,1 +1,1438 @@
-pub fn run() -> std::process::ExitCode { std::process::ExitCode::SUCCESS }
+//! Cases written by hand, each named after the point of document 01 that it is about. Every case runs against the library and against
+//! the model, and says itself what must come out.
+//!
+//! Letters: a refusals, b functions, c the drive table, d the desk block, e windows and turns, g sums and threads.
+
+use crate::chance::Chance;
+use crate::drives::{self, paper_drive, Drive};
+use crate::random::Run;
+use crate::service::{Lent, Library, Model, Service};
+use model::addresses::{Address, Geometry};
+use model::{Registers, DESK_SIZE};
+use std::panic::{catch_unwind, AssertUnwindSafe};
+use std::process::ExitCode;
+
+const DONE: u32 = 0;
+const NOTHING_YET: u32 = 256;
+
+// words of the block
+const POINTER: usize = 297;
+const ARENA_LENGTH: usize = 298;
+const STORE_LENGTH: usize = 299;
+const DRIVE_COUNT: usize = 296;
+
+fn row(guest: usize, word: usize) -> usize {
+    23 * guest + word
+}
+
+fn drive_word(place: usize, word: usize) -> usize {
+    184 + 14 * place + word
+}
+
+// ---- a desk with its arena and store
+
+struct Stand<'a> {
+    service: &'a dyn Service,
+    desk: Lent,
+    arena: Lent,
+    store: Lent,
+}
+
+type Snapshot = (Vec<u8>, Vec<u8>, Vec<u8>);
+
+/// What the places of results hold before a call, so that one sees whether they were written.
+const UNWRITTEN: u64 = 0xDEAD_BEEF_5EED;
+const STALE: Registers =
+    Registers { ax: 0x1111, bx: 0x2222, cx: 0x3333, dx: 0x4444, ds: 0x5555, si: 0x6666, es: 0x7777, carry: 0x8888 };
+
+impl<'a> Stand<'a> {
+    /// Opens a desk over memory with bytes that differ from place to place.
+    fn open(service: &'a dyn Service, drives: &[Drive], arena_length: usize, store_length: usize) -> Stand<'a> {
+        let mut chance = Chance::new(7);
+        let mut stand = Stand {
+            service,
+            desk: Lent::holding(&chance.bytes(DESK_SIZE), true),
+            arena: Lent::holding(&chance.bytes(arena_length), true),
+            store: Lent::holding(&chance.bytes(store_length), true),
+        };
+        let answer = stand.open_again(&drives::table(drives), arena_length as u64, store_length as u64);
+        assert_eq!(answer, (DONE, UNWRITTEN), "opening");
+        stand
+    }
+
+    /// Document 01's drive, a store that holds it and an arena with windows of `window` bytes.
+    fn paper(service: &'a dyn Service, window: usize) -> Stand<'a> {
+        Stand::open(service, &[paper_drive()], 8 * window, 2048 * 512)
+    }
+
+    fn open_again(&mut self, table: &[u8], arena_length: u64, store_length: u64) -> (u32, u64) {
+        let mut place = UNWRITTEN;
+        let answer = self.service.open(self.desk.bytes_mut(), table, arena_length, store_length, &mut place);
+        (answer, place)
+    }
+
+    fn post(&mut self, guest: u64, given: Registers) -> (u32, Registers) {
+        let mut registers = given;
+        let answer =
+            self.service.post(self.desk.bytes_mut(), self.arena.bytes_mut(), self.store.bytes(), guest, &mut registers);
+        (answer, registers)
+    }
+
+    fn turn(&mut self) -> (u32, u64, u64) {
+        let (mut guest, mut moved) = (UNWRITTEN, UNWRITTEN);
+        let (desk, arena, store) = (self.desk.bytes_mut(), self.arena.bytes_mut(), self.store.bytes_mut());
+        let answer = self.service.turn(desk, arena, store, &mut guest, &mut moved);
+        (answer, guest, moved)
+    }
+
+    fn collect(&mut self, guest: u64) -> (u32, Registers) {
+        let mut registers = STALE;
+        (self.service.collect(self.desk.bytes_mut(), guest, &mut registers), registers)
+    }
+
+    fn withdraw(&mut self, guest: u64) -> (u32, Registers) {
+        let mut registers = STALE;
+        let (desk, arena) = (self.desk.bytes_mut(), self.arena.bytes_mut());
+        (self.service.withdraw(desk, arena, self.store.bytes(), guest, &mut registers), registers)
+    }
+
+    fn write(&self, out: &mut [u8]) -> (u32, u64) {
+        let mut written = UNWRITTEN;
+        (self.service.write(self.desk.bytes(), out, &mut written), written)
+    }
+
+    fn accepted(&self) -> bool {
+        let (answer, _) = self.write(&mut [0; 548]);
+        assert!(matches!(answer, DONE | 25), "write answered {answer}");
+        answer == DONE
+    }
+
+    fn word(&self, word: usize) -> u64 {
+        u64::from_le_bytes(self.desk.bytes()[8 * word..8 * word + 8].try_into().unwrap())
+    }
+
+    fn set_word(&mut self, word: usize, value: u64) {
+        self.desk.bytes_mut()[8 * word..8 * word + 8].copy_from_slice(&value.to_le_bytes());
+    }
+
+    fn all(&self) -> Snapshot {
+        (self.desk.bytes().to_vec(), self.arena.bytes().to_vec(), self.store.bytes().to_vec())
+    }
+
+    fn window(&mut self, guest: usize) -> &mut [u8] {
+        let length = self.arena.bytes().len() / 8;
+        &mut self.arena.bytes_mut()[guest * length..(guest + 1) * length]
+    }
+
+    /// Lays a packet of size 16 into a guest's window.
+    fn packet(&mut self, guest: usize, place: usize, count: u16, buffer: (u16, u16), start: u64) {
+        let mut bytes = vec![16, 0];
+        bytes.extend(count.to_le_bytes());
+        bytes.extend(buffer.1.to_le_bytes());
+        bytes.extend(buffer.0.to_le_bytes());
+        bytes.extend(start.to_le_bytes());
+        self.window(guest)[place..place + 16].copy_from_slice(&bytes);
+    }
+
+    /// Posts with a packet at 0000:0000 and the buffer at 0000:0200.
+    fn post_packet(&mut self, guest: usize, ah: u8, count: u16, start: u64) -> (u32, Registers) {
+        self.packet(guest, 0, count, (0, 0x200), start);
+        self.post(guest as u64, by_packet(ah, 0))
+    }
+
+    fn refused_everywhere(&mut self, what: &str) {
+        let before = self.all();
+        assert_eq!(self.write(&mut [0; 548]), (25, UNWRITTEN), "{what}: write");
+        assert_eq!(self.post(1, by_packet(0x42, 0)), (25, by_packet(0x42, 0)), "{what}: post");
+        assert_eq!(self.turn(), (25, UNWRITTEN, UNWRITTEN), "{what}: turn");
+        assert_eq!(self.collect(1), (25, STALE), "{what}: collect");
+        assert_eq!(self.withdraw(1), (25, STALE), "{what}: withdraw");
+        assert!(self.all() == before, "{what}: something changed");
+    }
+
+    /// One word changed: refused by every call, and nothing is written.
+    fn refused_with(&mut self, what: &str, word: usize, value: u64) {
+        let old = self.word(word);
+        assert_ne!(old, value, "{what}: the word is already so");
+        self.set_word(word, value);
+        self.refused_everywhere(what);
+        self.set_word(word, old);
+    }
+
+    fn accepted_with(&mut self, what: &str, word: usize, value: u64) {
+        let old = self.word(word);
+        self.set_word(word, value);
+        assert!(self.accepted(), "{what}: not accepted");
+        self.set_word(word, old);
+    }
+}
+
+/// Registers with values that show when they are changed.
+fn registers(ah: u8, al: u8, dl: u8) -> Registers {
+    Registers {
+        ax: u16::from(ah) << 8 | u16::from(al),
+        bx: 0xB0B1,
+        cx: 0xC0C1,
+        dx: 0xD000 | u16::from(dl),
+        ds: 0xD5D6,
+        si: 0x5152,
+        es: 0xE5E6,
+        carry: 0,
+    }
+}
+
+/// 42h to 44h and 47h on drive 80h with the packet at 0000:place.
+fn by_packet(ah: u8, place: u16) -> Registers {
+    Registers { ds: 0, si: place, ..registers(ah, 0, 0x80) }
+}
+
+/// 02h or 03h on drive 80h at cylinder, head, sector, buffer 0000:0200.
+fn by_sector(ah: u8, count: u8, cylinder: u16, head: u8, sector: u8) -> Registers {
+    Registers {
+        cx: (cylinder & 0xFF) << 8 | (cylinder >> 8) << 6 | u16::from(sector),
+        dx: u16::from(head) << 8 | 0x80,
+        es: 0,
+        bx: 0x200,
+        ..registers(ah, count, 0x80)
+    }
+}
+
+fn refused(given: Registers, code: u8) -> Registers {
+    Registers { ax: u16::from(code) << 8 | given.ax & 0xFF, carry: 1, ..given }
+}
+
+fn succeeded(given: Registers) -> Registers {
+    Registers { ax: given.ax & 0xFF, carry: 0, ..given }
+}
+
+/// A refused 02h or 03h sets AL to 0.
+fn refused_sectors(given: Registers, code: u8) -> Registers {
+    Registers { ax: u16::from(code) << 8, carry: 1, ..given }
+}
+
+fn protected(drive: Drive) -> Drive {
+    Drive { protection: 1, ..drive }
+}
+
+/// A drive of some blocks with a geometry of one cylinder and one head.
+fn small_drive(first: u64, blocks: u64) -> Drive {
+    Drive { first, blocks, cylinders: 1, heads: 1, sectors: blocks.min(63) as u8, ..paper_drive() }
+}
+
+// ---- a: refusals
+
+fn a1_order_of_house_numbers(service: &dyn Service) {
+    let mut stand = Stand::paper(service, 1024);
+    stand.arena = Lent::holding(&[0; 100], true);
+    let good = stand.desk.bytes().to_vec();
+    stand.set_word(POINTER, 8);
+    assert_eq!(stand.post(9, by_packet(0x42, 0)).0, 25, "post: desk, arena and guest are bad");
+    assert_eq!(stand.turn().0, 25);
+    assert_eq!(stand.withdraw(9).0, 25);
+    assert_eq!(stand.collect(9).0, 25);
+    assert_eq!(stand.write(&mut []).0, 25);
+    stand.desk.bytes_mut().copy_from_slice(&good);
+    assert_eq!(stand.post(9, by_packet(0x42, 0)).0, 24, "post: arena and guest are bad");
+    assert_eq!(stand.turn().0, 24);
+    assert_eq!(stand.withdraw(9).0, 24);
+    assert_eq!(stand.collect(9).0, 20, "collect is lent no arena");
+    assert_eq!(stand.write(&mut []).0, 19);
+    let mut stand = Stand::paper(service, 1024);
+    for guest in [8, 9, 256, 1 << 32, u64::MAX] {
+        assert_eq!(stand.post(guest, by_packet(0x42, 0)), (20, by_packet(0x42, 0)));
+        assert_eq!(stand.withdraw(guest), (20, STALE));
+        assert_eq!(stand.collect(guest), (20, STALE));
+    }
+    assert_eq!(stand.withdraw(7), (23, STALE));
+    assert_eq!(stand.collect(7), (22, STALE));
+}
+
+fn a2_store_length_alone(service: &dyn Service) {
+    let mut stand = Stand::paper(service, 1024);
+    assert_eq!(stand.post_packet(3, 0x42, 1, 0).0, NOTHING_YET);
+    stand.packet(2, 0, 1, (0, 0x200), 0);
+    let length = stand.store.bytes().len();
+    for wrong in [0, 512, length - 1, length + 1] {
+        stand.store = Lent::holding(&vec![9; wrong], true);
+        let before = stand.all();
+        assert_eq!(stand.post(2, by_packet(0x42, 0)), (24, by_packet(0x42, 0)), "post");
+        assert_eq!(stand.post(2, registers(0x41, 7, 0x80)), (24, registers(0x41, 7, 0x80)), "post of 41h");
+        assert_eq!(stand.turn(), (24, UNWRITTEN, UNWRITTEN), "turn");
+        assert_eq!(stand.withdraw(3), (24, STALE), "withdraw");
+        assert!(stand.all() == before, "something changed");
+    }
+}
+
+fn a2_arena_length_alone(service: &dyn Service) {
+    let mut stand = Stand::paper(service, 1024);
+    assert_eq!(stand.post_packet(3, 0x42, 1, 0).0, NOTHING_YET);
+    for wrong in [0, 8, 8191, 8193] {
+        stand.arena = Lent::holding(&vec![9; wrong], true);
+        let before = stand.all();
+        assert_eq!(stand.post(2, by_packet(0x42, 0)), (24, by_packet(0x42, 0)), "post");
+        assert_eq!(stand.turn(), (24, UNWRITTEN, UNWRITTEN), "turn");
+        assert_eq!(stand.withdraw(3), (24, STALE), "withdraw");
+        assert!(stand.all() == before, "something changed");
+    }
+}
+
+fn a3_open_over_anything(service: &dyn Service) {
+    let table = drives::table(&[paper_drive()]);
+    let mut clean = Stand::paper(service, 1024);
+    clean.desk.bytes_mut().fill(0);
+    assert_eq!(clean.open_again(&table, 8192, 2048 * 512), (DONE, UNWRITTEN));
+    let mut stand = Stand::paper(service, 1024);
+    assert!(stand.desk.bytes() == clean.desk.bytes(), "opened over random bytes");
+    assert_eq!(stand.post_packet(3, 0x42, 1, 0).0, NOTHING_YET);
+    assert_eq!(stand.open_again(&table, 8192, 2048 * 512), (DONE, UNWRITTEN));
+    assert!(stand.desk.bytes() == clean.desk.bytes(), "opened over a desk with a waiting row");
+    assert_eq!(stand.turn().0, NOTHING_YET);
+}
+
+fn a3_table_refused(service: &dyn Service) {
+    let mut stand = Stand::paper(service, 1024);
+    assert_eq!(stand.post_packet(3, 0x42, 1, 0).0, NOTHING_YET);
+    let before = stand.all();
+    let mut bad = small_drive(2048, 1);
+    bad.sectors = 0;
+    let table = drives::table(&[paper_drive(), bad]);
+    assert_eq!(stand.open_again(&table, 8192, 4096 * 512), (5, 68));
+    assert_eq!(stand.open_again(&[], 8192, 4096 * 512), (1, 0));
+    assert!(stand.all() == before, "something changed");
+    assert_eq!(stand.turn(), (DONE, 3, 1), "the desk goes on");
+}
+
+fn a3_wrong_size_first(service: &dyn Service) {
+    let good = drives::table(&[paper_drive()]);
+    for size in [0, 1, DESK_SIZE - 1, DESK_SIZE + 1, 2 * DESK_SIZE] {
+        let mut desk = Lent::holding(&vec![0x77; size], true);
+        for table in [&good[..], &good[..71], &[]] {
+            let mut place = UNWRITTEN;
+            assert_eq!(service.open(desk.bytes_mut(), table, 8192, 2048 * 512, &mut place), 25);
+            assert_eq!(place, UNWRITTEN, "place was written");
+            assert!(desk.bytes().iter().all(|byte| *byte == 0x77), "the block was written");
+        }
+    }
+}
+
+fn a4_idle(service: &dyn Service) {
+    let mut stand = Stand::paper(service, 1024);
+    assert_eq!(stand.post_packet(4, 0x42, 1, 0).0, NOTHING_YET);
+    assert_eq!(stand.turn(), (DONE, 4, 1));
+    let before = stand.all();
+    assert_eq!(stand.turn(), (NOTHING_YET, UNWRITTEN, UNWRITTEN), "a finished row is not served");
+    assert!(stand.all() == before, "something changed");
+    assert_eq!(stand.word(POINTER), 5);
+    stand.store = Lent::holding(&[0; 512], true);
+    assert_eq!(stand.turn(), (24, UNWRITTEN, UNWRITTEN), "lengths come before idle");
+}
+
+fn a5_a6_busy_row(service: &dyn Service) {
+    let mut stand = Stand::paper(service, 1024);
+    assert_eq!(stand.post_packet(4, 0x42, 1, 0).0, NOTHING_YET);
+    for stage in ["waiting", "finished"] {
+        let before = stand.all();
+        for ah in [0x02, 0x03, 0x08, 0x41, 0x42, 0x44, 0x48, 0x15] {
+            let given = registers(ah, 9, 0x80);
+            assert_eq!(stand.post(4, given), (21, given), "{stage}, AH {ah:02x}");
+        }
+        assert!(stand.all() == before, "{stage}: something changed");
+        if stage == "waiting" {
+            assert_eq!(stand.turn(), (DONE, 4, 1));
+        }
+    }
+}
+
+fn a7_unknown_function(service: &dyn Service) {
+    let mut stand = Stand::paper(service, 1024);
+    let before = stand.all();
+    for ah in (0..=255).filter(|ah| ![2, 3, 8, 0x41, 0x42, 0x43, 0x44, 0x47, 0x48].contains(ah)) {
+        for dl in [0x80, 0x81, 0x00] {
+            let given = registers(ah, 0x5A, dl);
+            assert_eq!(stand.post(0, given), (DONE, refused(given, 0x01)), "AH {ah:02x}");
+        }
+    }
+    assert!(stand.all() == before, "something changed");
+}
+
+fn a8_drive_numbers(service: &dyn Service) {
+    for count in [0u8, 1, 8] {
+        let drives: Vec<Drive> = (0..count).map(|i| small_drive(u64::from(i), 1)).collect();
+        let mut stand = Stand::open(service, &drives, 8 * 1024, 8 * 512);
+        stand.packet(0, 0, 1, (0, 0x200), 0);
+        let before = stand.all();
+        for dl in [0x00, 0x7F, 0x80 + count, 0xFF, count, 8] {
+            for ah in [0x02, 0x03, 0x08, 0x41, 0x42, 0x43, 0x44, 0x47, 0x48] {
+                let given = Registers { bx: 0x55AA, ds: 0, si: 0, ..registers(ah, 1, dl) };
+                let (answer, got) = stand.post(0, given);
+                let code = if ah == 0x08 { 0x07 } else { 0x01 };
+                let expected = if ah < 0x08 { refused_sectors(given, code) } else { refused(given, code) };
+                assert_eq!((answer, got), (DONE, expected), "AH {ah:02x} DL {dl:02x} with {count} drives");
+            }
+        }
+        assert!(stand.all() == before, "something changed");
+        for dl in 0x80..0x80 + u16::from(count) {
+            let given = Registers { bx: 0x55AA, ..registers(0x41, 1, dl as u8) };
+            assert_eq!(stand.post(0, given).1.bx, 0xAA55, "drive {dl:02x} is known");
+        }
+    }
+}
+
+fn a9_carry_is_not_read(service: &dyn Service) {
+    let mut blocks = Vec::new();
+    for carry in [0, 1, 65535] {
+        let mut stand = Stand::paper(service, 1024);
+        stand.packet(3, 0, 1, (0, 0x200), 0);
+        let given = Registers { carry, ..by_packet(0x42, 0) };
+        assert_eq!(stand.post(3, given), (NOTHING_YET, given), "256 leaves every register, carry too");
+        assert_eq!(stand.post(3, given), (21, given), "21 leaves every register, carry too");
+        assert_eq!(stand.post(8, given), (20, given), "20 leaves every register, carry too");
+        let sectors = Registers { carry, ..by_sector(0x02, 1, 0, 0, 1) };
+        assert_eq!(stand.post(2, sectors), (NOTHING_YET, sectors));
+        let at_once = Registers { carry, ..registers(0x08, 1, 0x80) };
+        let (answer, out) = stand.post(1, at_once);
+        assert_eq!((answer, out.carry, out.ax), (DONE, 0, 0), "answered at once");
+        let unknown = Registers { carry, ..registers(0xFF, 1, 0x80) };
+        assert_eq!(stand.post(1, unknown), (DONE, refused(unknown, 0x01)));
+        blocks.push(stand.desk.bytes().to_vec());
+    }
+    assert!(blocks.iter().all(|block| *block == blocks[0]), "the block shows the carry that was given");
+}
+
+fn a9_waiting_row_with_carry_1(service: &dyn Service) {
+    let mut stand = Stand::paper(service, 1024);
+    assert_eq!(stand.post_packet(3, 0x42, 1, 0).0, NOTHING_YET);
+    stand.set_word(row(3, 8), 1);
+    assert!(stand.accepted());
+    assert_eq!(stand.turn(), (DONE, 3, 1));
+    assert_eq!(stand.collect(3), (DONE, succeeded(by_packet(0x42, 0))), "finished with carry clear");
+}
+
+fn a10_empty_slices(service: &dyn Service) {
+    let table = drives::table(&[]);
+    let (mut desk, mut none) = (vec![0; DESK_SIZE], []);
+    let (mut place, mut written, mut guest, mut moved) = (UNWRITTEN, UNWRITTEN, UNWRITTEN, UNWRITTEN);
+    let mut given = STALE;
+    // an empty desk
+    assert_eq!(service.open(&mut none, &table, 0, 0, &mut place), 25);
+    assert_eq!(service.write(&none, &mut [0; 9], &mut written), 25);
+    assert_eq!(service.post(&mut none, &mut [0; 8], &[0; 8], 0, &mut given), 25);
+    assert_eq!(service.turn(&mut none, &mut [0; 8], &mut [0; 8], &mut guest, &mut moved), 25);
+    assert_eq!(service.collect(&mut none, 0, &mut given), 25);
+    assert_eq!(service.withdraw(&mut none, &mut [0; 8], &[0; 8], 0, &mut given), 25);
+    // everything empty
+    assert_eq!(service.open(&mut none, &[], 0, 0, &mut place), 25);
+    assert_eq!(service.write(&none, &mut [], &mut written), 25);
+    assert_eq!(service.post(&mut none, &mut [], &[], 0, &mut given), 25);
+    assert_eq!(service.turn(&mut none, &mut [], &mut [], &mut guest, &mut moved), 25);
+    assert_eq!(service.withdraw(&mut none, &mut [], &[], 0, &mut given), 25);
+    assert_eq!((place, written, guest, moved, given), (UNWRITTEN, UNWRITTEN, UNWRITTEN, UNWRITTEN, STALE));
+    // an empty table
+    assert_eq!(service.open(&mut desk, &[], 0, 0, &mut place), 1);
+    assert_eq!(place, 0);
+    // an empty arena and an empty store that are right, and an empty buffer
+    assert_eq!(service.open(&mut desk, &table, 0, 0, &mut place), DONE);
+    assert_eq!(service.write(&desk, &mut [], &mut written), 19);
+    assert_eq!(service.turn(&mut desk, &mut [], &mut [], &mut guest, &mut moved), NOTHING_YET);
+    assert_eq!(service.withdraw(&mut desk, &mut [], &[], 0, &mut given), 23);
+    for ah in [0x02, 0x03, 0x08, 0x41, 0x42, 0x43, 0x44, 0x47, 0x48, 0x00] {
+        let mut asked = registers(ah, 1, 0x80);
+        assert_eq!(service.post(&mut desk, &mut [], &[], 7, &mut asked), DONE);
+        assert_eq!((asked.ah(), asked.carry), (if ah == 8 { 7 } else { 1 }, 1));
+    }
+    // an empty arena or store that is wrong
+    assert_eq!(service.open(&mut desk, &table, 8, 8, &mut place), DONE);
+    assert_eq!(service.post(&mut desk, &mut [], &[0; 8], 0, &mut given), 24);
+    assert_eq!(service.post(&mut desk, &mut [0; 8], &[], 0, &mut given), 24);
+    assert_eq!(service.turn(&mut desk, &mut [], &mut [0; 8], &mut guest, &mut moved), 24);
+    assert_eq!(service.turn(&mut desk, &mut [0; 8], &mut [], &mut guest, &mut moved), 24);
+    assert_eq!(service.withdraw(&mut desk, &mut [], &[], 0, &mut given), 24);
+    assert_eq!((written, guest, moved, given), (UNWRITTEN, UNWRITTEN, UNWRITTEN, STALE));
+}
+
+// ---- b: functions
+
+fn b1_order_by_packet(service: &dyn Service) {
+    // a protected drive; each line has one fault and all later ones
+    let mut stand = Stand::open(service, &[protected(paper_drive())], 8 * 1024, 2048 * 512);
+    let far = (0xFFFF, 0xFFFF);
+    let mut case = |what: &str, al: u8, dl: u8, place: usize, size: u8, count: u16, start: u64, code: u8, cleared: bool| {
+        let given = Registers { ds: 0, si: place as u16, ..registers(0x43, al, dl) };
+        if place + 16 <= 1024 {
+            stand.packet(2, place, count, far, start);
+            stand.window(2)[place] = size;
+        }
+        let mut expected = stand.all();
+        if cleared {
+            expected.1[2 * 1024 + place + 2] = 0;
+            expected.1[2 * 1024 + place + 3] = 0;
+        }
+        assert_eq!(stand.post(2, given), (DONE, refused(given, code)), "{what}");
+        assert!(stand.all() == expected, "{what}: memory");
+    };
+    case("drive", 3, 0x81, 8, 15, 0x180, u64::MAX, 0x01, false);
+    case("AL", 3, 0x80, 8, 15, 0x180, u64::MAX, 0x01, false);
+    case("packet outside", 0, 0x80, 1009, 15, 0x180, u64::MAX, 0x01, false);
+    case("size byte", 0, 0x80, 1008, 15, 0x180, u64::MAX, 0x01, false);
+    case("count", 0, 0x80, 1008, 16, 0x180, u64::MAX, 0x01, true);
+    case("count, low byte alone", 0, 0x80, 8, 16, 0x80, u64::MAX, 0x01, true);
+    case("protection", 0, 0x80, 8, 16, 0x7F, u64::MAX, 0x03, true);
+    let mut stand = Stand::paper(service, 1024);
+    for (what, ah, start, code) in
+        [("range, 43h", 0x43, 2047, 0x04), ("range, 42h", 0x42, 2047, 0x04), ("buffer, 43h", 0x43, 0, 0x09), ("buffer, 42h", 0x42, 0, 0x09)]
+    {
+        stand.packet(2, 0, 2, far, start);
+        let mut expected = stand.all();
+        expected.1[2 * 1024 + 2] = 0;
+        assert_eq!(stand.post(2, by_packet(ah, 0)), (DONE, refused(by_packet(ah, 0), code)), "{what}");
+        assert!(stand.all() == expected, "{what}: memory");
+    }
+}
+
+fn b2_count_zero(service: &dyn Service) {
+    let mut stand = Stand::open(service, &[protected(paper_drive()), Drive { first: 2048, ..paper_drive() }], 8 * 1024, 4096 * 512);
+    // function, drive, start, buffer, code
+    let cases = [
+        (0x43, 0x80, 0, 0x200, 0x03),
+        (0x42, 0x81, 2048, 0x200, 0x00),
+        (0x42, 0x81, 2049, 0x200, 0x04),
+        (0x43, 0x81, 2048, 1024, 0x00),
+        (0x43, 0x81, 2048, 1025, 0x09),
+        (0x42, 0x80, 0, 1024, 0x00),
+        (0x42, 0x80, 0, 1025, 0x09),
+        (0x42, 0x81, u64::MAX, 0, 0x04),
+    ];
+    for (ah, dl, start, buffer, code) in cases {
+        stand.packet(5, 16, 0, (0, buffer), start);
+        let before = stand.all();
+        let given = Registers { ds: 1, si: 0, ..registers(ah, 0, dl) };
+        let expected = if code == 0 { succeeded(given) } else { refused(given, code) };
+        assert_eq!(stand.post(5, given), (DONE, expected), "{ah:02x} {dl:02x} start {start} buffer {buffer}");
+        assert!(stand.all() == before, "the row is vacant and the packet is not written");
+    }
+}
+
+fn b3_verify_moves_nothing(service: &dyn Service) {
+    let mut stand = Stand::open(service, &[protected(paper_drive())], 8 * 1024, 2048 * 512);
+    stand.packet(0, 0, 127, (0xFFFF, 0xFFFF), 2048 - 127);
+    let before = stand.all();
+    let given = Registers { ax: 0x44EE, ..by_packet(0x44, 0) };
+    assert_eq!(stand.post(0, given), (DONE, succeeded(given)));
+    assert!(stand.all() == before, "something changed");
+    stand.packet(0, 0, 127, (0xFFFF, 0xFFFF), 2048 - 126);
+    let (answer, got) = stand.post(0, given);
+    assert_eq!((answer, got), (DONE, refused(given, 0x04)));
+    assert_eq!(stand.window(0)[2..4], [0, 0]);
+}
+
+fn b4_seek(service: &dyn Service) {
+    let mut stand = Stand::paper(service, 1024);
+    for (count, start, code) in [(65535, 2047, 0), (0, 2047, 0), (0, 2048, 4), (65535, 2048, 4), (1, u64::MAX, 4)] {
+        stand.packet(0, 0, count, (0xFFFF, 0xFFFF), start);
+        let before = stand.all();
+        let given = by_packet(0x47, 0);
+        let expected = if code == 0 { succeeded(given) } else { refused(given, code) };
+        assert_eq!(stand.post(0, given), (DONE, expected), "start {start}");
+        assert!(stand.all() == before, "all sixteen packet bytes stay");
+    }
+    stand.window(0)[0] = 15;
+    assert_eq!(stand.post(0, by_packet(0x47, 0)).1.ah(), 0x01);
+}
+
+fn b5_packet(service: &dyn Service) {
+    let mut stand = Stand::paper(service, 1024);
+    // always sixteen bytes, whatever the size byte says
+    for (size, code) in [(16, 0x44), (24, 0x44), (255, 0x44), (15, 1), (0, 1)] {
+        stand.packet(0, 1024 - 16, 1, (0, 0), 0);
+        stand.window(0)[1024 - 16] = size;
+        stand.window(0)[1024 - 15] = 0x99;
+        let got = stand.post(0, by_packet(0x44, 1024 - 16)).1;
+        assert_eq!(got.ah(), if code == 0x44 { 0 } else { 1 }, "size {size}");
+    }
+    assert_eq!(stand.post(0, by_packet(0x44, 1024 - 15)).1.ah(), 1, "one byte past the window");
+    for count in [0x0100, 0x00FF, 0x0080, 0xFF00] {
+        stand.packet(0, 0, count, (0, 0), 0);
+        assert_eq!(stand.post(0, by_packet(0x42, 0)).1.ah(), 1, "count {count:04x}");
+        assert_eq!(stand.window(0)[2..4], [0, 0], "count {count:04x}");
+    }
+    stand.packet(0, 0, 1, (0xFFFF, 0xFFFF), 0);
+    assert_eq!(stand.post(0, by_packet(0x42, 0)).1.ah(), 9, "FFFF:FFFF is an address");
+}
+
+fn b6_addresses_never_wrap(service: &dyn Service) {
+    let last = 0x10_FFEF;
+    for (window, waits) in [(last + 512, true), (last + 511, false)] {
+        let mut stand = Stand::open(service, &[small_drive(0, 200)], 8 * window, 200 * 512);
+        stand.packet(7, 0x100, 1, (0xFFFF, 0xFFFF), 5);
+        let (answer, got) = stand.post(7, by_packet(0x42, 0x100));
+        if !waits {
+            assert_eq!((answer, got.ah()), (DONE, 0x09));
+            continue;
+        }
+        assert_eq!(answer, NOTHING_YET);
+        assert_eq!(stand.turn(), (DONE, 7, 1));
+        let block = stand.store.bytes()[5 * 512..6 * 512].to_vec();
+        assert!(stand.window(7)[last..last + 512] == block[..], "the block lies at 10FFEFh");
+        // a packet at FFFF:FFFF, and a buffer that passes a border of 64 KiB
+        stand.collect(7);
+        stand.packet(6, last, 127, (0x0F00, 0x0800), 3);
+        let given = Registers { ds: 0xFFFF, si: 0xFFFF, ..registers(0x42, 0, 0x80) };
+        assert_eq!(stand.post(6, given).0, NOTHING_YET);
+        for _ in 0..8 {
+            assert_eq!(stand.turn().0, DONE);
+        }
+        let blocks = stand.store.bytes()[3 * 512..130 * 512].to_vec();
+        assert!(stand.window(6)[0xF800..0xF800 + 127 * 512] == blocks[..], "127 blocks across a border of 64 KiB");
+    }
+}
+
+fn b7_start_and_count_never_wrap(service: &dyn Service) {
+    let mut stand = Stand::paper(service, 2048);
+    for (count, start) in [(0, u64::MAX), (1, u64::MAX), (2, u64::MAX), (2, u64::MAX - 1), (3, u64::MAX - 2), (1, 2048), (1, 1 << 32)] {
+        for ah in [0x42, 0x43, 0x44] {
+            let (answer, got) = stand.post_packet(0, ah, count, start);
+            assert_eq!((answer, got.ah(), got.carry), (DONE, 0x04, 1), "{ah:02x} start {start} count {count}");
+        }
+    }
+}
+
+fn b8_write_with_verify(service: &dyn Service) {
+    let with_bit_3 = Drive { first: 2048, flags: 0x08, ..paper_drive() };
+    let mut stand = Stand::open(service, &[paper_drive(), with_bit_3], 8 * 1024, 4096 * 512);
+    for (al, dl, waits) in [(0, 0x80, true), (1, 0x80, true), (2, 0x80, false), (2, 0x81, true), (3, 0x81, false), (255, 0x81, false)] {
+        stand.packet(0, 0, 1, (0, 0x200), 0);
+        let before = stand.all();
+        let given = Registers { ds: 0, si: 0, ..registers(0x43, al, dl) };
+        let got = stand.post(0, given);
+        if waits {
+            assert_eq!(got, (NOTHING_YET, given), "AL {al} on {dl:02x}");
+            stand.withdraw(0);
+        } else {
+            assert_eq!(got, (DONE, refused(given, 0x01)), "AL {al} on {dl:02x}");
+            assert!(stand.all() == before, "the packet is not looked at");
+        }
+    }
+}
+
+fn b9_sectors(service: &dyn Service) {
+    let mut stand = Stand::open(service, &[protected(paper_drive())], 8 * 70_000, 2048 * 512);
+    for (al, cylinder, code) in [(0, 9, 0x01), (129, 9, 0x09), (1, 9, 0x03), (128, 0, 0x03)] {
+        let given = by_sector(0x03, al, cylinder, 0, 1);
+        assert_eq!(stand.post(0, given), (DONE, refused_sectors(given, code)), "protected, AL {al}");
+    }
+    let mut stand = Stand::paper(service, 70_000);
+    // count, cylinder, head, sector, code (0: waits)
+    let cases = [
+        (0, 0, 0, 1, 0x01),
+        (129, 0, 0, 1, 0x09),
+        (255, 9, 0, 1, 0x09),
+        (128, 0, 0, 1, 0),
+        (1, 0, 0, 0, 0x04),
+        (1, 0, 0, 63, 0),
+        (1, 0, 15, 63, 0),
+        (1, 0, 16, 1, 0x04),
+        (1, 2, 0, 1, 0x04),
+        (1, 1, 15, 63, 0),
+        (2, 1, 15, 63, 0x04),
+        (64, 0, 0, 1, 0),
+    ];
+    for (count, cylinder, head, sector, code) in cases {
+        let given = by_sector(0x02, count, cylinder, head, sector);
+        let got = stand.post(0, given);
+        if code == 0 {
+            assert_eq!(got, (NOTHING_YET, given), "{count} at {cylinder}/{head}/{sector}");
+            let block = (u64::from(cylinder) * 16 + u64::from(head)) * 63 + u64::from(sector) - 1;
+            assert_eq!(stand.word(row(0, 10)), block);
+            stand.withdraw(0);
+        } else {
+            assert_eq!(got, (DONE, refused_sectors(given, code)), "{count} at {cylinder}/{head}/{sector}");
+        }
+    }
+    let far = Registers { es: 0xFFFF, bx: 0xFFFF, ..by_sector(0x02, 1, 0, 0, 1) };
+    assert_eq!(stand.post(0, far), (DONE, refused_sectors(far, 0x09)));
+    let both = Registers { es: 0xFFFF, ..by_sector(0x02, 1, 2, 0, 1) };
+    assert_eq!(stand.post(0, both), (DONE, refused_sectors(both, 0x04)), "the address comes before the buffer");
+}
+
+fn b10_drive_parameters(service: &dyn Service) {
+    let drives = [small_drive(0, 5), small_drive(5, 5), Drive { cylinders: 3, heads: 2, sectors: 1, ..small_drive(10, 6) }];
+    let mut stand = Stand::open(service, &drives, 80, 16 * 512);
+    let given = registers(0x08, 0x77, 0x82);
+    let expected = Registers { ax: 0, cx: 0x0201, dx: 0x0103, ..given };
+    assert_eq!(stand.post(0, given), (DONE, expected), "82h of three drives");
+    let given = registers(0x08, 0x77, 0x83);
+    assert_eq!(stand.post(0, given), (DONE, refused(given, 0x07)));
+    // P6: a drive that no test store holds; its store is a number alone
+    let largest = Drive { blocks: 1024 * 255 * 63, cylinders: 1024, heads: 255, sectors: 63, ..paper_drive() };
+    let mut desk = vec![0; DESK_SIZE];
+    let answer = service.open(&mut desk, &drives::table(&[largest]), 0, 1024 * 255 * 63 * 512, &mut 0);
+    assert_eq!(answer, DONE);
+    let mut asked = registers(0x08, 1, 0x80);
+    assert_eq!(service.post(&mut desk, &mut [], &[], 0, &mut asked), 24, "no slice is that long");
+}
+
+fn b11_check_extensions(service: &dyn Service) {
+    let mut stand = Stand::paper(service, 0);
+    let given = Registers { bx: 0x55AA, ..registers(0x41, 0x99, 0x80) };
+    assert_eq!(stand.post(0, given), (DONE, Registers { ax: 0x3000, bx: 0xAA55, cx: 1, ..given }));
+    for bad in [Registers { bx: 0xAA55, ..given }, Registers { dx: 0x81, ..given }] {
+        assert_eq!(stand.post(0, bad), (DONE, refused(bad, 0x01)));
+    }
+}
+
+fn b12_result_sizes(service: &dyn Service) {
+    let mut stand = Stand::paper(service, 1024);
+    for asked in [0u16, 25, 26, 29, 30, 65, 66, 65535] {
+        let returned = match asked {
+            0..=25 => None,
+            26..=29 => Some(26),
+            30..=65 => Some(30),
+            _ => Some(66),
+        };
+        for left in [0usize, 1, 2, 25, 26, 29, 30, 65, 66, 100] {
+            let place = 1024 - left;
+            if left >= 2 {
+                stand.window(3)[place..place + 2].copy_from_slice(&asked.to_le_bytes());
+            }
+            let before = stand.all();
+            let given = by_packet(0x48, place as u16);
+            let got = stand.post(3, given);
+            let fits = left >= 2 && returned.is_some_and(|size| size <= left);
+            if fits {
+                assert_eq!(got, (DONE, succeeded(given)), "size {asked}, {left} left");
+                let size = returned.unwrap();
+                assert_eq!(stand.window(3)[place..place + 2], (size as u16).to_le_bytes());
+                assert!(stand.window(3)[place + size..] == before.1[3 * 1024 + place + size..4 * 1024], "bytes past the result");
+            } else {
+                assert_eq!(got, (DONE, refused(given, 0x01)), "size {asked}, {left} left");
+                assert!(stand.all() == before, "size {asked}, {left} left: something changed");
+            }
+        }
+    }
+}
+
+fn b13_result_bytes(service: &dyn Service) {
+    let mut stand = Stand::paper(service, 1024);
+    stand.window(3)[8..10].copy_from_slice(&200u16.to_le_bytes());
+    let before = stand.all();
+    assert_eq!(stand.post(3, by_packet(0x48, 8)).1.ah(), 0);
+    let mut expected = vec![66, 0, 2, 0, 2, 0, 0, 0, 16, 0, 0, 0, 63, 0, 0, 0, 0, 8, 0, 0, 0, 0, 0, 0, 0, 2, 255, 255, 255, 255];
+    expected.extend([0xDD, 0xBE, 0x24, 0, 0, 0]);
+    expected.extend(b"PCI\0ATA\0\0\0\0\0");
+    expected.extend([0, 0x1F, 1, 0, 0, 0, 0, 0]);
+    expected.extend([0; 9]);
+    expected.push(0x6F); // P7
+    assert_eq!(stand.window(3)[8..74], expected[..]);
+    let (desk, arena, store) = stand.all();
+    assert!((desk, store) == (before.0, before.2));
+    let from = 3 * 1024 + 8;
+    assert!(arena[..from] == before.1[..from] && arena[from + 66..] == before.1[from + 66..], "every other byte stays");
+}
+
+fn b14_addresses(service: &dyn Service) {
+    let of = |c, h, s| Geometry { cylinders: c, heads: h, sectors: s };
+    let block = |g, cylinder, head, sector| {
+        let mut out = 0xFEED;
+        (service.block(g, Address { cylinder, head, sector }, &mut out), out)
+    };
+    let address = |g, number| {
+        let mut out = Address { cylinder: 91, head: 92, sector: 93 };
+        let answer = service.address(g, number, &mut out);
+        (answer, [out.cylinder, out.head, out.sector])
+    };
+    let big = u32::MAX;
+    for g in [of(0, 16, 63), of(1025, 16, 63), of(1024, 0, 63), of(1024, 256, 63), of(1024, 16, 0), of(1024, 16, 64), of(big, 1, 1), of(1, big, 1), of(1, 1, big)] {
+        assert_eq!(block(g, 0, 0, 1), (4, 0xFEED), "a geometry outside the limits");
+        assert_eq!(address(g, 0), (4, [91, 92, 93]), "a geometry outside the limits");
+    }
+    for g in [of(1, 1, 1), of(3, 4, 5), of(7, 255, 2), of(2, 1, 63)] {
+        let mut next = 0;
+        for cylinder in 0..g.cylinders {
+            for head in 0..g.heads {
+                for sector in 1..=g.sectors {
+                    assert_eq!(block(g, cylinder, head, sector), (DONE, next));
+                    assert_eq!(address(g, u64::from(next)), (DONE, [cylinder, head, sector]));
+                    next += 1;
+                }
+            }
+        }
+        for beyond in [u64::from(next), u64::from(next) + 1, 1 << 32, (1 << 32) + 1, u64::MAX] {
+            assert_eq!(address(g, beyond), (4, [91, 92, 93]), "block {beyond}");
+        }
+        for (cylinder, head, sector) in [(g.cylinders, 0, 1), (0, g.heads, 1), (0, 0, 0), (0, 0, g.sectors + 1), (big, big, big), (0, big, 1)] {
+            assert_eq!(block(g, cylinder, head, sector), (4, 0xFEED));
+        }
+    }
+}
+
+// ---- c: the drive table
+
+fn opened(service: &dyn Service, table: &[u8], store_blocks: u64) -> (u32, u64) {
+    let mut desk = Lent::holding(&[0; DESK_SIZE], true);
+    let table = Lent::holding(table, true);
+    let mut place = UNWRITTEN;
+    (service.open(desk.bytes_mut(), table.bytes(), 0, 512 * store_blocks, &mut place), place)
+}
+
+fn c1_order_of_checks(service: &dyn Service) {
+    let good = small_drive(0, 4);
+    let record = good.record();
+    let with = |at: usize, byte: u8| {
+        let mut bytes = record.clone();
+        bytes[at] = byte;
+        bytes
+    };
+    assert_eq!(opened(service, &[5, 0, 2], 9), (1, 0), "three bytes");
+    assert_eq!(opened(service, &[5, 0, 2, 0], 9), (3, 0), "kind before length");
+    assert_eq!(opened(service, &[5, 0, 0, 0], 9), (2, 0), "an end record of length 5");
+    assert_eq!(opened(service, &with(0, 67)[..10], 9), (2, 0), "length before cut off");
+    assert_eq!(opened(service, &record[..67], 9), (1, 0), "cut off");
+    let mut nine: Vec<Drive> = (0..9).map(|i| small_drive(i, 1)).collect();
+    let table = drives::table(&nine);
+    assert_eq!(opened(service, &table[..9 * 68 - 1], 9), (1, 544), "a ninth drive cut off");
+    nine[8].sectors = 0;
+    assert_eq!(opened(service, &drives::table(&nine), 9), (4, 544), "a ninth drive with a bad field");
+    let bad_field_past_store = Drive { first: 100, sectors: 0, ..good };
+    assert_eq!(opened(service, &drives::table(&[good, bad_field_past_store]), 9), (5, 68), "5 before 6");
+    let past_store_and_overlap = Drive { first: 3, blocks: 7, ..good };
+    assert_eq!(opened(service, &drives::table(&[good, past_store_and_overlap]), 9), (6, 68), "6 before 7");
+    assert_eq!(opened(service, &drives::table(&[good, Drive { first: 3, ..good }]), 9), (7, 68));
+    let mut after = drives::table(&[good]);
+    after.push(0);
+    assert_eq!(opened(service, &after, 9), (8, 72));
+    assert_eq!(opened(service, &after, 3), (6, 0), "a drive is judged before what follows the end");
+}
+
+fn c2_places(service: &dyn Service) {
+    let record = small_drive(0, 4).record();
+    assert_eq!(opened(service, &[], 9), (1, 0));
+    assert_eq!(opened(service, &record, 9), (1, 68), "no end record");
+    assert_eq!(opened(service, &[4, 0, 0, 0, 4, 0, 0, 0], 9), (8, 4));
+    assert_eq!(opened(service, &[record.clone(), vec![4, 0, 2, 0]].concat(), 9), (3, 68));
+    assert_eq!(opened(service, &[record, vec![4, 0]].concat(), 9), (1, 68));
+}
+
+fn c3_fields(service: &dyn Service) {
+    let good = Drive { blocks: 2048, ..paper_drive() };
+    let cases: [(&str, Drive, u32); 27] = [
+        ("blocks 0", Drive { blocks: 0, ..good }, 5),
+        ("blocks below the geometry", Drive { blocks: 2015, ..good }, 5),
+        ("blocks as the geometry", Drive { blocks: 2016, ..good }, 0),
+        ("flags bit 6", Drive { flags: 0x7F, ..good }, 0),
+        ("flags bit 7", Drive { flags: 0x80, ..good }, 5),
+        ("flags bit 15", Drive { flags: 0x8000, ..good }, 5),
+        ("C 0", Drive { cylinders: 0, ..good }, 5),
+        ("C 1024", Drive { cylinders: 1024, heads: 1, sectors: 1, ..good }, 0),
+        ("C 1025", Drive { cylinders: 1025, heads: 1, sectors: 1, ..good }, 5),
+        ("H 0", Drive { heads: 0, ..good }, 5),
+        ("H 255", Drive { heads: 255, cylinders: 1, sectors: 1, ..good }, 0),
+        ("H 256", Drive { heads: 256, cylinders: 1, sectors: 1, ..good }, 5),
+        ("S 0", Drive { sectors: 0, ..good }, 5),
+        ("S 64", Drive { sectors: 64, cylinders: 1, heads: 1, ..good }, 5),
+        ("protection 1", Drive { protection: 1, ..good }, 0),
+        ("protection 2", Drive { protection: 2, ..good }, 5),
+        ("ISA", Drive { host_bus: *b"ISA\0", ..good }, 0),
+        ("PCI and a space", Drive { host_bus: *b"PCI ", ..good }, 5),
+        ("pci", Drive { host_bus: *b"pci\0", ..good }, 5),
+        ("ATAPI", Drive { interface_type: *b"ATAPI\0\0\0", ..good }, 0),
+        ("SCSI", Drive { interface_type: *b"SCSI\0\0\0\0", ..good }, 0),
+        ("USB", Drive { interface_type: *b"USB\0\0\0\0\0", ..good }, 0),
+        ("1394", Drive { interface_type: *b"1394\0\0\0\0", ..good }, 0),
+        ("FIBRE", Drive { interface_type: *b"FIBRE\0\0\0", ..good }, 0),
+        ("ATA and spaces", Drive { interface_type: *b"ATA     ", ..good }, 5),
+        ("a byte after ATA", Drive { interface_type: *b"ATA\0\0\0\0\x01", ..good }, 5),
+        ("any paths", Drive { interface_path: [0xFF; 8], device_path: [0xFE; 8], physical: [u32::MAX; 3], ..good }, 0),
+    ];
+    for (what, drive, number) in cases {
+        let expected = (number, if number == 0 { UNWRITTEN } else { 0 });
+        assert_eq!(opened(service, &drives::table(&[drive]), 2048), expected, "{what}");
+    }
+}
+
+fn c4_c5_ranges(service: &dyn Service) {
+    let at = |first, blocks| Drive { first, ..small_drive(first, blocks) };
+    let one = |first, blocks, store| opened(service, &drives::table(&[at(first, blocks)]), store).0;
+    assert_eq!(one(u64::MAX, 1, 100), 6, "the sum does not wrap");
+    assert_eq!(one(u64::MAX - 1, 2, 100), 6);
+    assert_eq!(one(1, u64::MAX, 100), 6);
+    assert_eq!(one(99, 1, 100), 0);
+    assert_eq!(one(99, 2, 100), 6);
+    assert_eq!(one(0, 1, 0), 6);
+    let two = |a: (u64, u64), b: (u64, u64)| opened(service, &drives::table(&[at(a.0, a.1), at(b.0, b.1)]), 100);
+    for (a, b) in [((10, 5), (15, 5)), ((15, 5), (10, 5)), ((0, 1), (99, 1))] {
+        assert_eq!(two(a, b).0, 0, "apart or touching");
+    }
+    for (a, b) in [((10, 5), (14, 5)), ((14, 5), (10, 5)), ((10, 5), (10, 5)), ((10, 9), (12, 2)), ((12, 2), (10, 9))] {
+        assert_eq!(two(a, b), (7, 68), "{a:?} {b:?}");
+    }
+    let mut desk = [0; DESK_SIZE];
+    assert_eq!(service.open(&mut desk, &drives::table(&[at(0, 1)]), 0, 511, &mut 0), 6, "511 bytes hold no block");
+    assert_eq!(service.open(&mut desk, &drives::table(&[]), 0, 511, &mut 0), DONE);
+}
+
+fn c7_written_back(service: &dyn Service) {
+    let mut chance = Chance::new(77);
+    for round in 0..60 {
+        let list = drives::drives(&mut chance, 100);
+        let table = drives::table(&list);
+        let stand = Stand::open(service, &list, 0, 100 * 512);
+        let mut out = Lent::holding(&[0x3C; 600], true);
+        assert_eq!(stand.write(out.bytes_mut()), (DONE, table.len() as u64), "round {round}");
+        assert!(out.bytes()[..table.len()] == table[..], "the bytes that were opened");
+        assert!(out.bytes()[table.len()..].iter().all(|byte| *byte == 0x3C), "bytes past it stay");
+        out.set_length(table.len(), true);
+        assert_eq!(stand.write(out.bytes_mut()), (DONE, table.len() as u64));
+        out.set_length(table.len() - 1, true);
+        out.bytes_mut().fill(0x3C);
+        assert_eq!(stand.write(out.bytes_mut()), (19, UNWRITTEN));
+        assert!(out.bytes().iter().all(|byte| *byte == 0x3C));
+    }
+}
+
+// ---- d: the desk block
+
+/// Guest 0 waits with 43h (20 blocks, 16 moved), guest 1 is vacant, guest 2 waits with 02h (20 blocks), guest 3 has finished.
+fn mixed(service: &dyn Service) -> Stand<'_> {
+    let other = Drive { first: 2048, blocks: 100, cylinders: 1, heads: 1, sectors: 50, ..paper_drive() };
+    let mut stand = Stand::open(service, &[paper_drive(), other], 8 * 12_000, 2148 * 512);
+    assert_eq!(stand.post_packet(3, 0x42, 1, 0).0, NOTHING_YET);
+    assert_eq!(stand.turn(), (DONE, 3, 1));
+    assert_eq!(stand.post_packet(0, 0x43, 20, 7).0, NOTHING_YET);
+    assert_eq!(stand.turn(), (DONE, 0, 16));
+    assert_eq!(stand.post(2, by_sector(0x02, 20, 1, 2, 3)).0, NOTHING_YET);
+    assert!(stand.accepted());
+    stand
+}
+
+fn d1_accepted_though_unreachable(service: &dyn Service) {
+    let mut stand = mixed(service);
+    let ax = stand.word(row(0, 1));
+    stand.accepted_with("43h with AL 7", row(0, 1), ax | 7);
+    for k in 2..8 {
+        stand.accepted_with("a register that does not agree with the row", row(0, k), 0xFFFF);
+        stand.accepted_with("a register that does not agree with the row", row(2, k), 0xFFFF);
+    }
+    stand.accepted_with("carry of a waiting row", row(0, 8), 1);
+    stand.accepted_with("another drive than DL", row(0, 9), 0x81);
+    stand.accepted_with("another start than the packet's", row(0, 10), 2028);
+    stand.accepted_with("another start than the address's", row(2, 10), 0);
+    stand.accepted_with("another count than AL", row(2, 11), 21);
+    stand.accepted_with("another buffer than ES:BX", row(2, 12), 1);
+    stand.accepted_with("another packet than DS:SI", row(0, 13), 12_000 - 16);
+    stand.accepted_with("fewer moved", row(0, 14), 0);
+    stand.accepted_with("more moved than turns could", row(2, 14), 16);
+    for k in 15..22 {
+        stand.accepted_with("any register of a finished row", row(3, k), 0xFFFF);
+    }
+    stand.accepted_with("carry of a finished row", row(3, 22), 1);
+    stand.accepted_with("another pointer", POINTER, 7);
+    // two writes of the same blocks
+    let words: Vec<u64> = (0..23).map(|k| stand.word(row(0, k))).collect();
+    for (k, value) in words.iter().enumerate() {
+        stand.set_word(row(1, k), *value);
+    }
+    assert!(stand.accepted(), "requests that collide");
+    // a buffer that no segment and offset reach
+    stand.set_word(ARENA_LENGTH, 1 << 40);
+    stand.set_word(row(0, 12), 0x20_0000);
+    assert!(stand.accepted(), "a buffer above 10FFEFh");
+}
+
+fn d1_refused_by_one_word(service: &dyn Service) {
+    let mut stand = mixed(service);
+    stand.refused_with("pointer", POINTER, 8);
+    stand.refused_with("pointer", POINTER, u64::MAX);
+    stand.refused_with("stage", row(0, 0), 3);
+    stand.refused_with("drive below 80h", row(0, 9), 0x7F);
+    stand.refused_with("drive past the table", row(0, 9), 0x82);
+    stand.refused_with("drive above a byte", row(0, 9), 0x180);
+    stand.refused_with("range, 43h", row(0, 10), 2029);
+    stand.refused_with("range inside the drive, not the geometry, 02h", row(2, 10), 2016 - 19);
+    stand.accepted_with("range at the end of the geometry, 02h", row(2, 10), 2016 - 20);
+    stand.refused_with("count 128, 43h", row(0, 11), 128);
+    stand.refused_with("count 129, 02h", row(2, 11), 129);
+    stand.refused_with("buffer, 43h", row(0, 12), 12_000 - 20 * 512 + 1);
+    stand.accepted_with("buffer at the end, 43h", row(0, 12), 12_000 - 20 * 512);
+    stand.refused_with("buffer, 02h", row(2, 12), 12_000 - 20 * 512 + 1);
+    stand.refused_with("packet", row(0, 13), 12_000 - 15);
+    stand.refused_with("write to a protected drive", drive_word(0, 9), 1);
+    stand.accepted_with("a protected drive that is read or not used", drive_word(1, 9), 1);
+    stand.refused_with("moved no multiple of 16", row(0, 14), 8);
+    stand.refused_with("moved no multiple of 16", row(0, 14), 17);
+    stand.refused_with("moved past the count", row(0, 14), 32);
+    stand.refused_with("count not above moved", row(0, 11), 16);
+    for k in 1..8 {
+        stand.refused_with("a register above 16 bits", row(0, k), stand.word(row(0, k)) | 0x10000);
+    }
+    stand.refused_with("carry 2", row(0, 8), 2);
+}
+
+fn d1_limits_of_the_counts(service: &dyn Service) {
+    let mut stand = Stand::paper(service, 70_000);
+    assert_eq!(stand.post_packet(0, 0x42, 127, 0).0, NOTHING_YET);
+    assert_eq!(stand.post(1, by_sector(0x02, 128, 0, 0, 1)).0, NOTHING_YET);
+    assert!(stand.accepted());
+    stand.refused_with("128 by packet", row(0, 11), 128);
+    stand.refused_with("129 by AL", row(1, 11), 129);
+    stand.accepted_with("112 of 127 moved", row(0, 14), 112);
+    stand.accepted_with("112 of 128 moved", row(1, 14), 112);
+    stand.refused_with("128 of 128 moved", row(1, 14), 128);
+}
+
+fn d2_function_of_a_row(service: &dyn Service) {
+    let mut stand = mixed(service);
+    stand.set_word(row(0, 13), 8);
+    for ah in 0..=255 {
+        if ah != 0x43 && ah != 0x42 {
+            stand.refused_with("AH of a waiting row with a packet", row(0, 1), ah << 8);
+        }
+        if ah != 0x02 && ah != 0x03 && ah != 0x42 && ah != 0x43 {
+            stand.refused_with("AH of a waiting row", row(2, 1), ah << 8);
+        }
+    }
+    stand.refused_with("count 0", row(2, 11), 0);
+}
+
+fn d3_packet_of_02h_and_03h(service: &dyn Service) {
+    let mut stand = mixed(service);
+    stand.refused_with("02h with packet 1", row(2, 13), 1);
+    stand.set_word(row(2, 1), 0x0314);
+    assert!(stand.accepted());
+    stand.refused_with("03h with packet 1", row(2, 13), 1);
+    stand.set_word(row(2, 1), 0x4214);
+    stand.accepted_with("42h with packet 1", row(2, 13), 1);
+    stand.accepted_with("42h, packet at the end", row(2, 13), 12_000 - 16);
+    stand.refused_with("42h, packet one byte past the window", row(2, 13), 12_000 - 15);
+}
+
+fn d4_words_that_a_stage_does_not_use(service: &dyn Service) {
+    let mut stand = mixed(service);
+    for value in [1, 1 << 63, u64::MAX] {
+        for k in 1..23 {
+            stand.refused_with("vacant", row(1, k), value);
+        }
+        for k in 15..23 {
+            stand.refused_with("waiting", row(0, k), value);
+        }
+        for k in 1..15 {
+            stand.refused_with("finished", row(3, k), value);
+        }
+        for place in 2..8 {
+            for k in 0..14 {
+                stand.refused_with("an unused place of the table", drive_word(place, k), value);
+            }
+        }
+    }
+    for k in 15..22 {
+        stand.refused_with("a finished register above 16 bits", row(3, k), 0x10000);
+    }
+    for carry in [2, 0x10000, 1 << 32, u64::MAX] {
+        stand.refused_with("carry of a finished row", row(3, 22), carry);
+    }
+    for stage in [3, 4, 256, 1 << 32, u64::MAX] {
+        stand.refused_with("stage", row(1, 0), stage);
+    }
+    for count in [0, 1, 3, 8, 9, 1 << 32, u64::MAX] {
+        stand.refused_with("drive count", DRIVE_COUNT, count);
+    }
+}
+
+fn d5_table_in_the_block(service: &dyn Service) {
+    let mut stand = mixed(service);
+    // widths
+    for (word, bits) in [(0, 32), (1, 32), (2, 32), (5, 16), (6, 16), (7, 16), (8, 8), (9, 8), (10, 32)] {
+        let old = stand.word(drive_word(1, word));
+        stand.refused_with("a field wider than its record's", drive_word(1, word), old | 1 << bits);
+    }
+    // 5
+    for (word, value) in [(3, 0), (3, 49), (5, 0x80), (6, 0), (6, 1025), (7, 0), (7, 256), (8, 0), (8, 64), (9, 2)] {
+        stand.refused_with("a field", drive_word(1, word), value);
+    }
+    stand.refused_with("C x H x S above the blocks", drive_word(1, 6), 3);
+    stand.refused_with("host bus", drive_word(1, 10), u64::from(u32::from_le_bytes(*b"PCI ")));
+    stand.refused_with("interface type", drive_word(1, 11), u64::from_le_bytes(*b"ATA\0\0\0\0 "));
+    stand.accepted_with("interface path", drive_word(1, 12), u64::MAX);
+    stand.accepted_with("device path", drive_word(1, 13), u64::MAX);
+    // 6, by the block's own store length
+    stand.refused_with("blocks past the store", drive_word(1, 3), 101);
+    stand.refused_with("first past the store", drive_word(1, 4), 2049);
+    stand.refused_with("first + blocks wraps", drive_word(1, 4), u64::MAX - 50);
+    stand.refused_with("a store too short by a byte", STORE_LENGTH, 2148 * 512 - 1);
+    stand.accepted_with("a longer store", STORE_LENGTH, u64::MAX);
+    // 7
+    stand.refused_with("overlap", drive_word(1, 4), 2047);
+    stand.refused_with("overlap", drive_word(0, 3), 2049);
+    stand.refused_with("overlap", drive_word(1, 4), 0);
+}
+
+fn d6_words_that_wrap(service: &dyn Service) {
+    let mut stand = mixed(service);
+    for guest in [0, 2] {
+        for k in 9..15 {
+            for value in [u64::MAX, u64::MAX - 15, 1 << 63, 1 << 32] {
+                stand.refused_with("a huge word of a waiting row", row(guest, k), value);
+            }
+        }
+        stand.refused_with("start + count is 2^64", row(guest, 10), 0u64.wrapping_sub(20));
+        stand.refused_with("start + count wraps to 7", row(guest, 10), 0u64.wrapping_sub(13));
+        stand.refused_with("buffer + 512 x count is 2^64", row(guest, 12), 0u64.wrapping_sub(20 * 512));
+        stand.refused_with("512 x count wraps to 0", row(guest, 11), 1 << 55);
+    }
+    stand.refused_with("packet + 16 is 2^64", row(0, 13), 0u64.wrapping_sub(16));
+    // M is of the block's own arena length
+    stand.refused_with("a shorter arena", ARENA_LENGTH, 8 * (0x200 + 20 * 512) - 1);
+    stand.accepted_with("an arena just long enough", ARENA_LENGTH, 8 * (0x200 + 20 * 512));
+}
+
+fn d7_absurd_lengths(service: &dyn Service) {
+    let mut stand = Stand::paper(service, 1024);
+    let table = drives::table(&[paper_drive()]);
+    assert_eq!(stand.open_again(&table, u64::MAX, u64::MAX), (DONE, UNWRITTEN));
+    assert_eq!((stand.word(ARENA_LENGTH), stand.word(STORE_LENGTH)), (u64::MAX, u64::MAX));
+    let before = stand.all();
+    assert_eq!(stand.post(0, registers(0x41, 1, 0x80)), (24, registers(0x41, 1, 0x80)));
+    assert_eq!(stand.turn(), (24, UNWRITTEN, UNWRITTEN));
+    assert_eq!(stand.withdraw(0), (24, STALE));
+    assert_eq!(stand.collect(0), (22, STALE));
+    let mut out = vec![0; 72];
+    assert_eq!(stand.write(&mut out), (DONE, 72));
+    assert_eq!(out, table);
+    assert!(stand.all() == before);
+    // lengths that agree with those of the slices in their low 32 bits
+    let (arena_length, store_length) = (8 * 1024, 2048 * 512);
+    for (a, s) in [(1 << 32, 0), (0, 1 << 32), (1 << 63, 0)] {
+        assert_eq!(stand.open_again(&table, arena_length + a, store_length + s), (DONE, UNWRITTEN));
+        assert_eq!(stand.turn(), (24, UNWRITTEN, UNWRITTEN));
+    }
+    // the largest drive that a number of bytes can hold
+    let blocks = u64::MAX / 512;
+    assert_eq!(stand.open_again(&drives::table(&[Drive { blocks, ..paper_drive() }]), 0, u64::MAX).0, DONE);
+    assert_eq!(stand.open_again(&drives::table(&[Drive { blocks: blocks + 1, ..paper_drive() }]), 0, u64::MAX), (6, 0));
+}
+
+fn d9_wrong_size(service: &dyn Service) {
+    let mut stand = mixed(service);
+    let good = stand.desk.bytes().to_vec();
+    for size in [0, 1, 8, DESK_SIZE - 8, DESK_SIZE - 1, DESK_SIZE + 1, DESK_SIZE + 8, 2 * DESK_SIZE] {
+        let mut bytes = good.clone();
+        bytes.resize(size, 0);
+        stand.desk = Lent::holding(&bytes, true);
+        stand.refused_everywhere("size");
+        let before = stand.all();
+        assert_eq!(stand.open_again(&drives::table(&[]), 0, 0), (25, UNWRITTEN));
+        assert!(stand.all() == before);
+    }
+    assert_eq!(service.desk_size(), DESK_SIZE as u64);
+}
+
+// ---- e: windows, turns, collects, withdrawals
+
+fn e1_windows(service: &dyn Service) {
+    let window = |arena_length, guest| {
+        let (mut start, mut length) = (UNWRITTEN, UNWRITTEN);
+        assert_eq!(service.window(arena_length, guest, &mut start, &mut length), DONE);
+        (start, length)
+    };
+    for length in [0, 1, 7, 8, 9, 127, 128, 4103, 1 << 40, u64::MAX] {
+        for guest in 0..8 {
+            assert_eq!(window(length, guest), (guest * (length / 8), length / 8));
+        }
+        for guest in [8, 9, 1 << 32, 1 << 61, u64::MAX] {
+            assert_eq!(window(length, guest), (0, 0));
+        }
+    }
+}
+
+fn e2_odd_arenas(service: &dyn Service) {
+    for arena_length in [0, 7, 8, 127, 128, 8 * 511, 4096 + 7, 8 * 512 + 7] {
+        let mut stand = Stand::open(service, &[small_drive(0, 4)], arena_length, 4 * 512 + 100);
+        let m = arena_length / 8;
+        let tail = stand.arena.bytes()[8 * m..].to_vec();
+        if m >= 16 {
+            stand.packet(7, m - 16, 1, (0, 0), 0);
+        }
+        let by_packet_got = stand.post(7, by_packet(0x42, m.saturating_sub(16) as u16));
+        match m {
+            0..=15 => assert_eq!(by_packet_got.1.ah(), 1, "no packet fits"),
+            16..=511 => assert_eq!(by_packet_got.1.ah(), 9, "no block fits"),
+            _ => assert_eq!(by_packet_got.0, NOTHING_YET),
+        }
+        let given = Registers { bx: 0, ..by_sector(0x03, 1, 0, 0, 1) };
+        let by_sector_got = stand.post(6, given);
+        if m < 512 {
+            assert_eq!(by_sector_got, (DONE, refused_sectors(given, 0x09)));
+            let bad = Registers { cx: 0, ..given };
+            assert_eq!(stand.post(6, bad).1.ah(), 0x04, "after the other tests");
+        } else {
+            assert_eq!(by_sector_got.0, NOTHING_YET);
+            let last = stand.store.bytes()[4 * 512..].to_vec();
+            assert_eq!((stand.turn().1, stand.turn().1), (6, 7));
+            assert!(stand.store.bytes()[4 * 512..] == last[..], "bytes past the last block");
+        }
+        let result = stand.post(5, by_packet(0x48, 0));
+        assert!(m >= 66 || result.1.ah() == 1 || m >= 26);
+        assert_eq!(stand.post(5, Registers { bx: 0x55AA, ..registers(0x41, 0, 0x80) }).1.bx, 0xAA55);
+        assert_eq!(stand.post(5, registers(0x08, 0, 0x80)).1.carry, 0);
+        assert!(stand.arena.bytes()[8 * m..] == tail[..], "bytes that belong to nobody");
+    }
+}
+
+fn e4_turn_order(service: &dyn Service) {
+    let mut stand = Stand::paper(service, 1024 + 16 * 512);
+    stand.set_word(POINTER, 7);
+    for guest in [0, 7, 3] {
+        assert_eq!(stand.post_packet(guest, 0x42, 1, guest as u64).0, NOTHING_YET);
+    }
+    assert_eq!((stand.turn(), stand.word(POINTER)), ((DONE, 7, 1), 0), "at the pointer; then 8 modulo 8");
+    assert_eq!((stand.turn(), stand.word(POINTER)), ((DONE, 0, 1), 1));
+    assert_eq!((stand.turn(), stand.word(POINTER)), ((DONE, 3, 1), 4));
+    // finished rows are passed over
+    assert_eq!(stand.post_packet(5, 0x42, 1, 0).0, NOTHING_YET);
+    stand.set_word(POINTER, 7);
+    assert_eq!(stand.turn(), (DONE, 5, 1));
+}
+
+fn e5_what_moves(service: &dyn Service) {
+    for (ah, drive) in [(0x42, 0), (0x43, 0), (0x42, 1), (0x43, 1), (0x02, 0), (0x03, 0)] {
+        let other = Drive { first: 2053, ..small_drive(2053, 60) };
+        let mut stand = Stand::open(service, &[Drive { first: 3, ..paper_drive() }, other], 8 * 21_100 + 5, 2120 * 512 + 77);
+        let start = 11;
+        let given = if ah < 0x40 {
+            Registers { bx: 0x20D, ..by_sector(ah, 40, 0, 0, start + 1) }
+        } else {
+            stand.packet(5, 7, 40, (0, 0x20D), u64::from(start));
+            Registers { dx: 0x80 + drive, ..by_packet(ah, 7) }
+        };
+        assert_eq!(stand.post(5, given).0, NOTHING_YET);
+        let first = [3, 2053][drive as usize] + usize::from(start);
+        let mut moved = 0;
+        for blocks in [16, 16, 8] {
+            let mut expected = stand.all();
+            let in_arena = 5 * 21_100 + 0x20D + 512 * moved;
+            let in_store = 512 * (first + moved);
+            let length = 512 * blocks;
+            if matches!(ah, 0x02 | 0x42) {
+                let data = expected.2[in_store..in_store + length].to_vec();
+                expected.1[in_arena..in_arena + length].copy_from_slice(&data);
+            } else {
+                let data = expected.1[in_arena..in_arena + length].to_vec();
+                expected.2[in_store..in_store + length].copy_from_slice(&data);
+            }
+            assert_eq!(stand.turn(), (DONE, 5, blocks as u64), "{ah:02x}");
+            let (_, arena, store) = stand.all();
+            assert!(arena == expected.1 && store == expected.2, "{ah:02x} after {moved} blocks");
+            moved += blocks;
+        }
+        assert_eq!(stand.collect(5), (DONE, succeeded(given)), "{ah:02x}");
+    }
+}
+
+fn e6_packet_is_read_once(service: &dyn Service) {
+    let mut stand = Stand::paper(service, 21_000);
+    // the read lays data over its own packet, and the guest writes other values there between the turns
+    stand.packet(1, 0x210, 40, (0, 0x200), 9);
+    let given = by_packet(0x42, 0x210);
+    assert_eq!(stand.post(1, given).0, NOTHING_YET);
+    for blocks in [16, 16, 8] {
+        assert_eq!(stand.turn(), (DONE, 1, blocks));
+        stand.packet(1, 0x210, 3, (0xFFFF, 0xFFFF), u64::MAX);
+    }
+    let data = stand.store.bytes()[9 * 512..49 * 512].to_vec();
+    let window = stand.window(1);
+    assert!(window[0x220..0x200 + 40 * 512] == data[0x20..], "forty blocks, but for the bytes that the guest wrote last");
+    assert_eq!(stand.collect(1), (DONE, succeeded(given)));
+}
+
+fn e7_withdrawal(service: &dyn Service) {
+    let mut stand = Stand::paper(service, 21_000);
+    // nothing moved: 0
+    stand.packet(1, 0x210, 40, (0, 0x200), 9);
+    let given = Registers { ax: 0x4277, ..by_packet(0x42, 0x210) };
+    assert_eq!(stand.post(1, given).0, NOTHING_YET);
+    let mut expected = stand.all();
+    expected.1[21_000 + 0x212..21_000 + 0x214].copy_from_slice(&[0, 0]);
+    expected.0[8 * row(1, 0)..8 * row(2, 0)].fill(0);
+    assert_eq!(stand.withdraw(1), (DONE, Registers { ax: 0x8077, carry: 1, ..given }));
+    assert!(stand.all() == expected);
+    assert_eq!(stand.withdraw(1), (23, STALE));
+    assert_eq!(stand.collect(1), (22, STALE), "there is nothing to collect");
+    // after sixteen blocks that lie over the packet
+    stand.packet(1, 0x210, 40, (0, 0x200), 9);
+    assert_eq!(stand.post(1, given).0, NOTHING_YET);
+    assert_eq!(stand.turn(), (DONE, 1, 16));
+    let mut expected = stand.all();
+    expected.1[21_000 + 0x212..21_000 + 0x214].copy_from_slice(&[16, 0]);
+    expected.0[8 * row(1, 0)..8 * row(2, 0)].fill(0);
+    assert_eq!(stand.withdraw(1), (DONE, Registers { ax: 0x8077, carry: 1, ..given }));
+    assert!(stand.all() == expected, "the count word over the data; moved blocks stay; the pointer too");
+    // by AL
+    let given = by_sector(0x03, 40, 0, 0, 1);
+    assert_eq!(stand.post(1, given).0, NOTHING_YET);
+    assert_eq!((stand.turn().2, stand.turn().2), (16, 16));
+    let mut expected = stand.all();
+    expected.0[8 * row(1, 0)..8 * row(2, 0)].fill(0);
+    assert_eq!(stand.withdraw(1), (DONE, Registers { ax: 0x8020, carry: 1, ..given }));
+    assert!(stand.all() == expected, "02h and 03h write no memory");
+    assert_eq!(stand.post_packet(1, 0x42, 1, 0).0, NOTHING_YET, "the row is vacant at once");
+}
+
+fn e8_collect_once(service: &dyn Service) {
+    let mut stand = Stand::paper(service, 2048);
+    assert_eq!(stand.post_packet(6, 0x42, 2, 0).0, NOTHING_YET);
+    assert_eq!(stand.collect(6), (22, STALE), "it waits");
+    assert_eq!(stand.turn(), (DONE, 6, 2));
+    assert_eq!(stand.withdraw(6), (23, STALE), "it has finished");
+    let mut expected = stand.all();
+    expected.0[8 * row(6, 0)..8 * row(7, 0)].fill(0);
+    assert_eq!(stand.collect(6), (DONE, succeeded(by_packet(0x42, 0))));
+    assert!(stand.all() == expected, "only the row changes");
+    assert_eq!(stand.collect(6), (22, STALE));
+}
+
+// ---- g: sums, the paper's own cases, threads
+
+fn g1_sums(service: &dyn Service) {
+    let g = Geometry { cylinders: 1024, heads: 16, sectors: 63 };
+    let block = |cylinder, head, sector| {
+        let mut out = 77;
+        (service.block(g, Address { cylinder, head, sector }, &mut out), out)
+    };
+    assert_eq!([block(0, 0, 1), block(0, 1, 1), block(1, 0, 1), block(1023, 15, 63)], [(0, 0), (0, 63), (0, 1008), (0, 1032191)]);
+    assert_eq!(block(0, 0, 0), (4, 77), "P5");
+    let mut stand = Stand::paper(service, 1024);
+    let got = stand.post(0, registers(0x08, 0, 0x80)).1;
+    assert_eq!((got.cx, got.dx), (0x013F, 0x0F01), "P7");
+    // P9
+    let mut stand = Stand::paper(service, 21_000);
+    for guest in [2, 5] {
+        assert_eq!(stand.post_packet(guest, 0x42, 40, 0).0, NOTHING_YET);
+    }
+    let turns: Vec<(u32, u64, u64)> = (0..6).map(|_| stand.turn()).collect();
+    assert_eq!(turns, [(0, 2, 16), (0, 5, 16), (0, 2, 16), (0, 5, 16), (0, 2, 8), (0, 5, 8)]);
+    // P10
+    let mut stand = Stand::paper(service, 21_000);
+    for guest in 0..8 {
+        assert_eq!(stand.post_packet(guest, 0x42, 40, 0).0, NOTHING_YET);
+    }
+    stand.set_word(POINTER, 1);
+    let turns: Vec<u64> = (0..8).map(|_| stand.turn().1).collect();
+    assert_eq!(turns, [1, 2, 3, 4, 5, 6, 7, 0]);
+}
+
+fn g2_run_by_program(service: &dyn Service) {
+    let mut stand = Stand::paper(service, 66_100);
+    assert_eq!(stand.post_packet(0, 0x42, 1, 2047).0, NOTHING_YET);
+    assert_eq!(stand.post_packet(1, 0x42, 0, 2048).1.carry, 0);
+    assert_eq!(stand.post_packet(1, 0x42, 1, 2048).1.ah(), 0x04);
+    assert_eq!(stand.post(2, by_sector(0x02, 128, 0, 0, 1)).0, NOTHING_YET);
+    assert_eq!(stand.post(3, by_sector(0x02, 129, 0, 0, 1)).1.ah(), 0x09);
+    assert_eq!(stand.post_packet(4, 0x42, 127, 0).0, NOTHING_YET);
+    assert_eq!(stand.post_packet(5, 0x42, 128, 0).1.ah(), 0x01);
+    let mut stand = Stand::open(service, &[protected(paper_drive())], 8 * 1024, 2048 * 512);
+    assert_eq!(stand.post_packet(0, 0x43, 1, 2048).1.ah(), 0x03, "protected and out of range");
+}
+
+/// Every handled function with every AL and DL, and every unknown one: what is answered at once leaves the block as it was.
+fn g3_answered_at_once_leaves_the_desk(service: &dyn Service) {
+    let mut stand = Stand::paper(service, 1024);
+    stand.packet(4, 0x100, 0, (0, 0), 0);
+    let desk = stand.desk.bytes().to_vec();
+    for ah in 0..=255 {
+        for al in [0, 1, 2, 127, 255] {
+            for dl in [0x80, 0x81] {
+                let (answer, _) = stand.post(4, Registers { ds: 0x10, si: 0, ..registers(ah, al, dl) });
+                assert_eq!(answer, DONE, "{ah:02x} {al:02x} {dl:02x}");
+                assert!(stand.desk.bytes() == &desk[..]);
+            }
+        }
+    }
+}
+
+macro_rules! cases {
+    ($($name:ident),* $(,)?) => { &[$((stringify!($name), $name as fn(&dyn Service))),*] };
+}
+
+const CASES: &[(&str, fn(&dyn Service))] = cases![
+    a1_order_of_house_numbers,
+    a2_store_length_alone,
+    a2_arena_length_alone,
+    a3_open_over_anything,
+    a3_table_refused,
+    a3_wrong_size_first,
+    a4_idle,
+    a5_a6_busy_row,
+    a7_unknown_function,
+    a8_drive_numbers,
+    a9_carry_is_not_read,
+    a9_waiting_row_with_carry_1,
+    a10_empty_slices,
+    b1_order_by_packet,
+    b2_count_zero,
+    b3_verify_moves_nothing,
+    b4_seek,
+    b5_packet,
+    b6_addresses_never_wrap,
+    b7_start_and_count_never_wrap,
+    b8_write_with_verify,
+    b9_sectors,
+    b10_drive_parameters,
+    b11_check_extensions,
+    b12_result_sizes,
+    b13_result_bytes,
+    b14_addresses,
+    c1_order_of_checks,
+    c2_places,
+    c3_fields,
+    c4_c5_ranges,
+    c7_written_back,
+    d1_accepted_though_unreachable,
+    d1_refused_by_one_word,
+    d1_limits_of_the_counts,
+    d2_function_of_a_row,
+    d3_packet_of_02h_and_03h,
+    d4_words_that_a_stage_does_not_use,
+    d5_table_in_the_block,
+    d6_words_that_wrap,
+    d7_absurd_lengths,
+    d9_wrong_size,
+    e1_windows,
+    e2_odd_arenas,
+    e4_turn_order,
+    e5_what_moves,
+    e6_packet_is_read_once,
+    e7_withdrawal,
+    e8_collect_once,
+    g1_sums,
+    g2_run_by_program,
+    g3_answered_at_once_leaves_the_desk,
+];
+
+/// Different desks, arenas and stores on different threads at the same time, each compared with the model call by call.
+fn g5_desks_on_threads() -> Result<(), String> {
+    let threads: Vec<_> = (0..8).map(|i| std::thread::spawn(move || Run::new(1000 + i, 3000).run().map(|_| ()))).collect();
+    threads.into_iter().try_for_each(|thread| thread.join().map_err(|_| "a thread panicked".to_string())?)
+}
+
+pub fn run() -> ExitCode {
+    std::panic::set_hook(Box::new(|_| {}));
+    let null = Library::default();
+    null.null_for_empty.set(true);
+    let not_null = Library::default();
+    let services: [(&str, &dyn Service); 3] = [("library", &not_null), ("library, NULL for empty", &null), ("model", &Model)];
+    let mut failed = 0;
+    for (name, case) in CASES {
+        for (whose, service) in services {
+            if let Err(panic) = catch_unwind(AssertUnwindSafe(|| case(service))) {
+                let text = panic.downcast_ref::<String>().map(String::as_str).or(panic.downcast_ref::<&str>().copied());
+                println!("directed: {name} FAILED ({whose}): {}", text.unwrap_or("panic"));
+                failed += 1;
+            }
+        }
+    }
+    if let Err(what) = g5_desks_on_threads() {
+        println!("directed: g5_desks_on_threads FAILED: {what}");
+        failed += 1;
+    }
+    println!("directed: {} cases, {failed} failed", CASES.len() + 1);
+    if failed == 0 { ExitCode::SUCCESS } else { ExitCode::FAILURE }
+}

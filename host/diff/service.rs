@@ -6,7 +6,6 @@ use std::cell::Cell;
 use std::ffi::c_void;
 
 pub trait Service {
-    fn name(&self) -> &'static str;
     fn desk_size(&self) -> u64;
     fn open(&self, desk: &mut [u8], table: &[u8], arena_length: u64, store_length: u64, place: &mut u64) -> u32;
     fn write(&self, desk: &[u8], out: &mut [u8], written: &mut u64) -> u32;
@@ -25,9 +24,6 @@ pub trait Service {
 pub struct Model;
 
 impl Service for Model {
-    fn name(&self) -> &'static str {
-        "model"
-    }
     fn desk_size(&self) -> u64 {
         model::desk_size()
     }
@@ -143,9 +139,6 @@ fn take_registers(places: &Places<u16, 8>) -> Registers {
 }
 
 impl Service for Library {
-    fn name(&self) -> &'static str {
-        "library"
-    }
     fn desk_size(&self) -> u64 {
         unsafe { edd_desk_size() }
     }
