@@ -1,6 +1,6 @@
 # What can be made here; `make` alone lists it. Everything is built below target/.
 #
-# LIBDIR is the directory of libexports.a: `make demo LIBDIR=target/standin` takes another library with the same interface.
+# LIBDIR is the directory of libexports.a. `make demo LIBDIR=target/standin` takes the model behind the same interface: it needs no rt.
 
 LIBDIR ?= target/staticlib
 REQUESTS ?= 4000
@@ -33,7 +33,7 @@ bench: target/bench/bench target/bench/$(OVER).so $(MODEL)
 	target/bench/bench target/bench/$(OVER).so $(MODEL)
 
 test:
-	host/test
+	$(if $(filter-out target/staticlib,$(LIBDIR)),EDD_LIB_DIR='$(abspath $(LIBDIR))') host/test
 
 check:
 	.ci/run
@@ -41,12 +41,14 @@ check:
 clean:
 	rm -rf target
 
-# ---- the library
+# ---- the library, and what stands in for it when the host programs themselves are to be tried
 
 # A proof does not change what is built, so only the sources count.
-target/staticlib/libexports.a: host/build crates.txt $(wildcard crates/*/src/*.rt)
-	@command -v rt >/dev/null || { echo 'rt is not on the PATH: install the Rattle kit (README.md)'; exit 1; }
-	host/build
+target/staticlib/libexports.a: crates.txt $(wildcard crates/*/src/*.rt)
+	host/build library
+
+target/standin/libexports.a: $(wildcard host/model/*.rs host/standin/*.rs)
+	host/build standin
 
 # ---- the demo
 
