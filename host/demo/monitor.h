@@ -4,8 +4,10 @@
  *
  * The lock. Every call of the library is lent the whole arena, and most are lent the whole store. While a call runs nobody
  * else may write what it was lent (edd_desk.h, "What may run at the same time"). So one lock covers all three: whoever
- * calls the library, and whoever reads or writes a byte of a guest's window, holds it. OpenMP's own locks cannot wait for
- * an event; a guest must wait until its request has moved, so this is a pthread mutex with conditions.
+ * calls the library, and whoever reads or writes a byte of a guest's window, holds it. (A monitor that lets guests run in
+ * their windows while a call works for another guest rests on more than the header promises: that a call touches no other
+ * window. host/touch tests this.) OpenMP's own locks cannot wait for an event; a guest must wait until its blocks have
+ * moved, so this is a pthread mutex with conditions.
  *
  * The order. A guest posts. If the request waits, the guest sleeps until a turn has served it and then tries to collect;
  * edd_collect says itself whether all blocks are moved. Its row is then vacant, and it may post again. It may withdraw
