@@ -141,19 +141,21 @@ static void table_turn(void)
                                          "write (43h), not in cache" };
     printf("1. A turn of 16 blocks against memcpy of the same 8 KiB, and against the model's turn.\n\n");
     printf("   %-28s  library / memcpy   library / model    library, ns    model, ns   memcpy, ns\n", "");
-    for (unsigned row = 0; row < 4; row++) {
-        unsigned cold = row / 2, function = row % 2 ? 0x43 : 0x42;
-        struct times t[MOVERS];
-        for (int b = 0; b < BATCHES; b++) {
+    static struct times times[4][MOVERS];
+    for (int b = 0; b < BATCHES; b++) {
+        for (unsigned row = 0; row < 4; row++) {
             for (enum mover m = LIBRARY; m < MOVERS; m++) {
                 if (m == MODEL && service_count < 2)
                     continue;
-                if (cold)
-                    turn_cold(&t[m], b, m, function);
+                if (row / 2)
+                    turn_cold(&times[row][m], b, m, row % 2 ? 0x43 : 0x42);
                 else
-                    turn_hot(&t[m], b, m, function);
+                    turn_hot(&times[row][m], b, m, row % 2 ? 0x43 : 0x42);
             }
         }
+    }
+    for (unsigned row = 0; row < 4; row++) {
+        const struct times *t = times[row];
         printf("   %-28s", names[row]);
         ratio_cell(&t[LIBRARY], &t[MEMCPY]);
         if (service_count == 2)
@@ -168,7 +170,7 @@ static void table_turn(void)
             printf(" %12s", "-");
         time_cell(&t[MEMCPY]);
         printf("\n");
-        if (cold) {
+        if (row / 2) {
             to_memcpy[row % 2] = best(&t[LIBRARY]) / best(&t[MEMCPY]);
             to_model[row % 2] = service_count == 2 ? best(&t[LIBRARY]) / best(&t[MODEL]) : 0;
         }
@@ -211,12 +213,13 @@ static void table_request(void)
     };
     printf("2. A whole request, post and turns and collect, in cache, against the model with the same checks.\n\n");
     printf("   %-28s   library / model    library, ns    model, ns\n", "");
-    for (unsigned i = 0; i < sizeof requests / sizeof requests[0]; i++) {
-        struct times t[2];
-        memset(t, 0, sizeof t);
-        for (int b = 0; b < BATCHES; b++)
+    static struct times times[sizeof requests / sizeof requests[0]][2];
+    for (int b = 0; b < BATCHES; b++)
+        for (unsigned i = 0; i < sizeof requests / sizeof requests[0]; i++)
             for (unsigned s = 0; s < service_count; s++)
-                t[s].with[b] = whole_request(&services[s], requests[i].function, requests[i].count);
+                times[i][s].with[b] = whole_request(&services[s], requests[i].function, requests[i].count);
+    for (unsigned i = 0; i < sizeof requests / sizeof requests[0]; i++) {
+        const struct times *t = times[i];
         printf("   %-28s", requests[i].name);
         if (service_count == 2)
             ratio_cell(&t[0], &t[1]);
@@ -460,17 +463,20 @@ static struct summary table_calls(const struct setting *settings, unsigned count
         printf(" %12s", settings[k].name);
     printf(" %12s  %s\n", service_count == 2 ? "model" : "", service_count == 2 ? "library / model" : "");
 
-    for (unsigned i = 0; i < CALLS; i++) {
-        struct times t[SETTINGS], model;
-        const struct setting *last = &settings[count - 1];
-        memset(t, 0, sizeof t);
-        memset(&model, 0, sizeof model);
-        for (int b = 0; b < BATCHES; b++) {
+    static struct times times[CALLS][SETTINGS], models[CALLS];
+    const struct setting *last = &settings[count - 1];
+    memset(times, 0, sizeof times);
+    memset(models, 0, sizeof models);
+    for (int b = 0; b < BATCHES; b++) {
+        for (unsigned i = 0; i < CALLS; i++) {
             for (unsigned k = 0; k < count; k++)
-                one_batch(&t[k], b, &services[0], &calls[i], &settings[k]);
+                one_batch(&times[i][k], b, &services[0], &calls[i], &settings[k]);
             if (service_count == 2)
-                one_batch(&model, b, &services[1], &calls[i], last);
+                one_batch(&models[i], b, &services[1], &calls[i], last);
         }
+    }
+    for (unsigned i = 0; i < CALLS; i++) {
+        const struct times *t = times[i];
         printf("   %-28s", calls[i].name);
         for (unsigned k = 0; k < count; k++) {
             double cost = best(&t[k]);
@@ -488,9 +494,9 @@ static struct summary table_calls(const struct setting *settings, unsigned count
             sum.grew = calls[i].name;
         }
         if (service_count == 2 && can(&calls[i], last)) {
-            time_cell(&model);
-            if (best(&model) >= 20)
-                printf("  %5.2f", best(&t[count - 1]) / best(&model));
+            time_cell(&models[i]);
+            if (best(&models[i]) >= 20)
+                printf("  %5.2f", best(&t[count - 1]) / best(&models[i]));
         }
         printf("\n");
     }

@@ -1,7 +1,7 @@
 /*
  * measure.h - times of batches. The machine may be shared, so nothing is taken from one batch: a figure is the best of all batches,
- * with their median beside it to show the spread, and what is compared is measured in turn, batch by batch, so that a slow moment meets
- * both.
+ * with their median beside it to show the spread. A table is measured batch by batch, each batch over all its rows and columns, so that
+ * a slow moment meets all of them alike.
  */
 #ifndef MEASURE_H
 #define MEASURE_H
