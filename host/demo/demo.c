@@ -7,6 +7,7 @@
  *   demo [-r requests] [-s seed] [-p pause]
  */
 #include <omp.h>
+#include <stdarg.h>
 #include <stdio.h>
 #include <stdlib.h>
 #include <string.h>
@@ -116,85 +117,115 @@ static void give_turns(struct monitor *m, const struct options *o)
 
 /* ---- checks at the end */
 
-/* The store: every disk as its guest's copy, every other block as it was. Returns the number of faults. */
-static unsigned check_store(const uint8_t *store, const struct guest *guests)
+#define NO_GUEST EDD_GUESTS /* in place of a guest's number: what belongs to no guest */
+
+/* What was found wrong, and with whom. Only the first lines are printed: a wrong disk may have thousands of wrong blocks. */
+struct faults {
+    unsigned count;
+    unsigned of[EDD_GUESTS + 1];
+};
+
+static void fault(struct faults *f, unsigned guest, const char *format, ...)
 {
-    unsigned faults = 0;
-    for (uint64_t block = 0; block < STORE_BLOCKS; block++) {
-        const uint8_t *found = store + block * EDD_BLOCK_SIZE;
-        const uint8_t *wanted = NULL;
-        unsigned owner = 0;
-        for (unsigned g = 0; g < EDD_GUESTS; g++) {
-            if (block >= disks[g].first && block - disks[g].first < disks[g].blocks) {
-                owner = g;
-                wanted = guests[g].disk + (block - disks[g].first) * EDD_BLOCK_SIZE;
-            }
-        }
-        int same = wanted ? memcmp(found, wanted, EDD_BLOCK_SIZE) == 0 : found[0] == NOBODY;
-        for (unsigned i = 0; !wanted && i < EDD_BLOCK_SIZE; i++)
-            same = same && found[i] == NOBODY;
-        if (!same && faults++ < 10) {
-            if (wanted)
-                printf("FAULT: block %llu of guest %u's disk is not what the guest wrote\n",
-                       (unsigned long long)(block - disks[owner].first), owner);
-            else
-                printf("FAULT: store block %llu belongs to nobody and has changed\n", (unsigned long long)block);
-        }
-    }
-    return faults;
+    va_list arguments;
+    f->of[guest]++;
+    if (f->count++ >= 20)
+        return;
+    printf("FAULT: ");
+    if (guest != NO_GUEST)
+        printf("guest %u: ", guest);
+    va_start(arguments, format);
+    vprintf(format, arguments);
+    va_end(arguments);
+    printf("\n");
 }
 
-/* The arena: every window as its guest's copy, the bytes at its end as they were. */
-static unsigned check_arena(struct monitor *m, const struct guest *guests)
+static int is_nobodys(const uint8_t *block)
 {
-    unsigned faults = 0;
-    for (unsigned g = 0; g < EDD_GUESTS; g++) {
-        if (memcmp(monitor_window(m, g), guests[g].memory, WINDOW_SIZE) != 0) {
-            printf("FAULT: guest %u's memory is not what it must be\n", g);
-            faults++;
-        }
-    }
-    for (size_t at = EDD_GUESTS * (size_t)WINDOW_SIZE; at < ARENA_LENGTH; at++) {
-        if (m->arena[at] != NOBODY) {
-            printf("FAULT: arena byte %zu belongs to nobody and has changed\n", at);
-            faults++;
-        }
-    }
-    return faults;
-}
-
-/* The desk: the table that it writes is the one that was opened. */
-static unsigned check_table(struct monitor *m, const uint8_t *table, size_t length)
-{
-    uint8_t out[EDD_TABLE_SIZE_MAX];
-    uint64_t written = 0;
-    if (edd_write(m->desk, sizeof m->desk, out, sizeof out, &written) == EDD_DONE && written == length &&
-        memcmp(out, table, length) == 0)
-        return 0;
-    printf("FAULT: the table written back is not the table opened\n");
+    for (unsigned i = 0; i < EDD_BLOCK_SIZE; i++)
+        if (block[i] != NOBODY)
+            return 0;
     return 1;
 }
 
-/* The guests' own checks, and the theorem's bounds. */
-static unsigned check_guests(const struct monitor *m, const struct guest *guests, uint64_t requests)
+/* Whose disk has the store block; NO_GUEST where no disk has it. */
+static unsigned owner_of(uint64_t block)
 {
-    unsigned faults = 0;
+    unsigned g = 0;
+    while (g < EDD_GUESTS && (block < disks[g].first || block - disks[g].first >= disks[g].blocks))
+        g++;
+    return g;
+}
+
+/* The store: every disk as its guest's copy, every other block as it was. */
+static void check_store(struct faults *f, const uint8_t *store, const struct guest *guests)
+{
+    for (uint64_t block = 0; block < STORE_BLOCKS; block++) {
+        const uint8_t *found = store + block * EDD_BLOCK_SIZE;
+        unsigned g = owner_of(block);
+        if (g == NO_GUEST) {
+            if (!is_nobodys(found))
+                fault(f, g, "store block %llu belongs to nobody and has changed", (unsigned long long)block);
+            continue;
+        }
+        uint64_t own = block - disks[g].first;
+        if (memcmp(found, guests[g].disk + own * EDD_BLOCK_SIZE, EDD_BLOCK_SIZE) != 0)
+            fault(f, g, "block %llu of its disk is not what it wrote", (unsigned long long)own);
+    }
+}
+
+/* The arena: every window as its guest's copy, the bytes at its end as they were. */
+static void check_arena(struct faults *f, struct monitor *m, const struct guest *guests)
+{
+    for (unsigned g = 0; g < EDD_GUESTS; g++)
+        if (memcmp(monitor_window(m, g), guests[g].memory, WINDOW_SIZE) != 0)
+            fault(f, g, "its memory is not what it must be");
+    for (size_t at = EDD_GUESTS * (size_t)WINDOW_SIZE; at < ARENA_LENGTH; at++)
+        if (m->arena[at] != NOBODY)
+            fault(f, NO_GUEST, "arena byte %zu belongs to nobody and has changed", at);
+}
+
+/* The desk: the table that it writes is the one that was opened. */
+static void check_table(struct faults *f, struct monitor *m, const uint8_t *table, size_t length)
+{
+    uint8_t out[EDD_TABLE_SIZE_MAX];
+    uint64_t written = 0;
+    if (edd_write(m->desk, sizeof m->desk, out, sizeof out, &written) != EDD_DONE || written != length ||
+        memcmp(out, table, length) != 0)
+        fault(f, NO_GUEST, "the table written back is not the table opened");
+}
+
+/* The guests' own checks, and the theorem's bounds. */
+static void check_guests(struct faults *f, const struct monitor *m, const struct guest *guests, uint64_t requests)
+{
     for (unsigned g = 0; g < EDD_GUESTS; g++) {
         const struct record *n = &m->guest[g];
         if (guests[g].failed)
-            printf("FAULT: guest %u: %s\n", g, guests[g].fault);
+            fault(f, g, "%s", guests[g].fault);
+        else if (n->requests != requests)
+            fault(f, g, "%llu requests answered of %llu", (unsigned long long)n->requests, (unsigned long long)requests);
         if (n->over)
-            printf("FAULT: guest %u: %llu requests waited longer than 8 * ceil(n / 16) turns\n", g,
-                   (unsigned long long)n->over);
+            fault(f, g, "%llu requests waited longer than 8 * ceil(n / 16) turns", (unsigned long long)n->over);
         if (n->longest_gap > 8)
-            printf("FAULT: guest %u waited %llu turns for its next part\n", g, (unsigned long long)n->longest_gap);
-        if (!guests[g].failed && n->requests != requests)
-            printf("FAULT: guest %u: %llu requests answered of %llu\n", g, (unsigned long long)n->requests,
-                   (unsigned long long)requests);
-        if (guests[g].failed || n->over || n->longest_gap > 8 || n->requests != requests)
-            faults++;
+            fault(f, g, "it waited %llu turns for its next part", (unsigned long long)n->longest_gap);
     }
-    return faults;
+}
+
+/* The last line, and the exit status. */
+static int verdict(const struct faults *f, uint64_t seed)
+{
+    if (f->count == 0) {
+        printf("demo: all guests have what they wrote\n");
+        return 0;
+    }
+    printf("demo: FAILED with seed %llu:", (unsigned long long)seed);
+    for (unsigned g = 0; g < EDD_GUESTS; g++)
+        if (f->of[g])
+            printf(" guest %u (%u faults)", g, f->of[g]);
+    if (f->of[NO_GUEST])
+        printf(" what belongs to no guest (%u faults)", f->of[NO_GUEST]);
+    printf("\n");
+    return 1;
 }
 
 static void print_table(const struct monitor *m)
@@ -283,10 +314,11 @@ int main(int argc, char **argv)
     monitor_lock(&monitor);
     print_table(&monitor);
     printf("\n%.1f seconds, %llu turns\n", now() - begun, (unsigned long long)monitor.turns);
-    unsigned faults = check_guests(&monitor, guests, o.requests);
-    faults += check_store(store, guests);
-    faults += check_arena(&monitor, guests);
-    faults += check_table(&monitor, table, table_length);
+    struct faults faults = { 0, { 0 } };
+    check_guests(&faults, &monitor, guests, o.requests);
+    check_store(&faults, store, guests);
+    check_arena(&faults, &monitor, guests);
+    check_table(&faults, &monitor, table, table_length);
     monitor_unlock(&monitor);
 
     monitor_close(&monitor);
@@ -294,10 +326,5 @@ int main(int argc, char **argv)
         guest_free(&guests[g]);
     free(arena);
     free(store);
-    if (faults) {
-        printf("demo: FAILED, %u faults (seed %llu)\n", faults, (unsigned long long)o.seed);
-        return 1;
-    }
-    printf("demo: all guests have what they wrote\n");
-    return 0;
+    return verdict(&faults, o.seed);
 }
