@@ -290,13 +290,12 @@ static void transfer(struct guest *g, struct request *q, unsigned drive, uint64_
 /* A protected disk is not written: nothing moves, and the refusal is 03h. */
 static void want_transfer(struct request *q, const struct disk *disk)
 {
-    int is_packet = q->packet != 0;
     if (!q->write || !disk->is_protected) {
         want(q, 0);
         return;
     }
     want(q, EDD_AH_WRITE_PROTECTED);
-    if (is_packet)
+    if (q->packet)
         q->clears_count = 1;
     else
         set_al(&q->wanted, 0);
@@ -344,8 +343,9 @@ static void packet_transfer(struct guest *g, int write, unsigned drive)
     q.write = write;
     q.patience = pick_patience(g, blocks);
     q.packet = low_place(g);
-    /* A read may lay its data over its own packet: that was read at the post, and not again. */
-    if (!write && blocks && q.patience < 0 && between(g, 1, 8) == 1)
+    /* A read may lay its data over its own packet: that was read at the post, and not again. A withdrawal then writes the
+     * number moved over the data. */
+    if (!write && blocks && between(g, 1, 8) == 1)
         q.packet = buffer + between(g, 0, EDD_BLOCK_SIZE * blocks - 16);
     transfer(g, &q, drive, start, blocks, buffer);
     lay_packet(g, &q, (unsigned)between(g, 16, 255), blocks, buffer, start);
@@ -470,7 +470,7 @@ static void wrong_registers(struct guest *g, unsigned function, unsigned drive, 
     make(g, &q);
 }
 
-/* Something that no guest should ask for. Nothing moves, and every one has its own code. */
+/* Something that no guest should ask for: nothing moves. */
 static void wrong(struct guest *g)
 {
     const struct disk *disk = &disks[g->number];
