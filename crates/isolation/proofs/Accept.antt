@@ -71,7 +71,7 @@ pub record Inv (d : Desk) : Type 0 where
 pub inv-accept : (d : Desk) → Inv d → accept d ≡ true
 inv-accept d inv = accept-facts d .1 (record { sound = inv .table .sound; pointer = inv .pointer; stages = λ g h. inv .stages g })
 
-all-vacant : (g : ℕ) → stageIn (replicate guests vacantRow) g ≡ Vacant
+pub all-vacant : (g : ℕ) → stageIn (replicate guests vacantRow) g ≡ Vacant
 all-vacant g =
     ⊎-elim
     (λ x. ap (λ (r : Row). r .stage) (getD-replicate guests g vacantRow vacantRow x))

@@ -1,3 +1,4 @@
 pub mod Lists
 pub mod Words
 pub mod Demand
+pub mod Blocks
