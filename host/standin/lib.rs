@@ -16,7 +16,8 @@ unsafe fn lent_mut<'a>(start: *mut u8, length: usize) -> &'a mut [u8] {
     if length == 0 { &mut [] } else { unsafe { from_raw_parts_mut(start, length) } }
 }
 
-#[cfg(any(fault = "lengths_before_desk", fault = "static_scratch", fault = "carry_kept", fault = "pointer_stays", fault = "packet_word_free"))]
+/// Words of the block, for the faults.
+#[allow(dead_code)]
 mod words {
     pub fn get(desk: &[u8], word: usize) -> u64 {
         u64::from_le_bytes(desk[8 * word..8 * word + 8].try_into().unwrap())
@@ -112,6 +113,13 @@ pub unsafe extern "C" fn edd_post(
     if answer == 0 && given.ax >> 8 == 0x47 && out.ah() == 4 {
         model::steps::set_count(model::parts::window(arena, guest), model::parts::linear(ds, si), 0);
     }
+    #[cfg(fault = "sum_wraps")]
+    if answer == 0 && given.ax >> 8 == 0x42 && out.ah() == 4 {
+        let packet = &arena[guest as usize * (arena.len() / 8) + model::parts::linear(ds, si) as usize..][..16];
+        if u64::from_le_bytes(packet[8..16].try_into().unwrap()) > 1 << 63 {
+            out = model::steps::succeeded(given);
+        }
+    }
     #[cfg(fault = "static_scratch")]
     if answer == 256 {
         // the fault that was reported: the start of a request kept in a static that every guest shares
@@ -139,6 +147,16 @@ pub unsafe extern "C" fn edd_turn(
     desk: *mut u8, desk_len: usize, arena: *mut u8, arena_len: usize, store: *mut u8, store_len: usize, guest: &mut u64, moved: &mut u64,
 ) -> u32 {
     let (desk, arena, store) = unsafe { (lent_mut(desk, desk_len), lent_mut(arena, arena_len), lent_mut(store, store_len)) };
+    #[cfg(fault = "packet_read_again")]
+    if desk.len() == 2400 && words::get(desk, 298) == arena.len() as u64 {
+        for guest in 0..8 {
+            let place = (guest * (arena.len() / 8)).saturating_add(words::get(desk, 23 * guest + 13) as usize);
+            let packet = arena.get(place..place.saturating_add(16)).filter(|packet| packet[0] >= 16);
+            if let (1, 0x42, Some(packet)) = (words::get(desk, 23 * guest), words::get(desk, 23 * guest + 1) >> 8, packet) {
+                words::set(desk, 23 * guest + 10, u64::from_le_bytes(packet[8..16].try_into().unwrap()) % 4);
+            }
+        }
+    }
     #[cfg(fault = "search_from_zero")]
     let pointer = if desk.len() == 2400 { std::mem::replace(&mut desk[8 * 297], 0) } else { 0 };
     let answer = model::turn(desk, arena, store, guest, moved);

@@ -1,0 +1,238 @@
+/*
+ * A short session at a desk through include/edd_desk.h, as a C or C++ program sees it. The header comes first, so that it must be
+ * complete by itself. Every slice is a block of its own from malloc with the exact length, so that the address sanitizer sees what
+ * this program does wrong with it. read_first_block is the example in the header; host/c_test takes it from there.
+ */
+#include "edd_desk.h"
+
+#include <stdio.h>
+#include <stdlib.h>
+#include <string.h>
+
+int read_first_block(uint8_t *desk, const uint8_t *table, size_t table_len, uint8_t *arena, size_t arena_len, uint8_t *store,
+                     size_t store_len);
+
+static int checks, failed;
+
+static void check(int line, const char *what, int holds)
+{
+    checks++;
+    if (!holds) {
+        failed++;
+        printf("c: session.c:%d: not so: %s\n", line, what);
+    }
+}
+
+#define CHECK(condition) check(__LINE__, #condition, (condition) != 0)
+
+/* document 01's table of 72 bytes: one drive of 2048 blocks */
+static const uint8_t paper_table[72] = {
+    0x44, 0x00, 0x01, 0x00, 0x02, 0x00, 0x00, 0x00, 0x10, 0x00, 0x00, 0x00, 0x3F, 0x00, 0x00, 0x00, 0x00, 0x08,
+    0x00, 0x00, 0x00, 0x00, 0x00, 0x00, 0x00, 0x00, 0x00, 0x00, 0x00, 0x00, 0x00, 0x00, 0x02, 0x00, 0x02, 0x00,
+    0x10, 0x00, 0x3F, 0x00, 0x50, 0x43, 0x49, 0x00, 0x41, 0x54, 0x41, 0x00, 0x00, 0x00, 0x00, 0x00, 0x00, 0x1F,
+    0x01, 0x00, 0x00, 0x00, 0x00, 0x00, 0x00, 0x00, 0x00, 0x00, 0x00, 0x00, 0x00, 0x00, 0x04, 0x00, 0x00, 0x00};
+
+enum { WINDOW = 12000, ARENA = 8 * WINDOW + 3, STORE = 2048 * EDD_BLOCK_SIZE + 1 };
+
+/* the registers as a guest's; set() gives each another value */
+typedef struct {
+    uint16_t ax, bx, cx, dx, ds, si, es, carry;
+} registers;
+
+static registers set(uint16_t ax, uint16_t bx, uint16_t cx, uint16_t dx, uint16_t ds, uint16_t si, uint16_t es)
+{
+    registers r;
+    r.ax = ax, r.bx = bx, r.cx = cx, r.dx = dx, r.ds = ds, r.si = si, r.es = es, r.carry = 9;
+    return r;
+}
+
+static int same(registers a, registers b)
+{
+    return a.ax == b.ax && a.bx == b.bx && a.cx == b.cx && a.dx == b.dx && a.ds == b.ds && a.si == b.si && a.es == b.es &&
+           a.carry == b.carry;
+}
+
+typedef struct {
+    uint8_t *desk, *arena, *store;
+} machine;
+
+static uint8_t *bytes(size_t length, unsigned factor)
+{
+    uint8_t *b = (uint8_t *)malloc(length);
+    if (!b)
+        abort();
+    for (size_t i = 0; i < length; i++)
+        b[i] = (uint8_t)(i * factor >> 5);
+    return b;
+}
+
+static uint32_t post(machine *m, uint64_t guest, registers *r)
+{
+    return edd_post(m->desk, EDD_DESK_SIZE, m->arena, ARENA, m->store, STORE, guest, &r->ax, &r->bx, &r->cx, &r->dx, r->ds,
+                    r->si, r->es, &r->carry);
+}
+
+static uint32_t collect(machine *m, uint64_t guest, registers *r)
+{
+    return edd_collect(m->desk, EDD_DESK_SIZE, guest, &r->ax, &r->bx, &r->cx, &r->dx, &r->ds, &r->si, &r->es, &r->carry);
+}
+
+static uint32_t withdraw(machine *m, uint64_t guest, registers *r)
+{
+    return edd_withdraw(m->desk, EDD_DESK_SIZE, m->arena, ARENA, m->store, STORE, guest, &r->ax, &r->bx, &r->cx, &r->dx, &r->ds,
+                        &r->si, &r->es, &r->carry);
+}
+
+static uint32_t turn(machine *m, uint64_t *guest, uint64_t *moved)
+{
+    return edd_turn(m->desk, EDD_DESK_SIZE, m->arena, ARENA, m->store, STORE, guest, moved);
+}
+
+/* a packet of 16 bytes at the start of a guest's window, buffer at 0000:0200 */
+static void put_packet(machine *m, uint64_t guest, uint8_t count, uint8_t start)
+{
+    uint64_t at = 0, length = 0;
+    CHECK(edd_window(ARENA, guest, &at, &length) == EDD_DONE && length == WINDOW);
+    memset(m->arena + at, 0, 16);
+    m->arena[at] = 16;
+    m->arena[at + 2] = count;
+    m->arena[at + 5] = 0x02;
+    m->arena[at + 8] = start;
+}
+
+static void opening_and_table(machine *m)
+{
+    uint64_t place = 77, written = 77;
+    uint8_t *before = bytes(EDD_DESK_SIZE, 1);
+
+    CHECK(edd_desk_size() == EDD_DESK_SIZE);
+    memcpy(m->desk, before, EDD_DESK_SIZE);
+    CHECK(edd_open(m->desk, EDD_DESK_SIZE - 1, paper_table, 72, ARENA, STORE, &place) == EDD_DESK_NOT_ACCEPTED);
+    CHECK(edd_open(m->desk, EDD_DESK_SIZE, paper_table, 71, ARENA, 1, &place) == EDD_TABLE_STORE && place == 0);
+    CHECK(edd_open(m->desk, EDD_DESK_SIZE, paper_table, 71, ARENA, STORE, &place) == EDD_TABLE_CUT_OFF && place == 68);
+    CHECK(edd_open(m->desk, EDD_DESK_SIZE, NULL, 0, ARENA, STORE, &place) == EDD_TABLE_CUT_OFF && place == 0);
+    CHECK(memcmp(m->desk, before, EDD_DESK_SIZE) == 0);
+    CHECK(edd_open(m->desk, EDD_DESK_SIZE, paper_table, 72, ARENA, STORE, &place) == EDD_DONE);
+
+    uint8_t *table = bytes(EDD_TABLE_SIZE_MAX, 3);
+    CHECK(edd_write(m->desk, EDD_DESK_SIZE, table, 71, &written) == EDD_BUFFER_SHORT && written == 77);
+    CHECK(edd_write(m->desk, EDD_DESK_SIZE, NULL, 0, &written) == EDD_BUFFER_SHORT && written == 77);
+    CHECK(edd_write(m->desk, EDD_DESK_SIZE, table, EDD_TABLE_SIZE_MAX, &written) == EDD_DONE && written == 72);
+    CHECK(memcmp(table, paper_table, 72) == 0 && table[72] == (uint8_t)(72 * 3 >> 5));
+    free(table);
+    free(before);
+}
+
+/* twenty blocks from guest 5's window to the store, in two parts; another guest reads in between */
+static void two_guests(machine *m)
+{
+    uint64_t guest = 77, moved = 77;
+    registers write_20 = set(0x4301, 1, 2, 0x0080, 0, 0, 3), read_1 = set(0x0201, 0x0200, 0x0001, 0x0080, 4, 5, 0);
+    registers out = write_20, expected;
+
+    put_packet(m, 5, 20, 100);
+    CHECK(post(m, 5, &out) == EDD_NOTHING_YET && same(out, write_20));
+    CHECK(post(m, 5, &out) == EDD_ROW_NOT_VACANT && same(out, write_20));
+    CHECK(collect(m, 5, &out) == EDD_NOT_FINISHED && same(out, write_20));
+    out = read_1;
+    CHECK(post(m, 6, &out) == EDD_NOTHING_YET && same(out, read_1));
+    CHECK(turn(m, &guest, &moved) == EDD_DONE && guest == 5 && moved == 16);
+    CHECK(turn(m, &guest, &moved) == EDD_DONE && guest == 6 && moved == 1);
+    CHECK(turn(m, &guest, &moved) == EDD_DONE && guest == 5 && moved == 4);
+    guest = moved = 77;
+    CHECK(turn(m, &guest, &moved) == EDD_NOTHING_YET && guest == 77 && moved == 77);
+    CHECK(memcmp(m->store + 100 * EDD_BLOCK_SIZE, m->arena + 5 * WINDOW + 0x200, 20 * EDD_BLOCK_SIZE) == 0);
+    CHECK(memcmp(m->arena + 6 * WINDOW + 0x200, m->store, EDD_BLOCK_SIZE) == 0);
+    CHECK(withdraw(m, 5, &out) == EDD_NOT_WAITING);
+    expected = write_20;
+    expected.ax = 0x0001, expected.carry = 0;
+    CHECK(collect(m, 5, &out) == EDD_DONE && same(out, expected));
+    expected = read_1;
+    expected.ax = 0x0001, expected.carry = 0;
+    CHECK(collect(m, 6, &out) == EDD_DONE && same(out, expected));
+    CHECK(collect(m, 6, &out) == EDD_NOT_FINISHED && same(out, expected));
+}
+
+static void withdrawal(machine *m)
+{
+    uint64_t guest, moved;
+    registers given = set(0x4200, 1, 2, 0x0080, 0, 0, 3), out = given, expected = given;
+
+    put_packet(m, 1, 20, 0);
+    CHECK(post(m, 1, &out) == EDD_NOTHING_YET);
+    CHECK(turn(m, &guest, &moved) == EDD_DONE && guest == 1 && moved == 16);
+    CHECK(withdraw(m, 1, &out) == EDD_DONE);
+    expected.ax = EDD_AH_WITHDRAWN << 8, expected.carry = 1;
+    CHECK(same(out, expected));
+    CHECK(m->arena[WINDOW + 2] == 16 && m->arena[WINDOW + 3] == 0);
+    CHECK(withdraw(m, 1, &out) == EDD_NOT_WAITING);
+}
+
+/* what is answered at once, by success and by BIOS refusal */
+static void at_once(machine *m)
+{
+    registers given = set(0x4155, 0x55AA, 2, 0x0080, 6, 7, 8), out = given, expected = given;
+
+    expected.ax = 0x3000, expected.bx = 0xAA55, expected.cx = 1, expected.carry = 0;
+    CHECK(post(m, 0, &out) == EDD_DONE && same(out, expected));
+    out = expected = given = set(0x0277, 0, 0, 0x0085, 6, 7, 8);
+    expected.ax = EDD_AH_BAD_PARAMETER << 8, expected.carry = 1;
+    CHECK(post(m, 0, &out) == EDD_DONE && same(out, expected));
+}
+
+static void house_refusals(machine *m)
+{
+    registers given = set(0x4100, 0x55AA, 2, 0x0080, 6, 7, 8), r = given;
+    uint64_t guest = 77, moved = 77, written = 77;
+    uint8_t *desk = bytes(EDD_DESK_SIZE, 0);
+
+    CHECK(post(m, 8, &r) == EDD_NO_SUCH_GUEST && collect(m, 8, &r) == EDD_NO_SUCH_GUEST && withdraw(m, UINT64_MAX, &r) == EDD_NO_SUCH_GUEST);
+    CHECK(edd_post(m->desk, EDD_DESK_SIZE, m->arena, ARENA - 1, m->store, STORE, 0, &r.ax, &r.bx, &r.cx, &r.dx, 0, 0, 0, &r.carry) ==
+          EDD_LENGTH_DIFFERS);
+    CHECK(edd_turn(m->desk, EDD_DESK_SIZE, m->arena, ARENA, NULL, 0, &guest, &moved) == EDD_LENGTH_DIFFERS);
+    CHECK(edd_turn(NULL, 0, NULL, 0, NULL, 0, &guest, &moved) == EDD_DESK_NOT_ACCEPTED);
+    memcpy(desk, m->desk, EDD_DESK_SIZE);
+    desk[8 * 297] = 8; /* the turn pointer */
+    CHECK(edd_turn(desk, EDD_DESK_SIZE, m->arena, ARENA, m->store, STORE, &guest, &moved) == EDD_DESK_NOT_ACCEPTED);
+    CHECK(edd_write(desk, EDD_DESK_SIZE, NULL, 0, &written) == EDD_DESK_NOT_ACCEPTED);
+    CHECK(same(r, given) && guest == 77 && moved == 77 && written == 77);
+    free(desk);
+}
+
+static void numbers(void)
+{
+    uint64_t start = 77, length = 77;
+    uint32_t block = 77, cylinder = 77, head = 77, sector = 77;
+
+    CHECK(edd_window(4103, 3, &start, &length) == EDD_DONE && start == 3 * 512 && length == 512);
+    CHECK(edd_window(4103, 8, &start, &length) == EDD_DONE && start == 0 && length == 0);
+    CHECK(edd_block(1024, 16, 63, 0, 0, 0, &block) == EDD_OUTSIDE && block == 77);
+    CHECK(edd_block(1024, 16, 63, 1023, 15, 63, &block) == EDD_DONE && block == 1032191);
+    CHECK(edd_address(1024, 16, 63, 1032192, &cylinder, &head, &sector) == EDD_OUTSIDE && cylinder == 77 && head == 77 && sector == 77);
+    CHECK(edd_address(1024, 16, 63, UINT64_C(1) << 32, &cylinder, &head, &sector) == EDD_OUTSIDE);
+    CHECK(edd_address(1024, 16, 63, 1032191, &cylinder, &head, &sector) == EDD_DONE && cylinder == 1023 && head == 15 && sector == 63);
+}
+
+int main(void)
+{
+    machine m;
+    m.desk = bytes(EDD_DESK_SIZE, 1);
+    m.arena = bytes(ARENA, 5);
+    m.store = bytes(STORE, 7);
+
+    CHECK(read_first_block(m.desk, paper_table, 72, m.arena, ARENA, m.store, STORE) == 0);
+    CHECK(memcmp(m.arena + 2 * WINDOW + 0x200, m.store, EDD_BLOCK_SIZE) == 0);
+    CHECK(read_first_block(m.desk, paper_table + 68, 4, m.arena, ARENA, m.store, STORE) == EDD_AH_BAD_PARAMETER);
+    CHECK(read_first_block(m.desk, paper_table, 70, m.arena, ARENA, m.store, STORE) == -1);
+    opening_and_table(&m);
+    two_guests(&m);
+    withdrawal(&m);
+    at_once(&m);
+    house_refusals(&m);
+    numbers();
+    free(m.desk);
+    free(m.arena);
+    free(m.store);
+    printf("c: %d checks, %d failed\n", checks, failed);
+    return failed != 0;
+}
