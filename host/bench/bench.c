@@ -76,13 +76,16 @@ static void turn_hot(struct times *t, int batch, enum mover mover, unsigned func
  * Not in cache: eight guests with 112 blocks each, seven turns apiece. Each round takes other blocks and other memory, and comes back to
  * the same ones after all of both. A guest can name little more than its first MiB, so the memory is many arenas of 8 MiB, one after the
  * other; only the arena's length belongs to the desk. The posts are not timed. memcpy makes the same moves in the same order.
+ *
+ * A processor begins the next memcpy while the last one still waits for memory, and has nothing else to do meanwhile; a turn has its
+ * checks between two copies. With a fence after each move, of either kind, a move is over before the next begins.
  */
 #define WALK_ARENA (8 * MIB)
 #define WALK_BLOCKS 112
 #define WALK_BYTES ((size_t)WALK_BLOCKS * EDD_BLOCK_SIZE)
 #define WALK_PLACES ((WALK_ARENA / EDD_GUESTS - BUFFER) / WALK_BYTES)
 
-static void turn_cold(struct times *time, int batch, enum mover mover, unsigned function)
+static void turn_cold(struct times *time, int batch, enum mover mover, unsigned function, int fence)
 {
     static struct place p;
     static size_t round; /* goes on over all batches of all movers */
@@ -114,6 +117,8 @@ static void turn_cold(struct times *time, int batch, enum mover mover, unsigned 
                 total += moved;
             }
             settle();
+            if (fence)
+                __atomic_thread_fence(__ATOMIC_SEQ_CST);
         }
         sum += nanoseconds() - begun;
         expect(mover == MEMCPY || total == turns * EDD_TURN_BLOCKS, "sixteen blocks in each turn");
@@ -135,26 +140,28 @@ static void time_cell(const struct times *t)
 /* The ratios that the aims are about, of the best times not in cache: read, then write. */
 static double to_memcpy[2], to_model[2];
 
+#define TURN_ROWS 6
+
 static void table_turn(void)
 {
-    static const char *const names[] = { "read (42h), in cache", "write (43h), in cache", "read (42h), not in cache",
-                                         "write (43h), not in cache" };
+    static const char *const names[TURN_ROWS] = { "read (42h), in cache", "write (43h), in cache", "read (42h), not in cache",
+                                                  "write (43h), not in cache", "the same, read, fenced", "the same, write, fenced" };
     printf("1. A turn of 16 blocks against memcpy of the same 8 KiB, and against the model's turn.\n\n");
     printf("   %-28s  library / memcpy   library / model    library, ns    model, ns   memcpy, ns\n", "");
-    static struct times times[4][MOVERS];
+    static struct times times[TURN_ROWS][MOVERS];
     for (int b = 0; b < BATCHES; b++) {
-        for (unsigned row = 0; row < 4; row++) {
+        for (unsigned row = 0; row < TURN_ROWS; row++) {
             for (enum mover m = LIBRARY; m < MOVERS; m++) {
                 if (m == MODEL && service_count < 2)
                     continue;
-                if (row / 2)
-                    turn_cold(&times[row][m], b, m, row % 2 ? 0x43 : 0x42);
+                if (row >= 2)
+                    turn_cold(&times[row][m], b, m, row % 2 ? 0x43 : 0x42, row >= 4);
                 else
                     turn_hot(&times[row][m], b, m, row % 2 ? 0x43 : 0x42);
             }
         }
     }
-    for (unsigned row = 0; row < 4; row++) {
+    for (unsigned row = 0; row < TURN_ROWS; row++) {
         const struct times *t = times[row];
         printf("   %-28s", names[row]);
         ratio_cell(&t[LIBRARY], &t[MEMCPY]);
@@ -170,12 +177,13 @@ static void table_turn(void)
             printf(" %12s", "-");
         time_cell(&t[MEMCPY]);
         printf("\n");
-        if (row / 2) {
+        if (row / 2 == 1) {
             to_memcpy[row % 2] = best(&t[LIBRARY]) / best(&t[MEMCPY]);
             to_model[row % 2] = service_count == 2 ? best(&t[LIBRARY]) / best(&t[MODEL]) : 0;
         }
     }
-    printf("\n   not in cache: a walk over %zu MiB of store and %zu MiB of guest memory\n", LARGE / MIB, LARGE / MIB);
+    printf("\n   not in cache: a walk over %zu MiB of store and %zu MiB of guest memory; fenced: each move is over before the next begins\n",
+           LARGE / MIB, LARGE / MIB);
     line();
 }
 
