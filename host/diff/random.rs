@@ -3,6 +3,7 @@
 //! requests wait, are served in parts, finish, are collected or withdrawn, with eight guests in between each other.
 
 use crate::chance::Chance;
+use crate::demand::Watch;
 use crate::drives::{self, Drive};
 use crate::service::{Lent, Library, Model, Place, Service};
 use crate::tally::Tally;
@@ -105,6 +106,11 @@ struct World {
     model_desk: Vec<u8>,
     model_arena: Vec<u8>,
     model_store: Vec<u8>,
+    watch: Watch,
+    /// A calm world has no hostile blocks, so that demand 3 can be followed over a long list.
+    calm: bool,
+    /// The desk is for now not the one that was opened; the watch waits until it is back.
+    suspended: bool,
 }
 
 /// Slices for one call, and the one thing of the library that is a choice of the caller.
@@ -165,6 +171,9 @@ impl World {
             model_desk: desk,
             model_arena: arena,
             model_store: store,
+            watch: Watch::default(),
+            calm: chance.percent(50),
+            suspended: false,
         }
     }
 
@@ -174,6 +183,9 @@ impl World {
 
     /// The host writes into a guest's window, on both sides; what would fall outside is dropped.
     fn poke(&mut self, guest: u64, place: u64, bytes: &[u8]) {
+        if guest < 8 {
+            self.watch.window_disturbed(guest as usize);
+        }
         for (i, byte) in bytes.iter().enumerate() {
             let at = place + i as u64;
             if guest < 8 && at < self.window {
@@ -182,6 +194,39 @@ impl World {
                 self.arena.bytes_mut()[at] = *byte;
             }
         }
+    }
+
+    /// Tells the watch what a call at the world's desk did.
+    fn follow(&mut self, call: &Call, got: &Outcome, own_memory: bool, table: Vec<u8>, found: Option<Vec<u8>>) -> Result<(), String> {
+        if !matches!(got.answer, 0 | 256) {
+            return Ok(());
+        }
+        let lends_memory = matches!(call, Call::Post { .. } | Call::Turn | Call::Withdraw { .. });
+        if lends_memory && !own_memory {
+            // another arena or store of the same length
+            self.watch.all_disturbed();
+        }
+        let (arena, store) = (self.arena.bytes(), self.store.bytes());
+        let window = |guest: u64| &arena[(guest * self.window) as usize..][..self.window as usize];
+        match call {
+            Call::Open { .. } => self.watch.opened(table),
+            Call::Post { guest, registers } if got.answer == 256 && own_memory => {
+                self.watch.accepted(*guest as usize, *registers, window(*guest), store)?;
+            }
+            Call::Post { guest, registers } => {
+                if let Some(found) = found {
+                    self.watch.answered(*registers, found, &mut self.model_store, got.registers, window(*guest))?;
+                }
+            }
+            Call::Turn => {
+                let served = (got.answer == 0).then_some((got.numbers[0], got.numbers[1]));
+                self.watch.turned(served, arena, store)?;
+            }
+            Call::Withdraw { guest, .. } => self.watch.withdrawn(*guest as usize),
+            Call::Collect { guest, .. } => self.watch.collected(*guest as usize, got.registers)?,
+            _ => {}
+        }
+        Ok(())
     }
 
     fn set_desk(&mut self, bytes: &[u8]) {
@@ -217,6 +262,7 @@ impl Run {
             while self.calls < end {
                 self.step()?;
             }
+            self.tally.add_watch(&self.world.watch);
         }
         Ok(self.tally)
     }
@@ -248,6 +294,14 @@ impl Run {
         }
         let world = &mut self.world;
         let own = |slice: &Slice| matches!(slice, Slice::Own);
+        let (own_desk, own_memory) = (own(&desk), own(&arena) && own(&store));
+        // some posts that may be answered at once are served alone as well, on the window that they found
+        let found_window = match &call {
+            Call::Post { guest, .. } if *guest < 8 && own_desk && own_memory && self.calls % 4 == 0 => {
+                Some(model::parts::window(&mut world.model_arena, *guest).to_vec())
+            }
+            _ => None,
+        };
         let lent_desk = if own(&desk) { &mut world.desk } else { &mut spare.desk };
         let lent_arena = if own(&arena) { &mut world.arena } else { &mut spare.arena };
         let lent_store = if own(&store) { &mut world.store } else { &mut spare.store };
@@ -303,6 +357,12 @@ impl Run {
             return Err(format!("seed {}, call {}: {call:x?}\nlengths: {lengths}\n{what}", self.seed, self.calls));
         }
         self.tally.add(&call, &by_model);
+        let opening = matches!(call, Call::Open { .. });
+        if own_desk && !self.world.suspended && (own_memory || !opening) {
+            self.world.follow(&call, &by_library, own_memory, table, found_window).map_err(|what| {
+                format!("seed {}, call {}: {call:x?}\ndemand 3: {what}", self.seed, self.calls)
+            })?;
+        }
         Ok(by_model)
     }
 
@@ -322,7 +382,8 @@ impl Run {
     // ---- what is called
 
     fn step(&mut self) -> Result<(), String> {
-        match self.chance.weighed(&[(86, 0), (6, 1), (3, 2), (2, 3), (3, 4)]) {
+        let hostile = if self.world.calm { 0 } else { 12 };
+        match self.chance.weighed(&[(86, 0), (hostile, 1), (3, 2), (2, 3), (3, 4)]) {
             0 => self.at_desk(Slice::Own),
             1 => self.hostile_block(),
             2 => {
@@ -586,6 +647,7 @@ impl Run {
     /// Opens with lengths that no slice has, and makes a few calls at that desk.
     fn absurd_lengths(&mut self) -> Result<(), String> {
         let kept = self.world.model_desk.clone();
+        self.world.suspended = true;
         let length = self.chance.one_of(&[u64::MAX, u64::MAX - 7, 1 << 63]);
         let drives = drives::drives(&mut self.chance, 40);
         let call = Call::Open { arena_length: length, store_length: length };
@@ -594,6 +656,7 @@ impl Run {
             self.at_desk(Slice::Own)?;
         }
         self.world.set_desk(&kept);
+        self.world.suspended = false;
         Ok(())
     }
 
@@ -608,6 +671,7 @@ impl Run {
             self.change_block(&mut bytes);
         }
         self.world.set_desk(&bytes);
+        self.world.suspended = true;
         let room = Slice::Other(Vec::new());
         let looked = self.call(Call::Write, Slice::Own, Slice::Other(Vec::new()), room, Vec::new())?;
         self.tally.hostile(looked.answer != 25);
@@ -617,9 +681,13 @@ impl Run {
         }
         let own_lengths = |b: &[u8]| b[8 * 298..] == kept[8 * 298..] && b[8 * 184..8 * 297] == kept[8 * 184..8 * 297];
         let accepted = self.world.rows().is_some();
-        if !(accepted && own_lengths(&self.world.model_desk) && self.chance.percent(30)) {
+        if accepted && own_lengths(&self.world.model_desk) && self.chance.percent(30) {
+            self.world.watch.forget();
+        } else {
             self.world.set_desk(&kept);
+            self.world.watch.all_disturbed();
         }
+        self.world.suspended = false;
         Ok(())
     }
 
