@@ -198,6 +198,9 @@ impl World {
 
     /// Tells the watch what a call at the world's desk did.
     fn follow(&mut self, call: &Call, got: &Outcome, own_memory: bool, table: Vec<u8>, found: Option<Vec<u8>>) -> Result<(), String> {
+        if got.answer == 25 {
+            return Err("25 at a desk that nobody else wrote".into());
+        }
         if !matches!(got.answer, 0 | 256) {
             return Ok(());
         }
