@@ -66,6 +66,15 @@ impl<'a> Stand<'a> {
         Stand::open(service, &[paper_drive()], 8 * window, 2048 * 512)
     }
 
+    /// The same over memory of zeros that may be longer than the machine's.
+    fn vast(service: &'a dyn Service, drives: &[Drive], arena_length: usize, store_length: usize) -> Stand<'a> {
+        let desk = Lent::holding(&[0; DESK_SIZE], Place::END);
+        let mut stand = Stand { service, desk, arena: Lent::vast(arena_length), store: Lent::vast(store_length) };
+        let answer = stand.open_again(&drives::table(drives), arena_length as u64, store_length as u64);
+        assert_eq!(answer, (DONE, UNWRITTEN), "opening");
+        stand
+    }
+
     fn open_again(&mut self, table: &[u8], arena_length: u64, store_length: u64) -> (u32, u64) {
         let mut place = UNWRITTEN;
         let answer = self.service.open(self.desk.bytes_mut(), table, arena_length, store_length, &mut place);
@@ -213,6 +222,13 @@ fn refused_sectors(given: Registers, code: u8) -> Registers {
 
 fn protected(drive: Drive) -> Drive {
     Drive { protection: 1, ..drive }
+}
+
+/// The blocks of the largest geometry, 1024 x 255 x 63.
+const LARGEST: u64 = 16_450_560;
+
+fn largest_drive() -> Drive {
+    Drive { blocks: LARGEST, cylinders: 1024, heads: 255, sectors: 63, ..paper_drive() }
 }
 
 /// A drive of some blocks with a geometry of one cylinder and one head.
@@ -663,13 +679,10 @@ fn b10_drive_parameters(service: &dyn Service) {
     assert_eq!(stand.post(0, given), (DONE, expected), "82h of three drives");
     let given = registers(0x08, 0x77, 0x83);
     assert_eq!(stand.post(0, given), (DONE, refused(given, 0x07)));
-    // P6: a drive that no test store holds; its store is a number alone
-    let largest = Drive { blocks: 1024 * 255 * 63, cylinders: 1024, heads: 255, sectors: 63, ..paper_drive() };
-    let mut desk = vec![0; DESK_SIZE];
-    let answer = service.open(&mut desk, &drives::table(&[largest]), 0, 1024 * 255 * 63 * 512, &mut 0);
-    assert_eq!(answer, DONE);
-    let mut asked = registers(0x08, 1, 0x80);
-    assert_eq!(service.post(&mut desk, &mut [], &[], 0, &mut asked), 24, "no slice is that long");
+    // P6
+    let mut stand = Stand::vast(service, &[largest_drive()], 0, LARGEST as usize * 512);
+    let given = registers(0x08, 1, 0x80);
+    assert_eq!(stand.post(0, given), (DONE, Registers { ax: 0, cx: 0xFFFF, dx: 0xFE01, ..given }));
 }
 
 fn b11_check_extensions(service: &dyn Service) {
@@ -1170,8 +1183,10 @@ fn e2_odd_arenas(service: &dyn Service) {
             assert_eq!((stand.turn().1, stand.turn().1), (6, 7));
             assert!(stand.store.bytes()[4 * 512..] == last[..], "bytes past the last block");
         }
-        let result = stand.post(5, by_packet(0x48, 0));
-        assert!(m >= 66 || result.1.ah() == 1 || m >= 26);
+        if m >= 2 {
+            stand.window(5)[..2].copy_from_slice(&[66, 0]);
+        }
+        assert_eq!(stand.post(5, by_packet(0x48, 0)).1.ah(), if m >= 66 { 0 } else { 1 });
         assert_eq!(stand.post(5, Registers { bx: 0x55AA, ..registers(0x41, 0, 0x80) }).1.bx, 0xAA55);
         assert_eq!(stand.post(5, registers(0x08, 0, 0x80)).1.carry, 0);
         assert!(stand.arena.bytes()[8 * m..] == tail[..], "bytes that belong to nobody");
@@ -1226,6 +1241,30 @@ fn e5_what_moves(service: &dyn Service) {
         }
         assert_eq!(stand.collect(5), (DONE, succeeded(given)), "{ah:02x}");
     }
+}
+
+fn e5_places_above_4_gib(service: &dyn Service) {
+    // the largest geometry, and windows of 640 MiB: guest 7's starts at 4.375 GiB
+    const WINDOW: usize = 640 << 20;
+    let mut stand = Stand::vast(service, &[largest_drive()], 8 * WINDOW, LARGEST as usize * 512);
+    let mut block = [0; 512];
+    Chance::new(5).fill(&mut block);
+    let low = WINDOW * 7 & 0xFFFF_FFFF;
+    let last = 512 * (LARGEST as usize - 1);
+    // written by packet from guest 7 to the last block, read by sector into guest 6
+    stand.window(7)[0x3000..0x3200].copy_from_slice(&block);
+    stand.packet(7, 0, 1, (0, 0x3000), LARGEST - 1);
+    assert_eq!(stand.post(7, by_packet(0x43, 0)).0, NOTHING_YET);
+    assert_eq!(stand.turn(), (DONE, 7, 1));
+    assert!(stand.store.bytes()[last..last + 512] == block, "the last block");
+    assert!(stand.store.bytes()[last & 0xFFFF_FFFF..][..512] == [0; 512], "not narrowed");
+    let given = by_sector(0x02, 1, 1023, 254, 63);
+    assert_eq!(stand.post(6, given).0, NOTHING_YET);
+    assert_eq!(stand.turn(), (DONE, 6, 1));
+    assert!(stand.window(6)[0x200..0x400] == block);
+    assert!(stand.arena.bytes()[low + 0x200..low + 0x400] == [0; 512], "not narrowed");
+    assert_eq!(stand.post(6, Registers { ax: 0x0202, ..given }).0, 21);
+    assert_eq!(stand.post(5, Registers { ax: 0x0202, ..given }).1.ah(), 0x04);
 }
 
 fn e6_packet_is_read_once(service: &dyn Service) {
@@ -1446,6 +1485,7 @@ const CASES: &[(&str, fn(&dyn Service))] = cases![
     e2_odd_arenas,
     e4_turn_order,
     e5_what_moves,
+    e5_places_above_4_gib,
     e6_packet_is_read_once,
     e7_withdrawal,
     e8_collect_once,

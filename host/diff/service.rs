@@ -238,6 +238,7 @@ const NOBODY: i32 = 0;
 const READ: i32 = 1;
 const READ_WRITE: i32 = 3;
 const PRIVATE_ANONYMOUS: i32 = 0x22;
+const NO_RESERVE: i32 = 0x4000;
 
 const MARGIN: usize = 64;
 const MARGIN_BYTE: u8 = 0xC5;
@@ -267,11 +268,19 @@ impl Lent {
     /// Memory for slices of up to `room` bytes.
     pub fn with_room(room: usize) -> Lent {
         let pages = (room + MARGIN).div_ceil(PAGE) + 2;
-        let map = unsafe { mmap(std::ptr::null_mut(), pages * PAGE, NOBODY, PRIVATE_ANONYMOUS, -1, 0) };
+        // no page is reserved until it is touched, so a slice may be much longer than the machine's memory
+        let map = unsafe { mmap(std::ptr::null_mut(), pages * PAGE, NOBODY, PRIVATE_ANONYMOUS | NO_RESERVE, -1, 0) };
         assert!(map as isize != -1, "no memory for {room} bytes");
         let mut lent = Lent { map: map.cast(), pages, start: PAGE, length: 0 };
         lent.protect(READ_WRITE);
         lent.set_length(0, Place::END);
+        lent
+    }
+
+    /// A slice of zeros of which only the pages that are touched take memory.
+    pub fn vast(length: usize) -> Lent {
+        let mut lent = Lent::with_room(length);
+        lent.set_length(length, Place::END);
         lent
     }
 
