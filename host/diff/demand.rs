@@ -65,7 +65,14 @@ impl Watch {
     }
 
     /// A post answered at once is served alone too.
-    pub fn answered(&mut self, posted: Registers, mut window: Vec<u8>, store: &mut [u8], got: Registers, left: &[u8]) -> Result<(), String> {
+    pub fn answered(
+        &mut self,
+        posted: Registers,
+        mut window: Vec<u8>,
+        store: &mut [u8],
+        got: Registers,
+        left: &[u8],
+    ) -> Result<(), String> {
         self.at_once += 1;
         match served_alone(&self.table, posted, &mut window, store) {
             Some((registers, None)) if registers == got && window == left => Ok(()),

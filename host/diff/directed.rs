@@ -43,8 +43,7 @@ type Snapshot = (Vec<u8>, Vec<u8>, Vec<u8>);
 
 /// What the places of results hold before a call, so that one sees whether they were written.
 const UNWRITTEN: u64 = 0xDEAD_BEEF_5EED;
-const STALE: Registers =
-    Registers { ax: 0x1111, bx: 0x2222, cx: 0x3333, dx: 0x4444, ds: 0x5555, si: 0x6666, es: 0x7777, carry: 0x8888 };
+const STALE: Registers = Registers { ax: 0x1111, bx: 0x2222, cx: 0x3333, dx: 0x4444, ds: 0x5555, si: 0x6666, es: 0x7777, carry: 0x8888 };
 
 impl<'a> Stand<'a> {
     /// Opens a desk over memory with bytes that differ from place to place.
@@ -83,8 +82,7 @@ impl<'a> Stand<'a> {
 
     fn post(&mut self, guest: u64, given: Registers) -> (u32, Registers) {
         let mut registers = given;
-        let answer =
-            self.service.post(self.desk.bytes_mut(), self.arena.bytes_mut(), self.store.bytes(), guest, &mut registers);
+        let answer = self.service.post(self.desk.bytes_mut(), self.arena.bytes_mut(), self.store.bytes(), guest, &mut registers);
         (answer, registers)
     }
 
@@ -755,7 +753,17 @@ fn b14_addresses(service: &dyn Service) {
         (answer, [out.cylinder, out.head, out.sector])
     };
     let big = u32::MAX;
-    for g in [of(0, 16, 63), of(1025, 16, 63), of(1024, 0, 63), of(1024, 256, 63), of(1024, 16, 0), of(1024, 16, 64), of(big, 1, 1), of(1, big, 1), of(1, 1, big)] {
+    for g in [
+        of(0, 16, 63),
+        of(1025, 16, 63),
+        of(1024, 0, 63),
+        of(1024, 256, 63),
+        of(1024, 16, 0),
+        of(1024, 16, 64),
+        of(big, 1, 1),
+        of(1, big, 1),
+        of(1, 1, big),
+    ] {
         assert_eq!(block(g, 0, 0, 1), (4, 0xFEED), "a geometry outside the limits");
         assert_eq!(address(g, 0), (4, [91, 92, 93]), "a geometry outside the limits");
     }
@@ -773,7 +781,9 @@ fn b14_addresses(service: &dyn Service) {
         for beyond in [u64::from(next), u64::from(next) + 1, 1 << 32, (1 << 32) + 1, u64::MAX] {
             assert_eq!(address(g, beyond), (4, [91, 92, 93]), "block {beyond}");
         }
-        for (cylinder, head, sector) in [(g.cylinders, 0, 1), (0, g.heads, 1), (0, 0, 0), (0, 0, g.sectors + 1), (big, big, big), (0, big, 1)] {
+        for (cylinder, head, sector) in
+            [(g.cylinders, 0, 1), (0, g.heads, 1), (0, 0, 0), (0, 0, g.sectors + 1), (big, big, big), (0, big, 1)]
+        {
             assert_eq!(block(g, cylinder, head, sector), (4, 0xFEED));
         }
     }
@@ -1531,5 +1541,9 @@ pub fn run() -> ExitCode {
         failed += 1;
     }
     println!("directed: {} cases, {failed} failed", CASES.len() + 1);
-    if failed == 0 { ExitCode::SUCCESS } else { ExitCode::FAILURE }
+    if failed == 0 {
+        ExitCode::SUCCESS
+    } else {
+        ExitCode::FAILURE
+    }
 }

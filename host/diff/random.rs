@@ -16,7 +16,7 @@ use std::sync::atomic::{AtomicU64, Ordering};
 pub static SEED: AtomicU64 = AtomicU64::new(0);
 pub static CALL: AtomicU64 = AtomicU64::new(0);
 
-/// A call with its arguments; the slices it is lent are in `Lending`.
+/// A call with its arguments, but for the slices that it is lent.
 #[derive(Clone, Debug)]
 pub enum Call {
     Open { arena_length: u64, store_length: u64 },
@@ -274,7 +274,11 @@ impl Run {
         let table = drives::table(&self.world.drives);
         let (arena_length, store_length) = (self.world.model_arena.len() as u64, self.world.model_store.len() as u64);
         let opened = self.call(Call::Open { arena_length, store_length }, Slice::Own, Slice::Own, Slice::Own, table)?;
-        if opened.answer == 0 { Ok(()) } else { Err(format!("a good table was refused with {}", opened.answer)) }
+        if opened.answer == 0 {
+            Ok(())
+        } else {
+            Err(format!("a good table was refused with {}", opened.answer))
+        }
     }
 
     // ---- one call, both ways
@@ -355,16 +359,20 @@ impl Run {
         if let Some(what) = found {
             let lengths = format!(
                 "desk {}, arena {}, store {}, table {}, buffer {}",
-                model_desk.len(), model_arena.len(), model_store.len(), table.len(), out.len()
+                model_desk.len(),
+                model_arena.len(),
+                model_store.len(),
+                table.len(),
+                out.len()
             );
             return Err(format!("seed {}, call {}: {call:x?}\nlengths: {lengths}\n{what}", self.seed, self.calls));
         }
         self.tally.add(&call, &by_model);
         let opening = matches!(call, Call::Open { .. });
         if own_desk && !self.world.suspended && (own_memory || !opening) {
-            self.world.follow(&call, &by_library, own_memory, table, found_window).map_err(|what| {
-                format!("seed {}, call {}: {call:x?}\ndemand 3: {what}", self.seed, self.calls)
-            })?;
+            self.world
+                .follow(&call, &by_library, own_memory, table, found_window)
+                .map_err(|what| format!("seed {}, call {}: {call:x?}\ndemand 3: {what}", self.seed, self.calls))?;
         }
         Ok(by_model)
     }
@@ -483,7 +491,16 @@ impl Run {
     fn post(&mut self) -> Call {
         let guest = self.guest_in(|row| matches!(row, Row::Vacant));
         let function = self.chance.weighed(&[
-            (22, 0x42), (22, 0x43), (14, 0x02), (13, 0x03), (6, 0x44), (6, 0x47), (8, 0x48), (4, 0x41), (4, 0x08), (2, 0xFFFF),
+            (22, 0x42),
+            (22, 0x43),
+            (14, 0x02),
+            (13, 0x03),
+            (6, 0x44),
+            (6, 0x47),
+            (8, 0x48),
+            (4, 0x41),
+            (4, 0x08),
+            (2, 0xFFFF),
         ]);
         let mut r = self.registers();
         r.carry = self.chance.one_of(&[0, 1, r.carry]);
@@ -715,8 +732,21 @@ impl Run {
         let (count, m) = (get(bytes, row + 11), self.world.window);
         let blocks = self.world.drives.first().map_or(0, |d| d.blocks);
         let mut values = vec![
-            u64::MAX, u64::MAX, u64::MAX - 15, 0, 1, 1 << 16, 1 << 32, 1 << 63, old.wrapping_add(1), old.wrapping_sub(1),
-            old ^ 1 << self.chance.below(64), old.wrapping_add(16), old & !15, self.chance.any(), u64::from(self.chance.word()),
+            u64::MAX,
+            u64::MAX,
+            u64::MAX - 15,
+            0,
+            1,
+            1 << 16,
+            1 << 32,
+            1 << 63,
+            old.wrapping_add(1),
+            old.wrapping_sub(1),
+            old ^ 1 << self.chance.below(64),
+            old.wrapping_add(16),
+            old & !15,
+            self.chance.any(),
+            u64::from(self.chance.word()),
         ];
         values.extend([m, m.wrapping_sub(16), m.wrapping_sub(15), m.wrapping_sub(count.wrapping_mul(512)), m.wrapping_sub(511)]);
         values.extend([blocks, blocks.wrapping_sub(count), 0u64.wrapping_sub(count), 128, 127, 0x80, 0x81, 2, 8]);
@@ -795,7 +825,8 @@ impl Run {
             _ => {
                 let size = geometry.iter().map(|n| u64::from(*n)).fold(1u64, u64::saturating_mul);
                 let inside = self.chance.below(size.max(1));
-                let block = self.chance.one_of(&[inside, inside, inside, size.wrapping_sub(1), size, 0, 1 << 32, u64::MAX, inside + (1 << 32)]);
+                let block =
+                    self.chance.one_of(&[inside, inside, inside, size.wrapping_sub(1), size, 0, 1 << 32, u64::MAX, inside + (1 << 32)]);
                 Call::Address { geometry, block }
             }
         };

@@ -62,24 +62,71 @@ impl Service for Model {
 extern "C" {
     fn edd_desk_size() -> u64;
     fn edd_open(
-        desk: *mut u8, desk_len: usize, table: *const u8, table_len: usize, arena_length: u64, store_length: u64, place: *mut u64,
+        desk: *mut u8,
+        desk_len: usize,
+        table: *const u8,
+        table_len: usize,
+        arena_length: u64,
+        store_length: u64,
+        place: *mut u64,
     ) -> u32;
     fn edd_write(desk: *const u8, desk_len: usize, out: *mut u8, out_len: usize, written: *mut u64) -> u32;
     fn edd_post(
-        desk: *mut u8, desk_len: usize, arena: *mut u8, arena_len: usize, store: *const u8, store_len: usize, guest: u64,
-        ax: *mut u16, bx: *mut u16, cx: *mut u16, dx: *mut u16, ds: u16, si: u16, es: u16, carry: *mut u16,
+        desk: *mut u8,
+        desk_len: usize,
+        arena: *mut u8,
+        arena_len: usize,
+        store: *const u8,
+        store_len: usize,
+        guest: u64,
+        ax: *mut u16,
+        bx: *mut u16,
+        cx: *mut u16,
+        dx: *mut u16,
+        ds: u16,
+        si: u16,
+        es: u16,
+        carry: *mut u16,
     ) -> u32;
     fn edd_turn(
-        desk: *mut u8, desk_len: usize, arena: *mut u8, arena_len: usize, store: *mut u8, store_len: usize, guest: *mut u64,
+        desk: *mut u8,
+        desk_len: usize,
+        arena: *mut u8,
+        arena_len: usize,
+        store: *mut u8,
+        store_len: usize,
+        guest: *mut u64,
         moved: *mut u64,
     ) -> u32;
     fn edd_collect(
-        desk: *mut u8, desk_len: usize, guest: u64, ax: *mut u16, bx: *mut u16, cx: *mut u16, dx: *mut u16, ds: *mut u16,
-        si: *mut u16, es: *mut u16, carry: *mut u16,
+        desk: *mut u8,
+        desk_len: usize,
+        guest: u64,
+        ax: *mut u16,
+        bx: *mut u16,
+        cx: *mut u16,
+        dx: *mut u16,
+        ds: *mut u16,
+        si: *mut u16,
+        es: *mut u16,
+        carry: *mut u16,
     ) -> u32;
     fn edd_withdraw(
-        desk: *mut u8, desk_len: usize, arena: *mut u8, arena_len: usize, store: *const u8, store_len: usize, guest: u64,
-        ax: *mut u16, bx: *mut u16, cx: *mut u16, dx: *mut u16, ds: *mut u16, si: *mut u16, es: *mut u16, carry: *mut u16,
+        desk: *mut u8,
+        desk_len: usize,
+        arena: *mut u8,
+        arena_len: usize,
+        store: *const u8,
+        store_len: usize,
+        guest: u64,
+        ax: *mut u16,
+        bx: *mut u16,
+        cx: *mut u16,
+        dx: *mut u16,
+        ds: *mut u16,
+        si: *mut u16,
+        es: *mut u16,
+        carry: *mut u16,
     ) -> u32;
     fn edd_window(arena_length: u64, guest: u64, start: *mut u64, length: *mut u64) -> u32;
     fn edd_block(c: u32, h: u32, s: u32, cylinder: u32, head: u32, sector: u32, block: *mut u32) -> u32;
@@ -121,10 +168,18 @@ const GUARD: u64 = 0xA5C3_96F0_5A3C_690F;
 
 impl Library {
     fn pointer(&self, slice: &[u8]) -> *const u8 {
-        if slice.is_empty() && self.null_for_empty.get() { std::ptr::null() } else { slice.as_ptr() }
+        if slice.is_empty() && self.null_for_empty.get() {
+            std::ptr::null()
+        } else {
+            slice.as_ptr()
+        }
     }
     fn pointer_mut(&self, slice: &mut [u8]) -> *mut u8 {
-        if slice.is_empty() && self.null_for_empty.get() { std::ptr::null_mut() } else { slice.as_mut_ptr() }
+        if slice.is_empty() && self.null_for_empty.get() {
+            std::ptr::null_mut()
+        } else {
+            slice.as_mut_ptr()
+        }
     }
 }
 
@@ -163,8 +218,21 @@ impl Service for Library {
         let (d, a, s) = (self.pointer_mut(desk), self.pointer_mut(arena), self.pointer(store));
         let answer = unsafe {
             edd_post(
-                d, desk.len(), a, arena.len(), s, store.len(), guest, r.at(0), r.at(1), r.at(2), r.at(3), registers.ds,
-                registers.si, registers.es, r.at(7),
+                d,
+                desk.len(),
+                a,
+                arena.len(),
+                s,
+                store.len(),
+                guest,
+                r.at(0),
+                r.at(1),
+                r.at(2),
+                r.at(3),
+                registers.ds,
+                registers.si,
+                registers.es,
+                r.at(7),
             )
         };
         *registers = take_registers(&r);
@@ -181,9 +249,7 @@ impl Service for Library {
     fn collect(&self, desk: &mut [u8], guest: u64, registers: &mut Registers) -> u32 {
         let mut r = register_places(registers);
         let d = self.pointer_mut(desk);
-        let answer = unsafe {
-            edd_collect(d, desk.len(), guest, r.at(0), r.at(1), r.at(2), r.at(3), r.at(4), r.at(5), r.at(6), r.at(7))
-        };
+        let answer = unsafe { edd_collect(d, desk.len(), guest, r.at(0), r.at(1), r.at(2), r.at(3), r.at(4), r.at(5), r.at(6), r.at(7)) };
         *registers = take_registers(&r);
         answer
     }
@@ -192,8 +258,21 @@ impl Service for Library {
         let (d, a, s) = (self.pointer_mut(desk), self.pointer_mut(arena), self.pointer(store));
         let answer = unsafe {
             edd_withdraw(
-                d, desk.len(), a, arena.len(), s, store.len(), guest, r.at(0), r.at(1), r.at(2), r.at(3), r.at(4), r.at(5),
-                r.at(6), r.at(7),
+                d,
+                desk.len(),
+                a,
+                arena.len(),
+                s,
+                store.len(),
+                guest,
+                r.at(0),
+                r.at(1),
+                r.at(2),
+                r.at(3),
+                r.at(4),
+                r.at(5),
+                r.at(6),
+                r.at(7),
             )
         };
         *registers = take_registers(&r);

@@ -134,5 +134,9 @@ impl Tally {
 }
 
 fn code_name(code: u32) -> String {
-    if code == WAITS { "waits".into() } else { format!("{code:02x}h") }
+    if code == WAITS {
+        "waits".into()
+    } else {
+        format!("{code:02x}h")
+    }
 }
