@@ -77,12 +77,14 @@ impl<'a> Stand<'a> {
     fn open_again(&mut self, table: &[u8], arena_length: u64, store_length: u64) -> (u32, u64) {
         let mut place = UNWRITTEN;
         let answer = self.service.open(self.desk.bytes_mut(), table, arena_length, store_length, &mut place);
+        self.beside();
         (answer, place)
     }
 
     fn post(&mut self, guest: u64, given: Registers) -> (u32, Registers) {
         let mut registers = given;
         let answer = self.service.post(self.desk.bytes_mut(), self.arena.bytes_mut(), self.store.bytes(), guest, &mut registers);
+        self.beside();
         (answer, registers)
     }
 
@@ -90,23 +92,35 @@ impl<'a> Stand<'a> {
         let (mut guest, mut moved) = (UNWRITTEN, UNWRITTEN);
         let (desk, arena, store) = (self.desk.bytes_mut(), self.arena.bytes_mut(), self.store.bytes_mut());
         let answer = self.service.turn(desk, arena, store, &mut guest, &mut moved);
+        self.beside();
         (answer, guest, moved)
     }
 
     fn collect(&mut self, guest: u64) -> (u32, Registers) {
         let mut registers = STALE;
-        (self.service.collect(self.desk.bytes_mut(), guest, &mut registers), registers)
+        let answer = self.service.collect(self.desk.bytes_mut(), guest, &mut registers);
+        self.beside();
+        (answer, registers)
     }
 
     fn withdraw(&mut self, guest: u64) -> (u32, Registers) {
         let mut registers = STALE;
         let (desk, arena) = (self.desk.bytes_mut(), self.arena.bytes_mut());
-        (self.service.withdraw(desk, arena, self.store.bytes(), guest, &mut registers), registers)
+        let answer = self.service.withdraw(desk, arena, self.store.bytes(), guest, &mut registers);
+        self.beside();
+        (answer, registers)
     }
 
     fn write(&self, out: &mut [u8]) -> (u32, u64) {
         let mut written = UNWRITTEN;
         (self.service.write(self.desk.bytes(), out, &mut written), written)
+    }
+
+    /// Nothing beside the slices was written.
+    fn beside(&self) {
+        for (what, lent) in [("desk", &self.desk), ("arena", &self.arena), ("store", &self.store)] {
+            assert!(lent.margin_intact(), "the library wrote beside the {what}");
+        }
     }
 
     fn accepted(&self) -> bool {
@@ -902,6 +916,7 @@ fn c7_written_back(service: &dyn Service) {
         let stand = Stand::open(service, &list, 0, 100 * 512);
         let mut out = Lent::holding(&[0x3C; 600], Place::END);
         assert_eq!(stand.write(out.bytes_mut()), (DONE, table.len() as u64), "round {round}");
+        assert!(out.margin_intact(), "the library wrote beside the buffer");
         assert!(out.bytes()[..table.len()] == table[..], "the bytes that were opened");
         assert!(out.bytes()[table.len()..].iter().all(|byte| *byte == 0x3C), "bytes past it stay");
         out.set_length(table.len(), Place::END);
