@@ -341,6 +341,8 @@ pub struct Lent {
     pages: usize,
     start: usize,
     length: usize,
+    /// Pages are taken away, the margins among them.
+    partly: Cell<bool>,
 }
 
 impl Lent {
@@ -350,7 +352,7 @@ impl Lent {
         // no page is reserved until it is touched, so a slice may be much longer than the machine's memory
         let map = unsafe { mmap(std::ptr::null_mut(), pages * PAGE, NOBODY, PRIVATE_ANONYMOUS | NO_RESERVE, -1, 0) };
         assert!(map as isize != -1, "no memory for {room} bytes");
-        let mut lent = Lent { map: map.cast(), pages, start: PAGE, length: 0 };
+        let mut lent = Lent { map: map.cast(), pages, start: PAGE, length: 0, partly: Cell::new(false) };
         lent.protect(READ_WRITE);
         lent.set_length(0, Place::END);
         lent
@@ -402,6 +404,7 @@ impl Lent {
 
     /// Takes everything but a part of the slice away, or gives it all back. Slice and part begin and end with pages.
     pub fn keep_only(&self, part: Option<std::ops::Range<usize>>) {
+        self.partly.set(part.is_some());
         let Some(part) = part else { return self.protect(READ_WRITE) };
         assert!([self.start, self.length, part.start, part.end].iter().all(|n| n % PAGE == 0));
         self.protect(NOBODY);
@@ -419,7 +422,11 @@ impl Lent {
         unsafe { std::slice::from_raw_parts_mut(self.map.add(self.start), self.length) }
     }
 
+    /// Nothing was written beside the slice, as far as one can look.
     pub fn margin_intact(&self) -> bool {
+        if self.partly.get() {
+            return true;
+        }
         let (front, back) = self.margins();
         let (front, back) = unsafe {
             (
