@@ -18,9 +18,9 @@ use Rattle.logic.specs.Logic.{pick, both, either}
 use Rattle.logic.proofs.Logic.{both-true}
 use Rattle.drive.specs.declared.Drive.{Drive}
 use Rattle.chs.specs.Chs.{size}
-use Rattle.drive.specs.Drive.{geometryOf, isProtected}
+use Rattle.drive.specs.Drive.{geometryOf, isProtected, same, blankNumbers, blankNames, isBlank}
 use Rattle.table.specs.declared.Table.{Table}
-use Rattle.table.specs.Table.{isSound, drivesOf}
+use Rattle.table.specs.Table.{soundTo, blankTo, isSound, drivesOf}
 use Rattle.table.proofs.Sound.{Obeys, good-obeys}
 use Rattle.int13.specs.declared.Job.{Job}
 use Rattle.int13.specs.Answers.{ah, isSectors, isWrite}
@@ -32,6 +32,7 @@ use Rattle.desk.specs.declared.Row.{Row}
 use Rattle.desk.specs.declared.Desk.{Desk}
 use Rattle.desk.specs.Parts.{windowSize, storeBlocks, stageIn, stageAt}
 use Rattle.desk.specs.Acceptable.{isTransfer, countOk, rangeOk, packetOk, jobOk, movedOk, stageOk, rowsOk, accept}
+use Rattle.desk.specs.Calls.{closed}
 
 -- ---- the parts of the test
 
@@ -138,3 +139,8 @@ pub jobOk-tests : {d : Drive} {f : ℕ} {sector word transfer writes guarded pro
     → count ≡ leb (j .count) (pick sector 128 127) → x ≡ both count blocks → y ≡ both transfer x → y ≡ jobOk b M j
 unfolding jobOk
 jobOk-tests b M j known ed ef es ew et ei eg ep eb ek el en er eo ec ex ey = rw (ey, ex, ec, eo, er, en, el, ek, eb, ep, eg, ei, et, ew, es, ef, ed, known)
+
+-- at a desk whose opening was refused every call is 25
+pub closed-refused : (arena store : ℕ) → accept (closed arena store) ≡ false
+unfolding accept isSound soundTo blankTo isBlank blankNumbers blankNames same rowsOk
+closed-refused arena store = refl

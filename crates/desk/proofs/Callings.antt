@@ -38,27 +38,27 @@ use Rattle.desk.specs.declared.WithdrawAnswer.{WithdrawAnswer}
 use Rattle.desk.specs.declared.WithdrawAnswer.the-variants.{Given as WithdrawGiven, Refused as WithdrawRefused}
 use Rattle.desk.specs.Parts.{windowSize, stageIn, stageAt, withStage, isWaiting, next}
 use Rattle.desk.specs.Acceptable.{InRange, accept}
-use Rattle.desk.specs.Calls.{isLent, Done, done, still, writtenOf, writtenOut, postChecked, postRow, postOf, seek, quota, serve, serveStage, turnNext, turnOf, collectStage, collectOf, withdrawnWindow, withdrawStage, withdrawOf}
+use Rattle.desk.specs.Calls.{isLent, Done, done, writtenOf, writtenOut, postChecked, postRow, postOf, seek, quota, serve, serveStage, turnNext, turnOf, collectStage, collectOf, withdrawnWindow, withdrawStage, withdrawOf}
 use Rattle.desk.proofs.Acceptances.{Accepted, accept-true, rowsOk-at, Waits, waits-facts, drive-obeys}
 
 -- ---- stages that a `let .. else` leaves
 
-collect-stage : (s : Stage) (d : Desk) (g : ℕ) (arena store : List ℕ) → OneOf (0 ∷ 1 ∷ []) (tagOf stage.the-type s) → still d (CollectRefused 22) arena store ≡ collectStage d g s arena store
+collect-stage : (s : Stage) (d : Desk) (g : ℕ) (arena store : List ℕ) → OneOf (0 ∷ 1 ∷ []) (tagOf stage.the-type s) → done d (CollectRefused 22) arena store ≡ collectStage d g s arena store
 collect-stage Vacant d g arena store k = refl
 collect-stage (Waiting q) d g arena store k = refl
 collect-stage (Finished r) d g arena store k = absurd (⊎-elim (λ w. omega arith) (λ w. omega arith) k)
 
-serve-stage : (s : Stage) (d : Desk) (g : ℕ) (arena store : List ℕ) → OneOf (0 ∷ 2 ∷ []) (tagOf stage.the-type s) → still d Idle arena store ≡ serveStage d g s arena store
+serve-stage : (s : Stage) (d : Desk) (g : ℕ) (arena store : List ℕ) → OneOf (0 ∷ 2 ∷ []) (tagOf stage.the-type s) → done d Idle arena store ≡ serveStage d g s arena store
 serve-stage Vacant d g arena store k = refl
 serve-stage (Waiting q) d g arena store k = absurd (⊎-elim (λ w. omega arith) (λ w. omega arith) k)
 serve-stage (Finished r) d g arena store k = refl
 
-post-stage : (s : Stage) (d : Desk) (g : ℕ) (r : Registers) (arena store : List ℕ) → OneOf (1 ∷ 2 ∷ []) (tagOf stage.the-type s) → still d (PostRefused 21) arena store ≡ postRow d g r arena store s
+post-stage : (s : Stage) (d : Desk) (g : ℕ) (r : Registers) (arena store : List ℕ) → OneOf (1 ∷ 2 ∷ []) (tagOf stage.the-type s) → done d (PostRefused 21) arena store ≡ postRow d g r arena store s
 post-stage Vacant d g r arena store k = absurd (⊎-elim (λ w. omega arith) (λ w. omega arith) k)
 post-stage (Waiting q) d g r arena store k = refl
 post-stage (Finished x) d g r arena store k = refl
 
-withdraw-stage : (s : Stage) (d : Desk) (g : ℕ) (arena store : List ℕ) → OneOf (0 ∷ 2 ∷ []) (tagOf stage.the-type s) → still d (WithdrawRefused 23) arena store ≡ withdrawStage d g s arena store
+withdraw-stage : (s : Stage) (d : Desk) (g : ℕ) (arena store : List ℕ) → OneOf (0 ∷ 2 ∷ []) (tagOf stage.the-type s) → done d (WithdrawRefused 23) arena store ≡ withdrawStage d g s arena store
 withdraw-stage Vacant d g arena store k = refl
 withdraw-stage (Waiting q) d g arena store k = absurd (⊎-elim (λ w. omega arith) (λ w. omega arith) k)
 withdraw-stage (Finished r) d g arena store k = refl
@@ -80,19 +80,19 @@ lent-store d arena store e = eqb-true (length store) (d .store) (both-true (eqb 
 -- ---- the calls, by their tests
 
 module _ (d : Desk) (bad : accept d ≡ false) where
-  pub collect-unacceptable : (g : ℕ) (arena store : List ℕ) → still d (CollectRefused 25) arena store ≡ collectOf d g arena store
+  pub collect-unacceptable : (g : ℕ) (arena store : List ℕ) → done d (CollectRefused 25) arena store ≡ collectOf d g arena store
   unfolding collectOf
   collect-unacceptable g arena store = rw bad
 
-  pub turn-unacceptable : (arena store : List ℕ) → still d (TurnRefused 25) arena store ≡ turnOf d arena store
+  pub turn-unacceptable : (arena store : List ℕ) → done d (TurnRefused 25) arena store ≡ turnOf d arena store
   unfolding turnOf
   turn-unacceptable arena store = rw bad
 
-  pub post-unacceptable : (g : ℕ) (r : Registers) (arena store : List ℕ) → still d (PostRefused 25) arena store ≡ postOf d g r arena store
+  pub post-unacceptable : (g : ℕ) (r : Registers) (arena store : List ℕ) → done d (PostRefused 25) arena store ≡ postOf d g r arena store
   unfolding postOf
   post-unacceptable g r arena store = rw bad
 
-  pub withdraw-unacceptable : (g : ℕ) (arena store : List ℕ) → still d (WithdrawRefused 25) arena store ≡ withdrawOf d g arena store
+  pub withdraw-unacceptable : (g : ℕ) (arena store : List ℕ) → done d (WithdrawRefused 25) arena store ≡ withdrawOf d g arena store
   unfolding withdrawOf
   withdraw-unacceptable g arena store = rw bad
 
@@ -105,7 +105,7 @@ module _ (d : Desk) (good : accept d ≡ true) where
   unfolding writtenOf writtenOut
   write-table out = (rw good, rw good)
 
-  pub collect-guest : (g : ℕ) (arena store : List ℕ) → 8 ≤ g → still d (CollectRefused 20) arena store ≡ collectOf d g arena store
+  pub collect-guest : (g : ℕ) (arena store : List ℕ) → 8 ≤ g → done d (CollectRefused 20) arena store ≡ collectOf d g arena store
   unfolding collectOf
   collect-guest g arena store h = rw (good, le-ltb g 8 h)
 
@@ -113,22 +113,22 @@ module _ (d : Desk) (good : accept d ≡ true) where
   unfolding collectOf
   collect-row g arena store h = rw (good, lt-ltb g 8 h)
 
-  pub collect-other : (g : ℕ) (arena store : List ℕ) → g < 8 → OneOf (0 ∷ 1 ∷ []) (tagOf stage.the-type (stageAt d g)) → still d (CollectRefused 22) arena store ≡ collectOf d g arena store
+  pub collect-other : (g : ℕ) (arena store : List ℕ) → g < 8 → OneOf (0 ∷ 1 ∷ []) (tagOf stage.the-type (stageAt d g)) → done d (CollectRefused 22) arena store ≡ collectOf d g arena store
   collect-other g arena store h k = collect-stage (stageAt d g) d g arena store k ∙ collect-row g arena store h
 
-  pub collect-finished : (g : ℕ) (r : Registers) (arena store : List ℕ) → g < 8 → stageAt d g ≡ Finished r → still (withStage d g Vacant) (CollectGiven r) arena store ≡ collectOf d g arena store
+  pub collect-finished : (g : ℕ) (r : Registers) (arena store : List ℕ) → g < 8 → stageAt d g ≡ Finished r → done (withStage d g Vacant) (CollectGiven r) arena store ≡ collectOf d g arena store
   collect-finished g r arena store h e = ap (λ (s : Stage). collectStage d g s arena store) (sym e) ∙ collect-row g arena store h
 
   module _ (arena store : List ℕ) where
-    pub turn-length : isLent d arena store ≡ false → still d (TurnRefused 24) arena store ≡ turnOf d arena store
+    pub turn-length : isLent d arena store ≡ false → done d (TurnRefused 24) arena store ≡ turnOf d arena store
     unfolding turnOf
     turn-length e = rw (good, e)
 
-    pub post-length : (g : ℕ) (r : Registers) → isLent d arena store ≡ false → still d (PostRefused 24) arena store ≡ postOf d g r arena store
+    pub post-length : (g : ℕ) (r : Registers) → isLent d arena store ≡ false → done d (PostRefused 24) arena store ≡ postOf d g r arena store
     unfolding postOf
     post-length g r e = rw (good, e)
 
-    pub withdraw-length : (g : ℕ) → isLent d arena store ≡ false → still d (WithdrawRefused 24) arena store ≡ withdrawOf d g arena store
+    pub withdraw-length : (g : ℕ) → isLent d arena store ≡ false → done d (WithdrawRefused 24) arena store ≡ withdrawOf d g arena store
     unfolding withdrawOf
     withdraw-length g e = rw (good, e)
 
@@ -137,13 +137,13 @@ module _ (d : Desk) (good : accept d ≡ true) where
       unfolding turnOf
       turn-next = rw (good, lent)
 
-      pub turn-nobody : seek (d .rows) 8 (d .pointer) ≡ Nobody → still d Idle arena store ≡ turnOf d arena store
+      pub turn-nobody : seek (d .rows) 8 (d .pointer) ≡ Nobody → done d Idle arena store ≡ turnOf d arena store
       turn-nobody e = ap (λ (n : Next). turnNext d n arena store) (sym e) ∙ turn-next
 
       pub turn-guest : (g : ℕ) → seek (d .rows) 8 (d .pointer) ≡ Guest g → serveStage d g (stageAt d g) arena store ≡ turnOf d arena store
       turn-guest g e = ap (λ (n : Next). turnNext d n arena store) (sym e) ∙ turn-next
 
-      pub turn-other : (g : ℕ) → seek (d .rows) 8 (d .pointer) ≡ Guest g → OneOf (0 ∷ 2 ∷ []) (tagOf stage.the-type (stageAt d g)) → still d Idle arena store ≡ turnOf d arena store
+      pub turn-other : (g : ℕ) → seek (d .rows) 8 (d .pointer) ≡ Guest g → OneOf (0 ∷ 2 ∷ []) (tagOf stage.the-type (stageAt d g)) → done d Idle arena store ≡ turnOf d arena store
       turn-other g e k = serve-stage (stageAt d g) d g arena store k ∙ turn-guest g e
 
       pub turn-served : {desk : Desk} {answer : TurnAnswer} {arena′ store′ : List ℕ} (g : ℕ) (q : Request) → seek (d .rows) 8 (d .pointer) ≡ Guest g → stageAt d g ≡ Waiting q
@@ -157,7 +157,7 @@ module _ (d : Desk) (good : accept d ≡ true) where
           let m : windowLength (length arena) ≡ windowSize d = ap (λ (n : ℕ). n / 8) l in
           rw (e₁, e₂, e₃ ∙ ap (λ (n : ℕ). withWindow arena g n (after n .window)) m, e₄ ∙ ap (λ (n : ℕ). after n .store) m) (ap (λ (s : Stage). serveStage d g s arena store) (sym w) ∙ turn-guest g e)
 
-      pub post-guest : (g : ℕ) (r : Registers) → 8 ≤ g → still d (PostRefused 20) arena store ≡ postOf d g r arena store
+      pub post-guest : (g : ℕ) (r : Registers) → 8 ≤ g → done d (PostRefused 20) arena store ≡ postOf d g r arena store
       unfolding postOf
       post-guest g r h = rw (good, lent, le-ltb g 8 h)
 
@@ -165,7 +165,7 @@ module _ (d : Desk) (good : accept d ≡ true) where
       unfolding postOf
       post-row g r h = rw (good, lent, lt-ltb g 8 h)
 
-      pub post-other : (g : ℕ) (r : Registers) → g < 8 → OneOf (1 ∷ 2 ∷ []) (tagOf stage.the-type (stageAt d g)) → still d (PostRefused 21) arena store ≡ postOf d g r arena store
+      pub post-other : (g : ℕ) (r : Registers) → g < 8 → OneOf (1 ∷ 2 ∷ []) (tagOf stage.the-type (stageAt d g)) → done d (PostRefused 21) arena store ≡ postOf d g r arena store
       post-other g r h k = post-stage (stageAt d g) d g r arena store k ∙ post-row g r h
 
       pub post-vacant : {desk : Desk} {answer : PostAnswer} {outcome : Outcome} {w : List ℕ} (g : ℕ) (r : Registers) → g < 8 → stageAt d g ≡ Vacant
@@ -180,7 +180,7 @@ module _ (d : Desk) (good : accept d ≡ true) where
           ∙ post-parts d g arena store (asked (windowSize d) .outcome) (asked (windowSize d) .window)
           ∙ ap (postRow d g r arena store) (sym v) ∙ post-row g r h)
 
-      pub withdraw-guest : (g : ℕ) → 8 ≤ g → still d (WithdrawRefused 20) arena store ≡ withdrawOf d g arena store
+      pub withdraw-guest : (g : ℕ) → 8 ≤ g → done d (WithdrawRefused 20) arena store ≡ withdrawOf d g arena store
       unfolding withdrawOf
       withdraw-guest g h = rw (good, lent, le-ltb g 8 h)
 
@@ -188,7 +188,7 @@ module _ (d : Desk) (good : accept d ≡ true) where
       unfolding withdrawOf
       withdraw-row g h = rw (good, lent, lt-ltb g 8 h)
 
-      pub withdraw-other : (g : ℕ) → g < 8 → OneOf (0 ∷ 2 ∷ []) (tagOf stage.the-type (stageAt d g)) → still d (WithdrawRefused 23) arena store ≡ withdrawOf d g arena store
+      pub withdraw-other : (g : ℕ) → g < 8 → OneOf (0 ∷ 2 ∷ []) (tagOf stage.the-type (stageAt d g)) → done d (WithdrawRefused 23) arena store ≡ withdrawOf d g arena store
       withdraw-other g h k = withdraw-stage (stageAt d g) d g arena store k ∙ withdraw-row g h
 
       pub withdraw-waiting : {desk : Desk} {answer : WithdrawAnswer} {arena′ : List ℕ} (g : ℕ) (q : Request) → g < 8 → stageAt d g ≡ Waiting q

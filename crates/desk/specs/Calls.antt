@@ -74,12 +74,9 @@ pub record Done (A : Type 0) : Type 0 where
   pub arena : List ℕ
   pub store : List ℕ
 
+-- a refusal is done with the desk, the arena and the store that it was given
 abbrev pub done : {A : Type 0} → Desk → A → List ℕ → List ℕ → Done A
 done d x arena store = record { desk = d; answer = x; arena = arena; store = store }
-
--- an answer that changes nothing
-abbrev pub still : {A : Type 0} → Desk → A → List ℕ → List ℕ → Done A
-still d x arena store = record { desk = d; answer = x; arena = arena; store = store }
 
 -- ---- open
 
@@ -128,14 +125,14 @@ postVacant d g r arena store =
 
 abbrev pub postRow : Desk → ℕ → Registers → List ℕ → List ℕ → Stage → Done PostAnswer
 postRow d g r arena store Vacant = postVacant d g r arena store
-postRow d g r arena store (Waiting q) = still d (PostRefused notVacant) arena store
-postRow d g r arena store (Finished x) = still d (PostRefused notVacant) arena store
+postRow d g r arena store (Waiting q) = done d (PostRefused notVacant) arena store
+postRow d g r arena store (Finished x) = done d (PostRefused notVacant) arena store
 
 unfoldable pub postOf : Desk → ℕ → Registers → List ℕ → List ℕ → Done PostAnswer
 postOf d g r arena store =
-    pick (not (accept d)) (still d (PostRefused notAcceptable) arena store)
-    (pick (not (isLent d arena store)) (still d (PostRefused otherLength) arena store)
-    (pick (not (ltb g guests)) (still d (PostRefused noGuest) arena store)
+    pick (not (accept d)) (done d (PostRefused notAcceptable) arena store)
+    (pick (not (isLent d arena store)) (done d (PostRefused otherLength) arena store)
+    (pick (not (ltb g guests)) (done d (PostRefused noGuest) arena store)
     (postRow d g r arena store (stageAt d g))))
 
 -- ---- turn
@@ -172,32 +169,32 @@ serve d g q arena store =
     }
 
 abbrev pub serveStage : Desk → ℕ → Stage → List ℕ → List ℕ → Done TurnAnswer
-serveStage d g Vacant arena store = still d Idle arena store
+serveStage d g Vacant arena store = done d Idle arena store
 serveStage d g (Waiting q) arena store = serve d g q arena store
-serveStage d g (Finished r) arena store = still d Idle arena store
+serveStage d g (Finished r) arena store = done d Idle arena store
 
 abbrev pub turnNext : Desk → Next → List ℕ → List ℕ → Done TurnAnswer
-turnNext d Nobody arena store = still d Idle arena store
+turnNext d Nobody arena store = done d Idle arena store
 turnNext d (Guest g) arena store = serveStage d g (stageAt d g) arena store
 
 unfoldable pub turnOf : Desk → List ℕ → List ℕ → Done TurnAnswer
 turnOf d arena store =
-    pick (not (accept d)) (still d (TurnRefused notAcceptable) arena store)
-    (pick (not (isLent d arena store)) (still d (TurnRefused otherLength) arena store)
+    pick (not (accept d)) (done d (TurnRefused notAcceptable) arena store)
+    (pick (not (isLent d arena store)) (done d (TurnRefused otherLength) arena store)
     (turnNext d (seek (d .rows) guests (d .pointer)) arena store))
 
 -- ---- collect
 
 abbrev pub collectStage : Desk → ℕ → Stage → List ℕ → List ℕ → Done CollectAnswer
-collectStage d g Vacant arena store = still d (CollectRefused notFinished) arena store
-collectStage d g (Waiting q) arena store = still d (CollectRefused notFinished) arena store
-collectStage d g (Finished r) arena store = still (withStage d g Vacant) (CollectGiven r) arena store
+collectStage d g Vacant arena store = done d (CollectRefused notFinished) arena store
+collectStage d g (Waiting q) arena store = done d (CollectRefused notFinished) arena store
+collectStage d g (Finished r) arena store = done (withStage d g Vacant) (CollectGiven r) arena store
 
 -- it is lent no arena and no store, which stay whatever they are
 unfoldable pub collectOf : Desk → ℕ → List ℕ → List ℕ → Done CollectAnswer
 collectOf d g arena store =
-    pick (not (accept d)) (still d (CollectRefused notAcceptable) arena store)
-    (pick (not (ltb g guests)) (still d (CollectRefused noGuest) arena store)
+    pick (not (accept d)) (done d (CollectRefused notAcceptable) arena store)
+    (pick (not (ltb g guests)) (done d (CollectRefused noGuest) arena store)
     (collectStage d g (stageAt d g) arena store))
 
 -- ---- withdraw
@@ -207,7 +204,7 @@ abbrev pub withdrawnWindow : Request → List ℕ → List ℕ
 withdrawnWindow q w = pick (isSectors (ah (q .job .registers))) w (withCount w (q .job .packet) (q .moved))
 
 abbrev pub withdrawStage : Desk → ℕ → Stage → List ℕ → List ℕ → Done WithdrawAnswer
-withdrawStage d g Vacant arena store = still d (WithdrawRefused notWaiting) arena store
+withdrawStage d g Vacant arena store = done d (WithdrawRefused notWaiting) arena store
 withdrawStage d g (Waiting q) arena store =
     record {
       desk = withStage d g Vacant;
@@ -215,11 +212,11 @@ withdrawStage d g (Waiting q) arena store =
       arena = withWindow arena g (windowSize d) (withdrawnWindow q (windowOf arena g (windowSize d)));
       store = store;
     }
-withdrawStage d g (Finished r) arena store = still d (WithdrawRefused notWaiting) arena store
+withdrawStage d g (Finished r) arena store = done d (WithdrawRefused notWaiting) arena store
 
 unfoldable pub withdrawOf : Desk → ℕ → List ℕ → List ℕ → Done WithdrawAnswer
 withdrawOf d g arena store =
-    pick (not (accept d)) (still d (WithdrawRefused notAcceptable) arena store)
-    (pick (not (isLent d arena store)) (still d (WithdrawRefused otherLength) arena store)
-    (pick (not (ltb g guests)) (still d (WithdrawRefused noGuest) arena store)
+    pick (not (accept d)) (done d (WithdrawRefused notAcceptable) arena store)
+    (pick (not (isLent d arena store)) (done d (WithdrawRefused otherLength) arena store)
+    (pick (not (ltb g guests)) (done d (WithdrawRefused noGuest) arena store)
     (withdrawStage d g (stageAt d g) arena store)))

@@ -18,9 +18,11 @@ ghost use Rattle.drive.specs.Drive.{geometryOf};
 ghost use Rattle.desk.specs.Parts.{isWaiting, withPointer};
 ghost use Rattle.desk.specs.Acceptable.{packetOk, movedOk, jobOk, stageOk, rowsOk, accept, InRange};
 ghost use mathlib.Core.List.{List, []};
-ghost use Rattle.memory.specs.Window.{windowLength, spanLength, windowOf, withWindow};
-ghost use Rattle.memory.specs.Blocks.{blocks};
+ghost use Rattle.layout.specs.Packet.{packetLength};
+ghost use Rattle.memory.specs.Window.{guests, windowLength, spanLength, windowOf, withWindow};
+ghost use Rattle.memory.specs.Blocks.{blockLength, blocks};
 ghost use Rattle.int13.specs.Answers.{ah};
+ghost use Rattle.int13.specs.Steps.{mostBlocks, mostRun};
 ghost use Rattle.int13.specs.Alone.{storeBlock, moves};
 ghost use Rattle.desk.specs.declared.Stage.the-variants.{Waiting};
 ghost use Rattle.desk.specs.Calls.{done, opened, openOf, writtenOf, writtenOut, postChecked, postOf, seek, quota, stageAfter, serve, turnOf, collectOf, withdrawnWindow, withdrawStage, withdrawOf};
@@ -131,6 +133,11 @@ const BLOCK_LENGTH: u64 = 512;
 
 const PACKET_LENGTH: u64 = 16;
 
+// Blocks of a request at most: of 02h and 03h, and of 42h and 43h.
+const MOST_RUN: u64 = 128;
+
+const MOST_BLOCKS: u64 = 127;
+
 // ---- acceptable desks
 
 // place + n is at most end, with no sum that wraps.
@@ -145,7 +152,7 @@ fn ends_by(place: u64, n: u64, end: u64) -> bool
 
 // n blocks of bytes from a place end at most at end.
 fn blocks_end_by(place: u64, n: u64, end: u64) -> bool
-    ensures { λ r. ⌜ r ≡ leb (place + 512 * n) end ⌝ }
+    ensures { λ r. ⌜ r ≡ leb (place + blockLength * n) end ⌝ }
 {
     if end < place {
         return false;
@@ -154,16 +161,16 @@ fn blocks_end_by(place: u64, n: u64, end: u64) -> bool
 }
 
 fn count_ok(sectors: bool, n: u64) -> bool
-    ensures { λ r. ⌜ r ≡ leb n (pick sectors 128 127) ⌝ }
+    ensures { λ r. ⌜ r ≡ leb n (pick sectors mostRun mostBlocks) ⌝ }
 {
     if sectors {
-        return n <= 128;
+        return n <= MOST_RUN;
     }
-    n <= 127
+    n <= MOST_BLOCKS
 }
 
 fn packet_ok(sectors: bool, place: u64, m: u64) -> bool
-    ensures { λ r. ⌜ r ≡ pick sectors (eqb place 0) (leb (place + 16) m) ⌝ }
+    ensures { λ r. ⌜ r ≡ pick sectors (eqb place 0) (leb (place + packetLength) m) ⌝ }
 {
     if sectors {
         return place == 0;
@@ -217,7 +224,7 @@ fn stage_ok(b: Table, m: u64, stage: Stage) -> bool
 }
 
 fn rows_ok(rows: [Row; 8], b: Table, m: u64) -> bool
-    ensures { λ r. ⌜ r ≡ rowsOk 8 rows b m ⌝ }
+    ensures { λ r. ⌜ r ≡ rowsOk guests rows b m ⌝ }
 {
     let mut good = true;
     let mut i: usize = 0;
@@ -257,8 +264,8 @@ fn waits(stage: Stage) -> bool
 
 // The first waiting row at or after the pointer, which `accept` has found below 8.
 fn next_waiting(rows: [Row; 8], pointer: usize) -> Next
-    requires { ⌜ pointer < 8 ⌝ }
-    ensures { λ r. ⌜ r ≡ seek rows 8 pointer ⌝ }
+    requires { ⌜ pointer < guests ⌝ }
+    ensures { λ r. ⌜ r ≡ seek rows guests pointer ⌝ }
 {
     let mut guest = pointer;
     let mut left: usize = 8;
@@ -300,15 +307,15 @@ fn stage_after(q: Request) -> Stage
 
 // Where the next blocks of a request stand in the window and in the store, in bytes. The request is in range, so that neither wraps.
 fn window_place(buffer: u64, moved: u64) -> usize
-    requires { ⌜ buffer + 512 * moved < 2 ^ 64 ⌝ }
-    ensures { λ r. ⌜ r ≡ buffer + 512 * moved ⌝ }
+    requires { ⌜ buffer + blockLength * moved < 2 ^ 64 ⌝ }
+    ensures { λ r. ⌜ r ≡ buffer + blockLength * moved ⌝ }
 {
     (buffer + BLOCK_LENGTH * moved) as usize
 }
 
 fn store_place(first: u64, start: u64, moved: u64) -> usize
-    requires { ⌜ 512 * (first + start + moved) < 2 ^ 64 ⌝ }
-    ensures { λ r. ⌜ r ≡ 512 * (first + start + moved) ⌝ }
+    requires { ⌜ blockLength * (first + start + moved) < 2 ^ 64 ⌝ }
+    ensures { λ r. ⌜ r ≡ blockLength * (first + start + moved) ⌝ }
 {
     (BLOCK_LENGTH * (first + start + moved)) as usize
 }
@@ -323,7 +330,7 @@ fn move_blocks(
     arena: &mut [u8],
     store: &mut [u8],
 )
-    requires { ⌜ (at + 512 * k ≤ spanLength (length (now arena)) guest (windowLength (length (now arena)))) × (place + 512 * k ≤ length (now store)) ⌝ }
+    requires { ⌜ (at + blockLength * k ≤ spanLength (length (now arena)) guest (windowLength (length (now arena)))) × (place + blockLength * k ≤ length (now store)) ⌝ }
     ensures { λ _. ⌜ (now (arena .exit) ≡ pick write (now (arena .entry)) (withWindow (now (arena .entry)) guest (windowLength (length (now (arena .entry)))) (blocks (windowOf (now (arena .entry)) guest (windowLength (length (now (arena .entry))))) at (now (store .entry)) place k))) × (now (store .exit) ≡ pick write (blocks (now (store .entry)) place (windowOf (now (arena .entry)) guest (windowLength (length (now (arena .entry))))) at k) (now (store .entry))) ⌝ }
 {
     let m = memory::window_length(arena.len());
@@ -361,7 +368,7 @@ fn count_place(packet: u64) -> usize
 // The blocks moved go to the packet's count word; for 02h and 03h, which have no packet, they go to AL alone. `accept` has found the
 // packet inside the window.
 fn report_moved(q: Request, guest: usize, arena: &mut [u8])
-    requires { ⌜ (guest < 8) × (packetOk (ah (q .job .registers)) (q .job .packet) (windowLength (length (now arena))) ≡ true) × (q .moved < 128) ⌝ }
+    requires { ⌜ (guest < guests) × (packetOk (ah (q .job .registers)) (q .job .packet) (windowLength (length (now arena))) ≡ true) × (q .moved < mostRun) ⌝ }
     ensures { λ _. ⌜ now (arena .exit) ≡ withWindow (now (arena .entry)) guest (windowLength (length (now (arena .entry)))) (withdrawnWindow q (windowOf (now (arena .entry)) guest (windowLength (length (now (arena .entry)))))) ⌝ }
 {
     let job = q.job;
@@ -435,7 +442,7 @@ impl Desk {
 
     // The row waits with no block moved, or stays vacant.
     fn posted(self, guest: usize, outcome: Outcome) -> Posted
-        requires { ⌜ guest < 8 ⌝ }
+        requires { ⌜ guest < guests ⌝ }
         ensures { λ r. ⌜ (r .desk ≡ postChecked self guest [] [] outcome [] .desk) × (r .answer ≡ postChecked self guest [] [] outcome [] .answer) ⌝ }
     {
         match outcome {
@@ -497,7 +504,7 @@ impl Desk {
 
     // The desk after the blocks of a turn have moved.
     fn served(self, guest: usize, q: Request) -> Turned
-        requires { ⌜ (guest < 8) × (q .moved ≤ q .job .count) ⌝ }
+        requires { ⌜ (guest < guests) × (q .moved ≤ q .job .count) ⌝ }
         ensures { λ r. ⌜ (r .desk ≡ serve self guest q [] [] .desk) × (r .answer ≡ serve self guest q [] [] .answer) ⌝ }
     {
         let k = quota_of(q);
@@ -594,7 +601,7 @@ impl Desk {
 
     // The row is vacant at once, and the registers say what was moved.
     fn withdrawn(self, guest: usize, q: Request) -> Withdrawn
-        requires { ⌜ (guest < 8) × (q .moved < 128) ⌝ }
+        requires { ⌜ (guest < guests) × (q .moved < mostRun) ⌝ }
         ensures { λ r. ⌜ (r .desk ≡ withdrawStage self guest (Waiting q) [] [] .desk) × (r .answer ≡ withdrawStage self guest (Waiting q) [] [] .answer) ⌝ }
     {
         let job = q.job;

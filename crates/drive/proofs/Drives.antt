@@ -170,12 +170,12 @@ fits-drive r b l =
 
 -- ---- names
 
-same-refl : (a : List ℕ) → same a a ≡ true
+pub same-refl : (a : List ℕ) → same a a ≡ true
 unfolding same
 same-refl [] = refl
 same-refl (x ∷ a) = rw (eq-eqb x x refl) (same-refl a)
 
-same-true : (a b : List ℕ) → same a b ≡ true → a ≡ b
+pub same-true : (a b : List ℕ) → same a b ≡ true → a ≡ b
 unfolding same
 same-true [] [] e = refl
 same-true [] (y ∷ b) e = let z : _≡_ {A = ℕ} 0 1 = cc in absurd (omega arith)

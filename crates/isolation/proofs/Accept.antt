@@ -30,7 +30,7 @@ use Rattle.desk.specs.declared.Desk.{Desk}
 use Rattle.desk.specs.declared.OpenAnswer.the-variants.{Opened}
 use Rattle.desk.specs.Parts.{windowSize, storeBlocks, vacantRow, stageIn, stageAt}
 use Rattle.desk.specs.Acceptable.{isTransfer, countOk, rangeOk, packetOk, jobOk, movedOk, stageOk, rowsOk, accept}
-use Rattle.desk.specs.Calls.{opened, closed, openDesk, openAnswer, openOf}
+use Rattle.desk.specs.Calls.{opened, openDesk, openAnswer, openOf}
 use Rattle.table.proofs.Sound.{Good, accepted-good}
 use Rattle.desk.proofs.Acceptances.{job-facts, rowsOk-at, Waits, waits-facts}
 use Rattle.isolation.proofs.Check.{known}
@@ -71,7 +71,7 @@ pub record Inv (d : Desk) : Type 0 where
 pub inv-accept : (d : Desk) → Inv d → accept d ≡ true
 inv-accept d inv = accept-facts d .1 (record { sound = inv .table .sound; pointer = inv .pointer; stages = λ g h. inv .stages g })
 
-all-vacant : (g : ℕ) → stageIn (replicate guests vacantRow) g ≡ Vacant
+pub all-vacant : (g : ℕ) → stageIn (replicate guests vacantRow) g ≡ Vacant
 all-vacant g =
     ⊎-elim
     (λ x. ap (λ (r : Row). r .stage) (getD-replicate guests g vacantRow vacantRow x))
@@ -102,11 +102,6 @@ inv-opened t arena store e =
       pointer = omega arith;
       stages = λ g. ap (stageOk (readTable t (store / blockLength) .table) (arena / guests)) (all-vacant g);
     })
-
--- at a desk whose opening was refused every call is 25
-pub closed-refused : (arena store : ℕ) → accept (closed arena store) ≡ false
-unfolding accept isSound soundTo blankTo isBlank blankNumbers blankNames same rowsOk
-closed-refused arena store = refl
 
 -- ---- a waiting row
 

@@ -64,7 +64,7 @@ drive = record { cylinders = 1; heads = 1; sectors = 18; blocks = 18; first = 0;
 abbrev table : Table
 table = record { drives = drive ∷ replicate 7 zeroDrive; count = 1 }
 
-opening : openOf table₁ arenaLength storeLength ≡ record { desk = opened table arenaLength storeLength; answer = Opened }
+pub opening : openOf table₁ arenaLength storeLength ≡ record { desk = opened table arenaLength storeLength; answer = Opened }
 unfolding openOf le leBytes inLimits driveOf same busOk interfaceOk geometryFits fieldsOk inStore overlap headerOf headerAt overlapsAny refusal driveStep endStep tableStepOf stepAt readFrom readTable
 opening = refl
 
@@ -285,7 +285,7 @@ module _ (a s : List ℕ) where
     whole = one d₀ c₁ o₁ _ _ e₁ upto
 
     -- the conditions
-    closed : NoneOpens (run d₀ calls)
+    pub closed : NoneOpens (run d₀ calls)
     closed = subst NoneOpens (sym whole) ((λ e. differ cc), ((λ e. differ cc), ((λ e. differ cc), ((λ e. differ cc), ((λ e. differ cc), tt)))))
 
     claimed : Claim table₁ d₀ 8704 calls

@@ -14,3 +14,8 @@ pub mod Theorem
 pub mod Sums
 pub mod Example
 pub mod Written
+pub mod Fits
+pub mod Refusals
+pub mod Blocks
+pub mod ExampleBlock
+pub mod Exported

@@ -1,3 +1,5 @@
 pub mod Lists
 pub mod Words
 pub mod Demand
+pub mod Blocks
+pub mod Exported

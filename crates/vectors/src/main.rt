@@ -1,6 +1,8 @@
-// Runs document 01's "run by program" cases and its sums, and from the sources the end of the geometry of 528 MB (1024/16/63) and the answer
-// of 41h, beside the end of the largest geometry that document 01 allows. A line for each. The functions are called on the paper's 72-byte
-// table and a window of 65,536 bytes; the turns of P9 and P10 are given at desks with a drive of 64 blocks.
+// Runs document 01's "run by program" cases and its sums, the ends of the two largest geometries, and the sources' worked values that document
+// 01 keeps (`sources`). A line for each. The functions are called on the paper's 72-byte table and a window of 65,536 bytes; the turns of P9
+// and P10 are given at desks with a drive of 64 blocks.
+mod sources;
+
 use chs::Address;
 use chs::Geometry;
 use chs::ToAddress;
@@ -19,6 +21,8 @@ const OUTPUT: i32 = 1;
 const FIRST_DRIVE: u16 = 0x80;
 
 const STORE_BLOCKS: u64 = 4294967296;
+
+const PACKET_SIZE: u16 = 16;
 
 // The record of document 01's drive and the end record, but for its number of blocks, its C and H, and protection in byte 39.
 fn table_bytes(blocks: u16, c: u8, h: u8, protection: u8) -> [u8; 72] {
@@ -99,11 +103,11 @@ fn say_address(a: Address) {
     io::print_decimal(OUTPUT, a.sector as u64);
 }
 
-// A packet of 16 bytes whose buffer is at 0:0. Both callers have seen that it fits.
-fn put_packet(arena: &mut [u8], at: usize, start: u64, count: u16)
+// A packet of 16 bytes whose buffer is at 0:0, with the size that byte 0 gives it. Every caller has seen that it fits.
+fn put_packet(arena: &mut [u8], at: usize, size: u16, start: u64, count: u16)
     requires { ⌜ at + 16 ≤ length (now arena) ⌝ }
 {
-    words::store16(arena, at, 16);
+    words::store16(arena, at, size);
     words::store16(arena, at + 2, count);
     words::store32(arena, at + 4, 0);
     words::store64(arena, at + 8, start);
@@ -114,7 +118,7 @@ fn packet_call(b: Table, ax: u16, start: u64, count: u16, window: &mut [u8]) {
     if window.len() < 16 {
         return;
     }
-    put_packet(window, 0, start, count);
+    put_packet(window, 0, PACKET_SIZE, start, count);
     say_outcome(int13::check(b, registers(ax, 0, FIRST_DRIVE), window));
 }
 
@@ -154,29 +158,39 @@ fn result_call(b: Table, asked: u16, window: &mut [u8]) {
     say_result(asked, r, &window[..]);
 }
 
+// What stands before an answer's registers, as `08h drive 80:`.
+fn say_call(function: u16, drive: u16) {
+    io::print_hex(OUTPUT, function as u64, 2);
+    say(b"h drive ");
+    io::print_hex(OUTPUT, drive as u64, 2);
+    say(b":");
+}
+
 // 08h.
-fn geometry_call(b: Table, window: &mut [u8]) {
-    let outcome = int13::check(b, registers(0x0800, 0, FIRST_DRIVE), window);
+fn geometry_call(b: Table, drive: u16, window: &mut [u8]) {
+    let outcome = int13::check(b, registers(0x0800, 0, drive), window);
     let Outcome::Answered(r) = outcome else {
         return;
     };
-    say_word(b"08h: AX ", r.ax);
+    say_call(0x08, drive);
+    say_word(b" AX ", r.ax);
     say_word(b" CX ", r.cx);
     say_word(b" DX ", r.dx);
     say(b"\n");
 }
 
 // 41h.
-fn extensions_call(b: Table, window: &mut [u8]) {
+fn extensions_call(b: Table, drive: u16, bx: u16, window: &mut [u8]) {
     let asked = Registers {
-        bx: 0x55AA,
-        ..registers(0x4100, 0, FIRST_DRIVE)
+        bx,
+        ..registers(0x4100, 0, drive)
     };
     let outcome = int13::check(b, asked, window);
     let Outcome::Answered(r) = outcome else {
         return;
     };
-    say_word(b"41h: AX ", r.ax);
+    say_call(0x41, drive);
+    say_word(b" AX ", r.ax);
     say_word(b" BX ", r.bx);
     say_word(b" CX ", r.cx);
     say(b"\n");
@@ -237,7 +251,7 @@ fn wait_40(desk: Desk, guest: usize, arena: &mut [u8], store: &[u8]) -> Desk {
     if arena.len() < at + 16 {
         return desk;
     }
-    put_packet(arena, at, 0, 40);
+    put_packet(arena, at, PACKET_SIZE, 0, 40);
     let posted = desk.post(guest, registers(0x4200, 0, FIRST_DRIVE), arena, store);
     posted.desk
 }
@@ -313,8 +327,8 @@ fn functions(window: &mut [u8]) {
     let b = reading.table;
     ranges(b, window);
     counts(b, window);
-    extensions_call(b, window);
-    geometry_call(b, window);
+    extensions_call(b, FIRST_DRIVE, 0x55AA, window);
+    geometry_call(b, FIRST_DRIVE, window);
     small_sizes(b, window);
     large_sizes(b, window);
 }
@@ -332,7 +346,7 @@ fn largest(window: &mut [u8]) {
     let t = largest_table();
     let reading = table::read_table(&t, STORE_BLOCKS);
     let b = reading.table;
-    geometry_call(b, window);
+    geometry_call(b, FIRST_DRIVE, window);
 }
 
 fn two_turns(desk: Desk, arena: &mut [u8], store: &mut [u8]) -> Desk {
@@ -423,4 +437,7 @@ fn main() {
     let mut store = zero_store();
     turns(&mut arena, &mut store);
     eight_guests(&mut arena, &mut store);
+    sources::functions(&mut window);
+    sources::tables(&mut window);
+    sources::withdrawal(&mut arena, &mut store);
 }

@@ -88,7 +88,7 @@ leBytes-low (suc k) v =
     let m : 0 < 256 = omega arith in
     rw (pow-suc 256 k, mod-mul v {m = 256 ^ k} {c = 256} (pos k) m, digits-mod (v / 256 % 256 ^ k) (mod-lt v m), digits-div (v / 256 % 256 ^ k) (mod-lt v m), leBytes-low k (v / 256))
 
-leBytes-append : (j k v : ℕ) → leBytes (j + k) v ≡ leBytes j v ++ leBytes k (v / 256 ^ j)
+pub leBytes-append : (j k v : ℕ) → leBytes (j + k) v ≡ leBytes j v ++ leBytes k (v / 256 ^ j)
 unfolding leBytes
 leBytes-append zero k v = rw (zero-add, div-one)
 leBytes-append (suc j) k v =

@@ -10,15 +10,15 @@ use Rattle.desk.proofs.stage_after.Lts as lts
 use Rattle.desk.proofs.quota_of.Reads as quota-of-reads
 use Rattle.int13.proofs.succeed.Reads as succeed-reads
 
--- src/lib.rt:290:9
+-- src/lib.rt:298:9
 quota-of-requires : tie.Need-quota-of-requires
 quota-of-requires c κs = search needs
 
--- src/lib.rt:291:17
+-- src/lib.rt:299:17
 add-moved : tie.Need-add-moved
 add-moved c = search needs
 
--- src/lib.rt:294:9
+-- src/lib.rt:302:9
 returns : tie.Need-returns
 unfolding stageAfter
 returns c =
@@ -26,11 +26,11 @@ returns c =
     let k = c .before .before .before .before .quota-of .ensures in
     rw (lt-ltb (q .moved + quota q) (q .job .count) (rw k at (c .if1 .taken)), ← k)
 
--- src/lib.rt:297:21
+-- src/lib.rt:305:21
 succeed-requires : tie.Need-succeed-requires
 succeed-requires c κs = search needs
 
--- src/lib.rt:286:1
+-- src/lib.rt:294:1
 returns-2 : tie.Need-returns-2
 unfolding stageAfter
 returns-2 c =

@@ -9,27 +9,27 @@ use Rattle.desk.proofs.job_ok.Reads as job-ok-reads
 use Rattle.desk.proofs.moved_ok.Reads as moved-ok-reads
 use Rattle.logic.proofs.and.Reads as and-reads
 
--- src/lib.rt:212:24
+-- src/lib.rt:220:24
 enum-known-stage : tie.Need-enum-known-stage
 enum-known-stage c = search needs
 
--- src/lib.rt:213:9
+-- src/lib.rt:221:9
 returns : tie.Need-returns
 returns c = stageOk-other (c .before .args .b) (c .before .args .m) (c .before .args .stage) (c .match .keys2)
 
--- src/lib.rt:215:16
+-- src/lib.rt:223:16
 job-ok-requires : tie.Need-job-ok-requires
 job-ok-requires c κs = search needs
 
--- src/lib.rt:215:37
+-- src/lib.rt:223:37
 moved-ok-requires : tie.Need-moved-ok-requires
 moved-ok-requires c κs = search needs
 
--- src/lib.rt:215:5
+-- src/lib.rt:223:5
 and-requires : tie.Need-and-requires
 and-requires c κs = search needs
 
--- src/lib.rt:209:1
+-- src/lib.rt:217:1
 returns-2 : tie.Need-returns-2
 returns-2 c = rw (c .before .before .before .before .stage .given .1, c .and .ensures, c .before .before .job-ok .ensures, c .before .moved-ok .ensures)
 

@@ -22,82 +22,82 @@ use Rattle.int13.proofs.check.Reads as check-reads
 use Rattle.memory.proofs.span_of.Reads as span-of-reads
 use Rattle.memory.proofs.window_length.Reads as window-length-reads
 
--- src/lib.rt:459:13
+-- src/lib.rt:470:13
 accept-requires : tie.Need-accept-requires
 accept-requires c κs = search needs
 
--- src/lib.rt:460:13
+-- src/lib.rt:471:13
 returns : tie.Need-returns
 returns c =
     let a = c .before .before .before .before .args in
     post-unacceptable (a .t1) (sym (c .before .accept .ensures) ∙ not-true _ (c .if1 .taken)) (a .guest) (a .registers) (now (a .arena)) (now (a .store))
 
--- src/lib.rt:465:13
+-- src/lib.rt:476:13
 is-lent-requires : tie.Need-is-lent-requires
 is-lent-requires c κs = search needs
 
--- src/lib.rt:466:13
+-- src/lib.rt:477:13
 returns-2 : tie.Need-returns-2
 returns-2 c =
     let a = c .before .before .before .before .before .before .args in
     post-length (a .t1) (sym (c .before .before .before .accept .ensures) ∙ not-false _ (c .before .before .if1 .left)) (now (a .arena)) (now (a .store)) (a .guest) (a .registers) (sym (c .before .is-lent .ensures) ∙ not-true _ (c .if2 .taken))
 
--- src/lib.rt:472:13
+-- src/lib.rt:483:13
 returns-3 : tie.Need-returns-3
 returns-3 c =
     let a = c .before .before .before .before .before .before .before .args in
     post-guest (a .t1) (sym (c .before .before .before .before .accept .ensures) ∙ not-false _ (c .before .before .before .if1 .left)) (now (a .arena)) (now (a .store)) (sym (c .before .before .is-lent .ensures) ∙ not-false _ (c .before .if2 .left)) (a .guest) (a .registers) (c .if3 .taken)
 
--- src/lib.rt:477:19
+-- src/lib.rt:488:19
 mul-row : tie.Need-mul-row
 mul-row c = search needs
 
--- src/lib.rt:477:19
+-- src/lib.rt:488:19
 element-copy-out-row : tie.Need-element-copy-out-row
 element-copy-out-row c = search needs
 
 enum-told : tie.Need-enum-told
 enum-told c = search needs
 
--- src/lib.rt:480:13
+-- src/lib.rt:491:13
 returns-4 : tie.Need-returns-4
 returns-4 c =
     let a = c .before .before .before .before .before .before .before .before .before .args in
     post-other (a .t1) (sym (c .before .before .before .before .before .before .accept .ensures) ∙ not-false _ (c .before .before .before .before .before .if1 .left)) (now (a .arena)) (now (a .store)) (sym (c .before .before .before .before .is-lent .ensures) ∙ not-false _ (c .before .before .before .if2 .left)) (a .guest) (a .registers) (c .before .before .if3 .left) (c .match .keys2)
 
--- src/lib.rt:485:13
+-- src/lib.rt:496:13
 window-length-requires : tie.Need-window-length-requires
 window-length-requires c κs = search needs
 
--- src/lib.rt:486:13
+-- src/lib.rt:497:13
 span-of-requires : tie.Need-span-of-requires
 span-of-requires c κs = search needs
 
--- src/lib.rt:490:50
+-- src/lib.rt:501:50
 sub-check : tie.Need-sub-check
 sub-check c = search needs
 
--- src/lib.rt:490:50
+-- src/lib.rt:501:50
 part-check-start : tie.Need-part-check-start
 part-check-start c = search needs
 
--- src/lib.rt:490:50
+-- src/lib.rt:501:50
 part-check-end : tie.Need-part-check-end
 part-check-end c = search needs
 
--- src/lib.rt:490:13
+-- src/lib.rt:501:13
 check-requires : tie.Need-check-requires
 check-requires c κs = search needs
 
--- src/lib.rt:491:9
+-- src/lib.rt:502:9
 posted-requires : tie.Need-posted-requires
 posted-requires c κs = search needs
 
--- src/lib.rt:456:5
+-- src/lib.rt:467:5
 same-length : tie.Need-same-length
 same-length c = search needs
 
--- src/lib.rt:456:5
+-- src/lib.rt:467:5
 returns-5 : tie.Need-returns-5
 returns-5 c =
     let a = c .before .before .before .before .before .before .before .before .before .before .before .before .before .before .before .before .before .before .args in

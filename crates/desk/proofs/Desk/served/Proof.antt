@@ -6,27 +6,27 @@ use Rattle.desk.proofs.Desk.served.Lts as lts
 use Rattle.desk.proofs.quota_of.Reads as quota-of-reads
 use Rattle.desk.proofs.stage_after.Reads as stage-after-reads
 
--- src/lib.rt:396:13
+-- src/lib.rt:510:13
 quota-of-requires : tie.Need-quota-of-requires
 quota-of-requires c κs = search needs
 
--- src/lib.rt:397:13
+-- src/lib.rt:511:13
 stage-after-requires : tie.Need-stage-after-requires
 stage-after-requires c κs = search needs
 
--- src/lib.rt:399:9
+-- src/lib.rt:513:9
 mul-t8 : tie.Need-mul-t8
 mul-t8 c = search needs
 
--- src/lib.rt:399:9
+-- src/lib.rt:513:9
 element-set-from-next : tie.Need-element-set-from-next
 element-set-from-next c = search needs
 
--- src/lib.rt:400:25
+-- src/lib.rt:514:25
 add-next : tie.Need-add-next
 add-next c = search needs
 
--- src/lib.rt:392:5
+-- src/lib.rt:506:5
 returns : tie.Need-returns
 returns c = (rw (c .stage-after .ensures), rw (c .before .quota-of .ensures))
 

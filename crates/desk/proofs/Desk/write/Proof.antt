@@ -10,25 +10,25 @@ use Rattle.desk.proofs.Desk.write.Lts as lts
 use Rattle.desk.proofs.Desk.accept.Reads as accept-reads
 use Rattle.table.proofs.write_table.Reads as write-table-reads
 
--- src/lib.rt:385:13
+-- src/lib.rt:436:13
 accept-requires : tie.Need-accept-requires
 accept-requires c κs = search needs
 
--- src/lib.rt:386:13
+-- src/lib.rt:437:13
 returns : tie.Need-returns
 returns c =
     let a = c .before .before .before .args in
     write-unacceptable (a .self) (sym (c .before .accept .ensures) ∙ not-true _ (c .if1 .taken)) (now (a .out))
 
--- src/lib.rt:389:9
+-- src/lib.rt:440:9
 write-table-requires : tie.Need-write-table-requires
 write-table-requires c κs = search needs
 
--- src/lib.rt:382:5
+-- src/lib.rt:433:5
 same-length : tie.Need-same-length
 same-length c = search needs
 
--- src/lib.rt:382:5
+-- src/lib.rt:433:5
 returns-2 : tie.Need-returns-2
 returns-2 c =
     let a = c .before .before .before .before .before .before .before .before .args in

@@ -1,0 +1,88 @@
+# What can be made here; `make` alone lists it. Everything is built below target/.
+#
+# LIBDIR is the directory of libexports.a. `make demo LIBDIR=target/standin` takes the model behind the same interface: it needs no rt.
+
+LIBDIR ?= target/staticlib
+REQUESTS ?= 4000
+SEED ?= 1
+
+LIBRARY = $(LIBDIR)/libexports.a
+OVER = $(notdir $(LIBDIR))
+DEMO = target/demo/$(OVER)/demo
+TOUCH = target/touch/$(OVER)/touch
+CFLAGS ?= -O2 -g
+HOST_CFLAGS = -std=c11 -D_POSIX_C_SOURCE=200809L -Wall -Wextra -Wshadow -Wconversion $(CFLAGS) -Iinclude
+CALLS = desk_size open write post turn collect withdraw window block address
+MODEL = $(if $(shell command -v rustc),target/bench/model.so)
+
+help:
+	@echo 'make demo    eight guests on OpenMP threads over one desk; REQUESTS=$(REQUESTS) of each, SEED=$(SEED)'
+	@echo 'make tsan    the demo under ThreadSanitizer: no report, and a wrong lock is reported'
+	@echo 'make touch   which bytes of arena and store a call touches: those of its guest only'
+	@echo 'make bench   what a call costs, as ratios to memcpy and to the model (docs/PERFORMANCE.md)'
+	@echo 'make test    the host tests (host/test), on what `make check` or `rt check` left in target/'
+	@echo 'make check   the gate (.ci/run): everything proved from nothing, then all tests; it takes long'
+	@echo 'make clean   removes target/, the built library too'
+
+demo: $(DEMO)
+	$(DEMO) -r $(REQUESTS) -s $(SEED)
+
+tsan: $(LIBRARY)
+	host/demo/tsan $(LIBDIR)
+
+touch: $(TOUCH)
+	$(TOUCH)
+
+bench: target/bench/bench target/bench/$(OVER).so $(MODEL)
+	@[ -n '$(MODEL)' ] || echo 'no rustc: the model is not built, and nothing is compared with it'
+	target/bench/bench target/bench/$(OVER).so $(MODEL)
+
+test:
+	$(if $(filter-out target/staticlib,$(LIBDIR)),EDD_LIB_DIR='$(abspath $(LIBDIR))') host/test
+
+check:
+	.ci/run
+
+clean:
+	rm -rf target
+
+# ---- the library, and what stands in for it when the host programs themselves are to be tried
+
+# A proof does not change what is built, so only the sources count.
+target/staticlib/libexports.a: crates.txt $(wildcard crates/*/src/*.rt)
+	host/build library
+
+target/standin/libexports.a: $(wildcard host/model/*.rs host/standin/*.rs)
+	host/build standin
+
+# ---- the demo
+
+$(DEMO): $(wildcard host/demo/*.[ch]) include/edd_desk.h $(LIBRARY) | need-cc
+	@mkdir -p $(@D)
+	$(CC) $(HOST_CFLAGS) -fopenmp $(wildcard host/demo/*.c) -L$(LIBDIR) -lexports -o $@
+
+# ---- what a call touches
+
+$(TOUCH): host/touch/touch.c include/edd_desk.h $(LIBRARY) | need-cc
+	@mkdir -p $(@D)
+	$(CC) $(HOST_CFLAGS) -D_DEFAULT_SOURCE host/touch/touch.c -L$(LIBDIR) -lexports -o $@
+
+# ---- the benchmark: the library and the model as shared objects, since both have the same names
+
+target/bench/bench: $(wildcard host/bench/*.[ch]) include/edd_desk.h | need-cc
+	@mkdir -p $(@D)
+	$(CC) $(HOST_CFLAGS) $(wildcard host/bench/*.c) -ldl -o $@
+
+target/bench/$(OVER).so: $(LIBRARY) | need-cc
+	@mkdir -p $(@D)
+	$(CC) -shared $(CALLS:%=-Wl,-u,edd_%) $< -o $@
+
+target/bench/model.so: $(wildcard host/model/*.rs host/standin/*.rs)
+	@mkdir -p $(@D)
+	rustc --edition 2021 -C opt-level=3 --crate-type rlib --crate-name model host/model/lib.rs --out-dir $(@D)
+	rustc --edition 2021 -C opt-level=3 --crate-type cdylib --crate-name standin --extern model=$(@D)/libmodel.rlib host/standin/lib.rs -o $@
+
+need-cc:
+	@command -v $(firstword $(CC)) >/dev/null || { echo 'no C compiler $(CC): install gcc, or set CC'; exit 1; }
+
+.PHONY: help demo tsan touch bench test check clean need-cc

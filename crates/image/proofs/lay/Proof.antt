@@ -1,0 +1,52 @@
+use Rattle.image.proofs.Fill.{laid-out}
+use denote.Ref.{now}
+use lib.ListN.{length, length-map}
+use mathlib.Core.Path.{_≡_, sym, _∙_}
+use borrow.Author.Needs.{needs}
+use Rattle.image.proofs.lay.Statement.{statement}
+use Rattle.image.proofs.lay.Tie as tie
+use Rattle.image.proofs.lay.Reads as reads
+use Rattle.image.proofs.lay.Lts as lts
+use Rattle.image.proofs.put_drives.Reads as put-drives-reads
+use Rattle.image.proofs.put_rows.Reads as put-rows-reads
+use Rattle.image.proofs.put_words.Reads as put-words-reads
+
+-- src/lib.rt:315:5
+put-rows-requires : tie.Need-put-rows-requires
+put-rows-requires c κs = search needs
+
+-- src/lib.rt:316:5
+put-drives-requires : tie.Need-put-drives-requires
+put-drives-requires c κs = search needs
+
+-- src/lib.rt:318:26
+slice-aggregate-put-words : tie.Need-slice-aggregate-put-words
+slice-aggregate-put-words c = search needs
+
+-- src/lib.rt:318:5
+put-words-requires : tie.Need-put-words-requires
+put-words-requires c κs = search needs
+
+-- src/lib.rt:308:1
+same-length : tie.Need-same-length
+same-length c = search needs
+
+-- src/lib.rt:308:1
+returns : tie.Need-returns
+returns c = 
+    let h = c .before .before .before .before .before .before .before .before .before .before .before .before .before .before .before .before .before in
+    let a = h .args in
+    let r : length (a .d .rows) ≡ 8 = simp length-map at (h .good .0 .1 .1 .0 .1 .0 .1) in
+    let t : length (a .d .table .drives) ≡ 8 = simp length-map at (h .good .0 .1 .1 .1 .1 .0 .1 .1 .0 .1 .0 .1) in
+    c .before .before .put-words .ensures ∙ rw (c .before .before .before .before .before .before .before .put-drives .ensures, c .before .before .before .before .before .before .before .before .before .before .before .put-rows .ensures) (laid-out (now (a .out)) (a .d) (h .pre) r t)
+
+pub lay-spec : {M : Type 1} → statement M
+lay-spec =
+    tie.close
+    (tie.spec
+    put-rows-requires
+    put-drives-requires
+    slice-aggregate-put-words
+    put-words-requires
+    same-length
+    returns)

@@ -1,0 +1,107 @@
+use Rattle.image.proofs.Fill.{part-more, length-drive}
+use Rattle.image.specs.Image.{each, flat, driveWords}
+use denote.Ref.{now}
+use borrow.Author.Needs.{needs}
+use native.Mathlib.Omega.{arith}
+use lib.Seq.{sets, length-sets, take-all}
+use lib.ListN.{length, take}
+use mathlib.Core.Path.{_≡_, refl, ap, _∙_}
+use Prim.Native.Nat.{ℕ, _+_, _*_, _≤_, _-_}
+use Rattle.image.proofs.put_drives.Statement.{statement}
+use Rattle.image.proofs.put_drives.Tie as tie
+use Rattle.image.proofs.put_drives.Reads as reads
+use Rattle.image.proofs.put_drives.Lts as lts
+use Rattle.image.proofs.drive_words.Reads as drive-words-reads
+use Rattle.image.proofs.put_words.Reads as put-words-reads
+
+abbrev Inv-loop : tie.InvT-loop
+Inv-loop out₀ drives k₀ out k = (k ≤ 8) × (length out ≡ 2400) × (out ≡ sets out₀ 1472 (flat (each driveWords (take k drives))))
+
+abbrev μ-loop : tie.MeasureT-loop
+μ-loop out₀ drives k₀ out k = 8 - k
+
+-- src/lib.rt:299:5
+loop-holds : tie.Need-loop-holds Inv-loop μ-loop
+unfolding each
+loop-holds c = (search needs, search needs, refl)
+
+-- src/lib.rt:300:17
+mul-d : tie.Need-mul-d Inv-loop μ-loop
+mul-d c = search needs
+
+-- src/lib.rt:300:17
+array-copy-out-d : tie.Need-array-copy-out-d Inv-loop μ-loop
+array-copy-out-d c = search needs
+
+-- src/lib.rt:301:17
+drive-words-requires : tie.Need-drive-words-requires Inv-loop μ-loop
+drive-words-requires c κs = search needs
+
+-- src/lib.rt:302:31
+mul-put-words : tie.Need-mul-put-words Inv-loop μ-loop
+mul-put-words c = search needs
+
+-- src/lib.rt:302:24
+add-put-words : tie.Need-add-put-words Inv-loop μ-loop
+add-put-words c = search needs
+
+-- src/lib.rt:302:40
+slice-aggregate-put-words : tie.Need-slice-aggregate-put-words Inv-loop μ-loop
+slice-aggregate-put-words c = search needs
+
+-- src/lib.rt:302:9
+put-words-requires : tie.Need-put-words-requires Inv-loop μ-loop
+put-words-requires c κs = search needs
+
+-- src/lib.rt:303:9
+add-k : tie.Need-add-k Inv-loop μ-loop
+add-k c = search needs
+
+-- src/lib.rt:299:5
+loop-less : tie.Need-loop-less Inv-loop μ-loop
+loop-less c = search needs
+
+-- src/lib.rt:299:5
+loop-again : tie.Need-loop-again Inv-loop μ-loop
+loop-again c = 
+    let h = c .before .before .before .before .before .before .before .before in
+    let a = h .before .before .args in
+    let l : length (a .t2) ≡ 8 = search needs in
+    let e = c .before .before .put-words .ensures in (
+      search needs,
+      ap length e ∙ rw length-sets (h .loop .inv .1),
+      e ∙ rw (h .loop .inv .2, c .before .before .before .before .before .drive-words .ensures)
+      (part-more driveWords 14 length-drive (now (a .out)) 1472 (1472 + 112 * h .loop .k) (a .t2) (h .loop .k) _ (omega arith) (omega arith)),
+    )
+
+-- src/lib.rt:294:1
+same-length : tie.Need-same-length Inv-loop μ-loop
+same-length c = search needs
+
+-- src/lib.rt:294:1
+returns : tie.Need-returns Inv-loop μ-loop
+returns c = 
+    let h = c .before in
+    let a = h .before .before .args in
+    let l : length (a .t2) ≡ 8 = search needs in
+    h .loop .inv .2 ∙ ap (λ l. sets (now (a .out)) 1472 (flat (each driveWords l))) (take-all (h .loop .k) (a .t2) (omega arith))
+
+pub put-drives-spec : {M : Type 1} → statement M
+put-drives-spec =
+    tie.close
+    (tie.spec
+    Inv-loop
+    μ-loop
+    loop-holds
+    mul-d
+    array-copy-out-d
+    drive-words-requires
+    mul-put-words
+    add-put-words
+    slice-aggregate-put-words
+    put-words-requires
+    add-k
+    loop-less
+    loop-again
+    same-length
+    returns)

@@ -1,0 +1,102 @@
+use Rattle.image.proofs.Fill.{part-more, length-row}
+use Rattle.image.specs.Image.{each, flat, rowWords}
+use denote.Ref.{now}
+use borrow.Author.Needs.{needs}
+use native.Mathlib.Omega.{arith}
+use lib.Seq.{sets, length-sets, take-all}
+use lib.ListN.{length, take}
+use mathlib.Core.Path.{_≡_, refl, ap, _∙_}
+use Prim.Native.Nat.{ℕ, _+_, _*_, _≤_, _-_}
+use Rattle.image.proofs.put_rows.Statement.{statement}
+use Rattle.image.proofs.put_rows.Tie as tie
+use Rattle.image.proofs.put_rows.Reads as reads
+use Rattle.image.proofs.put_rows.Lts as lts
+use Rattle.image.proofs.put_words.Reads as put-words-reads
+use Rattle.image.proofs.stage_words.Reads as stage-words-reads
+
+abbrev Inv-loop : tie.InvT-loop
+Inv-loop out₀ rows k₀ out k = (k ≤ 8) × (length out ≡ 2400) × (out ≡ sets out₀ 0 (flat (each rowWords (take k rows))))
+
+abbrev μ-loop : tie.MeasureT-loop
+μ-loop out₀ rows k₀ out k = 8 - k
+
+-- src/lib.rt:285:5
+loop-holds : tie.Need-loop-holds Inv-loop μ-loop
+unfolding each
+loop-holds c = (search needs, search needs, refl)
+
+-- src/lib.rt:286:19
+mul-row : tie.Need-mul-row Inv-loop μ-loop
+mul-row c = search needs
+
+-- src/lib.rt:286:19
+array-copy-out-row : tie.Need-array-copy-out-row Inv-loop μ-loop
+array-copy-out-row c = search needs
+
+-- src/lib.rt:288:17
+stage-words-requires : tie.Need-stage-words-requires Inv-loop μ-loop
+stage-words-requires c κs = search needs
+
+-- src/lib.rt:289:24
+mul-put-words : tie.Need-mul-put-words Inv-loop μ-loop
+mul-put-words c = search needs
+
+-- src/lib.rt:289:33
+slice-aggregate-put-words : tie.Need-slice-aggregate-put-words Inv-loop μ-loop
+slice-aggregate-put-words c = search needs
+
+-- src/lib.rt:289:9
+put-words-requires : tie.Need-put-words-requires Inv-loop μ-loop
+put-words-requires c κs = search needs
+
+-- src/lib.rt:290:9
+add-k : tie.Need-add-k Inv-loop μ-loop
+add-k c = search needs
+
+-- src/lib.rt:285:5
+loop-less : tie.Need-loop-less Inv-loop μ-loop
+loop-less c = search needs
+
+-- src/lib.rt:285:5
+loop-again : tie.Need-loop-again Inv-loop μ-loop
+loop-again c = 
+    let h = c .before .before .before .before .before .before .before .before in
+    let a = h .before .before .args in
+    let l : length (a .t2) ≡ 8 = search needs in
+    let e = c .before .before .put-words .ensures in (
+      search needs,
+      ap length e ∙ rw length-sets (h .loop .inv .1),
+      e ∙ rw (h .loop .inv .2, c .before .before .before .before .before .stage-words .ensures)
+      (part-more rowWords 23 length-row (now (a .out)) 0 (184 * h .loop .k) (a .t2) (h .loop .k) _ (omega arith) (omega arith)),
+    )
+
+-- src/lib.rt:280:1
+same-length : tie.Need-same-length Inv-loop μ-loop
+same-length c = search needs
+
+-- src/lib.rt:280:1
+returns : tie.Need-returns Inv-loop μ-loop
+returns c = 
+    let h = c .before in
+    let a = h .before .before .args in
+    let l : length (a .t2) ≡ 8 = search needs in
+    h .loop .inv .2 ∙ ap (λ l. sets (now (a .out)) 0 (flat (each rowWords l))) (take-all (h .loop .k) (a .t2) (omega arith))
+
+pub put-rows-spec : {M : Type 1} → statement M
+put-rows-spec =
+    tie.close
+    (tie.spec
+    Inv-loop
+    μ-loop
+    loop-holds
+    mul-row
+    array-copy-out-row
+    stage-words-requires
+    mul-put-words
+    slice-aggregate-put-words
+    put-words-requires
+    add-k
+    loop-less
+    loop-again
+    same-length
+    returns)

@@ -1,0 +1,220 @@
+-- Document 01, "Calls the host makes": the desk block. It is the image of a desk, a word of eight bytes for each field, and is accepted
+-- exactly when it is the image of a desk that is acceptable.
+-- Assumes nothing.
+use Prim.Native.Nat.{ℕ, zero, suc, _+_, _*_, _^_, _<_}
+use mathlib.Core.Path.{_≡_}
+use mathlib.Core.Bool.{Bool, true, false}
+use mathlib.Core.List.{List, [], _∷_, _++_}
+use lib.ListN.{length, getD, replicate}
+use lib.Dec.{eqb}
+use Rattle.logic.specs.Logic.{pick, both}
+use Rattle.words.specs.Words.{Bytes, le, leBytes, part}
+use Rattle.drive.specs.declared.Drive.{Drive}
+use Rattle.drive.specs.Drive.{Fits, same}
+use Rattle.table.specs.declared.Table.{Table}
+use Rattle.table.specs.Table.{noDrive}
+use Rattle.int13.specs.declared.Registers.{Registers}
+use Rattle.int13.specs.declared.Job.{Job}
+use Rattle.desk.specs.declared.Request.{Request}
+use Rattle.desk.specs.declared.Stage.{Stage}
+use Rattle.desk.specs.declared.Stage.the-variants.{Vacant, Waiting, Finished}
+use Rattle.desk.specs.declared.Row.{Row}
+use Rattle.desk.specs.declared.Desk.{Desk}
+use Rattle.desk.specs.Parts.{stageAt}
+use Rattle.desk.specs.Numbers.{registerNumbers}
+use Rattle.desk.specs.Acceptable.{accept}
+use Rattle.desk.specs.Calls.{closed}
+
+-- ---- words
+
+-- what the members of a list give, one after the other
+unfoldable pub each : {A : Type 0} → (A → List ℕ) → List A → List ℕ
+each f [] = []
+each f (x ∷ xs) = f x ++ each f xs
+
+-- the bytes of words
+abbrev pub flat : List ℕ → List ℕ
+flat words = each (leBytes 8) words
+
+-- ---- the words of a desk
+
+-- what the job asks, and the blocks moved
+abbrev pub requestWords : Request → List ℕ
+requestWords q =
+    registerNumbers (q .job .registers)
+    ++ (q .job .drive ∷ q .job .start ∷ q .job .count ∷ q .job .buffer ∷ q .job .packet ∷ q .moved ∷ [])
+
+-- 23 words whatever the stage: its number, those of a request, those of the finished registers; zero where the stage has none
+abbrev pub stageWords : Stage → List ℕ
+stageWords Vacant = 0 ∷ (replicate 14 0 ++ replicate 8 0)
+stageWords (Waiting q) = 1 ∷ (requestWords q ++ replicate 8 0)
+stageWords (Finished r) = 2 ∷ (replicate 14 0 ++ registerNumbers r)
+
+abbrev pub rowWords : Row → List ℕ
+rowWords r = stageWords (r .stage)
+
+-- 14 words; of a name its bytes in their order
+abbrev pub driveWords : Drive → List ℕ
+driveWords d =
+    d .cylinders ∷ d .heads ∷ d .sectors ∷ d .blocks ∷ d .first ∷ d .flags ∷ d .c ∷ d .h ∷ d .s ∷ d .protection
+    ∷ le 4 (d .bus) 0 ∷ le 8 (d .interface) 0 ∷ le 8 (d .path) 0 ∷ le 8 (d .device) 0 ∷ []
+
+-- the number of drives, the turn pointer, the lengths of the opening
+abbrev pub tailWords : Desk → List ℕ
+tailWords d = d .table .count ∷ d .pointer ∷ d .arena ∷ d .store ∷ []
+
+unfoldable pub deskWords : Desk → List ℕ
+deskWords d = each rowWords (d .rows) ++ (each driveWords (d .table .drives) ++ tailWords d)
+
+-- the image of a desk
+unfoldable pub image : Desk → List ℕ
+image d = flat (deskWords d)
+
+-- 8 rows of 23 words, 8 places of 14, and 4
+abbrev pub blockSize : ℕ
+blockSize = 2400
+
+-- ---- the desk that bytes say, each field by its own width, whatever the rest of its word is
+
+abbrev pub registersAt : List ℕ → ℕ → Registers
+registersAt b i = record {
+  ax = le 2 b i;
+  bx = le 2 b (i + 8);
+  cx = le 2 b (i + 16);
+  dx = le 2 b (i + 24);
+  ds = le 2 b (i + 32);
+  si = le 2 b (i + 40);
+  es = le 2 b (i + 48);
+  carry = eqb (getD b (i + 56) 0) 1;
+}
+
+abbrev pub requestAt : List ℕ → ℕ → Request
+requestAt b i = record {
+  job = record {
+    registers = registersAt b i;
+    drive = getD b (i + 64) 0;
+    start = le 8 b (i + 72);
+    count = le 8 b (i + 80);
+    buffer = le 8 b (i + 88);
+    packet = le 8 b (i + 96);
+  };
+  moved = le 8 b (i + 104);
+}
+
+-- by the number of the stage; any but 1 and 2 says vacant
+unfoldable pub readStage : List ℕ → ℕ → Stage
+readStage b i = pick (eqb (getD b i 0) 1) (Waiting (requestAt b (i + 8))) (pick (eqb (getD b i 0) 2) (Finished (registersAt b (i + 120))) Vacant)
+
+abbrev pub readRow : List ℕ → ℕ → Row
+readRow b i = record { stage = readStage b i }
+
+unfoldable pub readDrive : List ℕ → ℕ → Drive
+readDrive b i = record {
+  cylinders = le 4 b i;
+  heads = le 4 b (i + 8);
+  sectors = le 4 b (i + 16);
+  blocks = le 8 b (i + 24);
+  first = le 8 b (i + 32);
+  flags = le 2 b (i + 40);
+  c = le 2 b (i + 48);
+  h = le 2 b (i + 56);
+  s = getD b (i + 64) 0;
+  protection = getD b (i + 72) 0;
+  bus = part 4 b (i + 80);
+  interface = part 8 b (i + 88);
+  path = part 8 b (i + 96);
+  device = part 8 b (i + 104);
+}
+
+abbrev pub readRows : List ℕ → List Row
+readRows b =
+    readRow b 0 ∷ readRow b 184 ∷ readRow b 368 ∷ readRow b 552 ∷ readRow b 736 ∷ readRow b 920 ∷ readRow b 1104 ∷ readRow b 1288 ∷ []
+
+abbrev pub readTable : List ℕ → Table
+readTable b = record {
+  drives =
+    readDrive b 1472 ∷ readDrive b 1584 ∷ readDrive b 1696 ∷ readDrive b 1808
+    ∷ readDrive b 1920 ∷ readDrive b 2032 ∷ readDrive b 2144 ∷ readDrive b 2256 ∷ [];
+  count = le 8 b 2368;
+}
+
+unfoldable pub readDesk : List ℕ → Desk
+readDesk b = record { rows = readRows b; pointer = le 8 b 2376; table = readTable b; arena = le 8 b 2384; store = le 8 b 2392 }
+
+-- ---- the desk of a block
+
+-- it has the size, and what it says makes the same bytes again: so no byte of it says anything else
+unfoldable pub isImage : List ℕ → Bool
+isImage b = both (eqb (length b) blockSize) (same b (image (readDesk b)))
+
+-- the desk whose image it is; of any other block a desk at which every call is 25
+unfoldable pub deskOf : List ℕ → Desk
+deskOf b = pick (isImage b) (readDesk b) (closed 0 0)
+
+-- "It is accepted exactly when it is the image of a desk" that is acceptable
+unfoldable pub accepted : List ℕ → Bool
+accepted b = accept (deskOf b)
+
+-- a desk laid out in a block; a block of another size stays
+unfoldable pub laid : List ℕ → Desk → List ℕ
+laid b d = pick (eqb (length b) blockSize) (image d) b
+
+-- ---- what the types of its fields say of a desk: each number fits its width, each array has its length
+
+pub record FitsRegisters (r : Registers) : Type 0 where
+  pub ax : r .ax < 256 ^ 2
+  pub bx : r .bx < 256 ^ 2
+  pub cx : r .cx < 256 ^ 2
+  pub dx : r .dx < 256 ^ 2
+  pub ds : r .ds < 256 ^ 2
+  pub si : r .si < 256 ^ 2
+  pub es : r .es < 256 ^ 2
+
+pub record FitsRequest (q : Request) : Type 0 where
+  pub registers : FitsRegisters (q .job .registers)
+  pub drive : q .job .drive < 256
+  pub start : q .job .start < 256 ^ 8
+  pub count : q .job .count < 256 ^ 8
+  pub buffer : q .job .buffer < 256 ^ 8
+  pub packet : q .job .packet < 256 ^ 8
+  pub moved : q .moved < 256 ^ 8
+
+unfoldable pub FitsStage : Stage → Type 0
+FitsStage Vacant = Unit {0}
+FitsStage (Waiting q) = FitsRequest q
+FitsStage (Finished r) = FitsRegisters r
+
+pub record FitsDrive (d : Drive) : Type 0 where
+  pub numbers : Fits d
+  pub s : d .s < 256
+  pub protection : d .protection < 256
+  pub bus : Bytes (d .bus)
+  pub interface : Bytes (d .interface)
+  pub path : Bytes (d .path)
+  pub device : Bytes (d .device)
+
+pub record FitsTable (b : Table) : Type 0 where
+  pub eight : length (b .drives) ≡ 8
+  pub each : (i : ℕ) → i < 8 → FitsDrive (getD (b .drives) i noDrive)
+  pub count : b .count < 256 ^ 8
+
+pub record FitsDesk (d : Desk) : Type 0 where
+  pub eight : length (d .rows) ≡ 8
+  pub each : (g : ℕ) → g < 8 → FitsStage (stageAt d g)
+  pub table : FitsTable (d .table)
+  pub pointer : d .pointer < 256 ^ 8
+  pub arena : d .arena < 256 ^ 8
+  pub store : d .store < 256 ^ 8
+
+-- ---- the two ways round, of which one is about every block and the other about every desk
+
+-- a block is accepted exactly when it is the image of an acceptable desk, which is then the desk that it is read as; its length and bytes
+-- are those that it is written back with
+pub record ImageOf (b : List ℕ) (d : Desk) : Type 0 where
+  pub fits : FitsDesk d
+  pub acceptable : accept d ≡ true
+  pub image : image d ≡ b
+
+pub record Exact : Type 0 where
+  pub only : (b : List ℕ) → Bytes b → accepted b ≡ true → ImageOf b (deskOf b)
+  pub every : (b : List ℕ) (d : Desk) → ImageOf b d → (accepted b ≡ true) × (deskOf b ≡ d)

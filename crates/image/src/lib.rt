@@ -1,0 +1,378 @@
+// The desk block: a desk laid out in bytes that the host owns, and read from them. A block is read by fields, laid out again and
+// compared, so that no padding byte and no width is tested by hand.
+use desk::Desk;
+use desk::Request;
+use desk::Row;
+use desk::Stage;
+use drive::Drive;
+use int13::Job;
+use int13::Registers;
+use table::Table;
+ghost use mathlib.Core.Path.{_≡_};
+ghost use mathlib.Core.List.{List, _++_};
+ghost use Prim.Native.Nat.{_+_, _*_, _≤_};
+ghost use lib.ListN.{length, take, drop};
+ghost use lib.Seq.{sets};
+ghost use lib.Dec.{eqb};
+ghost use Rattle.logic.specs.Logic.{pick, both};
+ghost use Rattle.drive.specs.Drive.{same};
+ghost use Rattle.desk.specs.Numbers.{registerNumbers};
+ghost use Rattle.desk.specs.declared.Stage.the-variants.{Waiting, Finished};
+ghost use Rattle.desk.specs.Calls.{closed};
+ghost use Rattle.image.specs.Image.{each, flat, stageWords, rowWords, driveWords, image, registersAt, requestAt, readStage, readRow, readDrive, readRows, readTable, readDesk, deskOf, laid};
+
+// Bytes of a block.
+pub const SIZE: usize = 2400;
+
+// ---- the desk that bytes say. Every place is inside a block of the right size, which `decode` has tested.
+
+fn registers_at(b: &[u8], i: usize) -> Registers
+    requires { ⌜ i + 64 ≤ length (now b) ⌝ }
+    ensures { λ r. ⌜ r ≡ registersAt (now (b .entry)) i ⌝ }
+{
+    Registers {
+        ax: words::get16(b, i),
+        bx: words::get16(b, i + 8),
+        cx: words::get16(b, i + 16),
+        dx: words::get16(b, i + 24),
+        ds: words::get16(b, i + 32),
+        si: words::get16(b, i + 40),
+        es: words::get16(b, i + 48),
+        carry: b[i + 56] == 1,
+    }
+}
+
+fn job_at(b: &[u8], i: usize) -> Job
+    requires { ⌜ i + 112 ≤ length (now b) ⌝ }
+    ensures { λ r. ⌜ r ≡ requestAt (now (b .entry)) i .job ⌝ }
+{
+    Job {
+        registers: registers_at(b, i),
+        drive: b[i + 64],
+        start: words::get64(b, i + 72),
+        count: words::get64(b, i + 80),
+        buffer: words::get64(b, i + 88),
+        packet: words::get64(b, i + 96),
+    }
+}
+
+fn request_at(b: &[u8], i: usize) -> Request
+    requires { ⌜ i + 112 ≤ length (now b) ⌝ }
+    ensures { λ r. ⌜ r ≡ requestAt (now (b .entry)) i ⌝ }
+{
+    Request {
+        job: job_at(b, i),
+        moved: words::get64(b, i + 104),
+    }
+}
+
+fn stage_at(b: &[u8], i: usize) -> Stage
+    requires { ⌜ i + 184 ≤ length (now b) ⌝ }
+    ensures { λ r. ⌜ r ≡ readStage (now (b .entry)) i ⌝ }
+{
+    let number = b[i];
+    if number == 1 {
+        return Stage::Waiting(request_at(b, i + 8));
+    }
+    if number == 2 {
+        return Stage::Finished(registers_at(b, i + 120));
+    }
+    Stage::Vacant
+}
+
+fn row_at(b: &[u8], i: usize) -> Row
+    requires { ⌜ i + 184 ≤ length (now b) ⌝ }
+    ensures { λ r. ⌜ r ≡ readRow (now (b .entry)) i ⌝ }
+{
+    Row {
+        stage: stage_at(b, i),
+    }
+}
+
+fn drive_at(b: &[u8], i: usize) -> Drive
+    requires { ⌜ i + 112 ≤ length (now b) ⌝ }
+    ensures { λ r. ⌜ r ≡ readDrive (now (b .entry)) i ⌝ }
+{
+    Drive {
+        cylinders: words::get32(b, i),
+        heads: words::get32(b, i + 8),
+        sectors: words::get32(b, i + 16),
+        blocks: words::get64(b, i + 24),
+        first: words::get64(b, i + 32),
+        flags: words::get16(b, i + 40),
+        c: words::get16(b, i + 48),
+        h: words::get16(b, i + 56),
+        s: b[i + 64],
+        protection: b[i + 72],
+        bus: words::load4(b, i + 80),
+        interface: words::load8(b, i + 88),
+        path: words::load8(b, i + 96),
+        device: words::load8(b, i + 104),
+    }
+}
+
+fn rows_of(b: &[u8]) -> [Row; 8]
+    requires { ⌜ length (now b) ≡ 2400 ⌝ }
+    ensures { λ r. ⌜ r ≡ readRows (now (b .entry)) ⌝ }
+{
+    [
+        row_at(b, 0),
+        row_at(b, 184),
+        row_at(b, 368),
+        row_at(b, 552),
+        row_at(b, 736),
+        row_at(b, 920),
+        row_at(b, 1104),
+        row_at(b, 1288),
+    ]
+}
+
+fn table_of(b: &[u8]) -> Table
+    requires { ⌜ length (now b) ≡ 2400 ⌝ }
+    ensures { λ r. ⌜ r ≡ readTable (now (b .entry)) ⌝ }
+{
+    let drives = [
+        drive_at(b, 1472),
+        drive_at(b, 1584),
+        drive_at(b, 1696),
+        drive_at(b, 1808),
+        drive_at(b, 1920),
+        drive_at(b, 2032),
+        drive_at(b, 2144),
+        drive_at(b, 2256),
+    ];
+    Table {
+        drives,
+        count: words::get64(b, 2368) as usize,
+    }
+}
+
+fn read(b: &[u8]) -> Desk
+    requires { ⌜ length (now b) ≡ 2400 ⌝ }
+    ensures { λ r. ⌜ r ≡ readDesk (now (b .entry)) ⌝ }
+{
+    Desk {
+        rows: rows_of(b),
+        pointer: words::get64(b, 2376) as usize,
+        table: table_of(b),
+        arena: words::get64(b, 2384),
+        store: words::get64(b, 2392),
+    }
+}
+
+// ---- the words of a desk, laid out
+
+fn bit(carry: bool) -> u64
+    ensures { λ r. ⌜ r ≡ pick carry 1 0 ⌝ }
+{
+    if carry { 1 } else { 0 }
+}
+
+fn waiting_words(q: Request) -> [u64; 23]
+    ensures { λ r. ⌜ r ≡ stageWords (Waiting q) ⌝ }
+{
+    let j = q.job;
+    let r = j.registers;
+    [
+        1,
+        r.ax as u64,
+        r.bx as u64,
+        r.cx as u64,
+        r.dx as u64,
+        r.ds as u64,
+        r.si as u64,
+        r.es as u64,
+        bit(r.carry),
+        j.drive as u64,
+        j.start,
+        j.count,
+        j.buffer,
+        j.packet,
+        q.moved,
+        0,
+        0,
+        0,
+        0,
+        0,
+        0,
+        0,
+        0,
+    ]
+}
+
+fn finished_words(r: Registers) -> [u64; 23]
+    ensures { λ w. ⌜ w ≡ stageWords (Finished r) ⌝ }
+{
+    [
+        2,
+        0,
+        0,
+        0,
+        0,
+        0,
+        0,
+        0,
+        0,
+        0,
+        0,
+        0,
+        0,
+        0,
+        0,
+        r.ax as u64,
+        r.bx as u64,
+        r.cx as u64,
+        r.dx as u64,
+        r.ds as u64,
+        r.si as u64,
+        r.es as u64,
+        bit(r.carry),
+    ]
+}
+
+fn stage_words(s: Stage) -> [u64; 23]
+    ensures { λ r. ⌜ r ≡ stageWords s ⌝ }
+{
+    match s {
+        Stage::Vacant => [0; 23],
+        Stage::Waiting(q) => waiting_words(q),
+        Stage::Finished(r) => finished_words(r),
+    }
+}
+
+fn drive_words(d: Drive) -> [u64; 14]
+    ensures { λ r. ⌜ r ≡ driveWords d ⌝ }
+{
+    let bus = d.bus;
+    let interface = d.interface;
+    let path = d.path;
+    let device = d.device;
+    [
+        d.cylinders as u64,
+        d.heads as u64,
+        d.sectors as u64,
+        d.blocks,
+        d.first,
+        d.flags as u64,
+        d.c as u64,
+        d.h as u64,
+        d.s as u64,
+        d.protection as u64,
+        words::value4(bus) as u64,
+        words::value8(interface),
+        words::value8(path),
+        words::value8(device),
+    ]
+}
+
+// Lays words out from a place, which leaves room for them: every caller lays a part of a block of the right size.
+fn put_words(out: &mut [u8], at: usize, w: &[u64])
+    requires { ⌜ at + 8 * length (now w) ≤ length (now out) ⌝ }
+    ensures { λ _. ⌜ now (out .exit) ≡ sets (now (out .entry)) at (flat (now (w .entry))) ⌝ }
+{
+    let mut j = 0;
+    while j < w.len() {
+        words::store64(out, at + 8 * j, w[j]);
+        j += 1;
+    }
+}
+
+fn put_rows(out: &mut [u8], rows: [Row; 8])
+    requires { ⌜ length (now out) ≡ 2400 ⌝ }
+    ensures { λ _. ⌜ now (out .exit) ≡ sets (now (out .entry)) 0 (flat (each rowWords rows)) ⌝ }
+{
+    let mut k = 0;
+    while k < 8 {
+        let row = rows[k];
+        let stage = row.stage;
+        let w = stage_words(stage);
+        put_words(out, 184 * k, &w);
+        k += 1;
+    }
+}
+
+fn put_drives(out: &mut [u8], drives: [Drive; 8])
+    requires { ⌜ length (now out) ≡ 2400 ⌝ }
+    ensures { λ _. ⌜ now (out .exit) ≡ sets (now (out .entry)) 1472 (flat (each driveWords drives)) ⌝ }
+{
+    let mut k = 0;
+    while k < 8 {
+        let d = drives[k];
+        let w = drive_words(d);
+        put_words(out, 1472 + 112 * k, &w);
+        k += 1;
+    }
+}
+
+// Lays a desk out in a block of its size, which both callers have made sure of.
+fn lay(d: Desk, out: &mut [u8])
+    requires { ⌜ length (now out) ≡ 2400 ⌝ }
+    ensures { λ _. ⌜ now (out .exit) ≡ image d ⌝ }
+{
+    let rows = d.rows;
+    let b = d.table;
+    let drives = b.drives;
+    put_rows(out, rows);
+    put_drives(out, drives);
+    let tail = [b.count as u64, d.pointer as u64, d.arena, d.store];
+    put_words(out, 2368, &tail);
+}
+
+// Lays a desk out in a block; a block of another size stays.
+pub fn encode(d: Desk, block: &mut [u8])
+    ensures { λ _. ⌜ now (block .exit) ≡ laid (now (block .entry)) d ⌝ }
+{
+    if block.len() == SIZE {
+        lay(d, block);
+    }
+}
+
+// ---- a block read
+
+// Whether two slices of one length hold the same bytes. No early exit, so that it runs many bytes at a time.
+fn same(a: &[u8], b: &[u8]) -> bool
+    requires { ⌜ length (now a) ≡ length (now b) ⌝ }
+    ensures { λ r. ⌜ r ≡ same (now (a .entry)) (now (b .entry)) ⌝ }
+{
+    let mut bad: u8 = 0;
+    let mut i = 0;
+    while i < a.len() {
+        if a[i] != b[i] {
+            bad = 1;
+        }
+        i += 1;
+    }
+    bad == 0
+}
+
+// A desk at which every call is 25.
+fn no_desk() -> Desk
+    ensures { λ d. ⌜ d ≡ closed 0 0 ⌝ }
+{
+    let row = Row {
+        stage: Stage::Vacant,
+    };
+    Desk {
+        rows: [row; 8],
+        pointer: 8,
+        table: table::empty_table(),
+        arena: 0,
+        store: 0,
+    }
+}
+
+// The desk whose image a block is, or one at which every call is 25.
+pub fn decode(block: &[u8]) -> Desk
+    ensures { λ d. ⌜ d ≡ deskOf (now (block .entry)) ⌝ }
+{
+    if block.len() != SIZE {
+        return no_desk();
+    }
+    let d = read(block);
+    let mut again = [0u8; 2400];
+    lay(d, &mut again);
+    if same(block, &again) {
+        return d;
+    }
+    no_desk()
+}

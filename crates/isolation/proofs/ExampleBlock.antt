@@ -1,0 +1,50 @@
+-- The conditions of demand 3 on blocks can be met: the calls of the example, after an opening at a block of zeros.
+-- Assumes nothing.
+use Prim.Native.Nat.{ℕ}
+use mathlib.Core.Path.{_≡_, refl, sym, ap, subst}
+use mathlib.Core.List.{List}
+use native.Mathlib.Omega.{arith}
+use lib.ListN.{length, replicate}
+use Rattle.words.specs.Words.{Bytes, le, leBytes}
+use Rattle.words.proofs.Words.{bytes-leBytes}
+use Rattle.desk.specs.declared.Opening.{Opening}
+use Rattle.desk.specs.declared.OpenAnswer.the-variants.{Opened}
+use Rattle.desk.specs.Calls.{openOf}
+use Rattle.image.specs.Image.{blockSize, FitsRegisters}
+use Rattle.isolation.specs.Lists.{openTable, Call, opening, run}
+use Rattle.isolation.specs.Words.{NoneOpens}
+use Rattle.isolation.specs.Blocks.{FitsCalls, stepBlock, ClaimBlock}
+use Rattle.isolation.proofs.Blocks.{demand-block, none-block}
+use Rattle.isolation.proofs.Example.{table₁, arenaLength, storeLength, opening as opens-table, read, wrote, calls, closed}
+
+bytes-table : Bytes table₁
+unfolding le leBytes
+bytes-table = bytes-leBytes 72 (le 72 table₁ 0)
+
+abbrev zeros : List ℕ
+zeros = replicate blockSize 0
+
+module _ (a s : List ℕ) (la : length a ≡ arenaLength) (ls : length s ≡ storeLength) where
+  abbrev first : Call
+  first = record { op = openTable table₁ arenaLength storeLength; arena = a; store = s }
+
+  passes : stepBlock zeros first .answer ≡ opening Opened
+  unfolding stepBlock
+  passes = ap (λ (o : Opening). opening (o .answer)) opens-table
+
+  fit : FitsCalls (calls a s)
+  fit = (fits-read, (fits-wrote, (tt, (tt, (tt, tt)))))
+    where
+      fits-read : FitsRegisters read
+      fits-read = record { ax = omega arith; bx = omega arith; cx = omega arith; dx = omega arith; ds = omega arith; si = omega arith; es = omega arith }
+
+      fits-wrote : FitsRegisters wrote
+      fits-wrote = record { ax = omega arith; bx = omega arith; cx = omega arith; dx = omega arith; ds = omega arith; si = omega arith; es = omega arith }
+
+  none : NoneOpens (run (openOf table₁ arenaLength storeLength .desk) (calls a s))
+  none = subst (λ (o : Opening). NoneOpens (run (o .desk) (calls a s))) (sym opens-table) (closed a s la ls)
+
+  pub example-block : ClaimBlock table₁ (openOf table₁ arenaLength storeLength .desk) 8704 (stepBlock zeros first .block) (calls a s)
+  example-block =
+      demand-block zeros table₁ arenaLength storeLength first (calls a s) refl (bytes-table, omega arith, omega arith) passes fit
+      (none-block zeros table₁ arenaLength storeLength first (calls a s) refl (bytes-table, omega arith, omega arith) passes fit none)

@@ -1,0 +1,140 @@
+-- The exported calls are the calls of a list.
+-- Assumes nothing.
+use Prim.Native.Nat.{ℕ}
+use mathlib.Core.Path.{_≡_, refl, sym, ap, ap₂, _∙_}
+use mathlib.Core.Bool.{Bool, true, false, not}
+use mathlib.Core.List.{List, [], _∷_}
+use lib.ListN.{length}
+use lib.Dec.{ltb, eqb}
+use borrow.Author.Tests.{eq-eqb, ne-eqb}
+use Rattle.logic.specs.Logic.{pick}
+use Rattle.memory.specs.Window.{guests}
+use Rattle.desk.specs.declared.Desk.{Desk}
+use Rattle.desk.specs.declared.Stage.{Stage}
+use Rattle.desk.specs.declared.Stage.the-variants.{Vacant, Waiting, Finished}
+use Rattle.desk.specs.declared.OpenAnswer.{OpenAnswer}
+use Rattle.desk.specs.declared.OpenAnswer.the-variants.{Opened, Refused as OpenRefused}
+use Rattle.desk.specs.declared.PostAnswer.{PostAnswer}
+use Rattle.desk.specs.declared.PostAnswer.the-variants.{Answered, Waits, Refused as PostRefused}
+use Rattle.desk.specs.declared.TurnAnswer.{TurnAnswer}
+use Rattle.desk.specs.declared.TurnAnswer.the-variants.{Served, Idle, Refused as TurnRefused}
+use Rattle.desk.specs.declared.CollectAnswer.{CollectAnswer}
+use Rattle.desk.specs.declared.CollectAnswer.the-variants.{Given as CollectGiven, Refused as CollectRefused}
+use Rattle.desk.specs.declared.WithdrawAnswer.{WithdrawAnswer}
+use Rattle.desk.specs.declared.WithdrawAnswer.the-variants.{Given as WithdrawGiven, Refused as WithdrawRefused}
+use Rattle.desk.specs.Parts.{stageAt}
+use Rattle.desk.specs.Acceptable.{accept}
+use Rattle.desk.specs.Calls.{Done, done, notAcceptable, noGuest, collectStage, openOf, postOf, turnOf, collectOf, withdrawOf}
+use Rattle.desk.specs.Numbers.{openNumbers, collectNumbers}
+use Rattle.image.specs.Image.{blockSize, deskOf, laid}
+use Rattle.exports.specs.Exports.{Left, left, over, openBlock, openCall, writeCall, given, changed, postBlock, postLeft, postCall, turnBlock, turnLeft, turnCall, collectBlock, collectLeft, collectCall, withdrawBlock, withdrawLeft, withdrawCall}
+use Rattle.isolation.specs.Lists.{Op, openTable, post, turn, collect, withdraw, write, opening, posted, turned, collected, withdrawn, openedDesk, stepOf}
+use Rattle.isolation.specs.Words.{kindOf}
+use Rattle.isolation.specs.Blocks.{OutBlock, blockAfter, outBlock, stepBlockOf, stepBlock}
+use Rattle.isolation.specs.Exported.{numbersOf, does, Exported}
+
+-- ---- the block that each call leaves
+
+module _ (b : List ℕ) where
+  open-block : (d e : Desk) (x : OpenAnswer) → openBlock b e x ≡ blockAfter b (openedDesk d e x) (kindOf (opening x))
+  open-block d e Opened = refl
+  open-block d e (OpenRefused n place) = refl
+
+  post-block : (g : ℕ) (o : Done PostAnswer) (x : PostAnswer) → postBlock b o x ≡ blockAfter b (o .desk) (kindOf (posted g x))
+  post-block g o (Answered r) = refl
+  post-block g o Waits = refl
+  post-block g o (PostRefused n) = refl
+
+  turn-block : (o : Done TurnAnswer) (x : TurnAnswer) → turnBlock b o x ≡ blockAfter b (o .desk) (kindOf (turned x))
+  turn-block o (Served g n) = refl
+  turn-block o Idle = refl
+  turn-block o (TurnRefused n) = refl
+
+  collect-block : (g : ℕ) (o : Done CollectAnswer) (x : CollectAnswer) → collectBlock b o x ≡ blockAfter b (o .desk) (kindOf (collected g x))
+  collect-block g o (CollectGiven r) = refl
+  collect-block g o (CollectRefused n) = refl
+
+  withdraw-block : (g : ℕ) (o : Done WithdrawAnswer) (x : WithdrawAnswer) → withdrawBlock b o x ≡ blockAfter b (o .desk) (kindOf (withdrawn g x))
+  withdraw-block g o (WithdrawGiven r) = refl
+  withdraw-block g o (WithdrawRefused n) = refl
+
+-- a collect has the same answer and desk whatever arena and store there are
+pub record Alike (x y : Done CollectAnswer) : Type 0 where
+  pub desk : x .desk ≡ y .desk
+  pub answer : x .answer ≡ y .answer
+
+-- by the two tests and the stage
+abbrev collectBy : Desk → ℕ → Bool → Bool → Stage → List ℕ → List ℕ → Done CollectAnswer
+collectBy d g p q x a s = pick p (done d (CollectRefused notAcceptable) a s) (pick q (done d (CollectRefused noGuest) a s) (collectStage d g x a s))
+
+collect-alike : (d : Desk) (g : ℕ) (a s a' s' : List ℕ) → Alike (collectOf d g a s) (collectOf d g a' s')
+unfolding collectOf
+collect-alike d g a s a' s' = go (not (accept d)) (not (ltb g guests)) (stageAt d g)
+  where
+    go : (p q : Bool) (x : Stage) → Alike (collectBy d g p q x a s) (collectBy d g p q x a' s')
+    go true q x = record { desk = refl; answer = refl }
+    go false true x = record { desk = refl; answer = refl }
+    go false false Vacant = record { desk = refl; answer = refl }
+    go false false (Waiting y) = record { desk = refl; answer = refl }
+    go false false (Finished y) = record { desk = refl; answer = refl }
+
+module _ (b arena store : List ℕ) where
+  at-open : (t : List ℕ) (a s place : ℕ) → length b ≡ blockSize
+      → openCall b t a s place ≡ left (over (numbersOf (does b arena store (openTable t a s) .answer)) (0 ∷ place ∷ [])) (does b arena store (openTable t a s) .block ∷ [])
+  unfolding openCall stepBlock
+  at-open t a s place l =
+      rw (eq-eqb (length b) blockSize l)
+      (ap (λ (y : List ℕ). left (over (openNumbers (openOf t a s .answer)) (0 ∷ place ∷ [])) (y ∷ []))
+      (open-block b (deskOf b) (openOf t a s .desk) (openOf t a s .answer)))
+
+  at-other : (t : List ℕ) (a s place : ℕ) → (length b ≡ blockSize → ⊥) → openCall b t a s place ≡ left (notAcceptable ∷ place ∷ []) (does b arena store (openTable t a s) .block ∷ [])
+  unfolding openCall stepBlock
+  at-other t a s place n = rw (ne-eqb (length b) blockSize n)
+
+  at-post : (g ax bx cx dx ds si es carry : ℕ)
+      → postCall b arena store g ax bx cx dx ds si es carry
+        ≡ left (changed (numbersOf (does b arena store (post g (given ax bx cx dx ds si es)) .answer)) ax bx cx dx carry)
+          (does b arena store (post g (given ax bx cx dx ds si es)) .block ∷ does b arena store (post g (given ax bx cx dx ds si es)) .arena ∷ [])
+  unfolding postCall stepBlock
+  at-post g ax bx cx dx ds si es carry =
+      let o = postOf (deskOf b) g (given ax bx cx dx ds si es) arena store in
+      ap (λ (y : List ℕ). left (postLeft b o ax bx cx dx carry .numbers) (y ∷ o .arena ∷ [])) (post-block b g o (o .answer))
+
+  at-turn : (g n : ℕ)
+      → turnCall b arena store g n
+        ≡ left (over (numbersOf (does b arena store turn .answer)) (0 ∷ g ∷ n ∷ []))
+          (does b arena store turn .block ∷ does b arena store turn .arena ∷ does b arena store turn .store ∷ [])
+  unfolding turnCall stepBlock
+  at-turn g n =
+      let o = turnOf (deskOf b) arena store in
+      ap (λ (y : List ℕ). left (turnLeft b o g n .numbers) (y ∷ o .arena ∷ o .store ∷ [])) (turn-block b o (o .answer))
+
+  at-collect : (g : ℕ) (stood : List ℕ)
+      → collectCall b g stood ≡ left (over (numbersOf (does b arena store (collect g) .answer)) (0 ∷ stood)) (does b arena store (collect g) .block ∷ [])
+  unfolding collectCall stepBlock
+  at-collect g stood =
+      let o = collectOf (deskOf b) g [] [] in
+      let e = collect-alike (deskOf b) g [] [] arena store in
+      ap (λ (y : List ℕ). left (collectLeft b o stood .numbers) (y ∷ [])) (collect-block b g o (o .answer))
+      ∙ ap₂ (λ (d : Desk) (x : CollectAnswer). left (over (collectNumbers x) (0 ∷ stood)) (blockAfter b d (kindOf (collected g x)) ∷ [])) (e .desk) (e .answer)
+
+  at-withdraw : (g : ℕ) (stood : List ℕ)
+      → withdrawCall b arena store g stood
+        ≡ left (over (numbersOf (does b arena store (withdraw g) .answer)) (0 ∷ stood)) (does b arena store (withdraw g) .block ∷ does b arena store (withdraw g) .arena ∷ [])
+  unfolding withdrawCall stepBlock
+  at-withdraw g stood =
+      let o = withdrawOf (deskOf b) g arena store in
+      ap (λ (y : List ℕ). left (withdrawLeft b o stood .numbers) (y ∷ o .arena ∷ [])) (withdraw-block b g o (o .answer))
+
+  pub exported : Exported b arena store
+  unfolding writeCall stepBlock
+  exported =
+      record {
+        openAt = at-open;
+        openOther = at-other;
+        write = λ out n. refl;
+        post = at-post;
+        turn = at-turn;
+        collect = at-collect;
+        withdraw = at-withdraw;
+      }

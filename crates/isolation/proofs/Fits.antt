@@ -1,0 +1,263 @@
+-- Every desk that the calls reach fits the widths of its fields.
+-- Assumes nothing.
+use Prim.Native.Nat.{ℕ, zero, suc, _+_, _-_, _/_, _^_, _≤_, _<_}
+use mathlib.Core.Path.{_≡_, refl, sym, ap, subst, _∙_}
+use mathlib.Core.Bool.{Bool, true, false}
+use mathlib.Core.List.{List}
+use native.Mathlib.Omega.{arith}
+use native.Mathlib.Decide.{ℕ-discrete}
+use lib.ListN.{length, getD, set, drop, replicate, length-set, length-drop, length-take, getD-replicate}
+use lib.Seq.{getD-set-same, getD-set-other, length-take-le}
+use lib.Dec.{leb, ltb, eqb}
+use borrow.Author.Tests.{leb-true, ltb-true, eqb-true}
+use Rattle.logic.specs.Logic.{pick}
+use Rattle.logic.proofs.Logic.{both-true, pick-cases}
+use Rattle.words.specs.Words.{Bytes, part}
+use Rattle.words.proofs.Words.{bytes-part}
+use Rattle.drive.specs.declared.Drive.{Drive}
+use Rattle.drive.specs.Drive.{driveOf}
+use Rattle.drive.proofs.Drives.{fits-drive}
+use Rattle.table.specs.declared.Table.{Table}
+use Rattle.table.specs.declared.Stepped.{Stepped}
+use Rattle.table.specs.Table.{noDrive, zeroDrive, emptyTable, more, goOn, readFrom, readTable, drivesOf}
+use Rattle.table.proofs.Tables.{stepAt-cases, whole-at, refusal-room}
+use Rattle.memory.specs.Window.{guests}
+use Rattle.memory.specs.Blocks.{blockLength}
+use Rattle.int13.specs.declared.Registers.{Registers}
+use Rattle.int13.specs.Answers.{ah, isSectors, succeed, posted}
+use Rattle.int13.specs.Steps.{isDrive, driveAt}
+use Rattle.desk.specs.declared.Request.{Request}
+use Rattle.desk.specs.declared.Stage.{Stage}
+use Rattle.desk.specs.declared.Stage.the-variants.{Vacant, Waiting}
+use Rattle.desk.specs.declared.Desk.{Desk}
+use Rattle.desk.specs.declared.OpenAnswer.{OpenAnswer}
+use Rattle.desk.specs.declared.OpenAnswer.the-variants.{Opened, Refused as OpenRefused}
+use Rattle.desk.specs.declared.PostAnswer.the-variants.{Answered as PostAnswered, Waits as PostWaits, Refused as PostRefused}
+use Rattle.desk.specs.declared.TurnAnswer.the-variants.{Served, Idle, Refused as TurnRefused}
+use Rattle.desk.specs.declared.CollectAnswer.the-variants.{Given as CollectGiven, Refused as CollectRefused}
+use Rattle.desk.specs.declared.WithdrawAnswer.the-variants.{Given as WithdrawGiven, Refused as WithdrawRefused}
+use Rattle.table.specs.declared.Written.the-variants.{Bytes as WrittenBytes, Refused as WriteRefused}
+use Rattle.desk.specs.Parts.{windowSize, stageAt, withStage, withPointer, next}
+use Rattle.desk.specs.Acceptable.{packetOk, stageOk}
+use Rattle.desk.specs.Calls.{openOf, quota, later, stageAfter}
+use Rattle.desk.proofs.Acceptances.{waits-facts}
+use Rattle.image.specs.Image.{FitsRegisters, FitsRequest, FitsStage, FitsDrive, FitsTable, FitsDesk}
+use Rattle.isolation.specs.Lists.{Op, openTable, post, turn, collect, withdraw, write, Call, Answer, opening, posted as postedTo, turned, collected, withdrawn, written, Out, openedDesk, stepOf, step}
+use Rattle.isolation.specs.Words.{opens, kindOf}
+use Rattle.isolation.specs.Blocks.{FitsOp}
+use Rattle.isolation.proofs.Accept.{Inv, opened-desk, all-vacant}
+use Rattle.isolation.proofs.View.{Did, same, idle, answer, accepting, serving, giving, withdrawing, view}
+use Rattle.isolation.proofs.Keep.{stage-same, stage-other, inv-did}
+use Rattle.isolation.proofs.Posts.{different}
+
+-- ---- the drives that are read
+
+fits-record : (r : List ℕ) → Bytes r → length r ≡ 68 → FitsDrive (driveOf r)
+unfolding driveOf
+fits-record r b l =
+    record {
+      numbers = fits-drive r b l;
+      s = b 38;
+      protection = b 39;
+      bus = bytes-part 4 r 40 b;
+      interface = bytes-part 8 r 44 b;
+      path = bytes-part 8 r 52 b;
+      device = bytes-part 8 r 60 b;
+    }
+
+zeros : (n : ℕ) → Bytes (replicate n 0)
+zeros zero i = omega arith
+zeros (suc n) zero = omega arith
+zeros (suc n) (suc i) = zeros n i
+
+fits-zero : FitsDrive zeroDrive
+fits-zero =
+    record {
+      numbers = record {
+        cylinders = omega arith;
+        heads = omega arith;
+        sectors = omega arith;
+        blocks = omega arith;
+        first = omega arith;
+        flags = omega arith;
+        c = omega arith;
+        h = omega arith;
+        bus = refl;
+        interface = refl;
+        path = refl;
+        device = refl;
+      };
+      s = omega arith;
+      protection = omega arith;
+      bus = zeros 4;
+      interface = zeros 8;
+      path = zeros 8;
+      device = zeros 8;
+    }
+
+-- ---- the table
+
+fits-empty : FitsTable emptyTable
+fits-empty = record { eight = refl; each = λ i h. rw (getD-replicate 8 i zeroDrive noDrive h) fits-zero; count = omega arith }
+
+fits-more : (b : Table) (d : Drive) → FitsTable b → FitsDrive d → b .count < 8 → FitsTable (more b d)
+fits-more b d f e room =
+    record { eight = length-set (b .drives) (b .count) d ∙ f .eight; each = λ i h. at i h (ℕ-discrete i (b .count)); count = omega arith }
+  where
+    at : (i : ℕ) → i < 8 → Dec (i ≡ b .count) → FitsDrive (getD (set (b .drives) (b .count) d) i noDrive)
+    at i h (yes x) = rw (x, getD-set-same (b .drives) (b .count) d noDrive (omega (arith, f .eight))) e
+    at i h (no x) = rw (getD-set-other (b .drives) (b .count) i d noDrive x) (f .each i h)
+
+fits-from : (k : ℕ) (t : List ℕ) (store at : ℕ) (b : Table) → Bytes t → FitsTable b → FitsTable (readFrom k t store at b .table)
+unfolding readFrom
+fits-from zero t store at b y f = f
+fits-from (suc k) t store at b y f =
+    stepAt-cases (λ (x : Stepped). FitsTable (goOn (x .step) (x .table) (readFrom k t store) .table)) t at b store
+    (λ n p. f)
+    (λ h l. f)
+    (λ h z.
+    let w = whole-at t at 1 h in
+    let l : length (part 68 t at) ≡ 68 = length-take-le 68 (drop at t) (simp length-drop (omega (arith, w .whole, w .header))) in
+    fits-from k t store (at + 68) (more b (driveOf (part 68 t at))) y
+    (fits-more b (driveOf (part 68 t at)) f (fits-record (part 68 t at) (bytes-part 68 t at y) l) (refusal-room b (driveOf (part 68 t at)) store z)))
+
+fits-read : (t : List ℕ) (store : ℕ) → Bytes t → FitsTable (readTable t store .table)
+unfolding readTable
+fits-read t store y = fits-from 9 t store 0 emptyTable y fits-empty
+
+-- ---- an opening that passed
+
+pub fits-opened : (t : List ℕ) (arena store : ℕ) → Bytes t → arena < 256 ^ 8 → store < 256 ^ 8 → openOf t arena store .answer ≡ Opened → FitsDesk (openOf t arena store .desk)
+unfolding FitsStage
+fits-opened t arena store y a s e =
+    subst FitsDesk (sym (opened-desk t arena store e))
+    (record {
+      eight = refl;
+      each = λ g h. subst FitsStage (sym (all-vacant g)) tt;
+      table = fits-read t (store / blockLength) y;
+      pointer = omega arith;
+      arena = a;
+      store = s;
+    })
+
+-- ---- rows
+
+-- a waiting row that is acceptable: its numbers are below those of its drive, its window and its function
+packet-fits : (f place M : ℕ) → packetOk f place M ≡ true → place ≤ M
+packet-fits f place M e = by-function (isSectors f) e
+  where
+    by-function : (x : Bool) → pick x (eqb place 0) (leb (place + 16) M) ≡ true → place ≤ M
+    by-function true e = let z : place ≡ 0 = eqb-true place 0 e in omega arith
+    by-function false e = let l : place + 16 ≤ M = leb-true (place + 16) M e in omega arith
+
+fits-request : (b : Table) (M : ℕ) (q : Request) → FitsTable b → M < 256 ^ 8 → FitsRegisters (q .job .registers) → stageOk b M (Waiting q) ≡ true → FitsRequest q
+unfolding isDrive
+fits-request b M q f m r e =
+    let w = waits-facts b M q e in
+    let p = both-true (leb 128 (q .job .drive)) (ltb (q .job .drive) (128 + length (drivesOf b))) (w .job .drive) in
+    let high : q .job .drive < 128 + length (drivesOf b) = ltb-true (q .job .drive) (128 + length (drivesOf b)) (p .1) in
+    let most : length (drivesOf b) ≤ 8 = omega (arith, length-take (b .count) (b .drives), f .eight) in
+    let blocks : driveAt b (q .job .drive) .blocks < 256 ^ 8 = f .each (q .job .drive - 128) (omega arith) .numbers .blocks in
+    record {
+      registers = r;
+      drive = omega (arith, high, most);
+      start = omega (arith, w .job .range, blocks);
+      count = omega (arith, w .job .count);
+      buffer = omega (arith, w .job .buffer, m);
+      packet = omega (arith, packet-fits (ah (q .job .registers)) (q .job .packet) M (w .job .packet), m);
+      moved = omega (arith, w .moved, w .job .count);
+    }
+
+fits-posted : (r : Registers) → FitsRegisters r → FitsRegisters (posted r)
+fits-posted r f = record { ax = f .ax; bx = f .bx; cx = f .cx; dx = f .dx; ds = f .ds; si = f .si; es = f .es }
+
+fits-succeed : (r : Registers) → FitsRegisters r → FitsRegisters (succeed r)
+fits-succeed r f = record { ax = omega arith; bx = f .bx; cx = f .cx; dx = f .dx; ds = f .ds; si = f .si; es = f .es }
+
+-- the row after a turn
+fits-after : (b : Table) (M : ℕ) (q : Request) → FitsTable b → M < 256 ^ 8 → FitsRegisters (q .job .registers) → stageOk b M (stageAfter q) ≡ true → FitsStage (stageAfter q)
+unfolding stageAfter FitsStage
+fits-after b M q f m r =
+    pick-cases (λ (s : Stage). stageOk b M s ≡ true → FitsStage s) (ltb (q .moved + quota q) (q .job .count)) _ _
+    (λ x e. fits-request b M (later q (quota q)) f m r e)
+    (λ x e. fits-succeed (q .job .registers) r)
+
+fits-set : (d : Desk) (g : ℕ) (s : Stage) (p : ℕ) → Inv d → FitsDesk d → g < guests → p < guests → FitsStage s → FitsDesk (withPointer (withStage d g s) p)
+fits-set d g s p inv f b pb k =
+    record {
+      eight = length-set (d .rows) g (record { stage = s }) ∙ f .eight;
+      each = λ h l. go h l (ℕ-discrete h g);
+      table = f .table;
+      pointer = omega arith;
+      arena = f .arena;
+      store = f .store;
+    }
+  where
+    go : (h : ℕ) → h < 8 → Dec (h ≡ g) → FitsStage (stageAt (withStage d g s) h)
+    go h l (yes y) = rw y (subst FitsStage (sym (stage-same d g s inv b)) k)
+    go h l (no y) = subst FitsStage (sym (stage-other d g h s y)) (f .each h l)
+
+-- the registers of a row that waits
+fits-waiting : (d : Desk) (g : ℕ) (q : Request) → FitsDesk d → g < guests → stageAt d g ≡ Waiting q → FitsRegisters (q .job .registers)
+unfolding FitsStage
+fits-waiting d g q f b v = subst FitsStage v (f .each g b) .registers
+
+-- a row's new stage is acceptable where the desk with it is
+ok-set : (d : Desk) (g : ℕ) (s : Stage) (p : ℕ) → Inv d → g < guests → Inv (withPointer (withStage d g s) p) → stageOk (d .table) (windowSize d) s ≡ true
+ok-set d g s p inv b i = ap (stageOk (d .table) (windowSize d)) (sym (stage-same d g s inv b)) ∙ i .stages g
+
+window-fits : (d : Desk) → FitsDesk d → windowSize d < 256 ^ 8
+window-fits d f = omega (arith, f .arena)
+
+-- ---- one call
+
+fits-did : (d : Desk) (c : Call) (o : Out) → Inv d → FitsDesk d → FitsOp (c .op) → Did d c o → Inv (o .desk) → FitsDesk (o .desk)
+unfolding FitsStage
+fits-did d c o inv f t (same x p n) i = f
+fits-did d c o inv f t (idle e n) i = f
+fits-did d c o inv f t (answer g r x w e b l v ko kw k) i = f
+fits-did d c o inv f t (accepting g r j e b l v ko kw u) i =
+    let q : Request = record { job = j; moved = 0 } in
+    let k : FitsRegisters (j .registers) = subst FitsRegisters (sym (u .registers)) (fits-posted r (subst FitsOp e t)) in
+    fits-set d g (Waiting q) (d .pointer) inv f b (inv .pointer)
+    (fits-request (d .table) (windowSize d) q (f .table) (window-fits d f) k (ok-set d g (Waiting q) (d .pointer) inv b i))
+fits-did d c o inv f t (serving g q e b l v n) i =
+    fits-set d g (stageAfter q) (next g) inv f b (i .pointer)
+    (fits-after (d .table) (windowSize d) q (f .table) (window-fits d f) (fits-waiting d g q f b v) (ok-set d g (stageAfter q) (next g) inv b i))
+fits-did d c o inv f t (giving g x e b v) i = fits-set d g Vacant (d .pointer) inv f b (inv .pointer) tt
+fits-did d c o inv f t (withdrawing g q e b l v) i = fits-set d g Vacant (d .pointer) inv f b (inv .pointer) tt
+
+-- an answer is that of an opening that passed, or none such
+by-opening : {A : Type 0} (x : Answer) → (x ≡ opening Opened → A) → ((kindOf x ≡ opens → ⊥) → A) → A
+by-opening (opening Opened) f g = f refl
+by-opening (opening (OpenRefused n place)) f g = g (λ e. different cc)
+by-opening (postedTo h (PostAnswered r)) f g = g (λ e. different cc)
+by-opening (postedTo h PostWaits) f g = g (λ e. different cc)
+by-opening (postedTo h (PostRefused n)) f g = g (λ e. different cc)
+by-opening (turned (Served h k)) f g = g (λ e. different cc)
+by-opening (turned Idle) f g = g (λ e. different cc)
+by-opening (turned (TurnRefused n)) f g = g (λ e. different cc)
+by-opening (collected h (CollectGiven r)) f g = g (λ e. different cc)
+by-opening (collected h (CollectRefused n)) f g = g (λ e. different cc)
+by-opening (withdrawn h (WithdrawGiven r)) f g = g (λ e. different cc)
+by-opening (withdrawn h (WithdrawRefused n)) f g = g (λ e. different cc)
+by-opening (written (WrittenBytes n) out) f g = g (λ e. different cc)
+by-opening (written (WriteRefused n) out) f g = g (λ e. different cc)
+
+fits-opening : (d : Desk) (o : Op) (arena store : List ℕ) → FitsOp o → stepOf d o arena store .answer ≡ opening Opened → FitsDesk (stepOf d o arena store .desk)
+fits-opening d (openTable t a s) arena store f e =
+    let x : openOf t a s .answer ≡ Opened = cc in
+    subst (λ (y : OpenAnswer). FitsDesk (openedDesk d (openOf t a s .desk) y)) (sym x) (fits-opened t a s (f .0) (f .1) (f .2) x)
+fits-opening d (post g r) arena store f e = different cc
+fits-opening d turn arena store f e = different cc
+fits-opening d (collect g) arena store f e = different cc
+fits-opening d (withdraw g) arena store f e = different cc
+fits-opening d (write out) arena store f e = different cc
+
+-- every call leaves a desk that fits
+pub fits-step : (d : Desk) → Inv d → FitsDesk d → (c : Call) → FitsOp (c .op) → FitsDesk (step d c .desk)
+unfolding step
+fits-step d inv f c t =
+    by-opening (step d c .answer)
+    (λ e. fits-opening d (c .op) (c .arena) (c .store) t e)
+    (λ n. let v = view d inv c n in fits-did d c (step d c) inv f t v (inv-did d c (step d c) inv v))

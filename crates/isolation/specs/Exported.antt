@@ -1,0 +1,54 @@
+-- The calls of a list are the exported ones: what each of them leaves by its contract is the answer of the step, as numbers, and the block,
+-- arena and store that the step leaves.
+-- Assumes nothing.
+use Prim.Native.Nat.{ℕ}
+use mathlib.Core.Path.{_≡_}
+use mathlib.Core.List.{List, [], _∷_}
+use lib.ListN.{length}
+use Rattle.table.specs.Table.{writtenNumbers}
+use Rattle.desk.specs.Calls.{notAcceptable}
+use Rattle.desk.specs.Numbers.{openNumbers, postNumbers, turnNumbers, collectNumbers, withdrawNumbers}
+use Rattle.image.specs.Image.{blockSize}
+use Rattle.exports.specs.Exports.{left, over, openCall, writeCall, given, changed, postCall, turnCall, collectCall, withdrawCall}
+use Rattle.isolation.specs.Lists.{Op, openTable, post, turn, collect, withdraw, write, Call, Answer, opening, posted, turned, collected, withdrawn, written}
+use Rattle.isolation.specs.Blocks.{OutBlock, stepBlock}
+
+-- the number and the values of an answer
+abbrev pub numbersOf : Answer → List ℕ
+numbersOf (opening x) = openNumbers x
+numbersOf (posted g x) = postNumbers x
+numbersOf (turned x) = turnNumbers x
+numbersOf (collected g x) = collectNumbers x
+numbersOf (withdrawn g x) = withdrawNumbers x
+numbersOf (written x out) = writtenNumbers x
+
+-- the buffer after a table write
+abbrev pub bufferOf : Answer → List ℕ
+bufferOf (opening x) = []
+bufferOf (posted g x) = []
+bufferOf (turned x) = []
+bufferOf (collected g x) = []
+bufferOf (withdrawn g x) = []
+bufferOf (written x out) = out
+
+-- at a block, with an arena and a store
+module _ (b arena store : List ℕ) where
+  abbrev pub does : Op → OutBlock
+  does o = stepBlock b (record { op = o; arena = arena; store = store })
+
+  pub record Exported : Type 0 where
+    pub openAt : (t : List ℕ) (a s place : ℕ) → length b ≡ blockSize
+        → openCall b t a s place ≡ left (over (numbersOf (does (openTable t a s) .answer)) (0 ∷ place ∷ [])) (does (openTable t a s) .block ∷ [])
+    -- there is no place in a table that was not read
+    pub openOther : (t : List ℕ) (a s place : ℕ) → (length b ≡ blockSize → ⊥)
+        → openCall b t a s place ≡ left (notAcceptable ∷ place ∷ []) (does (openTable t a s) .block ∷ [])
+    pub write : (out : List ℕ) (n : ℕ) → writeCall b out n ≡ left (over (numbersOf (does (write out) .answer)) (0 ∷ n ∷ [])) (bufferOf (does (write out) .answer) ∷ [])
+    pub post : (g ax bx cx dx ds si es carry : ℕ)
+        → postCall b arena store g ax bx cx dx ds si es carry
+          ≡ left (changed (numbersOf (does (post g (given ax bx cx dx ds si es)) .answer)) ax bx cx dx carry)
+            (does (post g (given ax bx cx dx ds si es)) .block ∷ does (post g (given ax bx cx dx ds si es)) .arena ∷ [])
+    pub turn : (g n : ℕ)
+        → turnCall b arena store g n ≡ left (over (numbersOf (does turn .answer)) (0 ∷ g ∷ n ∷ [])) (does turn .block ∷ does turn .arena ∷ does turn .store ∷ [])
+    pub collect : (g : ℕ) (stood : List ℕ) → collectCall b g stood ≡ left (over (numbersOf (does (collect g) .answer)) (0 ∷ stood)) (does (collect g) .block ∷ [])
+    pub withdraw : (g : ℕ) (stood : List ℕ)
+        → withdrawCall b arena store g stood ≡ left (over (numbersOf (does (withdraw g) .answer)) (0 ∷ stood)) (does (withdraw g) .block ∷ does (withdraw g) .arena ∷ [])

@@ -1,0 +1,52 @@
+#include "disks.h"
+
+#include <string.h>
+
+const struct disk disks[EDD_DRIVES] = {
+    /* C, H, S        first   blocks  flags   protected */
+    { 306, 4, 17,         3,  20808, 0x0000, 0, "ISA", "ATA" },
+    { 80, 2, 18,      20811,   2880, 0x0000, 0, "ISA", "ATA" },     /* touches the disk before it */
+    { 40, 16, 63,     23700,  40960, 0x0008, 0, "PCI", "SCSI" },
+    { 20, 16, 63,     64660,  20480, 0x0002, 0, "PCI", "ATA" },
+    { 100, 7, 33,     86000,  24000, 0x000a, 0, "PCI", "1394" },
+    { 33, 5, 61,     110000,  10100, 0x0008, 0, "PCI", "USB" },
+    { 64, 2, 32,     120111,   4401, 0x0000, 0, "PCI", "FIBRE" },
+    { 80, 2, 15,     124590,   2400, 0x0004, 1, "PCI", "ATAPI" },
+};
+
+void put_word(uint8_t *at, unsigned bytes, uint64_t value)
+{
+    for (unsigned i = 0; i < bytes; i++)
+        at[i] = (uint8_t)(value >> (8 * i));
+}
+
+/* One drive's record, document 01, "The drive table". */
+static void put_record(uint8_t *at, const struct disk *disk)
+{
+    memset(at, 0, 68);
+    put_word(at + 0, 2, 68);
+    put_word(at + 2, 2, 1);
+    put_word(at + 4, 4, disk->cylinders); /* physical geometry: the same here */
+    put_word(at + 8, 4, disk->heads);
+    put_word(at + 12, 4, disk->sectors);
+    put_word(at + 16, 8, disk->blocks);
+    put_word(at + 24, 8, disk->first);
+    put_word(at + 32, 2, disk->flags);
+    put_word(at + 34, 2, disk->cylinders);
+    put_word(at + 36, 2, disk->heads);
+    at[38] = disk->sectors;
+    at[39] = disk->is_protected;
+    memcpy(at + 40, disk->bus, strlen(disk->bus));
+    memcpy(at + 44, disk->interface, strlen(disk->interface));
+    put_word(at + 52, 8, disk->first); /* interface and device path may hold anything */
+    put_word(at + 60, 8, ~disk->first);
+}
+
+size_t disks_table(uint8_t table[EDD_TABLE_SIZE_MAX])
+{
+    size_t length = 0;
+    for (unsigned i = 0; i < EDD_DRIVES; i++, length += 68)
+        put_record(table + length, &disks[i]);
+    put_word(table + length, 4, 4); /* the end record: length 4, kind 0 */
+    return length + 4;
+}

@@ -1,0 +1,33 @@
+/*
+ * disks.h - the eight disks of the demo in one store, and the drive table that says where they lie.
+ */
+#ifndef DISKS_H
+#define DISKS_H
+
+#include <stddef.h>
+#include <stdint.h>
+
+#include "edd_desk.h"
+
+struct disk {
+    uint16_t cylinders, heads;
+    uint8_t sectors;
+    uint64_t first, blocks;    /* in the store; the blocks past the geometry are reached by packets only */
+    uint16_t flags;            /* information flags; bit 3: 43h may be asked to verify */
+    uint8_t is_protected;
+    const char *bus, *interface;
+};
+
+/* Disk g is drive 80h + g. The last one is protected. Between the disks the store has blocks that belong to nobody. */
+extern const struct disk disks[EDD_DRIVES];
+
+#define STORE_BLOCKS 127000
+#define SHARED_DISK 7
+
+/* Lays out the drive table of the eight disks and returns its length. */
+size_t disks_table(uint8_t table[EDD_TABLE_SIZE_MAX]);
+
+/* Little-endian words, as tables, packets and results have them. */
+void put_word(uint8_t *at, unsigned bytes, uint64_t value);
+
+#endif

@@ -1,0 +1,554 @@
+#include "guest.h"
+
+#include <stdarg.h>
+#include <stdio.h>
+#include <stdlib.h>
+#include <string.h>
+
+/* ---- workloads */
+
+enum kind { CHS_READ, CHS_WRITE, PACKET_READ, PACKET_WRITE, VERIFY, SEEK, ASK, WRONG, SHARED_READ, KINDS };
+
+struct workload {
+    const char *name;
+    unsigned share[KINDS];    /* how often each kind comes, of their sum */
+    unsigned most;            /* blocks of a request, at most */
+    unsigned withdraws;       /* how many of a hundred requests it would rather withdraw */
+};
+
+static const struct workload workloads[EDD_GUESTS] = {
+    /*             02h 03h 42h 43h 44h 47h ask wrong shared  most withdraws */
+    { "boot",     { 40, 25,  0,  0,  0,  0, 10,  2,  0 },      8,  0 },
+    { "log",      {  0,  0, 10, 60, 10,  5,  2,  2,  0 },      4,  0 },
+    { "solver",   {  0,  0, 45, 45,  2,  2,  2,  1,  0 },    127,  0 },
+    { "tracks",   { 45, 45,  0,  0,  0,  0,  3,  2,  0 },    128,  0 },
+    { "mixed",    { 20, 20, 20, 20,  5,  5,  5,  5,  0 },    128,  0 },
+    { "hasty",    { 20, 20, 25, 25,  2,  2,  2,  2,  0 },    100, 50 },
+    { "reader",   { 20,  5, 20,  5,  2,  2,  2,  1, 30 },     40,  0 },
+    { "protected",{ 30, 15, 30, 15,  5,  5,  5, 10,  0 },     64,  0 },
+};
+
+const char *guest_workload(unsigned number)
+{
+    return workloads[number].name;
+}
+
+/* ---- small help */
+
+/* The splitmix64 generator: short, and each guest has its own state. */
+static uint64_t next_random(struct guest *g)
+{
+    uint64_t z = (g->random += 0x9e3779b97f4a7c15u);
+    z = (z ^ (z >> 30)) * 0xbf58476d1ce4e5b9u;
+    z = (z ^ (z >> 27)) * 0x94d049bb133111ebu;
+    return z ^ (z >> 31);
+}
+
+/* A number from low to high, both included. */
+static uint64_t between(struct guest *g, uint64_t low, uint64_t high)
+{
+    return low + next_random(g) % (high - low + 1);
+}
+
+static void fail(struct guest *g, const char *format, ...)
+{
+    va_list arguments;
+    if (g->failed)
+        return;
+    g->failed = 1;
+    va_start(arguments, format);
+    vsnprintf(g->fault, sizeof g->fault, format, arguments);
+    va_end(arguments);
+}
+
+static void set_ah(struct registers *r, unsigned ah)
+{
+    r->ax = (uint16_t)(ah << 8 | (r->ax & 0xff));
+}
+
+static void set_al(struct registers *r, unsigned al)
+{
+    r->ax = (uint16_t)((r->ax & 0xff00) | al);
+}
+
+/* An address of the window as one of its many segment:offset pairs. */
+static void as_pair(struct guest *g, uint64_t address, uint16_t *segment, uint16_t *offset)
+{
+    uint64_t paragraphs = address >> 4;
+    uint64_t moved = between(g, paragraphs > 0xffff ? paragraphs - 0xffff : 0, paragraphs < 0xfff ? paragraphs : 0xfff);
+    *segment = (uint16_t)(paragraphs - moved);
+    *offset = (uint16_t)(16 * moved + (address & 15));
+}
+
+/* Blocks that say who wrote them and when, and never the same twice. */
+static void fill_blocks(struct guest *g, uint8_t *at, uint64_t blocks)
+{
+    for (uint64_t i = 0; i < blocks; i++, at += EDD_BLOCK_SIZE) {
+        uint64_t word = ++g->written << 8 | g->number;
+        for (unsigned k = 0; k < EDD_BLOCK_SIZE; k += 8) {
+            memcpy(at + k, &word, 8);
+            word = word * 6364136223846793005u + 1442695040888963407u;
+        }
+    }
+}
+
+/* ---- one request */
+
+/* A part of the window. */
+struct part {
+    uint64_t at, length;
+};
+
+struct request {
+    struct registers given;
+    struct registers wanted;  /* what must come back, if it is not withdrawn */
+    struct part laid[2];      /* what the guest has written in its memory for this request */
+    unsigned parts;
+    uint64_t packet;          /* where the packet lies; 0 for none */
+    int clears_count;         /* the refusal writes 0 to the packet's count word */
+    uint8_t result[66];       /* what 48h lays over the start of the first part */
+    unsigned result_length;
+
+    int write;                /* the blocks to be moved: to the disk, or from it */
+    uint8_t *disk;            /* their place in the guest's copy of its disk; NULL when the disk is another's */
+    const uint8_t *contents;  /* what they hold there */
+    uint64_t blocks, buffer;
+    int patience;
+};
+
+static void lay(struct request *q, uint64_t at, uint64_t length)
+{
+    q->laid[q->parts].at = at;
+    q->laid[q->parts].length = length;
+    q->parts++;
+}
+
+/* Registers with any values, so that one that is not named in an answer is seen to stay. Carry on the way in is not read. */
+static struct request begin(struct guest *g, unsigned function)
+{
+    struct request q;
+    memset(&q, 0, sizeof q);
+    uint64_t any = next_random(g), more = next_random(g);
+    q.given = (struct registers){
+        (uint16_t)any, (uint16_t)(any >> 16), (uint16_t)(any >> 32), (uint16_t)(any >> 48),
+        (uint16_t)more, (uint16_t)(more >> 16), (uint16_t)(more >> 32), (uint16_t)(more >> 63),
+    };
+    set_ah(&q.given, function);
+    q.given.dx = (uint16_t)((q.given.dx & 0xff00) | (0x80 + g->number));
+    q.patience = -1;
+    return q;
+}
+
+/* What the registers must be if the request succeeds, or is refused with a code. */
+static void want(struct request *q, unsigned code)
+{
+    q->wanted = q->given;
+    set_ah(&q->wanted, code);
+    q->wanted.carry = code != 0;
+}
+
+/* Does a part of the window, as far as the window goes, hold what the guest's copy has? */
+static void compare(struct guest *g, const uint8_t *window, uint64_t at, uint64_t length, const char *what)
+{
+    if (length > WINDOW_SIZE - at)
+        length = WINDOW_SIZE - at;
+    if (memcmp(window + at, g->memory + at, length) != 0)
+        fail(g, "%s at %05llx is not what it must be", what, (unsigned long long)at);
+}
+
+/* What the guest has written in its memory goes into its window. */
+static void lay_down(struct guest *g, const struct request *q, uint8_t *window)
+{
+    for (unsigned i = 0; i < q->parts; i++)
+        memcpy(window + q->laid[i].at, g->memory + q->laid[i].at, q->laid[i].length);
+}
+
+/* What the request has done to the guest's memory and disk, on the guest's own copies. */
+static void follow(struct guest *g, struct request *q, enum ending ending, uint64_t moved)
+{
+    if (moved > q->blocks)
+        moved = q->blocks; /* check_answer finds that */
+    if (q->write && q->disk)
+        memcpy(q->disk, g->memory + q->buffer, moved * EDD_BLOCK_SIZE);
+    else if (moved)
+        memcpy(g->memory + q->buffer, q->contents, moved * EDD_BLOCK_SIZE);
+    if (q->clears_count)
+        put_word(g->memory + q->packet + 2, 2, 0);
+    if (q->result_length)
+        memcpy(g->memory + q->laid[0].at, q->result, q->result_length);
+    if (ending == WITHDRAWN) {
+        want(q, EDD_AH_WITHDRAWN);
+        if (q->packet)
+            put_word(g->memory + q->packet + 2, 2, moved);
+        else
+            set_al(&q->wanted, (unsigned)moved);
+    }
+}
+
+/* The number moved, and the registers. */
+static void check_answer(struct guest *g, const struct request *q, const struct registers *r, enum ending ending,
+                         uint64_t moved)
+{
+    int good = ending == FINISHED    ? moved == q->blocks
+               : ending == WITHDRAWN ? moved < q->blocks && moved % EDD_TURN_BLOCKS == 0
+                                     : moved == 0 && (q->blocks == 0 || q->wanted.carry);
+    if (!good)
+        fail(g, "AH=%02x: %llu blocks moved of %llu", q->given.ax >> 8, (unsigned long long)moved,
+             (unsigned long long)q->blocks);
+    if (memcmp(r, &q->wanted, sizeof *r) != 0)
+        fail(g, "AH=%02x: AX %04x carry %u, not AX %04x carry %u, or another register changed", q->given.ax >> 8, r->ax,
+             r->carry, q->wanted.ax, q->wanted.carry);
+}
+
+/*
+ * Makes the request and checks everything that came back. All that touches the window happens under the lock. The guest
+ * gives the lock up only inside monitor_int13, while the request waits, and then leaves its window alone.
+ */
+static void make(struct guest *g, struct request *q)
+{
+    struct monitor *m = g->monitor;
+    uint8_t *window = monitor_window(m, g->number);
+    struct registers r = q->given;
+    uint64_t moved;
+
+    monitor_lock(m);
+    lay_down(g, q, window);
+    enum ending ending = monitor_int13(m, g->number, &r, q->blocks, q->patience, &moved);
+    follow(g, q, ending, moved);
+
+    /* Does the window hold the same? 16 bytes on either side of a buffer are looked at as well. */
+    for (unsigned i = 0; i < q->parts; i++)
+        compare(g, window, q->laid[i].at, q->laid[i].length, "its packet, result or data");
+    if (q->blocks && !q->write)
+        compare(g, window, q->buffer - 16, q->blocks * EDD_BLOCK_SIZE + 32, "what it read");
+    if (m->guest[g->number].requests % 256 == 0)
+        compare(g, window, 0, WINDOW_SIZE, "its memory");
+    monitor_unlock(m);
+
+    check_answer(g, q, &r, ending, moved);
+}
+
+/* ---- the parts of a request */
+
+/* Somewhere below the buffers: a packet or a result. */
+static uint64_t low_place(struct guest *g)
+{
+    return between(g, 0x500, 0x7f00);
+}
+
+/* A buffer of so many blocks, anywhere above the packets. It may be odd and may cross a 64 KiB border. */
+static uint64_t buffer_place(struct guest *g, uint64_t blocks)
+{
+    return between(g, 0x8010, WINDOW_SIZE - blocks * EDD_BLOCK_SIZE);
+}
+
+static uint64_t pick_blocks(struct guest *g, uint64_t most)
+{
+    if (most > g->workload->most)
+        most = g->workload->most;
+    return between(g, 0, 3) == 0 ? most : between(g, 1, most);
+}
+
+/* After how many of its parts a request is withdrawn; mostly never. */
+static int pick_patience(struct guest *g, uint64_t blocks)
+{
+    if (between(g, 1, 100) > g->workload->withdraws)
+        return -1;
+    return (int)between(g, 0, blocks / EDD_TURN_BLOCKS);
+}
+
+static void lay_packet(struct guest *g, struct request *q, unsigned size, uint64_t count, uint64_t buffer, uint64_t start)
+{
+    uint8_t *packet = g->memory + q->packet;
+    uint16_t segment, offset;
+
+    as_pair(g, buffer, &segment, &offset);
+    packet[0] = (uint8_t)size;
+    packet[1] = (uint8_t)next_random(g); /* ignored */
+    put_word(packet + 2, 2, count);
+    put_word(packet + 4, 2, offset);
+    put_word(packet + 6, 2, segment);
+    put_word(packet + 8, 8, start);
+    lay(q, q->packet, 16);
+    as_pair(g, q->packet, &q->given.ds, &q->given.si);
+}
+
+/* Blocks of a disk, from start on, move to or from the buffer. */
+static void transfer(struct guest *g, struct request *q, unsigned drive, uint64_t start, uint64_t blocks, uint64_t buffer)
+{
+    q->blocks = blocks;
+    q->buffer = buffer;
+    if (drive == g->number)
+        q->disk = g->disk + start * EDD_BLOCK_SIZE;
+    q->contents = (drive == g->number ? g->disk : g->shared) + start * EDD_BLOCK_SIZE;
+    if (q->write) {
+        fill_blocks(g, g->memory + buffer, blocks);
+        lay(q, buffer, blocks * EDD_BLOCK_SIZE);
+    }
+}
+
+/* A protected disk is not written: nothing moves, and the refusal is 03h. */
+static void want_transfer(struct request *q, const struct disk *disk)
+{
+    if (!q->write || !disk->is_protected) {
+        want(q, 0);
+        return;
+    }
+    want(q, EDD_AH_WRITE_PROTECTED);
+    if (q->packet)
+        q->clears_count = 1;
+    else
+        set_al(&q->wanted, 0);
+}
+
+static void set_address(struct request *q, const struct disk *disk, uint64_t block, unsigned sector_off)
+{
+    uint32_t cylinder = 0, head = 0, sector = 0;
+    edd_address(disk->cylinders, disk->heads, disk->sectors, block, &cylinder, &head, &sector);
+    q->given.cx = (uint16_t)((cylinder & 0xff) << 8 | (cylinder >> 8) << 6 | (sector - sector_off));
+    q->given.dx = (uint16_t)(head << 8 | (q->given.dx & 0xff));
+}
+
+/* ---- the kinds of request */
+
+/* 02h and 03h */
+static void chs_transfer(struct guest *g, int write)
+{
+    const struct disk *disk = &disks[g->number];
+    uint64_t size = (uint64_t)disk->cylinders * disk->heads * disk->sectors;
+    struct request q = begin(g, write ? 0x03 : 0x02);
+    uint64_t blocks = pick_blocks(g, 128);
+    uint64_t start = between(g, 0, size - blocks);
+    uint64_t buffer = buffer_place(g, blocks);
+
+    q.write = write;
+    q.patience = pick_patience(g, blocks);
+    transfer(g, &q, g->number, start, blocks, buffer);
+    set_al(&q.given, (unsigned)blocks);
+    set_address(&q, disk, start, 0);
+    as_pair(g, buffer, &q.given.es, &q.given.bx);
+    want_transfer(&q, disk);
+    make(g, &q);
+}
+
+/* 42h and 43h; also of a disk that is not the guest's own, which is then read only */
+static void packet_transfer(struct guest *g, int write, unsigned drive)
+{
+    const struct disk *disk = &disks[drive];
+    struct request q = begin(g, write ? 0x43 : 0x42);
+    uint64_t blocks = between(g, 1, 50) == 1 ? 0 : pick_blocks(g, 127);
+    uint64_t start = between(g, 0, disk->blocks - blocks);
+    uint64_t buffer = buffer_place(g, blocks);
+
+    q.write = write;
+    q.patience = pick_patience(g, blocks);
+    q.packet = low_place(g);
+    /* A read may lay its data over its own packet: that was read at the post, and not again. A withdrawal then writes the
+     * number moved over the data. */
+    if (!write && blocks && between(g, 1, 8) == 1)
+        q.packet = buffer + between(g, 0, EDD_BLOCK_SIZE * blocks - 16);
+    transfer(g, &q, drive, start, blocks, buffer);
+    lay_packet(g, &q, (unsigned)between(g, 16, 255), blocks, buffer, start);
+    q.given.dx = (uint16_t)((q.given.dx & 0xff00) | (0x80 + drive));
+    if (write) /* AL: 0 and 1 write, 2 writes and verifies where the drive can */
+        set_al(&q.given, (unsigned)between(g, 0, disk->flags & 0x08 ? 2 : 1));
+    want_transfer(&q, disk);
+    make(g, &q);
+}
+
+/* 44h and 47h: a packet like that of a read, but nothing moves and no buffer is looked at */
+static void packet_only(struct guest *g, unsigned function)
+{
+    const struct disk *disk = &disks[g->number];
+    struct request q = begin(g, function);
+    uint64_t count = between(g, 0, 127);
+
+    q.packet = low_place(g);
+    lay_packet(g, &q, 16, count, between(g, 0, WINDOW_SIZE - 1), between(g, 0, disk->blocks - count - 1));
+    want(&q, 0);
+    make(g, &q);
+}
+
+/* 48h: the whole result, document 01's layout */
+static void parameters(struct guest *g)
+{
+    static const uint16_t asked[] = { 26, 29, 30, 65, 66, 1000 };
+    const struct disk *disk = &disks[g->number];
+    struct request q = begin(g, 0x48);
+    uint64_t place = low_place(g);
+    uint16_t size = asked[between(g, 0, 5)];
+    uint8_t sum = 0;
+
+    q.result_length = size >= 66 ? 66 : size >= 30 ? 30 : 26;
+    put_word(q.result + 0, 2, q.result_length);
+    put_word(q.result + 2, 2, disk->flags);
+    put_word(q.result + 4, 4, disk->cylinders);
+    put_word(q.result + 8, 4, disk->heads);
+    put_word(q.result + 12, 4, disk->sectors);
+    put_word(q.result + 16, 8, disk->blocks);
+    put_word(q.result + 24, 2, EDD_BLOCK_SIZE);
+    put_word(q.result + 26, 4, 0xffffffff);
+    put_word(q.result + 30, 2, 0xbedd);
+    q.result[32] = 0x24;
+    memcpy(q.result + 36, disk->bus, strlen(disk->bus));
+    memcpy(q.result + 40, disk->interface, strlen(disk->interface));
+    put_word(q.result + 48, 8, disk->first);
+    put_word(q.result + 56, 8, ~disk->first);
+    for (unsigned i = 30; i < 65; i++)
+        sum += q.result[i];
+    q.result[65] = (uint8_t)-sum;
+
+    /* The guest lays down the size that it asks for. The result then lies over it, and what follows the result stays. */
+    put_word(g->memory + place, 2, size);
+    lay(&q, place, 80);
+    as_pair(g, place, &q.given.ds, &q.given.si);
+    want(&q, 0);
+    make(g, &q);
+}
+
+/* 08h, 41h or 48h */
+static void ask(struct guest *g)
+{
+    const struct disk *disk = &disks[g->number];
+    uint64_t which = between(g, 0, 2);
+    if (which == 0) {
+        parameters(g);
+        return;
+    }
+    struct request q = begin(g, which == 1 ? 0x08 : 0x41);
+    if (which == 1) {
+        unsigned top = disk->cylinders - 1u;
+        want(&q, 0);
+        q.wanted.ax = 0;
+        q.wanted.cx = (uint16_t)((top & 0xff) << 8 | (top >> 8) << 6 | disk->sectors);
+        q.wanted.dx = (uint16_t)((disk->heads - 1) << 8 | EDD_DRIVES);
+    } else {
+        q.given.bx = 0x55aa;
+        want(&q, 0);
+        q.wanted.ax = 0x3000;
+        q.wanted.bx = 0xaa55;
+        q.wanted.cx = 0x0001;
+    }
+    make(g, &q);
+}
+
+/* ---- requests that are refused */
+
+static void wrong_chs(struct guest *g, unsigned al, uint64_t block, unsigned sector_off, unsigned code)
+{
+    struct request q = begin(g, 0x02);
+    set_al(&q.given, al);
+    set_address(&q, &disks[g->number], block, sector_off);
+    as_pair(g, 0x8010, &q.given.es, &q.given.bx);
+    want(&q, code);
+    set_al(&q.wanted, 0);
+    make(g, &q);
+}
+
+static void wrong_packet(struct guest *g, unsigned function, unsigned size, uint64_t count, uint64_t buffer,
+                         uint64_t start, unsigned code, int clears_count)
+{
+    struct request q = begin(g, function);
+    q.packet = low_place(g);
+    lay_packet(g, &q, size, count, buffer, start);
+    if (function == 0x43)
+        set_al(&q.given, 3);
+    want(&q, code);
+    q.clears_count = clears_count;
+    make(g, &q);
+}
+
+static void wrong_registers(struct guest *g, unsigned function, unsigned drive, unsigned code)
+{
+    struct request q = begin(g, function);
+    q.given.dx = (uint16_t)((q.given.dx & 0xff00) | drive);
+    if (function == 0x41)
+        q.given.bx = 0x55ab;
+    want(&q, code);
+    if (function == 0x02)
+        set_al(&q.wanted, 0);
+    make(g, &q);
+}
+
+/* Something that no guest should ask for: nothing moves. */
+static void wrong(struct guest *g)
+{
+    const struct disk *disk = &disks[g->number];
+    uint64_t blocks = disk->blocks;
+    uint64_t size = (uint64_t)disk->cylinders * disk->heads * disk->sectors;
+
+    switch (between(g, 0, 15)) {
+    case 0: wrong_registers(g, 0x15, 0x80 + g->number, 0x01); break;              /* unknown function */
+    case 1: wrong_registers(g, 0x42, 0x7f, 0x01); break;                          /* unknown drive */
+    case 2: wrong_registers(g, 0x02, 0x88, 0x01); break;
+    case 3: wrong_registers(g, 0x08, 0x00, 0x07); break;
+    case 4: wrong_registers(g, 0x41, 0x80 + g->number, 0x01); break;              /* BX is not 55AAh */
+    case 5: wrong_chs(g, 0, 0, 0, 0x01); break;                                   /* no blocks */
+    case 6: wrong_chs(g, 129, 0, 0, 0x09); break;                                 /* too many */
+    case 7: wrong_chs(g, 2, size - 1, 0, 0x04); break;                            /* past the geometry */
+    case 8: wrong_chs(g, 1, 0, 1, 0x04); break;                                   /* sector 0 */
+    case 9: wrong_packet(g, 0x42, 16, 1, 0x8000, blocks, 0x04, 1); break;         /* past the drive */
+    case 10: wrong_packet(g, 0x42, 16, 2, 0x8000, UINT64_MAX, 0x04, 1); break;    /* start + count would wrap */
+    case 11: wrong_packet(g, 0x42, 16, 128, 0x8000, 0, 0x01, 1); break;           /* count above 127 */
+    case 12: wrong_packet(g, 0x42, 15, 1, 0x8000, 0, 0x01, 0); break;             /* packet too short */
+    case 13: wrong_packet(g, 0x42, 16, 1, WINDOW_SIZE - 511, 0, 0x09, 1); break;  /* buffer past the window */
+    case 14: wrong_packet(g, 0x43, 16, 1, 0x8000, 0, 0x01, 0); break;             /* AL above 2 */
+    case 15: wrong_packet(g, 0x47, 16, 1, 0x8000, blocks, 0x04, 0); break;        /* seek past the drive */
+    }
+}
+
+/* ---- the guest */
+
+static void one_request(struct guest *g)
+{
+    const struct workload *w = g->workload;
+    unsigned sum = 0, kind = 0;
+    for (unsigned k = 0; k < KINDS; k++)
+        sum += w->share[k];
+    uint64_t at = between(g, 0, sum - 1);
+    while (at >= w->share[kind])
+        at -= w->share[kind++];
+
+    switch ((enum kind)kind) {
+    case CHS_READ: chs_transfer(g, 0); break;
+    case CHS_WRITE: chs_transfer(g, 1); break;
+    case PACKET_READ: packet_transfer(g, 0, g->number); break;
+    case PACKET_WRITE: packet_transfer(g, 1, g->number); break;
+    case SHARED_READ: packet_transfer(g, 0, SHARED_DISK); break;
+    case VERIFY: packet_only(g, 0x44); break;
+    case SEEK: packet_only(g, 0x47); break;
+    case ASK: ask(g); break;
+    case WRONG: wrong(g); break;
+    case KINDS: break;
+    }
+}
+
+void guest_run(struct guest *g, uint64_t requests)
+{
+    for (uint64_t i = 0; i < requests && !g->failed; i++)
+        one_request(g);
+    monitor_leave(g->monitor);
+}
+
+int guest_make(struct guest *g, struct monitor *monitor, unsigned number, uint64_t seed)
+{
+    memset(g, 0, sizeof *g);
+    g->monitor = monitor;
+    g->number = number;
+    g->workload = &workloads[number];
+    g->random = seed + 0x1000003u * (number + 1);
+    g->memory = malloc(WINDOW_SIZE);
+    g->disk = malloc(disks[number].blocks * EDD_BLOCK_SIZE);
+    if (!g->memory || !g->disk)
+        return -1;
+    for (uint64_t at = 0; at < WINDOW_SIZE; at += EDD_BLOCK_SIZE)
+        fill_blocks(g, g->memory + at, 1);
+    fill_blocks(g, g->disk, disks[number].blocks);
+    return 0;
+}
+
+void guest_free(struct guest *g)
+{
+    free(g->memory);
+    free(g->disk);
+}

@@ -1,0 +1,39 @@
+/*
+ * guest.h - a guest of the demo: a workload on its own disk, and its own copy of what its memory and its disk must hold.
+ */
+#ifndef GUEST_H
+#define GUEST_H
+
+#include "disks.h"
+#include "monitor.h"
+
+#define WINDOW_SIZE 0x100000 /* 1 MiB, what a real-mode program can name */
+
+struct workload;
+
+struct guest {
+    struct monitor *monitor;
+    unsigned number;
+    const struct workload *workload;
+    uint64_t random;
+
+    uint8_t *memory;          /* what its window must hold */
+    uint8_t *disk;            /* what its disk must hold */
+    const uint8_t *shared;    /* what the shared disk must hold */
+    uint64_t written;         /* serial number of the blocks it has written */
+
+    int failed;               /* it has seen something it must not; then it stops */
+    char fault[160];          /* what that was */
+};
+
+/* The name of a guest's workload. */
+const char *guest_workload(unsigned number);
+
+/* Makes guest g. Its memory and its disk get contents of their own; the caller lays them into window and store. */
+int guest_make(struct guest *g, struct monitor *monitor, unsigned number, uint64_t seed);
+void guest_free(struct guest *g);
+
+/* Makes so many requests, checks each, and leaves the monitor. This is what a guest's thread runs. */
+void guest_run(struct guest *g, uint64_t requests);
+
+#endif
