@@ -65,13 +65,18 @@ impl<'a> Stand<'a> {
         Stand::open(service, &[paper_drive()], 8 * window, 2048 * 512)
     }
 
-    /// The same over memory of zeros that may be longer than the machine's.
-    fn vast(service: &'a dyn Service, drives: &[Drive], arena_length: usize, store_length: usize) -> Stand<'a> {
+    /// The same over memory of zeros that may be longer than the machine's. Where it gives no address space for that, the rest of the
+    /// case is left out.
+    fn vast(service: &'a dyn Service, drives: &[Drive], arena_length: usize, store_length: usize) -> Option<Stand<'a>> {
         let desk = Lent::holding(&[0; DESK_SIZE], Place::END);
-        let mut stand = Stand { service, desk, arena: Lent::vast(arena_length), store: Lent::vast(store_length) };
+        let (Some(arena), Some(store)) = (Lent::vast(arena_length), Lent::vast(store_length)) else {
+            println!("directed: {} left out: no address space for {} bytes", doing().unwrap_or(""), arena_length + store_length);
+            return None;
+        };
+        let mut stand = Stand { service, desk, arena, store };
         let answer = stand.open_again(&drives::table(drives), arena_length as u64, store_length as u64);
         assert_eq!(answer, (DONE, UNWRITTEN), "opening");
-        stand
+        Some(stand)
     }
 
     fn open_again(&mut self, table: &[u8], arena_length: u64, store_length: u64) -> (u32, u64) {
@@ -692,7 +697,7 @@ fn b10_drive_parameters(service: &dyn Service) {
     let given = registers(0x08, 0x77, 0x83);
     assert_eq!(stand.post(0, given), (DONE, refused(given, 0x07)));
     // P6
-    let mut stand = Stand::vast(service, &[largest_drive()], 0, LARGEST as usize * 512);
+    let Some(mut stand) = Stand::vast(service, &[largest_drive()], 0, LARGEST as usize * 512) else { return };
     let given = registers(0x08, 1, 0x80);
     assert_eq!(stand.post(0, given), (DONE, Registers { ax: 0, cx: 0xFFFF, dx: 0xFE01, ..given }));
 }
@@ -1271,7 +1276,7 @@ fn e5_what_moves(service: &dyn Service) {
 fn e5_places_above_4_gib(service: &dyn Service) {
     // the largest geometry, and windows of 640 MiB: guest 7's starts at 4.375 GiB
     const WINDOW: usize = 640 << 20;
-    let mut stand = Stand::vast(service, &[largest_drive()], 8 * WINDOW, LARGEST as usize * 512);
+    let Some(mut stand) = Stand::vast(service, &[largest_drive()], 8 * WINDOW, LARGEST as usize * 512) else { return };
     let mut block = [0; 512];
     Chance::new(5).fill(&mut block);
     let low = WINDOW * 7 & 0xFFFF_FFFF;

@@ -348,21 +348,29 @@ pub struct Lent {
 impl Lent {
     /// Memory for slices of up to `room` bytes.
     pub fn with_room(room: usize) -> Lent {
+        Lent::mapped(room).unwrap_or_else(|| panic!("no memory for {room} bytes"))
+    }
+
+    fn mapped(room: usize) -> Option<Lent> {
         let pages = (room + MARGIN).div_ceil(PAGE) + 2;
         // no page is reserved until it is touched, so a slice may be much longer than the machine's memory
         let map = unsafe { mmap(std::ptr::null_mut(), pages * PAGE, NOBODY, PRIVATE_ANONYMOUS | NO_RESERVE, -1, 0) };
-        assert!(map as isize != -1, "no memory for {room} bytes");
+        if map as isize == -1 {
+            return None;
+        }
         let mut lent = Lent { map: map.cast(), pages, start: PAGE, length: 0, partly: Cell::new(false) };
-        lent.protect(READ_WRITE);
+        if unsafe { mprotect(lent.map.add(PAGE).cast(), (pages - 2) * PAGE, READ_WRITE) } != 0 {
+            return None;
+        }
         lent.set_length(0, Place::END);
-        lent
+        Some(lent)
     }
 
-    /// A slice of zeros of which only the pages that are touched take memory.
-    pub fn vast(length: usize) -> Lent {
-        let mut lent = Lent::with_room(length);
+    /// A slice of zeros of which only the pages that are touched take memory; none if the machine gives no address space for it.
+    pub fn vast(length: usize) -> Option<Lent> {
+        let mut lent = Lent::mapped(length)?;
         lent.set_length(length, Place::END);
-        lent
+        Some(lent)
     }
 
     pub fn holding(bytes: &[u8], place: Place) -> Lent {
