@@ -712,47 +712,66 @@ impl Run {
     }
 
     fn change_block(&mut self, bytes: &mut [u8]) {
-        let get = |bytes: &[u8], word: usize| u64::from_le_bytes(bytes[8 * word..][..8].try_into().unwrap());
         let guest = self.chance.below(8) as usize;
         let row = 23 * self.waiting_row().unwrap_or(guest);
-        let at = match self.chance.below(10) {
+        let at = match self.chance.below(14) {
             0 => {
                 let at = self.chance.below(DESK_SIZE as u64) as usize;
                 bytes[at] ^= 1 << self.chance.below(8);
                 return;
             }
             1 => return self.change_row(bytes, guest),
-            2..=5 => row + self.chance.below(23) as usize,
-            6 => row + self.chance.between(9, 14) as usize,
-            7 => 184 + 14 * self.chance.below(self.world.drives.len().max(1) as u64) as usize + self.chance.below(14) as usize,
-            8 => 296 + self.chance.below(4) as usize,
+            2..=4 => row + self.chance.below(23) as usize,
+            5 => row + self.chance.between(9, 14) as usize,
+            6..=8 => return self.change_to_edge(bytes, row),
+            9..=10 => 184 + 14 * self.chance.below(self.world.drives.len().max(1) as u64) as usize + self.chance.below(14) as usize,
+            11 => 296 + self.chance.below(4) as usize,
             _ => self.chance.below(300) as usize,
         };
-        let old = get(bytes, at);
-        let (count, m) = (get(bytes, row + 11), self.world.window);
-        let blocks = self.world.drives.first().map_or(0, |d| d.blocks);
-        let mut values = vec![
-            u64::MAX,
-            u64::MAX,
-            u64::MAX - 15,
-            0,
-            1,
-            1 << 16,
-            1 << 32,
-            1 << 63,
-            old.wrapping_add(1),
-            old.wrapping_sub(1),
-            old ^ 1 << self.chance.below(64),
-            old.wrapping_add(16),
-            old & !15,
-            self.chance.any(),
-            u64::from(self.chance.word()),
-        ];
-        values.extend([m, m.wrapping_sub(16), m.wrapping_sub(15), m.wrapping_sub(count.wrapping_mul(512)), m.wrapping_sub(511)]);
-        values.extend([blocks, blocks.wrapping_sub(count), 0u64.wrapping_sub(count), 128, 127, 0x80, 0x81, 2, 8]);
-        values.extend([0x0201, 0x0302, 0x4200, 0x4300, 0x4400, old & 0xFF | 0x0200, old & 0xFF | 0x4200]);
+        let old = word_at(bytes, at);
+        let drive = self.world.drives.first().copied();
+        let (blocks, first) = drive.map_or((0, 0), |d| (d.blocks, d.first));
+        let mut values = vec![u64::MAX, u64::MAX - 15, 0, 1, 2, 8, 0x80, 0x100, 1 << 16, 1 << 32, 1 << 63];
+        values.extend([old.wrapping_add(1), old.wrapping_sub(1), old.wrapping_add(16), old & !15, old ^ 1 << self.chance.below(64)]);
+        values.extend([self.chance.any(), u64::from(self.chance.word()), self.world.window, blocks, first, first + blocks]);
         let value = self.chance.one_of(&values);
-        bytes[8 * at..8 * at + 8].copy_from_slice(&value.to_le_bytes());
+        set_word_at(bytes, at, value);
+    }
+
+    /// One word of a waiting row set to the last value that is allowed there, or to the first that is not, as far as the others say.
+    fn change_to_edge(&mut self, bytes: &mut [u8], row: usize) {
+        let get = |word: usize| word_at(bytes, row + word);
+        let (ax, number, start, count, buffer, moved) = (get(1), get(9), get(10), get(11), get(12), get(14));
+        let Some(drive) = self.world.drives.get((number as usize).wrapping_sub(0x80)).copied() else { return };
+        if [ax, start, count, buffer, moved].iter().any(|word| *word > 1 << 32) {
+            // an earlier change already made it absurd
+            return;
+        }
+        let by_sector = ax >> 8 < 0x40;
+        let (end, limit) = if by_sector { (drive.geometry(), 128) } else { (drive.blocks, 127) };
+        let (m, drives) = (self.world.window, self.world.drives.len() as u64);
+        let word = self.chance.one_of(&[1, 9, 10, 10, 11, 11, 12, 12, 13, 14, 14]);
+        let after_buffer = m.saturating_sub(buffer) / 512;
+        let edges: Vec<u64> = match word {
+            1 => [0x02, 0x03, 0x42, 0x43, 0x44, 0x47, 0x01, 0x04].map(|ah| ah << 8 | ax & 0xFF).to_vec(),
+            9 => vec![0x7F, 0x80, 0x80 + drives - 1, 0x80 + drives, number + 256],
+            10 => vec![end - count.min(end), (end + 1).wrapping_sub(count), drive.blocks.wrapping_sub(count), 0u64.wrapping_sub(count), 0],
+            11 => vec![
+                limit,
+                limit + 1,
+                moved,
+                moved + 1,
+                end.wrapping_sub(start),
+                end.wrapping_sub(start) + 1,
+                after_buffer,
+                after_buffer + 1,
+            ],
+            12 => vec![m.wrapping_sub(512 * count), (m + 1).wrapping_sub(512 * count), 0u64.wrapping_sub(512 * count), m],
+            13 => vec![m.wrapping_sub(16), m.wrapping_sub(15), 0u64.wrapping_sub(16), 0, 1, m],
+            _ => vec![count & !15, count, count.saturating_sub(1) & !15, 16, 0, 8, moved + 16],
+        };
+        let value = self.chance.one_of(&edges);
+        set_word_at(bytes, row + word, value);
     }
 
     fn waiting_row(&mut self) -> Option<usize> {
@@ -855,6 +874,14 @@ fn known(drive: &model::parts::Drive) -> Drive {
 /// Mostly against a page that nobody may touch; else at any address.
 fn place(chance: &mut Chance) -> Place {
     Place { at_end: chance.percent(70), gap: if chance.percent(70) { 0 } else { chance.between(1, 7) as usize } }
+}
+
+fn word_at(block: &[u8], word: usize) -> u64 {
+    u64::from_le_bytes(block[8 * word..8 * word + 8].try_into().unwrap())
+}
+
+fn set_word_at(block: &mut [u8], word: usize, value: u64) {
+    block[8 * word..8 * word + 8].copy_from_slice(&value.to_le_bytes());
 }
 
 fn lay(lent: &mut Lent, bytes: &[u8], place: Place) {
