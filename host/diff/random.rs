@@ -762,7 +762,7 @@ impl Run {
                 moved,
                 moved + 1,
                 end.wrapping_sub(start),
-                end.wrapping_sub(start) + 1,
+                end.wrapping_sub(start).wrapping_add(1),
                 after_buffer,
                 after_buffer + 1,
             ],
