@@ -102,7 +102,7 @@ laid-out s d n r t =
     let T = flat (tailWords d) in
     let lr : length R ≡ 1472 = length-flat (each rowWords (d .rows)) ∙ ap (λ (m : ℕ). 8 * m) (length-each rowWords 23 length-row (d .rows) ∙ ap (λ (m : ℕ). 23 * m) r) in
     let ld : length D ≡ 896 =
-        length-flat (each driveWords (d .table .drives)) ∙ ap (λ (m : ℕ). 8 * m) (length-each driveWords 14 length-drive (d .table .drives) ∙ ap (λ (m : ℕ). 14 * m) t) in
+    length-flat (each driveWords (d .table .drives)) ∙ ap (λ (m : ℕ). 8 * m) (length-each driveWords 14 length-drive (d .table .drives) ∙ ap (λ (m : ℕ). 14 * m) t) in
     let lt : length T ≡ 32 = length-flat (tailWords d) in
     let l1 : length (R ++ D) ≡ 2368 = length-append R D ∙ omega arith in
     let l2 : length ((R ++ D) ++ T) ≡ length s = length-append (R ++ D) T ∙ omega arith in
@@ -111,4 +111,4 @@ laid-out s d n r t =
     ∙ sets-all s ((R ++ D) ++ T) l2
     ∙ append-assoc R D T
     ∙ sym (each-append (leBytes 8) (each rowWords (d .rows)) (each driveWords (d .table .drives) ++ tailWords d)
-      ∙ ap (λ (l : List ℕ). R ++ l) (each-append (leBytes 8) (each driveWords (d .table .drives)) (tailWords d)))
+    ∙ ap (λ (l : List ℕ). R ++ l) (each-append (leBytes 8) (each driveWords (d .table .drives)) (tailWords d)))

@@ -112,29 +112,44 @@ registers-read s i r h f =
     let F = field s i (registerNumbers r) h in
     let z : le 2 s i ≡ r .ax = rw add-zero at (F 2 0 (r .ax) (omega arith) (omega arith) refl (f .ax)) in
     let c : eqb (getD s (i + 56) 0) 1 ≡ r .carry =
-        ap (λ (x : ℕ). eqb x 1) (byte s i (registerNumbers r) h 7 (pick (r .carry) 1 0) (omega arith) refl (bit-fits (r .carry))) ∙ carry-bit (r .carry) in
-    rw (z, F 2 1 (r .bx) (omega arith) (omega arith) refl (f .bx), F 2 2 (r .cx) (omega arith) (omega arith) refl (f .cx),
-        F 2 3 (r .dx) (omega arith) (omega arith) refl (f .dx), F 2 4 (r .ds) (omega arith) (omega arith) refl (f .ds),
-        F 2 5 (r .si) (omega arith) (omega arith) refl (f .si), F 2 6 (r .es) (omega arith) (omega arith) refl (f .es), c)
+    ap (λ (x : ℕ). eqb x 1) (byte s i (registerNumbers r) h 7 (pick (r .carry) 1 0) (omega arith) refl (bit-fits (r .carry))) ∙ carry-bit (r .carry) in
+    rw (
+      z,
+      F 2 1 (r .bx) (omega arith) (omega arith) refl (f .bx),
+      F 2 2 (r .cx) (omega arith) (omega arith) refl (f .cx),
+      F 2 3 (r .dx) (omega arith) (omega arith) refl (f .dx),
+      F 2 4 (r .ds) (omega arith) (omega arith) refl (f .ds),
+      F 2 5 (r .si) (omega arith) (omega arith) refl (f .si),
+      F 2 6 (r .es) (omega arith) (omega arith) refl (f .es),
+      c,
+    )
 
 request-read : (s : List ℕ) (i : ℕ) (q : Request) → Says s i (requestWords q) → FitsRequest q → requestAt s i ≡ q
 request-read s i q h f =
     let F = field s i (requestWords q) h in
-    rw (registers-read s i (q .job .registers) (says-left s i (registerNumbers (q .job .registers)) _ h) (f .registers),
-        byte s i (requestWords q) h 8 (q .job .drive) (omega arith) refl (f .drive),
-        F 8 9 (q .job .start) (omega arith) (omega arith) refl (f .start), F 8 10 (q .job .count) (omega arith) (omega arith) refl (f .count),
-        F 8 11 (q .job .buffer) (omega arith) (omega arith) refl (f .buffer), F 8 12 (q .job .packet) (omega arith) (omega arith) refl (f .packet),
-        F 8 13 (q .moved) (omega arith) (omega arith) refl (f .moved))
+    rw (
+      registers-read s i (q .job .registers) (says-left s i (registerNumbers (q .job .registers)) _ h) (f .registers),
+      byte s i (requestWords q) h 8 (q .job .drive) (omega arith) refl (f .drive),
+      F 8 9 (q .job .start) (omega arith) (omega arith) refl (f .start),
+      F 8 10 (q .job .count) (omega arith) (omega arith) refl (f .count),
+      F 8 11 (q .job .buffer) (omega arith) (omega arith) refl (f .buffer),
+      F 8 12 (q .job .packet) (omega arith) (omega arith) refl (f .packet),
+      F 8 13 (q .moved) (omega arith) (omega arith) refl (f .moved),
+    )
 
 stage-read : (s : List ℕ) (i : ℕ) (x : Stage) → Says s i (stageWords x) → FitsStage x → readStage s i ≡ x
 unfolding readStage FitsStage
 stage-read s i Vacant h f = rw (rw add-zero at (byte s i (stageWords Vacant) h 0 0 (omega arith) refl (omega arith)))
 stage-read s i (Waiting q) h f =
-    rw (rw add-zero at (byte s i (stageWords (Waiting q)) h 0 1 (omega arith) refl (omega arith)),
-        request-read s (i + 8) q (says-left s (i + 8) (requestWords q) _ (says-right s i (i + 8) (1 ∷ []) _ refl h)) f)
+    rw (
+      rw add-zero at (byte s i (stageWords (Waiting q)) h 0 1 (omega arith) refl (omega arith)),
+      request-read s (i + 8) q (says-left s (i + 8) (requestWords q) _ (says-right s i (i + 8) (1 ∷ []) _ refl h)) f,
+    )
 stage-read s i (Finished r) h f =
-    rw (rw add-zero at (byte s i (stageWords (Finished r)) h 0 2 (omega arith) refl (omega arith)),
-        registers-read s (i + 120) r (says-right s i (i + 120) (2 ∷ 0 ∷ 0 ∷ 0 ∷ 0 ∷ 0 ∷ 0 ∷ 0 ∷ 0 ∷ 0 ∷ 0 ∷ 0 ∷ 0 ∷ 0 ∷ 0 ∷ []) _ refl h) f)
+    rw (
+      rw add-zero at (byte s i (stageWords (Finished r)) h 0 2 (omega arith) refl (omega arith)),
+      registers-read s (i + 120) r (says-right s i (i + 120) (2 ∷ 0 ∷ 0 ∷ 0 ∷ 0 ∷ 0 ∷ 0 ∷ 0 ∷ 0 ∷ 0 ∷ 0 ∷ 0 ∷ 0 ∷ 0 ∷ 0 ∷ []) _ refl h) f,
+    )
 
 drive-read : (s : List ℕ) (i : ℕ) (d : Drive) → Says s i (driveWords d) → FitsDrive d → Bytes s → i + 112 ≤ length s → readDrive s i ≡ d
 unfolding readDrive
@@ -143,15 +158,22 @@ drive-read s i d h f bs l =
     let F = field s i (driveWords d) h in
     let N = name s i (driveWords d) h in
     let z : le 4 s i ≡ d .cylinders = rw add-zero at (F 4 0 (d .cylinders) (omega arith) (omega arith) refl (n .cylinders)) in
-    rw (z, F 4 1 (d .heads) (omega arith) (omega arith) refl (n .heads), F 4 2 (d .sectors) (omega arith) (omega arith) refl (n .sectors),
-        F 8 3 (d .blocks) (omega arith) (omega arith) refl (n .blocks), F 8 4 (d .first) (omega arith) (omega arith) refl (n .first),
-        F 2 5 (d .flags) (omega arith) (omega arith) refl (n .flags), F 2 6 (d .c) (omega arith) (omega arith) refl (n .c),
-        F 2 7 (d .h) (omega arith) (omega arith) refl (n .h),
-        byte s i (driveWords d) h 8 (d .s) (omega arith) refl (f .s), byte s i (driveWords d) h 9 (d .protection) (omega arith) refl (f .protection),
-        N 4 10 (d .bus) (omega arith) (omega arith) bs (omega arith) (n .bus) (f .bus) refl,
-        N 8 11 (d .interface) (omega arith) (omega arith) bs (omega arith) (n .interface) (f .interface) refl,
-        N 8 12 (d .path) (omega arith) (omega arith) bs (omega arith) (n .path) (f .path) refl,
-        N 8 13 (d .device) (omega arith) (omega arith) bs (omega arith) (n .device) (f .device) refl)
+    rw (
+      z,
+      F 4 1 (d .heads) (omega arith) (omega arith) refl (n .heads),
+      F 4 2 (d .sectors) (omega arith) (omega arith) refl (n .sectors),
+      F 8 3 (d .blocks) (omega arith) (omega arith) refl (n .blocks),
+      F 8 4 (d .first) (omega arith) (omega arith) refl (n .first),
+      F 2 5 (d .flags) (omega arith) (omega arith) refl (n .flags),
+      F 2 6 (d .c) (omega arith) (omega arith) refl (n .c),
+      F 2 7 (d .h) (omega arith) (omega arith) refl (n .h),
+      byte s i (driveWords d) h 8 (d .s) (omega arith) refl (f .s),
+      byte s i (driveWords d) h 9 (d .protection) (omega arith) refl (f .protection),
+      N 4 10 (d .bus) (omega arith) (omega arith) bs (omega arith) (n .bus) (f .bus) refl,
+      N 8 11 (d .interface) (omega arith) (omega arith) bs (omega arith) (n .interface) (f .interface) refl,
+      N 8 12 (d .path) (omega arith) (omega arith) bs (omega arith) (n .path) (f .path) refl,
+      N 8 13 (d .device) (omega arith) (omega arith) bs (omega arith) (n .device) (f .device) refl,
+    )
 
 -- ---- a desk's image
 
@@ -210,8 +232,13 @@ module _ (d : Desk) (fit : FitsDesk d) where
   unfolding image deskWords
   length-image =
       length-flat (deskWords d)
-      ∙ omega (arith, rows-length, drives-length, length-append (each rowWords (d .rows)) (each driveWords (d .table .drives) ++ tailWords d),
-        length-append (each driveWords (d .table .drives)) (tailWords d))
+      ∙ omega (
+        arith,
+        rows-length,
+        drives-length,
+        length-append (each rowWords (d .rows)) (each driveWords (d .table .drives) ++ tailWords d),
+        length-append (each driveWords (d .table .drives)) (tailWords d),
+      )
 
   says-image : Says (image d) 0 (each rowWords (d .rows) ++ (each driveWords (d .table .drives) ++ tailWords d))
   unfolding image deskWords
@@ -241,13 +268,30 @@ module _ (d : Desk) (fit : FitsDesk d) where
   pub read-image : readDesk (image d) ≡ d
   unfolding readDesk
   read-image =
-      rw (row-read 0 0 (omega arith) refl, row-read 1 184 (omega arith) refl, row-read 2 368 (omega arith) refl, row-read 3 552 (omega arith) refl,
-          row-read 4 736 (omega arith) refl, row-read 5 920 (omega arith) refl, row-read 6 1104 (omega arith) refl, row-read 7 1288 (omega arith) refl,
-          place-read 0 1472 (omega arith) refl, place-read 1 1584 (omega arith) refl, place-read 2 1696 (omega arith) refl, place-read 3 1808 (omega arith) refl,
-          place-read 4 1920 (omega arith) refl, place-read 5 2032 (omega arith) refl, place-read 6 2144 (omega arith) refl, place-read 7 2256 (omega arith) refl,
-          tail-read 0 (d .table .count) (omega arith) refl (fit .table .count), tail-read 1 (d .pointer) (omega arith) refl (fit .pointer),
-          tail-read 2 (d .arena) (omega arith) refl (fit .arena), tail-read 3 (d .store) (omega arith) refl (fit .store),
-          eight (d .rows) vacantRow (fit .eight), eight (d .table .drives) noDrive (fit .table .eight))
+      rw (
+        row-read 0 0 (omega arith) refl,
+        row-read 1 184 (omega arith) refl,
+        row-read 2 368 (omega arith) refl,
+        row-read 3 552 (omega arith) refl,
+        row-read 4 736 (omega arith) refl,
+        row-read 5 920 (omega arith) refl,
+        row-read 6 1104 (omega arith) refl,
+        row-read 7 1288 (omega arith) refl,
+        place-read 0 1472 (omega arith) refl,
+        place-read 1 1584 (omega arith) refl,
+        place-read 2 1696 (omega arith) refl,
+        place-read 3 1808 (omega arith) refl,
+        place-read 4 1920 (omega arith) refl,
+        place-read 5 2032 (omega arith) refl,
+        place-read 6 2144 (omega arith) refl,
+        place-read 7 2256 (omega arith) refl,
+        tail-read 0 (d .table .count) (omega arith) refl (fit .table .count),
+        tail-read 1 (d .pointer) (omega arith) refl (fit .pointer),
+        tail-read 2 (d .arena) (omega arith) refl (fit .arena),
+        tail-read 3 (d .store) (omega arith) refl (fit .store),
+        eight (d .rows) vacantRow (fit .eight),
+        eight (d .table .drives) noDrive (fit .table .eight),
+      )
 
 -- the desk of a desk's image is the desk
 pub desk-image : (d : Desk) → FitsDesk d → deskOf (image d) ≡ d
@@ -298,20 +342,20 @@ module _ (b : List ℕ) (h : Bytes b) where
   drive-fits i l =
       record {
         numbers =
-          record {
-            cylinders = le-lt 4 b i h;
-            heads = le-lt 4 b (i + 8) h;
-            sectors = le-lt 4 b (i + 16) h;
-            blocks = le-lt 8 b (i + 24) h;
-            first = le-lt 8 b (i + 32) h;
-            flags = le-lt 2 b (i + 40) h;
-            c = le-lt 2 b (i + 48) h;
-            h = le-lt 2 b (i + 56) h;
-            bus = part-length 4 (i + 80) (omega arith);
-            interface = part-length 8 (i + 88) (omega arith);
-            path = part-length 8 (i + 96) (omega arith);
-            device = part-length 8 (i + 104) (omega arith);
-          };
+            record {
+              cylinders = le-lt 4 b i h;
+              heads = le-lt 4 b (i + 8) h;
+              sectors = le-lt 4 b (i + 16) h;
+              blocks = le-lt 8 b (i + 24) h;
+              first = le-lt 8 b (i + 32) h;
+              flags = le-lt 2 b (i + 40) h;
+              c = le-lt 2 b (i + 48) h;
+              h = le-lt 2 b (i + 56) h;
+              bus = part-length 4 (i + 80) (omega arith);
+              interface = part-length 8 (i + 88) (omega arith);
+              path = part-length 8 (i + 96) (omega arith);
+              device = part-length 8 (i + 104) (omega arith);
+            };
         s = h (i + 64);
         protection = h (i + 72);
         bus = bytes-part 4 b (i + 80) h;
@@ -338,8 +382,8 @@ module _ (b : List ℕ) (h : Bytes b) where
       record {
         eight = refl;
         each =
-          by-eight FitsDrive _ _ _ _ _ _ _ _ noDrive (drive-fits 1472 (omega arith)) (drive-fits 1584 (omega arith)) (drive-fits 1696 (omega arith))
-          (drive-fits 1808 (omega arith)) (drive-fits 1920 (omega arith)) (drive-fits 2032 (omega arith)) (drive-fits 2144 (omega arith)) (drive-fits 2256 (omega arith));
+            by-eight FitsDrive _ _ _ _ _ _ _ _ noDrive (drive-fits 1472 (omega arith)) (drive-fits 1584 (omega arith)) (drive-fits 1696 (omega arith))
+            (drive-fits 1808 (omega arith)) (drive-fits 1920 (omega arith)) (drive-fits 2032 (omega arith)) (drive-fits 2144 (omega arith)) (drive-fits 2256 (omega arith));
         count = le-lt 8 b 2368 h;
       }
 
@@ -349,8 +393,8 @@ module _ (b : List ℕ) (h : Bytes b) where
       record {
         eight = refl;
         each =
-          by-eight (λ (r : Row). FitsStage (r .stage)) _ _ _ _ _ _ _ _ vacantRow (stage-fits 0) (stage-fits 184) (stage-fits 368) (stage-fits 552)
-          (stage-fits 736) (stage-fits 920) (stage-fits 1104) (stage-fits 1288);
+            by-eight (λ (r : Row). FitsStage (r .stage)) _ _ _ _ _ _ _ _ vacantRow (stage-fits 0) (stage-fits 184) (stage-fits 368) (stage-fits 552)
+            (stage-fits 736) (stage-fits 920) (stage-fits 1104) (stage-fits 1288);
         table = table-fits l;
         pointer = le-lt 8 b 2376 h;
         arena = le-lt 8 b 2384 h;

@@ -133,8 +133,8 @@ readRows b =
 abbrev pub readTable : List ℕ → Table
 readTable b = record {
   drives =
-    readDrive b 1472 ∷ readDrive b 1584 ∷ readDrive b 1696 ∷ readDrive b 1808
-    ∷ readDrive b 1920 ∷ readDrive b 2032 ∷ readDrive b 2144 ∷ readDrive b 2256 ∷ [];
+      readDrive b 1472 ∷ readDrive b 1584 ∷ readDrive b 1696 ∷ readDrive b 1808
+      ∷ readDrive b 1920 ∷ readDrive b 2032 ∷ readDrive b 2144 ∷ readDrive b 2256 ∷ [];
   count = le 8 b 2368;
 }
 

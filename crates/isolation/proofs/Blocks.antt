@@ -1,32 +1,38 @@
 -- Demand 3 holds at a desk block: the calls at the image of a desk are the calls at the desk.
 -- Assumes nothing.
-use Prim.Native.Nat.{ℕ}
+use Prim.Native.Nat.{ℕ, _<_}
 use mathlib.Core.Path.{_≡_, refl, sym, ap, ap₂, subst, _∙_}
 use mathlib.Core.Bool.{true, false}
+use mathlib.Core.Logic.{⊎-elim}
 use mathlib.Core.List.{List, [], _∷_, _++_, map}
 use native.Mathlib.Omega.{arith}
-use lib.Dec.{eqb}
-use lib.ListN.{length}
-use borrow.Author.Tests.{eq-eqb, ne-eqb, eqb-true}
-use Rattle.logic.proofs.Logic.{pick-cases}
-use Rattle.memory.specs.Window.{windowLength}
+use lib.Dec.{leb, eqb}
+use lib.ListN.{length, getD, List·getD-eq-default}
+use borrow.Author.Tests.{eq-eqb, ne-eqb, eqb-true, leb-true}
+use Rattle.logic.proofs.Logic.{both-true, pick-cases, lt-or-le}
+use Rattle.words.specs.Words.{Bytes}
+use Rattle.memory.specs.Window.{guests, windowLength}
+use Rattle.drive.proofs.Drives.{Arrays}
+use Rattle.table.specs.Table.{noDrive, isSound}
+use Rattle.desk.specs.declared.Row.{Row}
 use Rattle.desk.specs.declared.Desk.{Desk}
 use Rattle.desk.specs.declared.OpenAnswer.{OpenAnswer}
 use Rattle.desk.specs.declared.OpenAnswer.the-variants.{Opened, Refused as OpenRefused}
-use Rattle.desk.specs.Acceptable.{accept}
+use Rattle.desk.specs.Parts.{windowSize, storeBlocks, vacantRow, stageAt}
+use Rattle.desk.specs.Acceptable.{stageOk, accept}
 use Rattle.desk.proofs.Acceptances.{closed-refused}
 use Rattle.desk.specs.Calls.{openOf, writtenOf, writtenOut, postOf, turnOf, collectOf, withdrawOf}
 use Rattle.image.specs.Image.{image, blockSize, isImage, deskOf, accepted, laid, FitsDesk}
-use Rattle.image.proofs.Laws.{length-image, desk-image}
-use Rattle.isolation.specs.Lists.{Op, openTable, post, turn, collect, withdraw, write, Call, opening, Out, openedDesk, stepOf, step, Event, run, after}
+use Rattle.image.proofs.Laws.{length-image, desk-image, exact}
+use Rattle.isolation.specs.Lists.{Op, openTable, post, turn, collect, withdraw, write, Call, Answer, opening, Out, openedDesk, stepOf, step, Event, run, after}
 use Rattle.isolation.specs.Words.{Kind, opens, kindOf, houseNumber, NoneOpens}
-use Rattle.isolation.specs.Blocks.{FitsOp, FitsCalls, OutBlock, blockAfter, outBlock, numberOf, left25, stepBlockOf, stepBlock, EventBlock, runBlock, afterBlock, NoneOpensBlock, imageOut, imageEvent, ClaimBlock, DemandBlock}
-use Rattle.isolation.proofs.Accept.{Inv, inv-accept, inv-opened}
+use Rattle.isolation.specs.Blocks.{FitsOp, FitsCalls, AtBlocks, OutBlock, blockAfter, outBlock, numberOf, left25, stepBlockOf, stepBlock, EventBlock, runBlock, afterBlock, NoneOpensBlock, imageOut, imageEvent, ClaimBlock, DemandBlock}
+use Rattle.isolation.proofs.Accept.{Facts, accept-facts, Inv, inv-accept, inv-opened}
 use Rattle.isolation.proofs.View.{Did, same, idle, answer, accepting, serving, giving, withdrawing, Quiet, refusing, writing, view}
 use Rattle.isolation.proofs.Keep.{inv-step}
 use Rattle.isolation.proofs.Bound.{opens-front}
-use Rattle.isolation.proofs.Posts.{different}
-use Rattle.isolation.proofs.Fits.{fits-opened, fits-step}
+use Rattle.isolation.proofs.Posts.{different, never as never-did}
+use Rattle.isolation.proofs.Fits.{fits-opened, by-opening, opening-case, fits-step}
 use Rattle.isolation.proofs.Theorem.{demand}
 use Rattle.isolation.proofs.Refusals.{LowOpening, opening-low}
 
@@ -240,3 +246,96 @@ none-block b t arena store first calls e f x fit none =
     let h = held-opened t arena store (subst FitsOp e f) (o .passed) in
     subst NoneOpensBlock (sym (ap (λ (y : List ℕ). runBlock y calls) (o .block) ∙ run-same calls (openOf t arena store .desk) h fit none))
     (opens-image (run (openOf t arena store .desk) calls) none)
+
+-- ---- any block
+
+-- an acceptable desk that fits its fields is as those of a list
+held-accepted : (d : Desk) → accept d ≡ true → FitsDesk d → Held d
+unfolding isSound
+held-accepted d e f =
+    let k = accept-facts d .0 e in
+    record {
+      inv =
+          record {
+            rows = f .eight;
+            table = record { sound = k .sound; eight = f .table .eight; arrays = λ i h. arrays i (k .sound) h };
+            pointer = k .pointer;
+            stages = stages k;
+          };
+      fits = f;
+    }
+  where
+    arrays : (i : ℕ) → isSound (d .table) (storeBlocks d) ≡ true → i < d .table .count → Arrays (getD (d .table .drives) i noDrive)
+    arrays i s h =
+        let l = leb-true (d .table .count) 8 (both-true (leb (d .table .count) 8) _ s .0) in
+        let x = f .table .each i (omega arith) in
+        record { bus = x .numbers .bus; interface = x .numbers .interface; path = x .numbers .path; device = x .numbers .device }
+
+    stages : Facts d → (g : ℕ) → stageOk (d .table) (windowSize d) (stageAt d g) ≡ true
+    stages k g =
+        ⊎-elim (λ l. k .stages g l)
+        (λ l. ap (λ (r : Row). stageOk (d .table) (windowSize d) (r .stage)) (List·getD-eq-default (d .rows) vacantRow (omega (arith, f .eight))))
+        (lt-or-le g guests)
+
+-- an accepted block is the image of such a desk
+record Whole (b : List ℕ) : Type 0 where
+  pub held : Held (deskOf b)
+  pub image : image (deskOf b) ≡ b
+  pub size : length b ≡ blockSize
+
+whole : (b : List ℕ) → Bytes b → accepted b ≡ true → Whole b
+whole b h e =
+    let i = exact .only b h e in
+    record {
+      held = held-accepted (deskOf b) (i .acceptable) (i .fits);
+      image = i .image;
+      size = ap length (sym (i .image)) ∙ length-image (deskOf b) (i .fits);
+    }
+
+held-image : (d : Desk) → Held d → accepted (image d) ≡ true
+unfolding accepted
+held-image d h = ap accept (desk-image d (h .fits)) ∙ inv-accept d (h .inv)
+
+kept : (b : List ℕ) (c : Call) → Bytes b → FitsOp (c .op) → accepted b ≡ true → accepted (stepBlock b c .block) ≡ true
+unfolding step
+kept b c h f e = ap (λ (o : OutBlock). accepted (o .block)) (step-at b d c (w .size) refl) ∙ by-opening (step d c .answer) opened did
+  where
+    d : Desk
+    d = deskOf b
+
+    w : Whole b
+    w = whole b h e
+
+    after-call : List ℕ
+    after-call = blockAfter b (step d c .desk) (kindOf (step d c .answer))
+
+    opened : step d c .answer ≡ opening Opened → accepted after-call ≡ true
+    opened x =
+        ap (λ (y : Answer). accepted (blockAfter b (step d c .desk) (kindOf y))) x
+        ∙ ap accepted (laid-image b (step d c .desk) (w .size))
+        ∙ held-image (step d c .desk)
+        (record {
+          inv = opening-case Inv d (c .op) (c .arena) (c .store) (λ t a s o y. inv-opened t a s y) x;
+          fits = fits-step d (w .held .inv) (w .held .fits) c f;
+        })
+
+    did : (kindOf (step d c .answer) ≡ opens → ⊥) → accepted after-call ≡ true
+    did n =
+        ap accepted
+        (ap (λ (x : List ℕ). blockAfter x (step d c .desk) (kindOf (step d c .answer))) (sym (w .image))
+        ∙ block-did d c (step d c) (ap length (w .image) ∙ w .size) (view d (w .held .inv) c n))
+        ∙ held-image (step d c .desk) (held-step d c (w .held) f n)
+
+house-25 : (d : Desk) → Inv d → (c : Call) → houseNumber (step d c .answer) ≡ 25 → ⊥
+house-25 d inv c =
+    by-opening (step d c .answer)
+    (λ e x. let z : _≡_ {A = ℕ} 0 25 = ap houseNumber (sym e) ∙ x in omega arith)
+    (λ n. never-did d c (step d c) (view d inv c n))
+
+never : (b : List ℕ) (c : Call) → Bytes b → accepted b ≡ true → numberOf (stepBlock b c .answer) ≡ 25 → ⊥
+never b c h e x =
+    let w = whole b h e in
+    never-25 (deskOf b) c (house-25 (deskOf b) (w .held .inv) c) (sym (ap (λ (o : OutBlock). numberOf (o .answer)) (step-at b (deskOf b) c (w .size) refl)) ∙ x)
+
+pub at-blocks : AtBlocks
+at-blocks = record { notAccepted = not-accepted; otherSize = other-size; never = never; kept = kept }

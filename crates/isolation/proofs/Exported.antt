@@ -8,7 +8,13 @@ use lib.ListN.{length}
 use lib.Dec.{ltb, eqb}
 use borrow.Author.Tests.{eq-eqb, ne-eqb}
 use Rattle.logic.specs.Logic.{pick}
-use Rattle.memory.specs.Window.{guests}
+use Rattle.logic.proofs.Logic.{pick-cases}
+use Rattle.table.specs.declared.Written.{Written}
+use Rattle.table.specs.declared.Written.the-variants.{Bytes, Refused as WriteRefused}
+use Rattle.int13.specs.declared.Registers.{Registers}
+use Rattle.int13.specs.declared.Outcome.{Outcome}
+use Rattle.int13.specs.declared.Outcome.the-variants.{Answered as OutcomeAnswered, Waits as OutcomeWaits}
+use Rattle.memory.specs.Window.{guests, windowOf}
 use Rattle.desk.specs.declared.Desk.{Desk}
 use Rattle.desk.specs.declared.Stage.{Stage}
 use Rattle.desk.specs.declared.Stage.the-variants.{Vacant, Waiting, Finished}
@@ -22,13 +28,14 @@ use Rattle.desk.specs.declared.CollectAnswer.{CollectAnswer}
 use Rattle.desk.specs.declared.CollectAnswer.the-variants.{Given as CollectGiven, Refused as CollectRefused}
 use Rattle.desk.specs.declared.WithdrawAnswer.{WithdrawAnswer}
 use Rattle.desk.specs.declared.WithdrawAnswer.the-variants.{Given as WithdrawGiven, Refused as WithdrawRefused}
-use Rattle.desk.specs.Parts.{stageAt}
+use Rattle.int13.specs.Steps.{Checked, check}
+use Rattle.desk.specs.Parts.{windowSize, stageAt}
 use Rattle.desk.specs.Acceptable.{accept}
-use Rattle.desk.specs.Calls.{Done, done, notAcceptable, noGuest, collectStage, openOf, postOf, turnOf, collectOf, withdrawOf}
+use Rattle.desk.specs.Calls.{Done, done, notAcceptable, noGuest, isLent, postChecked, postRow, collectStage, withdrawStage, openOf, writtenOf, writtenOut, postOf, turnOf, collectOf, withdrawOf}
 use Rattle.desk.specs.Numbers.{openNumbers, collectNumbers}
 use Rattle.image.specs.Image.{blockSize, deskOf, laid}
 use Rattle.exports.specs.Exports.{Left, left, over, openBlock, openCall, writeCall, given, changed, postBlock, postLeft, postCall, turnBlock, turnLeft, turnCall, collectBlock, collectLeft, collectCall, withdrawBlock, withdrawLeft, withdrawCall}
-use Rattle.isolation.specs.Lists.{Op, openTable, post, turn, collect, withdraw, write, opening, posted, turned, collected, withdrawn, openedDesk, stepOf}
+use Rattle.isolation.specs.Lists.{Op, openTable, post, turn, collect, withdraw, write, opening, posted, turned, collected, withdrawn, written, openedDesk, stepOf}
 use Rattle.isolation.specs.Words.{kindOf}
 use Rattle.isolation.specs.Blocks.{OutBlock, blockAfter, outBlock, stepBlockOf, stepBlock}
 use Rattle.isolation.specs.Exported.{numbersOf, does, Exported}
@@ -57,6 +64,55 @@ module _ (b : List ℕ) where
   withdraw-block : (g : ℕ) (o : Done WithdrawAnswer) (x : WithdrawAnswer) → withdrawBlock b o x ≡ blockAfter b (o .desk) (kindOf (withdrawn g x))
   withdraw-block g o (WithdrawGiven r) = refl
   withdraw-block g o (WithdrawRefused n) = refl
+
+-- ---- what each call leaves as it was
+
+post-store : (d : Desk) (g : ℕ) (r : Registers) (arena store : List ℕ) → postOf d g r arena store .store ≡ store
+unfolding postOf
+post-store d g r arena store =
+    pick-cases P (not (accept d)) _ _ (λ e. refl)
+    (λ e. pick-cases P (not (isLent d arena store)) _ _ (λ e. refl)
+    (λ e. pick-cases P (not (ltb g guests)) _ _ (λ e. refl) (λ e. row (stageAt d g))))
+  where
+    P : Done PostAnswer → Type 0
+    P o = o .store ≡ store
+
+    checked : (x : Outcome) (w : List ℕ) → postChecked d g arena store x w .store ≡ store
+    checked (OutcomeAnswered y) w = refl
+    checked (OutcomeWaits j) w = refl
+
+    row : (x : Stage) → postRow d g r arena store x .store ≡ store
+    row Vacant = checked (check (d .table) r (windowOf arena g (windowSize d)) .outcome) (check (d .table) r (windowOf arena g (windowSize d)) .window)
+    row (Waiting q) = refl
+    row (Finished y) = refl
+
+withdraw-store : (d : Desk) (g : ℕ) (arena store : List ℕ) → withdrawOf d g arena store .store ≡ store
+unfolding withdrawOf
+withdraw-store d g arena store =
+    pick-cases P (not (accept d)) _ _ (λ e. refl)
+    (λ e. pick-cases P (not (isLent d arena store)) _ _ (λ e. refl)
+    (λ e. pick-cases P (not (ltb g guests)) _ _ (λ e. refl) (λ e. row (stageAt d g))))
+  where
+    P : Done WithdrawAnswer → Type 0
+    P o = o .store ≡ store
+
+    row : (x : Stage) → withdrawStage d g x arena store .store ≡ store
+    row Vacant = refl
+    row (Waiting q) = refl
+    row (Finished y) = refl
+
+collect-memory : (d : Desk) (g : ℕ) (arena store : List ℕ) → (collectOf d g arena store .arena ≡ arena) × (collectOf d g arena store .store ≡ store)
+unfolding collectOf
+collect-memory d g arena store =
+    pick-cases P (not (accept d)) _ _ (λ e. (refl, refl)) (λ e. pick-cases P (not (ltb g guests)) _ _ (λ e. (refl, refl)) (λ e. row (stageAt d g)))
+  where
+    P : Done CollectAnswer → Type 0
+    P o = (o .arena ≡ arena) × (o .store ≡ store)
+
+    row : (x : Stage) → (collectStage d g x arena store .arena ≡ arena) × (collectStage d g x arena store .store ≡ store)
+    row Vacant = (refl, refl)
+    row (Waiting q) = (refl, refl)
+    row (Finished y) = (refl, refl)
 
 -- a collect has the same answer and desk whatever arena and store there are
 pub record Alike (x y : Done CollectAnswer) : Type 0 where
@@ -93,8 +149,8 @@ module _ (b arena store : List ℕ) where
 
   at-post : (g ax bx cx dx ds si es carry : ℕ)
       → postCall b arena store g ax bx cx dx ds si es carry
-        ≡ left (changed (numbersOf (does b arena store (post g (given ax bx cx dx ds si es)) .answer)) ax bx cx dx carry)
-          (does b arena store (post g (given ax bx cx dx ds si es)) .block ∷ does b arena store (post g (given ax bx cx dx ds si es)) .arena ∷ [])
+      ≡ left (changed (numbersOf (does b arena store (post g (given ax bx cx dx ds si es)) .answer)) ax bx cx dx carry)
+      (does b arena store (post g (given ax bx cx dx ds si es)) .block ∷ does b arena store (post g (given ax bx cx dx ds si es)) .arena ∷ [])
   unfolding postCall stepBlock
   at-post g ax bx cx dx ds si es carry =
       let o = postOf (deskOf b) g (given ax bx cx dx ds si es) arena store in
@@ -102,8 +158,8 @@ module _ (b arena store : List ℕ) where
 
   at-turn : (g n : ℕ)
       → turnCall b arena store g n
-        ≡ left (over (numbersOf (does b arena store turn .answer)) (0 ∷ g ∷ n ∷ []))
-          (does b arena store turn .block ∷ does b arena store turn .arena ∷ does b arena store turn .store ∷ [])
+      ≡ left (over (numbersOf (does b arena store turn .answer)) (0 ∷ g ∷ n ∷ []))
+      (does b arena store turn .block ∷ does b arena store turn .arena ∷ does b arena store turn .store ∷ [])
   unfolding turnCall stepBlock
   at-turn g n =
       let o = turnOf (deskOf b) arena store in
@@ -120,11 +176,24 @@ module _ (b arena store : List ℕ) where
 
   at-withdraw : (g : ℕ) (stood : List ℕ)
       → withdrawCall b arena store g stood
-        ≡ left (over (numbersOf (does b arena store (withdraw g) .answer)) (0 ∷ stood)) (does b arena store (withdraw g) .block ∷ does b arena store (withdraw g) .arena ∷ [])
+      ≡ left (over (numbersOf (does b arena store (withdraw g) .answer)) (0 ∷ stood)) (does b arena store (withdraw g) .block ∷ does b arena store (withdraw g) .arena ∷ [])
   unfolding withdrawCall stepBlock
   at-withdraw g stood =
       let o = withdrawOf (deskOf b) g arena store in
       ap (λ (y : List ℕ). left (withdrawLeft b o stood .numbers) (y ∷ o .arena ∷ [])) (withdraw-block b g o (o .answer))
+
+  open-leaves : (t : List ℕ) (a s : ℕ) → (does b arena store (openTable t a s) .arena ≡ arena) × (does b arena store (openTable t a s) .store ≡ store)
+  unfolding stepBlock
+  open-leaves t a s =
+      pick-cases (λ (o : OutBlock). (o .arena ≡ arena) × (o .store ≡ store)) (eqb (length b) blockSize) _ _ (λ e. (refl, refl)) (λ e. (refl, refl))
+
+  write-block : (out : List ℕ) → does b arena store (write out) .block ≡ b
+  unfolding stepBlock
+  write-block out = go (writtenOf (deskOf b) (length out))
+    where
+      go : (x : Written) → blockAfter b (deskOf b) (kindOf (written x (writtenOut (deskOf b) out))) ≡ b
+      go (Bytes n) = refl
+      go (WriteRefused n) = refl
 
   pub exported : Exported b arena store
   unfolding writeCall stepBlock
@@ -132,9 +201,14 @@ module _ (b arena store : List ℕ) where
       record {
         openAt = at-open;
         openOther = at-other;
-        write = λ out n. refl;
-        post = at-post;
-        turn = at-turn;
-        collect = at-collect;
-        withdraw = at-withdraw;
+        writeAt = λ out n. refl;
+        postAt = at-post;
+        turnAt = at-turn;
+        collectAt = at-collect;
+        withdrawAt = at-withdraw;
+        openLeaves = open-leaves;
+        writeLeaves = λ out. (write-block out, refl, refl);
+        postLeaves = λ g r. post-store (deskOf b) g r arena store;
+        collectLeaves = λ g. collect-memory (deskOf b) g arena store;
+        withdrawLeaves = λ g. withdraw-store (deskOf b) g arena store;
       }

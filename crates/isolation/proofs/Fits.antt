@@ -228,7 +228,7 @@ fits-did d c o inv f t (giving g x e b v) i = fits-set d g Vacant (d .pointer) i
 fits-did d c o inv f t (withdrawing g q e b l v) i = fits-set d g Vacant (d .pointer) inv f b (inv .pointer) tt
 
 -- an answer is that of an opening that passed, or none such
-by-opening : {A : Type 0} (x : Answer) → (x ≡ opening Opened → A) → ((kindOf x ≡ opens → ⊥) → A) → A
+pub by-opening : {A : Type 0} (x : Answer) → (x ≡ opening Opened → A) → ((kindOf x ≡ opens → ⊥) → A) → A
 by-opening (opening Opened) f g = f refl
 by-opening (opening (OpenRefused n place)) f g = g (λ e. different cc)
 by-opening (postedTo h (PostAnswered r)) f g = g (λ e. different cc)
@@ -244,20 +244,23 @@ by-opening (withdrawn h (WithdrawRefused n)) f g = g (λ e. different cc)
 by-opening (written (WrittenBytes n) out) f g = g (λ e. different cc)
 by-opening (written (WriteRefused n) out) f g = g (λ e. different cc)
 
-fits-opening : (d : Desk) (o : Op) (arena store : List ℕ) → FitsOp o → stepOf d o arena store .answer ≡ opening Opened → FitsDesk (stepOf d o arena store .desk)
-fits-opening d (openTable t a s) arena store f e =
+-- a call that is answered as an opening that passed leaves the desk of that opening
+pub opening-case : (P : Desk → Type 0) (d : Desk) (o : Op) (arena store : List ℕ)
+    → ((t : List ℕ) (a s : ℕ) → o ≡ openTable t a s → openOf t a s .answer ≡ Opened → P (openOf t a s .desk))
+    → stepOf d o arena store .answer ≡ opening Opened → P (stepOf d o arena store .desk)
+opening-case P d (openTable t a s) arena store f e =
     let x : openOf t a s .answer ≡ Opened = cc in
-    subst (λ (y : OpenAnswer). FitsDesk (openedDesk d (openOf t a s .desk) y)) (sym x) (fits-opened t a s (f .0) (f .1) (f .2) x)
-fits-opening d (post g r) arena store f e = different cc
-fits-opening d turn arena store f e = different cc
-fits-opening d (collect g) arena store f e = different cc
-fits-opening d (withdraw g) arena store f e = different cc
-fits-opening d (write out) arena store f e = different cc
+    subst (λ (y : OpenAnswer). P (openedDesk d (openOf t a s .desk) y)) (sym x) (f t a s refl x)
+opening-case P d (post g r) arena store f e = different cc
+opening-case P d turn arena store f e = different cc
+opening-case P d (collect g) arena store f e = different cc
+opening-case P d (withdraw g) arena store f e = different cc
+opening-case P d (write out) arena store f e = different cc
 
 -- every call leaves a desk that fits
 pub fits-step : (d : Desk) → Inv d → FitsDesk d → (c : Call) → FitsOp (c .op) → FitsDesk (step d c .desk)
 unfolding step
 fits-step d inv f c t =
     by-opening (step d c .answer)
-    (λ e. fits-opening d (c .op) (c .arena) (c .store) t e)
+    (opening-case FitsDesk d (c .op) (c .arena) (c .store) (λ t′ a s o. let k = subst FitsOp o t in fits-opened t′ a s (k .0) (k .1) (k .2)))
     (λ n. let v = view d inv c n in fits-did d c (step d c) inv f t v (inv-did d c (step d c) inv v))

@@ -19,3 +19,4 @@ pub mod Refusals
 pub mod Blocks
 pub mod ExampleBlock
 pub mod Exported
+pub mod Single

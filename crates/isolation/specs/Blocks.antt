@@ -2,7 +2,7 @@
 -- Assumes nothing.
 use Prim.Native.Nat.{ℕ, _^_, _<_}
 use mathlib.Core.Path.{_≡_}
-use mathlib.Core.Bool.{true}
+use mathlib.Core.Bool.{true, false}
 use mathlib.Core.List.{List, [], _∷_, _++_, map}
 use lib.Dec.{eqb}
 use lib.ListN.{length}
@@ -148,3 +148,14 @@ DemandBlock = (b t : List ℕ) (arena store : ℕ) (first : Call) (calls : List 
     → FitsCalls calls
     → NoneOpensBlock (runBlock (stepBlock b first .block) calls)
     → ClaimBlock t (openOf t arena store .desk) (windowLength arena) (stepBlock b first .block) calls
+
+-- ---- any block, whoever made it
+
+-- 25 exactly where the block is not accepted, but for an opening, for which the size alone counts; 25 changes nothing, so that such a call
+-- may be struck from a list. An accepted block stays one, whatever is called
+pub record AtBlocks : Type 0 where
+  pub notAccepted : (b : List ℕ) (c : Call) → accepted b ≡ false → ((t : List ℕ) (a s : ℕ) → c .op ≡ openTable t a s → ⊥)
+      → stepBlock b c ≡ left25 b (c .op) (c .arena) (c .store)
+  pub otherSize : (b : List ℕ) (c : Call) → (length b ≡ blockSize → ⊥) → stepBlock b c ≡ left25 b (c .op) (c .arena) (c .store)
+  pub never : (b : List ℕ) (c : Call) → Bytes b → accepted b ≡ true → numberOf (stepBlock b c .answer) ≡ notAcceptable → ⊥
+  pub kept : (b : List ℕ) (c : Call) → Bytes b → FitsOp (c .op) → accepted b ≡ true → accepted (stepBlock b c .block) ≡ true

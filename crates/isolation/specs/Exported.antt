@@ -6,6 +6,7 @@ use mathlib.Core.Path.{_≡_}
 use mathlib.Core.List.{List, [], _∷_}
 use lib.ListN.{length}
 use Rattle.table.specs.Table.{writtenNumbers}
+use Rattle.int13.specs.declared.Registers.{Registers}
 use Rattle.desk.specs.Calls.{notAcceptable}
 use Rattle.desk.specs.Numbers.{openNumbers, postNumbers, turnNumbers, collectNumbers, withdrawNumbers}
 use Rattle.image.specs.Image.{blockSize}
@@ -42,13 +43,19 @@ module _ (b arena store : List ℕ) where
     -- there is no place in a table that was not read
     pub openOther : (t : List ℕ) (a s place : ℕ) → (length b ≡ blockSize → ⊥)
         → openCall b t a s place ≡ left (notAcceptable ∷ place ∷ []) (does (openTable t a s) .block ∷ [])
-    pub write : (out : List ℕ) (n : ℕ) → writeCall b out n ≡ left (over (numbersOf (does (write out) .answer)) (0 ∷ n ∷ [])) (bufferOf (does (write out) .answer) ∷ [])
-    pub post : (g ax bx cx dx ds si es carry : ℕ)
+    pub writeAt : (out : List ℕ) (n : ℕ) → writeCall b out n ≡ left (over (numbersOf (does (write out) .answer)) (0 ∷ n ∷ [])) (bufferOf (does (write out) .answer) ∷ [])
+    pub postAt : (g ax bx cx dx ds si es carry : ℕ)
         → postCall b arena store g ax bx cx dx ds si es carry
-          ≡ left (changed (numbersOf (does (post g (given ax bx cx dx ds si es)) .answer)) ax bx cx dx carry)
-            (does (post g (given ax bx cx dx ds si es)) .block ∷ does (post g (given ax bx cx dx ds si es)) .arena ∷ [])
-    pub turn : (g n : ℕ)
+        ≡ left (changed (numbersOf (does (post g (given ax bx cx dx ds si es)) .answer)) ax bx cx dx carry)
+        (does (post g (given ax bx cx dx ds si es)) .block ∷ does (post g (given ax bx cx dx ds si es)) .arena ∷ [])
+    pub turnAt : (g n : ℕ)
         → turnCall b arena store g n ≡ left (over (numbersOf (does turn .answer)) (0 ∷ g ∷ n ∷ [])) (does turn .block ∷ does turn .arena ∷ does turn .store ∷ [])
-    pub collect : (g : ℕ) (stood : List ℕ) → collectCall b g stood ≡ left (over (numbersOf (does (collect g) .answer)) (0 ∷ stood)) (does (collect g) .block ∷ [])
-    pub withdraw : (g : ℕ) (stood : List ℕ)
+    pub collectAt : (g : ℕ) (stood : List ℕ) → collectCall b g stood ≡ left (over (numbersOf (does (collect g) .answer)) (0 ∷ stood)) (does (collect g) .block ∷ [])
+    pub withdrawAt : (g : ℕ) (stood : List ℕ)
         → withdrawCall b arena store g stood ≡ left (over (numbersOf (does (withdraw g) .answer)) (0 ∷ stood)) (does (withdraw g) .block ∷ does (withdraw g) .arena ∷ [])
+    -- what a call was lent for reading, or was not lent, the step leaves
+    pub openLeaves : (t : List ℕ) (a s : ℕ) → (does (openTable t a s) .arena ≡ arena) × (does (openTable t a s) .store ≡ store)
+    pub writeLeaves : (out : List ℕ) → (does (write out) .block ≡ b) × (does (write out) .arena ≡ arena) × (does (write out) .store ≡ store)
+    pub postLeaves : (g : ℕ) (r : Registers) → does (post g r) .store ≡ store
+    pub collectLeaves : (g : ℕ) → (does (collect g) .arena ≡ arena) × (does (collect g) .store ≡ store)
+    pub withdrawLeaves : (g : ℕ) → does (withdraw g) .store ≡ store

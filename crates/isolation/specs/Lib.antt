@@ -3,3 +3,4 @@ pub mod Words
 pub mod Demand
 pub mod Blocks
 pub mod Exported
+pub mod Single

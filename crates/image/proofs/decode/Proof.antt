@@ -46,10 +46,10 @@ same-requires c κs = search needs
 -- src/lib.rt:375:9
 returns-2 : tie.Need-returns-2
 unfolding deskOf isImage
-returns-2 c = 
+returns-2 c =
     let b = c .before .before .before .before .before .before .before .before .before .args .block .now in
     let e : same b (image (readDesk b)) ≡ true =
-        rw (← c .before .before .before .before .before .before .read .ensures, ← c .before .before .before .before .lay .ensures) (sym (c .before .same .ensures) ∙ c .if2 .taken) in
+    rw (← c .before .before .before .before .before .before .read .ensures, ← c .before .before .before .before .lay .ensures) (sym (c .before .same .ensures) ∙ c .if2 .taken) in
     rw (c .before .before .before .before .before .before .read .ensures, eq-eqb _ 2400 (c .before .before .before .before .before .before .before .if1 .left), e)
 
 -- src/lib.rt:377:5
@@ -59,10 +59,10 @@ no-desk-requires-2 c κs = search needs
 -- src/lib.rt:365:1
 returns-3 : tie.Need-returns-3
 unfolding deskOf isImage
-returns-3 c = 
+returns-3 c =
     let b = c .before .before .before .before .before .before .before .before .before .before .args .block .now in
     let e : same b (image (readDesk b)) ≡ false =
-        rw (← c .before .before .before .before .before .before .before .read .ensures, ← c .before .before .before .before .before .lay .ensures) (sym (c .before .before .same .ensures) ∙ c .before .if2 .left) in
+    rw (← c .before .before .before .before .before .before .before .read .ensures, ← c .before .before .before .before .before .lay .ensures) (sym (c .before .before .same .ensures) ∙ c .before .if2 .left) in
     rw (c .no-desk2 .ensures, eq-eqb _ 2400 (c .before .before .before .before .before .before .before .before .if1 .left), e)
 
 pub decode-spec : {M : Type 1} → statement M

@@ -33,7 +33,7 @@ same-length c = search needs
 
 -- src/lib.rt:308:1
 returns : tie.Need-returns
-returns c = 
+returns c =
     let h = c .before .before .before .before .before .before .before .before .before .before .before .before .before .before .before .before .before in
     let a = h .args in
     let r : length (a .d .rows) ≡ 8 = simp length-map at (h .good .0 .1 .1 .0 .1 .0 .1) in

@@ -42,7 +42,7 @@ shared-slice-read-store64 c = search needs
 
 -- src/lib.rt:275:9
 store64-requires : tie.Need-store64-requires Inv-loop μ-loop
-store64-requires c κs = 
+store64-requires c κs =
     let h = c .before .before .before in
     let a = h .before .before .before .args in
     omega (arith, ap length (h .loop .inv .1) ∙ length-sets (now (a .out)) (a .at) (flat (take (h .loop .j) (now (a .w)))))
@@ -57,21 +57,21 @@ loop-less c = search needs
 
 -- src/lib.rt:274:5
 loop-again : tie.Need-loop-again Inv-loop μ-loop
-loop-again c = 
+loop-again c =
     let h = c .before .before .before .before .before .before in
     let a = h .before .before .before .args in
     (search needs, c .before .before .store64 .ensures ∙ rw (h .loop .inv .1) (word-more (now (a .out)) (a .at) (now (a .w)) (h .loop .j) (c .before .before .before .before .before .loop-test .taken)))
 
 -- src/lib.rt:269:1
 same-length : tie.Need-same-length Inv-loop μ-loop
-same-length c = 
+same-length c =
     let h = c .before in
     let a = h .before .before .before .args in
     ap length (h .loop .inv .1) ∙ length-sets (now (a .out)) (a .at) (flat (take (h .loop .j) (now (a .w))))
 
 -- src/lib.rt:269:1
 returns : tie.Need-returns Inv-loop μ-loop
-returns c = 
+returns c =
     let h = c .before in
     let a = h .before .before .before .args in
     h .loop .inv .1 ∙ ap (λ l. sets (now (a .out)) (a .at) (flat l)) (take-all (h .loop .j) (now (a .w)) (omega arith))

@@ -52,23 +52,24 @@ itself true = refl
 itself false = refl
 
 loop-again : tie.Need-loop-again Inv-loop μ-loop
-loop-again c = 
+loop-again c =
     let L = c .before .before .before .before .loop in
     let a = c .before .before .before .before .before .args .a .now in
     let b = c .before .before .before .before .before .args .b .now in
     let ia : L .i < length a = omega arith in
-    let ib : L .i < length b = omega arith in
-    (search needs,
-    L .inv .1
-    ∙ ⊎-elim
-      (λ w. rw (same-step a b (L .i) ia ib, ne-eqb _ _ (w .0 .taken), w .1) (both-false (eqb (L .bad) 0)))
-      (λ w. rw (same-step a b (L .i) ia ib, eq-eqb _ _ (w .0 .left), w .1))
-      (c .if1 .came))
+    let ib : L .i < length b = omega arith in (
+      search needs,
+      L .inv .1
+          ∙ ⊎-elim
+          (λ w. rw (same-step a b (L .i) ia ib, ne-eqb _ _ (w .0 .taken), w .1) (both-false (eqb (L .bad) 0)))
+          (λ w. rw (same-step a b (L .i) ia ib, eq-eqb _ _ (w .0 .left), w .1))
+          (c .if1 .came),
+    )
 
 -- src/lib.rt:333:1
 returns : tie.Need-returns Inv-loop μ-loop
 unfolding same
-returns c = 
+returns c =
     let L = c .before .loop in
     let a = c .before .before .args .a .now in
     let b = c .before .before .args .b .now in

@@ -69,7 +69,7 @@ loop2-less c = search needs
 
 -- src/lib.rt:430:9
 loop2-again : tie.Need-loop2-again Inv-loop2 μ-loop2 Inv-loop μ-loop
-loop2-again c = 
+loop2-again c =
     let h = c .before .before .before .before in
     let a = h .before .before .before .before .args in
     (search needs, overlapsAny-more (h .loop2 .j) (a .t2) _ (h .loop2 .inv .1) (c .or .ensures) (c .before .overlaps .ensures))
@@ -96,18 +96,19 @@ loop-less c = search needs
 
 -- src/lib.rt:426:5
 loop-again : tie.Need-loop-again Inv-loop2 μ-loop2 Inv-loop μ-loop
-loop-again c = 
+loop-again c =
     let h = c .before .before .before .before .before .before .before in
     let a = h .before .args in
     let g = c .before .before .before .before .loop2 in
-    let e : g .j ≡ h .loop .i = omega arith in
-    (search needs,
-    soundTo-more (h .loop .i) (a .t2) (a .store) (h .loop .inv .1) (c .and2 .ensures)
-    (c .before .and .ensures ∙ rw (c .before .before .obeys .ensures, g .inv .1, e) (taken-is (h .loop .i) (a .t2) _ (a .store) (omega arith))))
+    let e : g .j ≡ h .loop .i = omega arith in (
+      search needs,
+      soundTo-more (h .loop .i) (a .t2) (a .store) (h .loop .inv .1) (c .and2 .ensures)
+          (c .before .and .ensures ∙ rw (c .before .before .obeys .ensures, g .inv .1, e) (taken-is (h .loop .i) (a .t2) _ (a .store) (omega arith))),
+    )
 
 -- src/lib.rt:420:1
 returns : tie.Need-returns Inv-loop2 μ-loop2 Inv-loop μ-loop
-returns c = 
+returns c =
     let h = c .before in
     let e : h .loop .i ≡ h .before .args .n = omega arith in
     rw (← e) (h .loop .inv .1)
