@@ -31,10 +31,10 @@
  *   What may run at the same time. Calls that are lent the same desk, or the same arena, or the same store run one at a
  *   time: that is the host's own lock, one for each desk with its arena and store. While a call runs nobody else writes
  *   what it was lent, nor reads what it was lent for change. Calls with different desks, arenas and stores need no lock
- *   and may run on any threads. Since nothing is shared inside the library, no request can meet another's scratch data.
- *   Of the arena a call touches the window of one guest only, the one that it posts, serves or withdraws; so a guest that
- *   has no request waiting may run on in its own window, without the lock, while calls for other guests are made. (That no
- *   other window changes is proved; that none is read is tested, host/diff, g5_no_other_memory_is_touched.)
+ *   and may run on any threads: since the library has nothing of its own that they could share, no request can meet
+ *   another's scratch data. (Of the arena a call touches one window only, that of the guest whom it posts, serves or
+ *   withdraws. That it changes no other is proved; that it reads no other is tested, by host/touch and host/diff, and not
+ *   promised. A monitor whose other guests run on in their windows meanwhile rests on that test.)
  *
  *   What is lent to one call must not overlap: desk, arena, store, table and buffer among each other, the places of the
  *   results, and the register pointers among each other too. This is the caller's duty and is not tested.

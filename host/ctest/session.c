@@ -186,7 +186,9 @@ static void house_refusals(machine *m)
     uint64_t guest = 77, moved = 77, written = 77;
     uint8_t *desk = bytes(EDD_DESK_SIZE, 0);
 
-    CHECK(post(m, 8, &r) == EDD_NO_SUCH_GUEST && collect(m, 8, &r) == EDD_NO_SUCH_GUEST && withdraw(m, UINT64_MAX, &r) == EDD_NO_SUCH_GUEST);
+    CHECK(post(m, 8, &r) == EDD_NO_SUCH_GUEST);
+    CHECK(collect(m, 8, &r) == EDD_NO_SUCH_GUEST);
+    CHECK(withdraw(m, UINT64_MAX, &r) == EDD_NO_SUCH_GUEST);
     CHECK(edd_post(m->desk, EDD_DESK_SIZE, m->arena, ARENA - 1, m->store, STORE, 0, &r.ax, &r.bx, &r.cx, &r.dx, 0, 0, 0, &r.carry) ==
           EDD_LENGTH_DIFFERS);
     CHECK(edd_turn(m->desk, EDD_DESK_SIZE, m->arena, ARENA, NULL, 0, &guest, &moved) == EDD_LENGTH_DIFFERS);

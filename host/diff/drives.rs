@@ -71,8 +71,7 @@ pub fn paper_drive() -> Drive {
 }
 
 const BUSES: [[u8; 4]; 2] = [*b"ISA\0", *b"PCI\0"];
-const TYPES: [[u8; 8]; 6] =
-    [*b"ATA\0\0\0\0\0", *b"ATAPI\0\0\0", *b"SCSI\0\0\0\0", *b"USB\0\0\0\0\0", *b"1394\0\0\0\0", *b"FIBRE\0\0\0"];
+const TYPES: [[u8; 8]; 6] = [*b"ATA\0\0\0\0\0", *b"ATAPI\0\0\0", *b"SCSI\0\0\0\0", *b"USB\0\0\0\0\0", *b"1394\0\0\0\0", *b"FIBRE\0\0\0"];
 
 /// A drive of that many blocks, with a geometry that fits.
 fn drive(chance: &mut Chance, first: u64, blocks: u64) -> Drive {

@@ -6,6 +6,7 @@
 //! The status is 0 if all is equal and, from 200000 calls on, every answer on the list of tally.rs was met.
 
 mod chance;
+mod demand;
 mod directed;
 mod drives;
 mod random;

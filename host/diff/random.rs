@@ -3,6 +3,7 @@
 //! requests wait, are served in parts, finish, are collected or withdrawn, with eight guests in between each other.
 
 use crate::chance::Chance;
+use crate::demand::Watch;
 use crate::drives::{self, Drive};
 use crate::service::{Lent, Library, Model, Place, Service};
 use crate::tally::Tally;
@@ -15,7 +16,7 @@ use std::sync::atomic::{AtomicU64, Ordering};
 pub static SEED: AtomicU64 = AtomicU64::new(0);
 pub static CALL: AtomicU64 = AtomicU64::new(0);
 
-/// A call with its arguments; the slices it is lent are in `Lending`.
+/// A call with its arguments, but for the slices that it is lent.
 #[derive(Clone, Debug)]
 pub enum Call {
     Open { arena_length: u64, store_length: u64 },
@@ -105,6 +106,11 @@ struct World {
     model_desk: Vec<u8>,
     model_arena: Vec<u8>,
     model_store: Vec<u8>,
+    watch: Watch,
+    /// A calm world has no hostile blocks, so that demand 3 can be followed over a long list.
+    calm: bool,
+    /// The desk is for now not the one that was opened; the watch waits until it is back.
+    suspended: bool,
 }
 
 /// Slices for one call, and the one thing of the library that is a choice of the caller.
@@ -165,6 +171,9 @@ impl World {
             model_desk: desk,
             model_arena: arena,
             model_store: store,
+            watch: Watch::default(),
+            calm: chance.percent(50),
+            suspended: false,
         }
     }
 
@@ -174,6 +183,9 @@ impl World {
 
     /// The host writes into a guest's window, on both sides; what would fall outside is dropped.
     fn poke(&mut self, guest: u64, place: u64, bytes: &[u8]) {
+        if guest < 8 {
+            self.watch.window_disturbed(guest as usize);
+        }
         for (i, byte) in bytes.iter().enumerate() {
             let at = place + i as u64;
             if guest < 8 && at < self.window {
@@ -182,6 +194,42 @@ impl World {
                 self.arena.bytes_mut()[at] = *byte;
             }
         }
+    }
+
+    /// Tells the watch what a call at the world's desk did.
+    fn follow(&mut self, call: &Call, got: &Outcome, own_memory: bool, table: Vec<u8>, found: Option<Vec<u8>>) -> Result<(), String> {
+        if got.answer == 25 {
+            return Err("25 at a desk that nobody else wrote".into());
+        }
+        if !matches!(got.answer, 0 | 256) {
+            return Ok(());
+        }
+        let lends_memory = matches!(call, Call::Post { .. } | Call::Turn | Call::Withdraw { .. });
+        if lends_memory && !own_memory {
+            // another arena or store of the same length
+            self.watch.all_disturbed();
+        }
+        let (arena, store) = (self.arena.bytes(), self.store.bytes());
+        let window = |guest: u64| &arena[(guest * self.window) as usize..][..self.window as usize];
+        match call {
+            Call::Open { .. } => self.watch.opened(table),
+            Call::Post { guest, registers } if got.answer == 256 && own_memory => {
+                self.watch.accepted(*guest as usize, *registers, window(*guest), store)?;
+            }
+            Call::Post { guest, registers } => {
+                if let Some(found) = found {
+                    self.watch.answered(*registers, found, &mut self.model_store, got.registers, window(*guest))?;
+                }
+            }
+            Call::Turn => {
+                let served = (got.answer == 0).then_some((got.numbers[0], got.numbers[1]));
+                self.watch.turned(served, arena, store)?;
+            }
+            Call::Withdraw { guest, .. } => self.watch.withdrawn(*guest as usize),
+            Call::Collect { guest, .. } => self.watch.collected(*guest as usize, got.registers)?,
+            _ => {}
+        }
+        Ok(())
     }
 
     fn set_desk(&mut self, bytes: &[u8]) {
@@ -217,6 +265,7 @@ impl Run {
             while self.calls < end {
                 self.step()?;
             }
+            self.tally.add_watch(&self.world.watch);
         }
         Ok(self.tally)
     }
@@ -225,7 +274,11 @@ impl Run {
         let table = drives::table(&self.world.drives);
         let (arena_length, store_length) = (self.world.model_arena.len() as u64, self.world.model_store.len() as u64);
         let opened = self.call(Call::Open { arena_length, store_length }, Slice::Own, Slice::Own, Slice::Own, table)?;
-        if opened.answer == 0 { Ok(()) } else { Err(format!("a good table was refused with {}", opened.answer)) }
+        if opened.answer == 0 {
+            Ok(())
+        } else {
+            Err(format!("a good table was refused with {}", opened.answer))
+        }
     }
 
     // ---- one call, both ways
@@ -248,6 +301,14 @@ impl Run {
         }
         let world = &mut self.world;
         let own = |slice: &Slice| matches!(slice, Slice::Own);
+        let (own_desk, own_memory) = (own(&desk), own(&arena) && own(&store));
+        // some posts that may be answered at once are served alone as well, on the window that they found
+        let found_window = match &call {
+            Call::Post { guest, .. } if *guest < 8 && own_desk && own_memory && self.calls % 4 == 0 => {
+                Some(model::parts::window(&mut world.model_arena, *guest).to_vec())
+            }
+            _ => None,
+        };
         let lent_desk = if own(&desk) { &mut world.desk } else { &mut spare.desk };
         let lent_arena = if own(&arena) { &mut world.arena } else { &mut spare.arena };
         let lent_store = if own(&store) { &mut world.store } else { &mut spare.store };
@@ -298,11 +359,21 @@ impl Run {
         if let Some(what) = found {
             let lengths = format!(
                 "desk {}, arena {}, store {}, table {}, buffer {}",
-                model_desk.len(), model_arena.len(), model_store.len(), table.len(), out.len()
+                model_desk.len(),
+                model_arena.len(),
+                model_store.len(),
+                table.len(),
+                out.len()
             );
             return Err(format!("seed {}, call {}: {call:x?}\nlengths: {lengths}\n{what}", self.seed, self.calls));
         }
         self.tally.add(&call, &by_model);
+        let opening = matches!(call, Call::Open { .. });
+        if own_desk && !self.world.suspended && (own_memory || !opening) {
+            self.world
+                .follow(&call, &by_library, own_memory, table, found_window)
+                .map_err(|what| format!("seed {}, call {}: {call:x?}\ndemand 3: {what}", self.seed, self.calls))?;
+        }
         Ok(by_model)
     }
 
@@ -322,7 +393,8 @@ impl Run {
     // ---- what is called
 
     fn step(&mut self) -> Result<(), String> {
-        match self.chance.weighed(&[(86, 0), (6, 1), (3, 2), (2, 3), (3, 4)]) {
+        let hostile = if self.world.calm { 0 } else { 12 };
+        match self.chance.weighed(&[(86, 0), (hostile, 1), (3, 2), (2, 3), (3, 4)]) {
             0 => self.at_desk(Slice::Own),
             1 => self.hostile_block(),
             2 => {
@@ -419,7 +491,16 @@ impl Run {
     fn post(&mut self) -> Call {
         let guest = self.guest_in(|row| matches!(row, Row::Vacant));
         let function = self.chance.weighed(&[
-            (22, 0x42), (22, 0x43), (14, 0x02), (13, 0x03), (6, 0x44), (6, 0x47), (8, 0x48), (4, 0x41), (4, 0x08), (2, 0xFFFF),
+            (22, 0x42),
+            (22, 0x43),
+            (14, 0x02),
+            (13, 0x03),
+            (6, 0x44),
+            (6, 0x47),
+            (8, 0x48),
+            (4, 0x41),
+            (4, 0x08),
+            (2, 0xFFFF),
         ]);
         let mut r = self.registers();
         r.carry = self.chance.one_of(&[0, 1, r.carry]);
@@ -586,6 +667,7 @@ impl Run {
     /// Opens with lengths that no slice has, and makes a few calls at that desk.
     fn absurd_lengths(&mut self) -> Result<(), String> {
         let kept = self.world.model_desk.clone();
+        self.world.suspended = true;
         let length = self.chance.one_of(&[u64::MAX, u64::MAX - 7, 1 << 63]);
         let drives = drives::drives(&mut self.chance, 40);
         let call = Call::Open { arena_length: length, store_length: length };
@@ -594,6 +676,7 @@ impl Run {
             self.at_desk(Slice::Own)?;
         }
         self.world.set_desk(&kept);
+        self.world.suspended = false;
         Ok(())
     }
 
@@ -608,6 +691,7 @@ impl Run {
             self.change_block(&mut bytes);
         }
         self.world.set_desk(&bytes);
+        self.world.suspended = true;
         let room = Slice::Other(Vec::new());
         let looked = self.call(Call::Write, Slice::Own, Slice::Other(Vec::new()), room, Vec::new())?;
         self.tally.hostile(looked.answer != 25);
@@ -617,41 +701,77 @@ impl Run {
         }
         let own_lengths = |b: &[u8]| b[8 * 298..] == kept[8 * 298..] && b[8 * 184..8 * 297] == kept[8 * 184..8 * 297];
         let accepted = self.world.rows().is_some();
-        if !(accepted && own_lengths(&self.world.model_desk) && self.chance.percent(30)) {
+        if accepted && own_lengths(&self.world.model_desk) && self.chance.percent(30) {
+            self.world.watch.forget();
+        } else {
             self.world.set_desk(&kept);
+            self.world.watch.all_disturbed();
         }
+        self.world.suspended = false;
         Ok(())
     }
 
     fn change_block(&mut self, bytes: &mut [u8]) {
-        let get = |bytes: &[u8], word: usize| u64::from_le_bytes(bytes[8 * word..][..8].try_into().unwrap());
         let guest = self.chance.below(8) as usize;
         let row = 23 * self.waiting_row().unwrap_or(guest);
-        let at = match self.chance.below(10) {
+        let at = match self.chance.below(14) {
             0 => {
                 let at = self.chance.below(DESK_SIZE as u64) as usize;
                 bytes[at] ^= 1 << self.chance.below(8);
                 return;
             }
             1 => return self.change_row(bytes, guest),
-            2..=5 => row + self.chance.below(23) as usize,
-            6 => row + self.chance.between(9, 14) as usize,
-            7 => 184 + 14 * self.chance.below(self.world.drives.len().max(1) as u64) as usize + self.chance.below(14) as usize,
-            8 => 296 + self.chance.below(4) as usize,
+            2..=4 => row + self.chance.below(23) as usize,
+            5 => row + self.chance.between(9, 14) as usize,
+            6..=8 => return self.change_to_edge(bytes, row),
+            9..=10 => 184 + 14 * self.chance.below(self.world.drives.len().max(1) as u64) as usize + self.chance.below(14) as usize,
+            11 => 296 + self.chance.below(4) as usize,
             _ => self.chance.below(300) as usize,
         };
-        let old = get(bytes, at);
-        let (count, m) = (get(bytes, row + 11), self.world.window);
-        let blocks = self.world.drives.first().map_or(0, |d| d.blocks);
-        let mut values = vec![
-            u64::MAX, u64::MAX, u64::MAX - 15, 0, 1, 1 << 16, 1 << 32, 1 << 63, old.wrapping_add(1), old.wrapping_sub(1),
-            old ^ 1 << self.chance.below(64), old.wrapping_add(16), old & !15, self.chance.any(), u64::from(self.chance.word()),
-        ];
-        values.extend([m, m.wrapping_sub(16), m.wrapping_sub(15), m.wrapping_sub(count.wrapping_mul(512)), m.wrapping_sub(511)]);
-        values.extend([blocks, blocks.wrapping_sub(count), 0u64.wrapping_sub(count), 128, 127, 0x80, 0x81, 2, 8]);
-        values.extend([0x0201, 0x0302, 0x4200, 0x4300, 0x4400, old & 0xFF | 0x0200, old & 0xFF | 0x4200]);
+        let old = word_at(bytes, at);
+        let drive = self.world.drives.first().copied();
+        let (blocks, first) = drive.map_or((0, 0), |d| (d.blocks, d.first));
+        let mut values = vec![u64::MAX, u64::MAX - 15, 0, 1, 2, 8, 0x80, 0x100, 1 << 16, 1 << 32, 1 << 63];
+        values.extend([old.wrapping_add(1), old.wrapping_sub(1), old.wrapping_add(16), old & !15, old ^ 1 << self.chance.below(64)]);
+        values.extend([self.chance.any(), u64::from(self.chance.word()), self.world.window, blocks, first, first + blocks]);
         let value = self.chance.one_of(&values);
-        bytes[8 * at..8 * at + 8].copy_from_slice(&value.to_le_bytes());
+        set_word_at(bytes, at, value);
+    }
+
+    /// One word of a waiting row set to the last value that is allowed there, or to the first that is not, as far as the others say.
+    fn change_to_edge(&mut self, bytes: &mut [u8], row: usize) {
+        let get = |word: usize| word_at(bytes, row + word);
+        let (ax, number, start, count, buffer, moved) = (get(1), get(9), get(10), get(11), get(12), get(14));
+        let Some(drive) = self.world.drives.get((number as usize).wrapping_sub(0x80)).copied() else { return };
+        if [ax, start, count, buffer, moved].iter().any(|word| *word > 1 << 32) {
+            // an earlier change already made it absurd
+            return;
+        }
+        let by_sector = ax >> 8 < 0x40;
+        let (end, limit) = if by_sector { (drive.geometry(), 128) } else { (drive.blocks, 127) };
+        let (m, drives) = (self.world.window, self.world.drives.len() as u64);
+        let word = self.chance.one_of(&[1, 9, 10, 10, 11, 11, 12, 12, 13, 14, 14]);
+        let after_buffer = m.saturating_sub(buffer) / 512;
+        let edges: Vec<u64> = match word {
+            1 => [0x02, 0x03, 0x42, 0x43, 0x44, 0x47, 0x01, 0x04].map(|ah| ah << 8 | ax & 0xFF).to_vec(),
+            9 => vec![0x7F, 0x80, 0x80 + drives - 1, 0x80 + drives, number + 256],
+            10 => vec![end - count.min(end), (end + 1).wrapping_sub(count), drive.blocks.wrapping_sub(count), 0u64.wrapping_sub(count), 0],
+            11 => vec![
+                limit,
+                limit + 1,
+                moved,
+                moved + 1,
+                end.wrapping_sub(start),
+                end.wrapping_sub(start).wrapping_add(1),
+                after_buffer,
+                after_buffer + 1,
+            ],
+            12 => vec![m.wrapping_sub(512 * count), (m + 1).wrapping_sub(512 * count), 0u64.wrapping_sub(512 * count), m],
+            13 => vec![m.wrapping_sub(16), m.wrapping_sub(15), 0u64.wrapping_sub(16), 0, 1, m],
+            _ => vec![count & !15, count, count.saturating_sub(1) & !15, 16, 0, 8, moved + 16],
+        };
+        let value = self.chance.one_of(&edges);
+        set_word_at(bytes, row + word, value);
     }
 
     fn waiting_row(&mut self) -> Option<usize> {
@@ -724,7 +844,8 @@ impl Run {
             _ => {
                 let size = geometry.iter().map(|n| u64::from(*n)).fold(1u64, u64::saturating_mul);
                 let inside = self.chance.below(size.max(1));
-                let block = self.chance.one_of(&[inside, inside, inside, size.wrapping_sub(1), size, 0, 1 << 32, u64::MAX, inside + (1 << 32)]);
+                let block =
+                    self.chance.one_of(&[inside, inside, inside, size.wrapping_sub(1), size, 0, 1 << 32, u64::MAX, inside + (1 << 32)]);
                 Call::Address { geometry, block }
             }
         };
@@ -753,6 +874,14 @@ fn known(drive: &model::parts::Drive) -> Drive {
 /// Mostly against a page that nobody may touch; else at any address.
 fn place(chance: &mut Chance) -> Place {
     Place { at_end: chance.percent(70), gap: if chance.percent(70) { 0 } else { chance.between(1, 7) as usize } }
+}
+
+fn word_at(block: &[u8], word: usize) -> u64 {
+    u64::from_le_bytes(block[8 * word..8 * word + 8].try_into().unwrap())
+}
+
+fn set_word_at(block: &mut [u8], word: usize, value: u64) {
+    block[8 * word..8 * word + 8].copy_from_slice(&value.to_le_bytes());
 }
 
 fn lay(lent: &mut Lent, bytes: &[u8], place: Place) {

@@ -62,24 +62,71 @@ impl Service for Model {
 extern "C" {
     fn edd_desk_size() -> u64;
     fn edd_open(
-        desk: *mut u8, desk_len: usize, table: *const u8, table_len: usize, arena_length: u64, store_length: u64, place: *mut u64,
+        desk: *mut u8,
+        desk_len: usize,
+        table: *const u8,
+        table_len: usize,
+        arena_length: u64,
+        store_length: u64,
+        place: *mut u64,
     ) -> u32;
     fn edd_write(desk: *const u8, desk_len: usize, out: *mut u8, out_len: usize, written: *mut u64) -> u32;
     fn edd_post(
-        desk: *mut u8, desk_len: usize, arena: *mut u8, arena_len: usize, store: *const u8, store_len: usize, guest: u64,
-        ax: *mut u16, bx: *mut u16, cx: *mut u16, dx: *mut u16, ds: u16, si: u16, es: u16, carry: *mut u16,
+        desk: *mut u8,
+        desk_len: usize,
+        arena: *mut u8,
+        arena_len: usize,
+        store: *const u8,
+        store_len: usize,
+        guest: u64,
+        ax: *mut u16,
+        bx: *mut u16,
+        cx: *mut u16,
+        dx: *mut u16,
+        ds: u16,
+        si: u16,
+        es: u16,
+        carry: *mut u16,
     ) -> u32;
     fn edd_turn(
-        desk: *mut u8, desk_len: usize, arena: *mut u8, arena_len: usize, store: *mut u8, store_len: usize, guest: *mut u64,
+        desk: *mut u8,
+        desk_len: usize,
+        arena: *mut u8,
+        arena_len: usize,
+        store: *mut u8,
+        store_len: usize,
+        guest: *mut u64,
         moved: *mut u64,
     ) -> u32;
     fn edd_collect(
-        desk: *mut u8, desk_len: usize, guest: u64, ax: *mut u16, bx: *mut u16, cx: *mut u16, dx: *mut u16, ds: *mut u16,
-        si: *mut u16, es: *mut u16, carry: *mut u16,
+        desk: *mut u8,
+        desk_len: usize,
+        guest: u64,
+        ax: *mut u16,
+        bx: *mut u16,
+        cx: *mut u16,
+        dx: *mut u16,
+        ds: *mut u16,
+        si: *mut u16,
+        es: *mut u16,
+        carry: *mut u16,
     ) -> u32;
     fn edd_withdraw(
-        desk: *mut u8, desk_len: usize, arena: *mut u8, arena_len: usize, store: *const u8, store_len: usize, guest: u64,
-        ax: *mut u16, bx: *mut u16, cx: *mut u16, dx: *mut u16, ds: *mut u16, si: *mut u16, es: *mut u16, carry: *mut u16,
+        desk: *mut u8,
+        desk_len: usize,
+        arena: *mut u8,
+        arena_len: usize,
+        store: *const u8,
+        store_len: usize,
+        guest: u64,
+        ax: *mut u16,
+        bx: *mut u16,
+        cx: *mut u16,
+        dx: *mut u16,
+        ds: *mut u16,
+        si: *mut u16,
+        es: *mut u16,
+        carry: *mut u16,
     ) -> u32;
     fn edd_window(arena_length: u64, guest: u64, start: *mut u64, length: *mut u64) -> u32;
     fn edd_block(c: u32, h: u32, s: u32, cylinder: u32, head: u32, sector: u32, block: *mut u32) -> u32;
@@ -121,10 +168,18 @@ const GUARD: u64 = 0xA5C3_96F0_5A3C_690F;
 
 impl Library {
     fn pointer(&self, slice: &[u8]) -> *const u8 {
-        if slice.is_empty() && self.null_for_empty.get() { std::ptr::null() } else { slice.as_ptr() }
+        if slice.is_empty() && self.null_for_empty.get() {
+            std::ptr::null()
+        } else {
+            slice.as_ptr()
+        }
     }
     fn pointer_mut(&self, slice: &mut [u8]) -> *mut u8 {
-        if slice.is_empty() && self.null_for_empty.get() { std::ptr::null_mut() } else { slice.as_mut_ptr() }
+        if slice.is_empty() && self.null_for_empty.get() {
+            std::ptr::null_mut()
+        } else {
+            slice.as_mut_ptr()
+        }
     }
 }
 
@@ -163,8 +218,21 @@ impl Service for Library {
         let (d, a, s) = (self.pointer_mut(desk), self.pointer_mut(arena), self.pointer(store));
         let answer = unsafe {
             edd_post(
-                d, desk.len(), a, arena.len(), s, store.len(), guest, r.at(0), r.at(1), r.at(2), r.at(3), registers.ds,
-                registers.si, registers.es, r.at(7),
+                d,
+                desk.len(),
+                a,
+                arena.len(),
+                s,
+                store.len(),
+                guest,
+                r.at(0),
+                r.at(1),
+                r.at(2),
+                r.at(3),
+                registers.ds,
+                registers.si,
+                registers.es,
+                r.at(7),
             )
         };
         *registers = take_registers(&r);
@@ -181,9 +249,7 @@ impl Service for Library {
     fn collect(&self, desk: &mut [u8], guest: u64, registers: &mut Registers) -> u32 {
         let mut r = register_places(registers);
         let d = self.pointer_mut(desk);
-        let answer = unsafe {
-            edd_collect(d, desk.len(), guest, r.at(0), r.at(1), r.at(2), r.at(3), r.at(4), r.at(5), r.at(6), r.at(7))
-        };
+        let answer = unsafe { edd_collect(d, desk.len(), guest, r.at(0), r.at(1), r.at(2), r.at(3), r.at(4), r.at(5), r.at(6), r.at(7)) };
         *registers = take_registers(&r);
         answer
     }
@@ -192,8 +258,21 @@ impl Service for Library {
         let (d, a, s) = (self.pointer_mut(desk), self.pointer_mut(arena), self.pointer(store));
         let answer = unsafe {
             edd_withdraw(
-                d, desk.len(), a, arena.len(), s, store.len(), guest, r.at(0), r.at(1), r.at(2), r.at(3), r.at(4), r.at(5),
-                r.at(6), r.at(7),
+                d,
+                desk.len(),
+                a,
+                arena.len(),
+                s,
+                store.len(),
+                guest,
+                r.at(0),
+                r.at(1),
+                r.at(2),
+                r.at(3),
+                r.at(4),
+                r.at(5),
+                r.at(6),
+                r.at(7),
             )
         };
         *registers = take_registers(&r);
@@ -238,6 +317,7 @@ const NOBODY: i32 = 0;
 const READ: i32 = 1;
 const READ_WRITE: i32 = 3;
 const PRIVATE_ANONYMOUS: i32 = 0x22;
+const NO_RESERVE: i32 = 0x4000;
 
 const MARGIN: usize = 64;
 const MARGIN_BYTE: u8 = 0xC5;
@@ -261,18 +341,36 @@ pub struct Lent {
     pages: usize,
     start: usize,
     length: usize,
+    /// Pages are taken away, the margins among them.
+    partly: Cell<bool>,
 }
 
 impl Lent {
     /// Memory for slices of up to `room` bytes.
     pub fn with_room(room: usize) -> Lent {
+        Lent::mapped(room).unwrap_or_else(|| panic!("no memory for {room} bytes"))
+    }
+
+    fn mapped(room: usize) -> Option<Lent> {
         let pages = (room + MARGIN).div_ceil(PAGE) + 2;
-        let map = unsafe { mmap(std::ptr::null_mut(), pages * PAGE, NOBODY, PRIVATE_ANONYMOUS, -1, 0) };
-        assert!(map as isize != -1, "no memory for {room} bytes");
-        let mut lent = Lent { map: map.cast(), pages, start: PAGE, length: 0 };
-        lent.protect(READ_WRITE);
+        // no page is reserved until it is touched, so a slice may be much longer than the machine's memory
+        let map = unsafe { mmap(std::ptr::null_mut(), pages * PAGE, NOBODY, PRIVATE_ANONYMOUS | NO_RESERVE, -1, 0) };
+        if map as isize == -1 {
+            return None;
+        }
+        let mut lent = Lent { map: map.cast(), pages, start: PAGE, length: 0, partly: Cell::new(false) };
+        if unsafe { mprotect(lent.map.add(PAGE).cast(), (pages - 2) * PAGE, READ_WRITE) } != 0 {
+            return None;
+        }
         lent.set_length(0, Place::END);
-        lent
+        Some(lent)
+    }
+
+    /// A slice of zeros of which only the pages that are touched take memory; none if the machine gives no address space for it.
+    pub fn vast(length: usize) -> Option<Lent> {
+        let mut lent = Lent::mapped(length)?;
+        lent.set_length(length, Place::END);
+        Some(lent)
     }
 
     pub fn holding(bytes: &[u8], place: Place) -> Lent {
@@ -314,6 +412,7 @@ impl Lent {
 
     /// Takes everything but a part of the slice away, or gives it all back. Slice and part begin and end with pages.
     pub fn keep_only(&self, part: Option<std::ops::Range<usize>>) {
+        self.partly.set(part.is_some());
         let Some(part) = part else { return self.protect(READ_WRITE) };
         assert!([self.start, self.length, part.start, part.end].iter().all(|n| n % PAGE == 0));
         self.protect(NOBODY);
@@ -331,7 +430,11 @@ impl Lent {
         unsafe { std::slice::from_raw_parts_mut(self.map.add(self.start), self.length) }
     }
 
+    /// Nothing was written beside the slice, as far as one can look.
     pub fn margin_intact(&self) -> bool {
+        if self.partly.get() {
+            return true;
+        }
         let (front, back) = self.margins();
         let (front, back) = unsafe {
             (

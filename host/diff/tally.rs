@@ -1,6 +1,7 @@
 //! What a run met: calls per kind, answers per number, AH per function, hostile blocks. A run of some length must have met everything
 //! on the list below; otherwise it did not test what it is for.
 
+use crate::demand::Watch;
 use crate::random::{Call, Outcome};
 use std::collections::BTreeMap;
 
@@ -13,6 +14,9 @@ pub struct Tally {
     parts: BTreeMap<u64, u64>,
     hostile_accepted: u64,
     hostile_refused: u64,
+    finished: u64,
+    compared: u64,
+    at_once: u64,
 }
 
 /// AH of an answered post, or this for a request that waits.
@@ -78,6 +82,12 @@ impl Tally {
         *(if accepted { &mut self.hostile_accepted } else { &mut self.hostile_refused }) += 1;
     }
 
+    pub fn add_watch(&mut self, watch: &Watch) {
+        self.finished += watch.finished;
+        self.compared += watch.compared;
+        self.at_once += watch.at_once;
+    }
+
     /// What the run should have met and did not.
     pub fn missing(&self) -> Vec<String> {
         let mut missing = Vec::new();
@@ -91,6 +101,9 @@ impl Tally {
         missing.extend((1..=16).filter(|k| !self.parts.contains_key(k)).map(|k| format!("a turn that moves {k}")));
         if self.hostile_accepted == 0 || self.hostile_refused == 0 {
             missing.push("hostile blocks of both kinds".into());
+        }
+        if self.compared == 0 || self.compared == self.finished || self.at_once == 0 {
+            missing.push("requests to compare with served alone".into());
         }
         missing
     }
@@ -112,10 +125,18 @@ impl Tally {
         println!("withdraw   AH {}", withdrawn.join(", "));
         let parts: Vec<String> = self.parts.iter().map(|(k, times)| format!("{k}: {times}")).collect();
         println!("blocks moved by a turn {}", parts.join(", "));
+        println!(
+            "demand 3: {} requests followed to their end, {} of them with their memory; {} posts answered at once",
+            self.finished, self.compared, self.at_once
+        );
         println!("hostile blocks: {} accepted, {} refused; worlds: {}", self.hostile_accepted, self.hostile_refused, self.worlds);
     }
 }
 
 fn code_name(code: u32) -> String {
-    if code == WAITS { "waits".into() } else { format!("{code:02x}h") }
+    if code == WAITS {
+        "waits".into()
+    } else {
+        format!("{code:02x}h")
+    }
 }

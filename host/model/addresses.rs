@@ -24,10 +24,7 @@ impl Geometry {
 
     /// Block = (cylinder x H + head) x S + sector - 1; none is 04h.
     pub fn block(&self, at: Address) -> Option<u32> {
-        let valid = self.within_limits()
-            && at.cylinder < self.cylinders
-            && at.head < self.heads
-            && (1..=self.sectors).contains(&at.sector);
+        let valid = self.within_limits() && at.cylinder < self.cylinders && at.head < self.heads && (1..=self.sectors).contains(&at.sector);
         valid.then(|| (at.cylinder * self.heads + at.head) * self.sectors + at.sector - 1)
     }
 
@@ -45,9 +42,5 @@ impl Geometry {
 /// "Cylinder is CH plus 256 times CL's top two bits; sector is CL's low six; head is DH."
 pub fn address_in(cx: u16, dx: u16) -> Address {
     let [cl, ch] = cx.to_le_bytes();
-    Address {
-        cylinder: u32::from(ch) + 256 * u32::from(cl >> 6),
-        head: u32::from(dx >> 8),
-        sector: u32::from(cl & 0x3F),
-    }
+    Address { cylinder: u32::from(ch) + 256 * u32::from(cl >> 6), head: u32::from(dx >> 8), sector: u32::from(cl & 0x3F) }
 }

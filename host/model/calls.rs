@@ -30,11 +30,19 @@ fn accepted(desk: &[u8]) -> Result<Desk, u32> {
 }
 
 fn same_lengths(desk: &Desk, arena: &[u8], store: &[u8]) -> Result<(), u32> {
-    if arena.len() as u64 == desk.arena_length && store.len() as u64 == desk.store_length { Ok(()) } else { Err(LENGTH_DIFFERS) }
+    if arena.len() as u64 == desk.arena_length && store.len() as u64 == desk.store_length {
+        Ok(())
+    } else {
+        Err(LENGTH_DIFFERS)
+    }
 }
 
 fn guest_of(guest: u64) -> Result<usize, u32> {
-    if guest < GUESTS as u64 { Ok(guest as usize) } else { Err(NO_SUCH_GUEST) }
+    if guest < GUESTS as u64 {
+        Ok(guest as usize)
+    } else {
+        Err(NO_SUCH_GUEST)
+    }
 }
 
 /// Runs a call whose tests leave it early with their number.

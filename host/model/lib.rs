@@ -8,10 +8,12 @@
 //!   steps      Steps of each function, with the BIOS answers of "Numbers given back"
 //!   block      the desk as a block of bytes, and when it is accepted, from "Calls the host makes"
 //!   calls      Calls the host makes, with the house numbers of "Numbers given back"
+//!   alone      served alone, from "The words of demand 3"
 //!
 //! `calls` has the exported calls under their C names without `edd_`, on slices and references in place of pointers.
 
 pub mod addresses;
+pub mod alone;
 pub mod block;
 pub mod calls;
 pub mod parts;

@@ -185,7 +185,11 @@ fn blocks_by_packet(drives: &Drives, window: &mut [u8], given: Registers) -> Out
 fn seek(drives: &Drives, window: &[u8], given: Registers) -> Registers {
     let answer = drive_in_dl(drives, &given).ok_or(BAD_PARAMETER).and_then(|drive| {
         let asked = packet(window, &given)?;
-        if asked.start < drive.blocks { Ok(()) } else { Err(OUTSIDE) }
+        if asked.start < drive.blocks {
+            Ok(())
+        } else {
+            Err(OUTSIDE)
+        }
     });
     match answer {
         Ok(()) => succeeded(given),
@@ -208,11 +212,7 @@ fn sector_run(drives: &Drives, window_length: u64, given: &Registers) -> Result<
     if given.ah() == 0x03 && drive.is_protected() {
         return Err(WRITE_PROTECTED);
     }
-    let geometry = Geometry {
-        cylinders: u32::from(drive.cylinders),
-        heads: u32::from(drive.heads),
-        sectors: u32::from(drive.sectors),
-    };
+    let geometry = Geometry { cylinders: u32::from(drive.cylinders), heads: u32::from(drive.heads), sectors: u32::from(drive.sectors) };
     let block = u64::from(geometry.block(address_in(given.cx, given.dx)).ok_or(OUTSIDE)?);
     if !inside(block, count, drive.geometry_blocks()) {
         return Err(OUTSIDE);

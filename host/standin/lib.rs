@@ -9,11 +9,19 @@ use std::slice::{from_raw_parts, from_raw_parts_mut};
 
 /// The slice of a pointer and a length; a null pointer with length 0 is an empty one.
 unsafe fn lent<'a>(start: *const u8, length: usize) -> &'a [u8] {
-    if length == 0 { &[] } else { unsafe { from_raw_parts(start, length) } }
+    if length == 0 {
+        &[]
+    } else {
+        unsafe { from_raw_parts(start, length) }
+    }
 }
 
 unsafe fn lent_mut<'a>(start: *mut u8, length: usize) -> &'a mut [u8] {
-    if length == 0 { &mut [] } else { unsafe { from_raw_parts_mut(start, length) } }
+    if length == 0 {
+        &mut []
+    } else {
+        unsafe { from_raw_parts_mut(start, length) }
+    }
 }
 
 /// Words of the block, for the faults.
@@ -34,7 +42,13 @@ pub extern "C" fn edd_desk_size() -> u64 {
 
 #[no_mangle]
 pub unsafe extern "C" fn edd_open(
-    desk: *mut u8, desk_len: usize, table: *const u8, table_len: usize, arena_length: u64, store_length: u64, place: &mut u64,
+    desk: *mut u8,
+    desk_len: usize,
+    table: *const u8,
+    table_len: usize,
+    arena_length: u64,
+    store_length: u64,
+    place: &mut u64,
 ) -> u32 {
     let (desk, table) = unsafe { (lent_mut(desk, desk_len), lent(table, table_len)) };
     #[cfg(fault = "place_on_25")]
@@ -87,8 +101,21 @@ fn packet_words_cleared(desk: &[u8]) -> Vec<u8> {
 
 #[no_mangle]
 pub unsafe extern "C" fn edd_post(
-    desk: *mut u8, desk_len: usize, arena: *mut u8, arena_len: usize, store: *const u8, store_len: usize, guest: u64, ax: &mut u16,
-    bx: &mut u16, cx: &mut u16, dx: &mut u16, ds: u16, si: u16, es: u16, carry: &mut u16,
+    desk: *mut u8,
+    desk_len: usize,
+    arena: *mut u8,
+    arena_len: usize,
+    store: *const u8,
+    store_len: usize,
+    guest: u64,
+    ax: &mut u16,
+    bx: &mut u16,
+    cx: &mut u16,
+    dx: &mut u16,
+    ds: u16,
+    si: u16,
+    es: u16,
+    carry: &mut u16,
 ) -> u32 {
     let (desk, arena, store) = unsafe { (lent_mut(desk, desk_len), lent_mut(arena, arena_len), lent(store, store_len)) };
     let given = Registers { ax: *ax, bx: *bx, cx: *cx, dx: *dx, ds, si, es, carry: *carry };
@@ -99,7 +126,11 @@ pub unsafe extern "C" fn edd_post(
     #[cfg(fault = "store_length_unseen")]
     let store = if desk.len() == 2400 {
         let length = u64::from_le_bytes(desk[2392..2400].try_into().unwrap());
-        if length <= store.len() as u64 { &store[..length as usize] } else { store }
+        if length <= store.len() as u64 {
+            &store[..length as usize]
+        } else {
+            store
+        }
     } else {
         store
     };
@@ -144,7 +175,14 @@ pub unsafe extern "C" fn edd_post(
 
 #[no_mangle]
 pub unsafe extern "C" fn edd_turn(
-    desk: *mut u8, desk_len: usize, arena: *mut u8, arena_len: usize, store: *mut u8, store_len: usize, guest: &mut u64, moved: &mut u64,
+    desk: *mut u8,
+    desk_len: usize,
+    arena: *mut u8,
+    arena_len: usize,
+    store: *mut u8,
+    store_len: usize,
+    guest: &mut u64,
+    moved: &mut u64,
 ) -> u32 {
     let (desk, arena, store) = unsafe { (lent_mut(desk, desk_len), lent_mut(arena, arena_len), lent_mut(store, store_len)) };
     #[cfg(fault = "reads_other_window")]
@@ -187,8 +225,17 @@ pub unsafe extern "C" fn edd_turn(
 
 #[no_mangle]
 pub unsafe extern "C" fn edd_collect(
-    desk: *mut u8, desk_len: usize, guest: u64, ax: &mut u16, bx: &mut u16, cx: &mut u16, dx: &mut u16, ds: &mut u16, si: &mut u16,
-    es: &mut u16, carry: &mut u16,
+    desk: *mut u8,
+    desk_len: usize,
+    guest: u64,
+    ax: &mut u16,
+    bx: &mut u16,
+    cx: &mut u16,
+    dx: &mut u16,
+    ds: &mut u16,
+    si: &mut u16,
+    es: &mut u16,
+    carry: &mut u16,
 ) -> u32 {
     let desk = unsafe { lent_mut(desk, desk_len) };
     let mut out = Registers::default();
@@ -204,8 +251,21 @@ pub unsafe extern "C" fn edd_collect(
 
 #[no_mangle]
 pub unsafe extern "C" fn edd_withdraw(
-    desk: *mut u8, desk_len: usize, arena: *mut u8, arena_len: usize, store: *const u8, store_len: usize, guest: u64, ax: &mut u16,
-    bx: &mut u16, cx: &mut u16, dx: &mut u16, ds: &mut u16, si: &mut u16, es: &mut u16, carry: &mut u16,
+    desk: *mut u8,
+    desk_len: usize,
+    arena: *mut u8,
+    arena_len: usize,
+    store: *const u8,
+    store_len: usize,
+    guest: u64,
+    ax: &mut u16,
+    bx: &mut u16,
+    cx: &mut u16,
+    dx: &mut u16,
+    ds: &mut u16,
+    si: &mut u16,
+    es: &mut u16,
+    carry: &mut u16,
 ) -> u32 {
     let (desk, arena, store) = unsafe { (lent_mut(desk, desk_len), lent_mut(arena, arena_len), lent(store, store_len)) };
     let mut out = Registers::default();
@@ -243,9 +303,7 @@ pub extern "C" fn edd_block(c: u32, h: u32, s: u32, cylinder: u32, head: u32, se
 }
 
 #[no_mangle]
-pub extern "C" fn edd_address(
-    c: u32, h: u32, s: u32, block: u64, cylinder: &mut u32, head: &mut u32, sector: &mut u32,
-) -> u32 {
+pub extern "C" fn edd_address(c: u32, h: u32, s: u32, block: u64, cylinder: &mut u32, head: &mut u32, sector: &mut u32) -> u32 {
     #[cfg(fault = "block_narrowed")]
     let block = u64::from(block as u32);
     let mut at = Address { cylinder: *cylinder, head: *head, sector: *sector };

@@ -10,7 +10,7 @@ use native.Mathlib.Omega.{arith}
 use lib.ListN.{length, getD, take, drop, set, length-append}
 use lib.Seq.{sets, take-suc, take-all}
 use lib.Dec.{ltb, leb, eqb}
-use borrow.Author.Tests.{leb-true, leb-false, ltb-true, ltb-false, lt-ltb, le-ltb, eq-eqb, ne-eqb, eqb-true, eqb-false, not-true, not-false}
+use borrow.Author.Tests.{leb-true, leb-false, lt-leb, ltb-true, ltb-false, lt-ltb, le-ltb, eq-eqb, ne-eqb, eqb-true, eqb-false, not-true, not-false}
 use Rattle.logic.specs.Logic.{pick, both, either}
 use Rattle.words.specs.Words.{le, leBytes, part}
 use Rattle.words.proofs.Words.{sets-append, sets-front, length-leBytes}
@@ -27,7 +27,7 @@ use Rattle.table.specs.declared.Answer.the-variants.{Accepted, Refused a
 use Rattle.table.specs.declared.Reading.{Reading}
 use Rattle.table.specs.declared.Written.{Written}
 use Rattle.table.specs.declared.Written.the-variants.{Bytes, Refused as WriteRefused}
-use Rattle.table.specs.Table.{isKind, recordLength, headerOf, headerAt, noDrive, overlapsAny, refusal, more, stepped, driveStep, endStep, bodyStep, stepOf, stepAt, reading, goOn, readFrom, recordsOf, endRecord, bytesOf, drivesOf, tableOf, writeAnswer, writeOut, firstDrives, soundTo, blankTo, isSound}
+use Rattle.table.specs.Table.{badField, pastStore, overlapping, isKind, recordLength, headerOf, headerAt, noDrive, overlapsAny, refusal, more, stepped, driveStep, endStep, bodyStep, stepOf, stepAt, reading, goOn, readFrom, recordsOf, endRecord, bytesOf, drivesOf, tableOf, writeAnswer, writeOut, firstDrives, soundTo, blankTo, isSound}
 
 -- ---- the header
 
@@ -253,6 +253,18 @@ pub soundTo-more : {r a s : Bool} (i : ℕ) (l : List Drive) (store : ℕ) → s
     → a ≡ eqb (refusal (firstDrives l i) (getD l i noDrive) store) 0 → r ≡ soundTo (i + 1) l store
 unfolding soundTo
 soundTo-more i l store p q e = rw (add-one, q, e, p)
+
+-- a drive is taken where it obeys the rules and overlaps none of those before it
+pub taken-is : (i : ℕ) (l : List Drive) (d : Drive) (store : ℕ) → i < 8
+    → both (both (fieldsOk d) (inStore d store)) (not (overlapsAny i l d)) ≡ eqb (refusal (firstDrives l i) d store) 0
+unfolding refusal
+taken-is i l d store h = rw (lt-leb 8 i h) (go (fieldsOk d) (inStore d store) (overlapsAny i l d))
+  where
+    go : (f s o : Bool) → both (both f s) (not o) ≡ eqb (pick (not f) badField (pick (not s) pastStore (pick o overlapping 0))) 0
+    go false s o = refl
+    go true false o = refl
+    go true true true = refl
+    go true true false = refl
 
 pub blankTo-more : {r a s : Bool} (i : ℕ) (l : List Drive) (count : ℕ) → s ≡ blankTo i l count → r ≡ both a s
     → a ≡ either (ltb i count) (isBlank (getD l i noDrive)) → r ≡ blankTo (i + 1) l count

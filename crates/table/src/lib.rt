@@ -5,7 +5,8 @@ ghost use Prim.Native.Nat.{_+_, _-_, _*_, _≤_, _<_, min};
 ghost use lib.ListN.{length, take};
 ghost use lib.Seq.{sets};
 ghost use Rattle.words.specs.Words.{part};
-ghost use Rattle.drive.specs.Drive.{driveOf};
+ghost use Rattle.drive.specs.Drive.{driveOf, fieldsOk, inStore};
+ghost use Rattle.logic.specs.Logic.{both};
 ghost use Rattle.table.specs.Table.{isKind, recordLength, headerAt, overlapsAny, refusal, more, endStep, bodyStep, stepAt, zeroDrive, emptyTable, readTable, recordsOf, drivesOf, tableOf, writeAnswer, writeOut, soundTo, blankTo, isSound};
 
 // Document 01's refusals of a table, in the order of the checks.
@@ -407,7 +408,15 @@ pub fn drive_count(b: Table) -> usize
     held(b.count)
 }
 
-// Each of the first n drives is taken after those before it. `is_sound` asks for at most eight.
+// The fields obey their rules, and the drive ends inside the store.
+fn obeys(d: Drive, store: u64) -> bool
+    ensures { λ r. ⌜ r ≡ both (fieldsOk d) (inStore d store) ⌝ }
+{
+    logic::and(drive::fields_ok(d), drive::in_store(d, store))
+}
+
+// Each of the first n drives is taken after those before it. `is_sound` asks for at most eight. Both loops stand here, since a call
+// would copy the eight drives for each of them.
 fn sound_to(n: usize, drives: [Drive; 8], store: u64) -> bool
     requires { ⌜ n ≤ 8 ⌝ }
     ensures { λ r. ⌜ r ≡ soundTo n drives store ⌝ }
@@ -416,8 +425,14 @@ fn sound_to(n: usize, drives: [Drive; 8], store: u64) -> bool
     let mut i = 0;
     while i < n {
         let d = drives[i];
-        let before = Table { drives, count: i };
-        sound = logic::and(refusal_of(before, d, store) == 0, sound);
+        let mut found = false;
+        let mut j = 0;
+        while j < i {
+            let e = drives[j];
+            found = logic::or(drive::overlaps(d, e), found);
+            j += 1;
+        }
+        sound = logic::and(logic::and(obeys(d, store), !found), sound);
         i += 1;
     }
     sound

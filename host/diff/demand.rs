@@ -1,0 +1,156 @@
+//! Demand 3 on the calls of a run, seen from outside: by the answers, the guests' windows and the store. Every request that is accepted is
+//! followed to its end. It must be served in one of any eight turns, must finish in time, and its registers, window and named blocks must
+//! be those of the same request served alone, as long as nobody disturbed them.
+
+use model::alone::{served_alone, Named};
+use model::Registers;
+
+struct Request {
+    /// What served alone gives: registers, window and store afterwards, and the blocks that the request names.
+    registers: Registers,
+    window: Vec<u8>,
+    store: Vec<u8>,
+    named: Named,
+    moved: u64,
+    /// Turns not refused since it was accepted, and since it was last served.
+    turns: u64,
+    unserved: u64,
+    /// The conditions of the demand on this guest's window and on the store still hold.
+    undisturbed: bool,
+}
+
+#[derive(Default)]
+pub struct Watch {
+    table: Vec<u8>,
+    waiting: [Option<Request>; 8],
+    to_collect: [Option<Registers>; 8],
+    /// Requests that finished, those of them whose memory could be compared, and posts answered at once that were compared.
+    pub finished: u64,
+    pub compared: u64,
+    pub at_once: u64,
+}
+
+impl Watch {
+    /// A list begins.
+    pub fn opened(&mut self, table: Vec<u8>) {
+        self.forget();
+        self.table = table;
+    }
+
+    /// Somebody else wrote the desk: nothing is known of its rows any more.
+    pub fn forget(&mut self) {
+        self.waiting = Default::default();
+        self.to_collect = Default::default();
+    }
+
+    pub fn window_disturbed(&mut self, guest: usize) {
+        if let Some(request) = &mut self.waiting[guest] {
+            request.undisturbed = false;
+        }
+    }
+
+    pub fn all_disturbed(&mut self) {
+        (0..8).for_each(|guest| self.window_disturbed(guest));
+    }
+
+    /// A post that waits wrote nothing, so window and store are as it found them.
+    pub fn accepted(&mut self, guest: usize, posted: Registers, window: &[u8], store: &[u8]) -> Result<(), String> {
+        let (mut window, mut store) = (window.to_vec(), store.to_vec());
+        let Some((registers, Some(named))) = served_alone(&self.table, posted, &mut window, &mut store) else {
+            return Err(format!("guest {guest}: the row waits, but served alone answers at once"));
+        };
+        let fresh = Request { registers, window, store, named, moved: 0, turns: 0, unserved: 0, undisturbed: true };
+        self.waiting[guest] = Some(fresh);
+        Ok(())
+    }
+
+    /// A post answered at once is served alone too.
+    pub fn answered(
+        &mut self,
+        posted: Registers,
+        mut window: Vec<u8>,
+        store: &mut [u8],
+        got: Registers,
+        left: &[u8],
+    ) -> Result<(), String> {
+        self.at_once += 1;
+        match served_alone(&self.table, posted, &mut window, store) {
+            Some((registers, None)) if registers == got && window == left => Ok(()),
+            other => Err(format!("answered at once, but not as served alone: {:?}", other.map(|o| o.0))),
+        }
+    }
+
+    /// A turn that was not refused: whom it served and how many blocks it moved, or none.
+    pub fn turned(&mut self, served: Option<(u64, u64)>, arena: &[u8], store: &[u8]) -> Result<(), String> {
+        self.other_writers(served);
+        for guest in 0..8 {
+            let Some(request) = &mut self.waiting[guest] else { continue };
+            request.turns += 1;
+            request.unserved += 1;
+            if let Some((_, moved)) = served.filter(|(whom, _)| *whom == guest as u64) {
+                request.unserved = 0;
+                request.moved += moved;
+            }
+            let bound = 8 * request.named.count.div_ceil(16);
+            if request.unserved >= 8 {
+                return Err(format!("guest {guest} was not served in eight turns"));
+            }
+            if request.moved < request.named.count && request.turns >= bound || request.turns > bound {
+                return Err(format!("guest {guest} still waits after {} turns", request.turns));
+            }
+            if request.moved > request.named.count {
+                return Err(format!("guest {guest}: {} blocks were moved of {}", request.moved, request.named.count));
+            }
+            if request.moved == request.named.count {
+                self.finish(guest, arena, store)?;
+            }
+        }
+        Ok(())
+    }
+
+    /// "Another guest writes one when a turn serving that guest moves data to it while the request waits."
+    fn other_writers(&mut self, served: Option<(u64, u64)>) {
+        let Some((whom, moved)) = served else { return };
+        let Some(writer) = self.waiting[whom as usize].as_ref() else {
+            // a request of which nothing is known
+            return self.all_disturbed();
+        };
+        let (written, from) = (writer.named.written, writer.named.first + writer.moved);
+        for guest in (0..8).filter(|guest| *guest as u64 != whom && written) {
+            if let Some(request) = &mut self.waiting[guest] {
+                let named = request.named.first..request.named.first + request.named.count;
+                request.undisturbed &= from + moved <= named.start || named.end <= from;
+            }
+        }
+    }
+
+    fn finish(&mut self, guest: usize, arena: &[u8], store: &[u8]) -> Result<(), String> {
+        let Some(request) = self.waiting[guest].take() else { return Ok(()) };
+        self.finished += 1;
+        self.to_collect[guest] = Some(request.registers);
+        if !request.undisturbed {
+            return Ok(());
+        }
+        self.compared += 1;
+        let length = arena.len() / 8;
+        let named = 512 * request.named.first as usize..512 * (request.named.first + request.named.count) as usize;
+        if arena[guest * length..(guest + 1) * length] != request.window[..] {
+            return Err(format!("guest {guest}: its window is not that of the request served alone"));
+        }
+        if store[named.clone()] != request.store[named] {
+            return Err(format!("guest {guest}: the named blocks are not those of the request served alone"));
+        }
+        Ok(())
+    }
+
+    pub fn withdrawn(&mut self, guest: usize) {
+        self.waiting[guest] = None;
+    }
+
+    pub fn collected(&mut self, guest: usize, got: Registers) -> Result<(), String> {
+        match self.to_collect[guest].take() {
+            Some(registers) if registers != got => Err(format!("guest {guest} collected {got:x?}, served alone gives {registers:x?}")),
+            _ => Ok(()),
+        }
+    }
+}

@@ -1,0 +1,35 @@
+//! Document 01, "The words of demand 3": served alone, a plain machine without rows, pointer and turns.
+
+use crate::parts::{Registers, BLOCK_SIZE};
+use crate::steps::{steps, succeeded, Function, Outcome};
+use crate::table;
+
+/// Where the blocks that a request names lie in the store, and how many they are.
+#[derive(Clone, Copy, PartialEq, Eq, Debug)]
+pub struct Named {
+    pub first: u64,
+    pub count: u64,
+    pub written: bool,
+}
+
+/// What a post comes to for the machine: its registers, and the blocks it names if it is not answered at once. Window and store are
+/// its state. None: the table is none.
+pub fn served_alone(table: &[u8], posted: Registers, window: &mut [u8], store: &mut [u8]) -> Option<(Registers, Option<Named>)> {
+    let drives = table::read(table, store.len() as u64 / BLOCK_SIZE).ok()?;
+    let request = match steps(&drives, window, posted) {
+        Outcome::Answered(answer) => return Some((answer, None)),
+        Outcome::Waits(request) => request,
+    };
+    let first = drives.numbered(request.drive)?.first + request.start;
+    let written = Function::of(posted.ah())?.writes();
+    for i in 0..request.count {
+        let memory = &mut window[(request.buffer + BLOCK_SIZE * i) as usize..][..BLOCK_SIZE as usize];
+        let block = &mut store[(BLOCK_SIZE * (first + i)) as usize..][..BLOCK_SIZE as usize];
+        if written {
+            block.copy_from_slice(memory);
+        } else {
+            memory.copy_from_slice(block);
+        }
+    }
+    Some((succeeded(posted), Some(Named { first, count: request.count, written })))
+}
