@@ -1,5 +1,6 @@
--- The calls for C ("Forms we want to see": "exports over desk block, arena and store slices"). Each is document 01's call at the desk whose
--- image the block is. What stands behind a pointer afterwards is a value of the answer, or what stood there.
+-- Document 01, "Forms we want to see": the calls for C over desk block, arena and store slices, of which each call is lent those that it
+-- needs. Each is document 01's call at the desk whose image the block is. What stands behind a pointer afterwards is a value of the answer, or
+-- what stood there.
 -- Assumes nothing.
 use Prim.Native.Nat.{ℕ}
 use mathlib.Core.Bool.{Bool, true, false}
@@ -31,12 +32,12 @@ use Rattle.image.specs.Image.{blockSize, deskOf, laid}
 
 -- what a call leaves: the number that it returns and the values behind its pointers, in the order of its parameters; and the bytes of each
 -- slice that was lent for change, in that order
-pub record Left : Type 0 where
+pub record Effect : Type 0 where
   pub numbers : List ℕ
   pub slices : List (List ℕ)
 
-abbrev pub left : List ℕ → List (List ℕ) → Left
-left numbers slices = record { numbers = numbers; slices = slices }
+abbrev pub effect : List ℕ → List (List ℕ) → Effect
+effect numbers slices = record { numbers = numbers; slices = slices }
 
 -- an answer's numbers over those that stood there, which stay where the answer has none
 unfoldable pub over : List ℕ → List ℕ → List ℕ
@@ -50,19 +51,19 @@ abbrev pub openBlock : List ℕ → Desk → OpenAnswer → List ℕ
 openBlock b d Opened = laid b d
 openBlock b d (OpenRefused n place) = b
 
-unfoldable pub openCall : List ℕ → List ℕ → ℕ → ℕ → ℕ → Left
+unfoldable pub openCall : List ℕ → List ℕ → ℕ → ℕ → ℕ → Effect
 openCall b t arena store place =
     pick (eqb (length b) blockSize)
-    (left
+    (effect
     (over (openNumbers (openOf t arena store .answer)) (0 ∷ place ∷ []))
     (openBlock b (openOf t arena store .desk) (openOf t arena store .answer) ∷ []))
-    (left (notAcceptable ∷ place ∷ []) (b ∷ []))
+    (effect (notAcceptable ∷ place ∷ []) (b ∷ []))
 
 -- ---- write
 
-unfoldable pub writeCall : List ℕ → List ℕ → ℕ → Left
+unfoldable pub writeCall : List ℕ → List ℕ → ℕ → Effect
 writeCall b out written =
-    left (over (writtenNumbers (writtenOf (deskOf b) (length out))) (0 ∷ written ∷ [])) (writtenOut (deskOf b) out ∷ [])
+    effect (over (writtenNumbers (writtenOf (deskOf b) (length out))) (0 ∷ written ∷ [])) (writtenOut (deskOf b) out ∷ [])
 
 -- ---- post: the block changes only where the row waits
 
@@ -79,12 +80,12 @@ given ax bx cx dx ds si es = record { ax = ax; bx = bx; cx = cx; dx = dx; ds = d
 abbrev pub changed : List ℕ → ℕ → ℕ → ℕ → ℕ → ℕ → List ℕ
 changed ns ax bx cx dx carry = getD ns 0 0 ∷ getD ns 1 ax ∷ getD ns 2 bx ∷ getD ns 3 cx ∷ getD ns 4 dx ∷ getD ns 8 carry ∷ []
 
-abbrev pub postLeft : List ℕ → Done PostAnswer → ℕ → ℕ → ℕ → ℕ → ℕ → Left
-postLeft b o ax bx cx dx carry = left (changed (postNumbers (o .answer)) ax bx cx dx carry) (postBlock b o (o .answer) ∷ o .arena ∷ [])
+abbrev pub postEffect : List ℕ → Done PostAnswer → ℕ → ℕ → ℕ → ℕ → ℕ → Effect
+postEffect b o ax bx cx dx carry = effect (changed (postNumbers (o .answer)) ax bx cx dx carry) (postBlock b o (o .answer) ∷ o .arena ∷ [])
 
-unfoldable pub postCall : List ℕ → List ℕ → List ℕ → ℕ → ℕ → ℕ → ℕ → ℕ → ℕ → ℕ → ℕ → ℕ → Left
+unfoldable pub postCall : List ℕ → List ℕ → List ℕ → ℕ → ℕ → ℕ → ℕ → ℕ → ℕ → ℕ → ℕ → ℕ → Effect
 postCall b arena store guest ax bx cx dx ds si es carry =
-    postLeft b (postOf (deskOf b) guest (given ax bx cx dx ds si es) arena store) ax bx cx dx carry
+    postEffect b (postOf (deskOf b) guest (given ax bx cx dx ds si es) arena store) ax bx cx dx carry
 
 -- ---- turn: the block changes only where a row is served
 
@@ -93,11 +94,11 @@ turnBlock b o (Served guest moved) = laid b (o .desk)
 turnBlock b o Idle = b
 turnBlock b o (TurnRefused n) = b
 
-abbrev pub turnLeft : List ℕ → Done TurnAnswer → ℕ → ℕ → Left
-turnLeft b o guest moved = left (over (turnNumbers (o .answer)) (0 ∷ guest ∷ moved ∷ [])) (turnBlock b o (o .answer) ∷ o .arena ∷ o .store ∷ [])
+abbrev pub turnEffect : List ℕ → Done TurnAnswer → ℕ → ℕ → Effect
+turnEffect b o guest moved = effect (over (turnNumbers (o .answer)) (0 ∷ guest ∷ moved ∷ [])) (turnBlock b o (o .answer) ∷ o .arena ∷ o .store ∷ [])
 
-unfoldable pub turnCall : List ℕ → List ℕ → List ℕ → ℕ → ℕ → Left
-turnCall b arena store guest moved = turnLeft b (turnOf (deskOf b) arena store) guest moved
+unfoldable pub turnCall : List ℕ → List ℕ → List ℕ → ℕ → ℕ → Effect
+turnCall b arena store guest moved = turnEffect b (turnOf (deskOf b) arena store) guest moved
 
 -- ---- collect: lent no arena and no store
 
@@ -105,11 +106,11 @@ abbrev pub collectBlock : List ℕ → Done CollectAnswer → CollectAnswer → 
 collectBlock b o (CollectGiven r) = laid b (o .desk)
 collectBlock b o (CollectRefused n) = b
 
-abbrev pub collectLeft : List ℕ → Done CollectAnswer → List ℕ → Left
-collectLeft b o stood = left (over (collectNumbers (o .answer)) (0 ∷ stood)) (collectBlock b o (o .answer) ∷ [])
+abbrev pub collectEffect : List ℕ → Done CollectAnswer → List ℕ → Effect
+collectEffect b o stood = effect (over (collectNumbers (o .answer)) (0 ∷ stood)) (collectBlock b o (o .answer) ∷ [])
 
-unfoldable pub collectCall : List ℕ → ℕ → List ℕ → Left
-collectCall b guest stood = collectLeft b (collectOf (deskOf b) guest [] []) stood
+unfoldable pub collectCall : List ℕ → ℕ → List ℕ → Effect
+collectCall b guest stood = collectEffect b (collectOf (deskOf b) guest [] []) stood
 
 -- ---- withdraw
 
@@ -117,19 +118,19 @@ abbrev pub withdrawBlock : List ℕ → Done WithdrawAnswer → WithdrawAnswer �
 withdrawBlock b o (WithdrawGiven r) = laid b (o .desk)
 withdrawBlock b o (WithdrawRefused n) = b
 
-abbrev pub withdrawLeft : List ℕ → Done WithdrawAnswer → List ℕ → Left
-withdrawLeft b o stood = left (over (withdrawNumbers (o .answer)) (0 ∷ stood)) (withdrawBlock b o (o .answer) ∷ o .arena ∷ [])
+abbrev pub withdrawEffect : List ℕ → Done WithdrawAnswer → List ℕ → Effect
+withdrawEffect b o stood = effect (over (withdrawNumbers (o .answer)) (0 ∷ stood)) (withdrawBlock b o (o .answer) ∷ o .arena ∷ [])
 
-unfoldable pub withdrawCall : List ℕ → List ℕ → List ℕ → ℕ → List ℕ → Left
-withdrawCall b arena store guest stood = withdrawLeft b (withdrawOf (deskOf b) guest arena store) stood
+unfoldable pub withdrawCall : List ℕ → List ℕ → List ℕ → ℕ → List ℕ → Effect
+withdrawCall b arena store guest stood = withdrawEffect b (withdrawOf (deskOf b) guest arena store) stood
 
 -- ---- the window of a guest in an arena of that length, and CHS addresses
 
-unfoldable pub windowCall : ℕ → ℕ → Left
-windowCall arena guest = left (0 ∷ spanStart arena guest (windowLength arena) ∷ spanLength arena guest (windowLength arena) ∷ []) []
+unfoldable pub windowCall : ℕ → ℕ → Effect
+windowCall arena guest = effect (0 ∷ spanStart arena guest (windowLength arena) ∷ spanLength arena guest (windowLength arena) ∷ []) []
 
-unfoldable pub blockCall : Geometry → Address → ℕ → Left
-blockCall g a block = left (over (blockNumbers (blockOf g a)) (0 ∷ block ∷ [])) []
+unfoldable pub blockCall : Geometry → Address → ℕ → Effect
+blockCall g a block = effect (over (blockNumbers (blockOf g a)) (0 ∷ block ∷ [])) []
 
-unfoldable pub addressCall : Geometry → ℕ → ℕ → ℕ → ℕ → Left
-addressCall g block cylinder head sector = left (over (addressNumbers (addressOf g block)) (0 ∷ cylinder ∷ head ∷ sector ∷ [])) []
+unfoldable pub addressCall : Geometry → ℕ → ℕ → ℕ → ℕ → Effect
+addressCall g block cylinder head sector = effect (over (addressNumbers (addressOf g block)) (0 ∷ cylinder ∷ head ∷ sector ∷ [])) []

@@ -17,7 +17,8 @@ ghost use mathlib.Core.List.{List, [], _∷_};
 ghost use Prim.Native.Nat.{_+_};
 ghost use Rattle.logic.specs.Logic.{pick};
 ghost use Rattle.desk.specs.Numbers.{registerNumbers};
-ghost use Rattle.exports.specs.Exports.{left, openCall, writeCall, postCall, turnCall, collectCall, withdrawCall, windowCall, blockCall, addressCall};
+ghost use Rattle.image.specs.Image.{blockSize};
+ghost use Rattle.exports.specs.Exports.{effect, openCall, writeCall, postCall, turnCall, collectCall, withdrawCall, windowCall, blockCall, addressCall};
 
 // There is nothing to hand out yet.
 const NOTHING_YET: u32 = 256;
@@ -27,7 +28,7 @@ const NOT_ACCEPTABLE: u32 = 25;
 
 #[no_mangle]
 pub extern "C" fn edd_desk_size() -> u64
-    ensures { λ r. ⌜ r ≡ 2400 ⌝ }
+    ensures { λ r. ⌜ r ≡ blockSize ⌝ }
 {
     image::SIZE as u64
 }
@@ -40,7 +41,7 @@ pub extern "C" fn edd_open(
     store: u64,
     place: &mut u64,
 ) -> u32
-    ensures { λ r. ⌜ left (r ∷ now (place .exit) ∷ []) (now (desk .exit) ∷ []) ≡ openCall (now (desk .entry)) (now (table .entry)) arena store (now (place .entry)) ⌝ }
+    ensures { λ r. ⌜ effect (r ∷ now (place .exit) ∷ []) (now (desk .exit) ∷ []) ≡ openCall (now (desk .entry)) (now (table .entry)) arena store (now (place .entry)) ⌝ }
 {
     if desk.len() != image::SIZE {
         return NOT_ACCEPTABLE;
@@ -61,7 +62,7 @@ pub extern "C" fn edd_open(
 
 #[no_mangle]
 pub extern "C" fn edd_write(desk: &[u8], out: &mut [u8], written: &mut u64) -> u32
-    ensures { λ r. ⌜ left (r ∷ now (written .exit) ∷ []) (now (out .exit) ∷ []) ≡ writeCall (now (desk .entry)) (now (out .entry)) (now (written .entry)) ⌝ }
+    ensures { λ r. ⌜ effect (r ∷ now (written .exit) ∷ []) (now (out .exit) ∷ []) ≡ writeCall (now (desk .entry)) (now (out .entry)) (now (written .entry)) ⌝ }
 {
     let d = image::decode(desk);
     let answer = d.write(out);
@@ -95,7 +96,7 @@ pub extern "C" fn edd_post(
     es: u16,
     carry: &mut u16,
 ) -> u32
-    ensures { λ r. ⌜ left (r ∷ now (ax .exit) ∷ now (bx .exit) ∷ now (cx .exit) ∷ now (dx .exit) ∷ now (carry .exit) ∷ []) (now (desk .exit) ∷ now (arena .exit) ∷ []) ≡ postCall (now (desk .entry)) (now (arena .entry)) (now (store .entry)) guest (now (ax .entry)) (now (bx .entry)) (now (cx .entry)) (now (dx .entry)) ds si es (now (carry .entry)) ⌝ }
+    ensures { λ r. ⌜ effect (r ∷ now (ax .exit) ∷ now (bx .exit) ∷ now (cx .exit) ∷ now (dx .exit) ∷ now (carry .exit) ∷ []) (now (desk .exit) ∷ now (arena .exit) ∷ []) ≡ postCall (now (desk .entry)) (now (arena .entry)) (now (store .entry)) guest (now (ax .entry)) (now (bx .entry)) (now (cx .entry)) (now (dx .entry)) ds si es (now (carry .entry)) ⌝ }
 {
     let registers = Registers {
         ax: *ax,
@@ -135,7 +136,7 @@ pub extern "C" fn edd_turn(
     guest: &mut u64,
     moved: &mut u64,
 ) -> u32
-    ensures { λ r. ⌜ left (r ∷ now (guest .exit) ∷ now (moved .exit) ∷ []) (now (desk .exit) ∷ now (arena .exit) ∷ now (store .exit) ∷ []) ≡ turnCall (now (desk .entry)) (now (arena .entry)) (now (store .entry)) (now (guest .entry)) (now (moved .entry)) ⌝ }
+    ensures { λ r. ⌜ effect (r ∷ now (guest .exit) ∷ now (moved .exit) ∷ []) (now (desk .exit) ∷ now (arena .exit) ∷ now (store .exit) ∷ []) ≡ turnCall (now (desk .entry)) (now (arena .entry)) (now (store .entry)) (now (guest .entry)) (now (moved .entry)) ⌝ }
 {
     let d = image::decode(desk);
     let turned = d.turn(arena, store);
@@ -189,7 +190,7 @@ pub extern "C" fn edd_collect(
     es: &mut u16,
     carry: &mut u16,
 ) -> u32
-    ensures { λ r. ⌜ left (r ∷ now (ax .exit) ∷ now (bx .exit) ∷ now (cx .exit) ∷ now (dx .exit) ∷ now (ds .exit) ∷ now (si .exit) ∷ now (es .exit) ∷ now (carry .exit) ∷ []) (now (desk .exit) ∷ []) ≡ collectCall (now (desk .entry)) guest (now (ax .entry) ∷ now (bx .entry) ∷ now (cx .entry) ∷ now (dx .entry) ∷ now (ds .entry) ∷ now (si .entry) ∷ now (es .entry) ∷ now (carry .entry) ∷ []) ⌝ }
+    ensures { λ r. ⌜ effect (r ∷ now (ax .exit) ∷ now (bx .exit) ∷ now (cx .exit) ∷ now (dx .exit) ∷ now (ds .exit) ∷ now (si .exit) ∷ now (es .exit) ∷ now (carry .exit) ∷ []) (now (desk .exit) ∷ []) ≡ collectCall (now (desk .entry)) guest (now (ax .entry) ∷ now (bx .entry) ∷ now (cx .entry) ∷ now (dx .entry) ∷ now (ds .entry) ∷ now (si .entry) ∷ now (es .entry) ∷ now (carry .entry) ∷ []) ⌝ }
 {
     let d = image::decode(desk);
     let collected = d.collect(guest as usize);
@@ -219,7 +220,7 @@ pub extern "C" fn edd_withdraw(
     es: &mut u16,
     carry: &mut u16,
 ) -> u32
-    ensures { λ r. ⌜ left (r ∷ now (ax .exit) ∷ now (bx .exit) ∷ now (cx .exit) ∷ now (dx .exit) ∷ now (ds .exit) ∷ now (si .exit) ∷ now (es .exit) ∷ now (carry .exit) ∷ []) (now (desk .exit) ∷ now (arena .exit) ∷ []) ≡ withdrawCall (now (desk .entry)) (now (arena .entry)) (now (store .entry)) guest (now (ax .entry) ∷ now (bx .entry) ∷ now (cx .entry) ∷ now (dx .entry) ∷ now (ds .entry) ∷ now (si .entry) ∷ now (es .entry) ∷ now (carry .entry) ∷ []) ⌝ }
+    ensures { λ r. ⌜ effect (r ∷ now (ax .exit) ∷ now (bx .exit) ∷ now (cx .exit) ∷ now (dx .exit) ∷ now (ds .exit) ∷ now (si .exit) ∷ now (es .exit) ∷ now (carry .exit) ∷ []) (now (desk .exit) ∷ now (arena .exit) ∷ []) ≡ withdrawCall (now (desk .entry)) (now (arena .entry)) (now (store .entry)) guest (now (ax .entry) ∷ now (bx .entry) ∷ now (cx .entry) ∷ now (dx .entry) ∷ now (ds .entry) ∷ now (si .entry) ∷ now (es .entry) ∷ now (carry .entry) ∷ []) ⌝ }
 {
     let d = image::decode(desk);
     let withdrawn = d.withdraw(guest as usize, arena, store);
@@ -238,7 +239,7 @@ pub extern "C" fn edd_withdraw(
 
 #[no_mangle]
 pub extern "C" fn edd_window(arena: u64, guest: u64, start: &mut u64, length: &mut u64) -> u32
-    ensures { λ r. ⌜ left (r ∷ now (start .exit) ∷ now (length .exit) ∷ []) [] ≡ windowCall arena guest ⌝ }
+    ensures { λ r. ⌜ effect (r ∷ now (start .exit) ∷ now (length .exit) ∷ []) [] ≡ windowCall arena guest ⌝ }
 {
     let n = arena as usize;
     let span = memory::span_of(n, guest as usize, memory::window_length(n));
@@ -257,7 +258,7 @@ pub extern "C" fn edd_block(
     sector: u32,
     block: &mut u32,
 ) -> u32
-    ensures { λ r. ⌜ left (r ∷ now (block .exit) ∷ []) [] ≡ blockCall (record { c = cylinders; h = heads; s = sectors }) (record { cylinder = cylinder; head = head; sector = sector }) (now (block .entry)) ⌝ }
+    ensures { λ r. ⌜ effect (r ∷ now (block .exit) ∷ []) [] ≡ blockCall (record { c = cylinders; h = heads; s = sectors }) (record { cylinder = cylinder; head = head; sector = sector }) (now (block .entry)) ⌝ }
 {
     let g = Geometry {
         c: cylinders,
@@ -289,7 +290,7 @@ pub extern "C" fn edd_address(
     head: &mut u32,
     sector: &mut u32,
 ) -> u32
-    ensures { λ r. ⌜ left (r ∷ now (cylinder .exit) ∷ now (head .exit) ∷ now (sector .exit) ∷ []) [] ≡ addressCall (record { c = cylinders; h = heads; s = sectors }) block (now (cylinder .entry)) (now (head .entry)) (now (sector .entry)) ⌝ }
+    ensures { λ r. ⌜ effect (r ∷ now (cylinder .exit) ∷ now (head .exit) ∷ now (sector .exit) ∷ []) [] ≡ addressCall (record { c = cylinders; h = heads; s = sectors }) block (now (cylinder .entry)) (now (head .entry)) (now (sector .entry)) ⌝ }
 {
     let g = Geometry {
         c: cylinders,

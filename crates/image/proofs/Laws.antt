@@ -29,7 +29,7 @@ use Rattle.desk.specs.Numbers.{registerNumbers}
 use Rattle.desk.specs.Acceptable.{accept}
 use Rattle.desk.specs.Calls.{closed}
 use Rattle.desk.proofs.Acceptances.{closed-refused}
-use Rattle.image.specs.Image.{each, flat, requestWords, stageWords, rowWords, driveWords, tailWords, deskWords, image, blockSize, registersAt, requestAt, readStage, readRow, readDrive, readRows, readTable, readDesk, isImage, deskOf, accepted, FitsRegisters, FitsRequest, FitsStage, FitsDrive, FitsTable, FitsDesk, ImageOf, Exact}
+use Rattle.image.specs.Image.{each, flat, requestWords, stageWords, rowWords, driveWords, tailWords, deskWords, image, blockSize, registersAt, requestAt, readStage, readRow, readDrive, readRows, blockTable, readDesk, isImage, deskOf, accepted, FitsRegisters, FitsRequest, FitsStage, FitsDrive, FitsTable, FitsDesk, ImageOf, Exact}
 use Rattle.image.proofs.Fill.{length-each, length-flat, length-row, length-drive}
 
 -- ---- members of a list that is put together
@@ -377,7 +377,7 @@ module _ (b : List ℕ) (h : Bytes b) where
   by-eight P x0 x1 x2 x3 x4 x5 x6 x7 e p0 p1 p2 p3 p4 p5 p6 p7 (suc (suc (suc (suc (suc (suc (suc zero))))))) l = p7
   by-eight P x0 x1 x2 x3 x4 x5 x6 x7 e p0 p1 p2 p3 p4 p5 p6 p7 (suc (suc (suc (suc (suc (suc (suc (suc k)))))))) l = absurd (omega arith)
 
-  table-fits : length b ≡ blockSize → FitsTable (readTable b)
+  table-fits : length b ≡ blockSize → FitsTable (blockTable b)
   table-fits l =
       record {
         eight = refl;

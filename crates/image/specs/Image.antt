@@ -70,9 +70,26 @@ deskWords d = each rowWords (d .rows) ++ (each driveWords (d .table .drives) ++ 
 unfoldable pub image : Desk → List ℕ
 image d = flat (deskWords d)
 
--- 8 rows of 23 words, 8 places of 14, and 4
+-- ---- where they stand: eight rows of 23 words, eight places of the table of 14, and four words
+
+abbrev pub rowSize : ℕ
+rowSize = 8 * 23
+
+abbrev pub placeSize : ℕ
+placeSize = 8 * 14
+
+abbrev pub rowAt : ℕ → ℕ
+rowAt g = rowSize * g
+
+abbrev pub placeAt : ℕ → ℕ
+placeAt i = rowAt 8 + placeSize * i
+
+abbrev pub tailAt : ℕ → ℕ
+tailAt j = placeAt 8 + 8 * j
+
+-- 2400
 abbrev pub blockSize : ℕ
-blockSize = 2400
+blockSize = tailAt 4
 
 -- ---- the desk that bytes say, each field by its own width, whatever the rest of its word is
 
@@ -128,18 +145,18 @@ readDrive b i = record {
 
 abbrev pub readRows : List ℕ → List Row
 readRows b =
-    readRow b 0 ∷ readRow b 184 ∷ readRow b 368 ∷ readRow b 552 ∷ readRow b 736 ∷ readRow b 920 ∷ readRow b 1104 ∷ readRow b 1288 ∷ []
+    readRow b (rowAt 0) ∷ readRow b (rowAt 1) ∷ readRow b (rowAt 2) ∷ readRow b (rowAt 3) ∷ readRow b (rowAt 4) ∷ readRow b (rowAt 5) ∷ readRow b (rowAt 6) ∷ readRow b (rowAt 7) ∷ []
 
-abbrev pub readTable : List ℕ → Table
-readTable b = record {
+abbrev pub blockTable : List ℕ → Table
+blockTable b = record {
   drives =
-      readDrive b 1472 ∷ readDrive b 1584 ∷ readDrive b 1696 ∷ readDrive b 1808
-      ∷ readDrive b 1920 ∷ readDrive b 2032 ∷ readDrive b 2144 ∷ readDrive b 2256 ∷ [];
-  count = le 8 b 2368;
+      readDrive b (placeAt 0) ∷ readDrive b (placeAt 1) ∷ readDrive b (placeAt 2) ∷ readDrive b 1808
+      ∷ readDrive b (placeAt 4) ∷ readDrive b (placeAt 5) ∷ readDrive b (placeAt 6) ∷ readDrive b (placeAt 7) ∷ [];
+  count = le 8 b (tailAt 0);
 }
 
 unfoldable pub readDesk : List ℕ → Desk
-readDesk b = record { rows = readRows b; pointer = le 8 b 2376; table = readTable b; arena = le 8 b 2384; store = le 8 b 2392 }
+readDesk b = record { rows = readRows b; pointer = le 8 b (tailAt 1); table = blockTable b; arena = le 8 b (tailAt 2); store = le 8 b (tailAt 3) }
 
 -- ---- the desk of a block
 

@@ -19,15 +19,24 @@ ghost use Rattle.drive.specs.Drive.{same};
 ghost use Rattle.desk.specs.Numbers.{registerNumbers};
 ghost use Rattle.desk.specs.declared.Stage.the-variants.{Waiting, Finished};
 ghost use Rattle.desk.specs.Calls.{closed};
-ghost use Rattle.image.specs.Image.{each, flat, stageWords, rowWords, driveWords, image, registersAt, requestAt, readStage, readRow, readDrive, readRows, readTable, readDesk, deskOf, laid};
+ghost use Rattle.image.specs.Image.{rowSize, placeSize, placeAt, blockSize, each, flat, stageWords, rowWords, driveWords, image, registersAt, requestAt, readStage, readRow, readDrive, readRows, blockTable, readDesk, deskOf, laid};
 
 // Bytes of a block.
 pub const SIZE: usize = 2400;
 
+// Bytes of a row and of a place of the table; where the places and the last words stand.
+const ROW: usize = 184;
+
+const PLACE: usize = 112;
+
+const PLACES: usize = 1472;
+
+const TAIL: usize = 2368;
+
 // ---- the desk that bytes say. Every place is inside a block of the right size, which `decode` has tested.
 
 fn registers_at(b: &[u8], i: usize) -> Registers
-    requires { ⌜ i + 64 ≤ length (now b) ⌝ }
+    requires { ⌜ i + 8 * 8 ≤ length (now b) ⌝ }
     ensures { λ r. ⌜ r ≡ registersAt (now (b .entry)) i ⌝ }
 {
     Registers {
@@ -43,7 +52,7 @@ fn registers_at(b: &[u8], i: usize) -> Registers
 }
 
 fn job_at(b: &[u8], i: usize) -> Job
-    requires { ⌜ i + 112 ≤ length (now b) ⌝ }
+    requires { ⌜ i + 8 * 14 ≤ length (now b) ⌝ }
     ensures { λ r. ⌜ r ≡ requestAt (now (b .entry)) i .job ⌝ }
 {
     Job {
@@ -57,7 +66,7 @@ fn job_at(b: &[u8], i: usize) -> Job
 }
 
 fn request_at(b: &[u8], i: usize) -> Request
-    requires { ⌜ i + 112 ≤ length (now b) ⌝ }
+    requires { ⌜ i + 8 * 14 ≤ length (now b) ⌝ }
     ensures { λ r. ⌜ r ≡ requestAt (now (b .entry)) i ⌝ }
 {
     Request {
@@ -67,7 +76,7 @@ fn request_at(b: &[u8], i: usize) -> Request
 }
 
 fn stage_at(b: &[u8], i: usize) -> Stage
-    requires { ⌜ i + 184 ≤ length (now b) ⌝ }
+    requires { ⌜ i + rowSize ≤ length (now b) ⌝ }
     ensures { λ r. ⌜ r ≡ readStage (now (b .entry)) i ⌝ }
 {
     let number = b[i];
@@ -81,7 +90,7 @@ fn stage_at(b: &[u8], i: usize) -> Stage
 }
 
 fn row_at(b: &[u8], i: usize) -> Row
-    requires { ⌜ i + 184 ≤ length (now b) ⌝ }
+    requires { ⌜ i + rowSize ≤ length (now b) ⌝ }
     ensures { λ r. ⌜ r ≡ readRow (now (b .entry)) i ⌝ }
 {
     Row {
@@ -90,7 +99,7 @@ fn row_at(b: &[u8], i: usize) -> Row
 }
 
 fn drive_at(b: &[u8], i: usize) -> Drive
-    requires { ⌜ i + 112 ≤ length (now b) ⌝ }
+    requires { ⌜ i + placeSize ≤ length (now b) ⌝ }
     ensures { λ r. ⌜ r ≡ readDrive (now (b .entry)) i ⌝ }
 {
     Drive {
@@ -112,51 +121,51 @@ fn drive_at(b: &[u8], i: usize) -> Drive
 }
 
 fn rows_of(b: &[u8]) -> [Row; 8]
-    requires { ⌜ length (now b) ≡ 2400 ⌝ }
+    requires { ⌜ length (now b) ≡ blockSize ⌝ }
     ensures { λ r. ⌜ r ≡ readRows (now (b .entry)) ⌝ }
 {
     [
         row_at(b, 0),
-        row_at(b, 184),
-        row_at(b, 368),
-        row_at(b, 552),
-        row_at(b, 736),
-        row_at(b, 920),
-        row_at(b, 1104),
-        row_at(b, 1288),
+        row_at(b, ROW),
+        row_at(b, 2 * ROW),
+        row_at(b, 3 * ROW),
+        row_at(b, 4 * ROW),
+        row_at(b, 5 * ROW),
+        row_at(b, 6 * ROW),
+        row_at(b, 7 * ROW),
     ]
 }
 
 fn table_of(b: &[u8]) -> Table
-    requires { ⌜ length (now b) ≡ 2400 ⌝ }
-    ensures { λ r. ⌜ r ≡ readTable (now (b .entry)) ⌝ }
+    requires { ⌜ length (now b) ≡ blockSize ⌝ }
+    ensures { λ r. ⌜ r ≡ blockTable (now (b .entry)) ⌝ }
 {
     let drives = [
-        drive_at(b, 1472),
-        drive_at(b, 1584),
-        drive_at(b, 1696),
-        drive_at(b, 1808),
-        drive_at(b, 1920),
-        drive_at(b, 2032),
-        drive_at(b, 2144),
-        drive_at(b, 2256),
+        drive_at(b, PLACES),
+        drive_at(b, PLACES + PLACE),
+        drive_at(b, PLACES + 2 * PLACE),
+        drive_at(b, PLACES + 3 * PLACE),
+        drive_at(b, PLACES + 4 * PLACE),
+        drive_at(b, PLACES + 5 * PLACE),
+        drive_at(b, PLACES + 6 * PLACE),
+        drive_at(b, PLACES + 7 * PLACE),
     ];
     Table {
         drives,
-        count: words::get64(b, 2368) as usize,
+        count: words::get64(b, TAIL) as usize,
     }
 }
 
 fn read(b: &[u8]) -> Desk
-    requires { ⌜ length (now b) ≡ 2400 ⌝ }
+    requires { ⌜ length (now b) ≡ blockSize ⌝ }
     ensures { λ r. ⌜ r ≡ readDesk (now (b .entry)) ⌝ }
 {
     Desk {
         rows: rows_of(b),
-        pointer: words::get64(b, 2376) as usize,
+        pointer: words::get64(b, TAIL + 8) as usize,
         table: table_of(b),
-        arena: words::get64(b, 2384),
-        store: words::get64(b, 2392),
+        arena: words::get64(b, TAIL + 16),
+        store: words::get64(b, TAIL + 24),
     }
 }
 
@@ -278,7 +287,7 @@ fn put_words(out: &mut [u8], at: usize, w: &[u64])
 }
 
 fn put_rows(out: &mut [u8], rows: [Row; 8])
-    requires { ⌜ length (now out) ≡ 2400 ⌝ }
+    requires { ⌜ length (now out) ≡ blockSize ⌝ }
     ensures { λ _. ⌜ now (out .exit) ≡ sets (now (out .entry)) 0 (flat (each rowWords rows)) ⌝ }
 {
     let mut k = 0;
@@ -286,27 +295,27 @@ fn put_rows(out: &mut [u8], rows: [Row; 8])
         let row = rows[k];
         let stage = row.stage;
         let w = stage_words(stage);
-        put_words(out, 184 * k, &w);
+        put_words(out, ROW * k, &w);
         k += 1;
     }
 }
 
 fn put_drives(out: &mut [u8], drives: [Drive; 8])
-    requires { ⌜ length (now out) ≡ 2400 ⌝ }
-    ensures { λ _. ⌜ now (out .exit) ≡ sets (now (out .entry)) 1472 (flat (each driveWords drives)) ⌝ }
+    requires { ⌜ length (now out) ≡ blockSize ⌝ }
+    ensures { λ _. ⌜ now (out .exit) ≡ sets (now (out .entry)) (placeAt 0) (flat (each driveWords drives)) ⌝ }
 {
     let mut k = 0;
     while k < 8 {
         let d = drives[k];
         let w = drive_words(d);
-        put_words(out, 1472 + 112 * k, &w);
+        put_words(out, PLACES + PLACE * k, &w);
         k += 1;
     }
 }
 
 // Lays a desk out in a block of its size, which both callers have made sure of.
 fn lay(d: Desk, out: &mut [u8])
-    requires { ⌜ length (now out) ≡ 2400 ⌝ }
+    requires { ⌜ length (now out) ≡ blockSize ⌝ }
     ensures { λ _. ⌜ now (out .exit) ≡ image d ⌝ }
 {
     let rows = d.rows;
@@ -315,7 +324,7 @@ fn lay(d: Desk, out: &mut [u8])
     put_rows(out, rows);
     put_drives(out, drives);
     let tail = [b.count as u64, d.pointer as u64, d.arena, d.store];
-    put_words(out, 2368, &tail);
+    put_words(out, TAIL, &tail);
 }
 
 // Lays a desk out in a block; a block of another size stays.
@@ -369,7 +378,7 @@ pub fn decode(block: &[u8]) -> Desk
         return no_desk();
     }
     let d = read(block);
-    let mut again = [0u8; 2400];
+    let mut again = [0u8; SIZE];
     lay(d, &mut again);
     if same(block, &again) {
         return d;

@@ -34,7 +34,7 @@ use Rattle.desk.specs.Acceptable.{accept}
 use Rattle.desk.specs.Calls.{Done, done, notAcceptable, noGuest, isLent, postChecked, postRow, collectStage, withdrawStage, openOf, writtenOf, writtenOut, postOf, turnOf, collectOf, withdrawOf}
 use Rattle.desk.specs.Numbers.{openNumbers, collectNumbers}
 use Rattle.image.specs.Image.{blockSize, deskOf, laid}
-use Rattle.exports.specs.Exports.{Left, left, over, openBlock, openCall, writeCall, given, changed, postBlock, postLeft, postCall, turnBlock, turnLeft, turnCall, collectBlock, collectLeft, collectCall, withdrawBlock, withdrawLeft, withdrawCall}
+use Rattle.exports.specs.Exports.{Effect, effect, over, openBlock, openCall, writeCall, given, changed, postBlock, postEffect, postCall, turnBlock, turnEffect, turnCall, collectBlock, collectEffect, collectCall, withdrawBlock, withdrawEffect, withdrawCall}
 use Rattle.isolation.specs.Lists.{Op, openTable, post, turn, collect, withdraw, write, opening, posted, turned, collected, withdrawn, written, openedDesk, stepOf}
 use Rattle.isolation.specs.Words.{kindOf}
 use Rattle.isolation.specs.Blocks.{OutBlock, blockAfter, outBlock, stepBlockOf, stepBlock}
@@ -136,51 +136,51 @@ collect-alike d g a s a' s' = go (not (accept d)) (not (ltb g guests)) (stageAt 
 
 module _ (b arena store : List ℕ) where
   at-open : (t : List ℕ) (a s place : ℕ) → length b ≡ blockSize
-      → openCall b t a s place ≡ left (over (numbersOf (does b arena store (openTable t a s) .answer)) (0 ∷ place ∷ [])) (does b arena store (openTable t a s) .block ∷ [])
+      → openCall b t a s place ≡ effect (over (numbersOf (does b arena store (openTable t a s) .answer)) (0 ∷ place ∷ [])) (does b arena store (openTable t a s) .block ∷ [])
   unfolding openCall stepBlock
   at-open t a s place l =
       rw (eq-eqb (length b) blockSize l)
-      (ap (λ (y : List ℕ). left (over (openNumbers (openOf t a s .answer)) (0 ∷ place ∷ [])) (y ∷ []))
+      (ap (λ (y : List ℕ). effect (over (openNumbers (openOf t a s .answer)) (0 ∷ place ∷ [])) (y ∷ []))
       (open-block b (deskOf b) (openOf t a s .desk) (openOf t a s .answer)))
 
-  at-other : (t : List ℕ) (a s place : ℕ) → (length b ≡ blockSize → ⊥) → openCall b t a s place ≡ left (notAcceptable ∷ place ∷ []) (does b arena store (openTable t a s) .block ∷ [])
+  at-other : (t : List ℕ) (a s place : ℕ) → (length b ≡ blockSize → ⊥) → openCall b t a s place ≡ effect (notAcceptable ∷ place ∷ []) (does b arena store (openTable t a s) .block ∷ [])
   unfolding openCall stepBlock
   at-other t a s place n = rw (ne-eqb (length b) blockSize n)
 
   at-post : (g ax bx cx dx ds si es carry : ℕ)
       → postCall b arena store g ax bx cx dx ds si es carry
-      ≡ left (changed (numbersOf (does b arena store (post g (given ax bx cx dx ds si es)) .answer)) ax bx cx dx carry)
+      ≡ effect (changed (numbersOf (does b arena store (post g (given ax bx cx dx ds si es)) .answer)) ax bx cx dx carry)
       (does b arena store (post g (given ax bx cx dx ds si es)) .block ∷ does b arena store (post g (given ax bx cx dx ds si es)) .arena ∷ [])
   unfolding postCall stepBlock
   at-post g ax bx cx dx ds si es carry =
       let o = postOf (deskOf b) g (given ax bx cx dx ds si es) arena store in
-      ap (λ (y : List ℕ). left (postLeft b o ax bx cx dx carry .numbers) (y ∷ o .arena ∷ [])) (post-block b g o (o .answer))
+      ap (λ (y : List ℕ). effect (postEffect b o ax bx cx dx carry .numbers) (y ∷ o .arena ∷ [])) (post-block b g o (o .answer))
 
   at-turn : (g n : ℕ)
       → turnCall b arena store g n
-      ≡ left (over (numbersOf (does b arena store turn .answer)) (0 ∷ g ∷ n ∷ []))
+      ≡ effect (over (numbersOf (does b arena store turn .answer)) (0 ∷ g ∷ n ∷ []))
       (does b arena store turn .block ∷ does b arena store turn .arena ∷ does b arena store turn .store ∷ [])
   unfolding turnCall stepBlock
   at-turn g n =
       let o = turnOf (deskOf b) arena store in
-      ap (λ (y : List ℕ). left (turnLeft b o g n .numbers) (y ∷ o .arena ∷ o .store ∷ [])) (turn-block b o (o .answer))
+      ap (λ (y : List ℕ). effect (turnEffect b o g n .numbers) (y ∷ o .arena ∷ o .store ∷ [])) (turn-block b o (o .answer))
 
   at-collect : (g : ℕ) (stood : List ℕ)
-      → collectCall b g stood ≡ left (over (numbersOf (does b arena store (collect g) .answer)) (0 ∷ stood)) (does b arena store (collect g) .block ∷ [])
+      → collectCall b g stood ≡ effect (over (numbersOf (does b arena store (collect g) .answer)) (0 ∷ stood)) (does b arena store (collect g) .block ∷ [])
   unfolding collectCall stepBlock
   at-collect g stood =
       let o = collectOf (deskOf b) g [] [] in
       let e = collect-alike (deskOf b) g [] [] arena store in
-      ap (λ (y : List ℕ). left (collectLeft b o stood .numbers) (y ∷ [])) (collect-block b g o (o .answer))
-      ∙ ap₂ (λ (d : Desk) (x : CollectAnswer). left (over (collectNumbers x) (0 ∷ stood)) (blockAfter b d (kindOf (collected g x)) ∷ [])) (e .desk) (e .answer)
+      ap (λ (y : List ℕ). effect (collectEffect b o stood .numbers) (y ∷ [])) (collect-block b g o (o .answer))
+      ∙ ap₂ (λ (d : Desk) (x : CollectAnswer). effect (over (collectNumbers x) (0 ∷ stood)) (blockAfter b d (kindOf (collected g x)) ∷ [])) (e .desk) (e .answer)
 
   at-withdraw : (g : ℕ) (stood : List ℕ)
       → withdrawCall b arena store g stood
-      ≡ left (over (numbersOf (does b arena store (withdraw g) .answer)) (0 ∷ stood)) (does b arena store (withdraw g) .block ∷ does b arena store (withdraw g) .arena ∷ [])
+      ≡ effect (over (numbersOf (does b arena store (withdraw g) .answer)) (0 ∷ stood)) (does b arena store (withdraw g) .block ∷ does b arena store (withdraw g) .arena ∷ [])
   unfolding withdrawCall stepBlock
   at-withdraw g stood =
       let o = withdrawOf (deskOf b) g arena store in
-      ap (λ (y : List ℕ). left (withdrawLeft b o stood .numbers) (y ∷ o .arena ∷ [])) (withdraw-block b g o (o .answer))
+      ap (λ (y : List ℕ). effect (withdrawEffect b o stood .numbers) (y ∷ o .arena ∷ [])) (withdraw-block b g o (o .answer))
 
   open-leaves : (t : List ℕ) (a s : ℕ) → (does b arena store (openTable t a s) .arena ≡ arena) × (does b arena store (openTable t a s) .store ≡ store)
   unfolding stepBlock

@@ -10,7 +10,7 @@ use Rattle.int13.specs.declared.Registers.{Registers}
 use Rattle.desk.specs.Calls.{notAcceptable}
 use Rattle.desk.specs.Numbers.{openNumbers, postNumbers, turnNumbers, collectNumbers, withdrawNumbers}
 use Rattle.image.specs.Image.{blockSize}
-use Rattle.exports.specs.Exports.{left, over, openCall, writeCall, given, changed, postCall, turnCall, collectCall, withdrawCall}
+use Rattle.exports.specs.Exports.{effect, over, openCall, writeCall, given, changed, postCall, turnCall, collectCall, withdrawCall}
 use Rattle.isolation.specs.Lists.{Op, openTable, post, turn, collect, withdraw, write, Call, Answer, opening, posted, turned, collected, withdrawn, written}
 use Rattle.isolation.specs.Blocks.{OutBlock, stepBlock}
 
@@ -39,20 +39,20 @@ module _ (b arena store : List ℕ) where
 
   pub record Exported : Type 0 where
     pub openAt : (t : List ℕ) (a s place : ℕ) → length b ≡ blockSize
-        → openCall b t a s place ≡ left (over (numbersOf (does (openTable t a s) .answer)) (0 ∷ place ∷ [])) (does (openTable t a s) .block ∷ [])
+        → openCall b t a s place ≡ effect (over (numbersOf (does (openTable t a s) .answer)) (0 ∷ place ∷ [])) (does (openTable t a s) .block ∷ [])
     -- there is no place in a table that was not read
     pub openOther : (t : List ℕ) (a s place : ℕ) → (length b ≡ blockSize → ⊥)
-        → openCall b t a s place ≡ left (notAcceptable ∷ place ∷ []) (does (openTable t a s) .block ∷ [])
-    pub writeAt : (out : List ℕ) (n : ℕ) → writeCall b out n ≡ left (over (numbersOf (does (write out) .answer)) (0 ∷ n ∷ [])) (bufferOf (does (write out) .answer) ∷ [])
+        → openCall b t a s place ≡ effect (notAcceptable ∷ place ∷ []) (does (openTable t a s) .block ∷ [])
+    pub writeAt : (out : List ℕ) (n : ℕ) → writeCall b out n ≡ effect (over (numbersOf (does (write out) .answer)) (0 ∷ n ∷ [])) (bufferOf (does (write out) .answer) ∷ [])
     pub postAt : (g ax bx cx dx ds si es carry : ℕ)
         → postCall b arena store g ax bx cx dx ds si es carry
-        ≡ left (changed (numbersOf (does (post g (given ax bx cx dx ds si es)) .answer)) ax bx cx dx carry)
+        ≡ effect (changed (numbersOf (does (post g (given ax bx cx dx ds si es)) .answer)) ax bx cx dx carry)
         (does (post g (given ax bx cx dx ds si es)) .block ∷ does (post g (given ax bx cx dx ds si es)) .arena ∷ [])
     pub turnAt : (g n : ℕ)
-        → turnCall b arena store g n ≡ left (over (numbersOf (does turn .answer)) (0 ∷ g ∷ n ∷ [])) (does turn .block ∷ does turn .arena ∷ does turn .store ∷ [])
-    pub collectAt : (g : ℕ) (stood : List ℕ) → collectCall b g stood ≡ left (over (numbersOf (does (collect g) .answer)) (0 ∷ stood)) (does (collect g) .block ∷ [])
+        → turnCall b arena store g n ≡ effect (over (numbersOf (does turn .answer)) (0 ∷ g ∷ n ∷ [])) (does turn .block ∷ does turn .arena ∷ does turn .store ∷ [])
+    pub collectAt : (g : ℕ) (stood : List ℕ) → collectCall b g stood ≡ effect (over (numbersOf (does (collect g) .answer)) (0 ∷ stood)) (does (collect g) .block ∷ [])
     pub withdrawAt : (g : ℕ) (stood : List ℕ)
-        → withdrawCall b arena store g stood ≡ left (over (numbersOf (does (withdraw g) .answer)) (0 ∷ stood)) (does (withdraw g) .block ∷ does (withdraw g) .arena ∷ [])
+        → withdrawCall b arena store g stood ≡ effect (over (numbersOf (does (withdraw g) .answer)) (0 ∷ stood)) (does (withdraw g) .block ∷ does (withdraw g) .arena ∷ [])
     -- what a call was lent for reading, or was not lent, the step leaves
     pub openLeaves : (t : List ℕ) (a s : ℕ) → (does (openTable t a s) .arena ≡ arena) × (does (openTable t a s) .store ≡ store)
     pub writeLeaves : (out : List ℕ) → (does (write out) .block ≡ b) × (does (write out) .arena ≡ arena) × (does (write out) .store ≡ store)

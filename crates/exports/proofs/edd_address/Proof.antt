@@ -1,5 +1,5 @@
 use Rattle.chs.specs.Chs.{addressNumbers}
-use Rattle.exports.specs.Exports.{left, over, addressCall}
+use Rattle.exports.specs.Exports.{effect, over, addressCall}
 use borrow.Author.Needs.{needs}
 use Rattle.exports.proofs.edd_address.Statement.{statement}
 use Rattle.exports.proofs.edd_address.Tie as tie

@@ -1,5 +1,5 @@
 use Rattle.chs.specs.Chs.{blockNumbers}
-use Rattle.exports.specs.Exports.{left, over, blockCall}
+use Rattle.exports.specs.Exports.{effect, over, blockCall}
 use borrow.Author.Needs.{needs}
 use Rattle.exports.proofs.edd_block.Statement.{statement}
 use Rattle.exports.proofs.edd_block.Tie as tie

@@ -1,6 +1,6 @@
 use mathlib.Core.List.{[]}
 use Rattle.desk.specs.Numbers.{collectNumbers}
-use Rattle.exports.specs.Exports.{left, over, collectCall}
+use Rattle.exports.specs.Exports.{effect, over, collectCall}
 use borrow.Author.Needs.{needs}
 use Rattle.exports.proofs.edd_collect.Statement.{statement}
 use Rattle.exports.proofs.edd_collect.Tie as tie

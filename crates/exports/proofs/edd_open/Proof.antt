@@ -1,5 +1,5 @@
 use Rattle.desk.specs.Numbers.{openNumbers}
-use Rattle.exports.specs.Exports.{left, over, openCall}
+use Rattle.exports.specs.Exports.{effect, over, openCall}
 use borrow.Author.Tests.{eq-eqb, ne-eqb}
 use borrow.Author.Needs.{needs}
 use Rattle.exports.proofs.edd_open.Statement.{statement}

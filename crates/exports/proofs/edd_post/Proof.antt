@@ -1,5 +1,5 @@
 use Rattle.desk.specs.Numbers.{postNumbers}
-use Rattle.exports.specs.Exports.{left, over, postCall}
+use Rattle.exports.specs.Exports.{effect, over, postCall}
 use borrow.Author.Needs.{needs}
 use Rattle.exports.proofs.edd_post.Statement.{statement}
 use Rattle.exports.proofs.edd_post.Tie as tie

@@ -1,5 +1,5 @@
 use Rattle.desk.specs.Numbers.{turnNumbers}
-use Rattle.exports.specs.Exports.{left, over, turnCall}
+use Rattle.exports.specs.Exports.{effect, over, turnCall}
 use borrow.Author.Needs.{needs}
 use Rattle.exports.proofs.edd_turn.Statement.{statement}
 use Rattle.exports.proofs.edd_turn.Tie as tie

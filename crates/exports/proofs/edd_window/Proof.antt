@@ -1,7 +1,7 @@
 use native.Mathlib.Omega.{arith}
 use mathlib.Core.Path.{_≡_}
 use Prim.Native.Nat.{ℕ, _+_, _-_}
-use Rattle.exports.specs.Exports.{left, over, windowCall}
+use Rattle.exports.specs.Exports.{effect, over, windowCall}
 use borrow.Author.Needs.{needs}
 use Rattle.exports.proofs.edd_window.Statement.{statement}
 use Rattle.exports.proofs.edd_window.Tie as tie

@@ -1,5 +1,5 @@
 use Rattle.desk.specs.Numbers.{withdrawNumbers}
-use Rattle.exports.specs.Exports.{left, over, withdrawCall}
+use Rattle.exports.specs.Exports.{effect, over, withdrawCall}
 use borrow.Author.Needs.{needs}
 use Rattle.exports.proofs.edd_withdraw.Statement.{statement}
 use Rattle.exports.proofs.edd_withdraw.Tie as tie

@@ -1,5 +1,5 @@
 use Rattle.table.specs.Table.{writtenNumbers}
-use Rattle.exports.specs.Exports.{left, over, writeCall}
+use Rattle.exports.specs.Exports.{effect, over, writeCall}
 use borrow.Author.Needs.{needs}
 use Rattle.exports.proofs.edd_write.Statement.{statement}
 use Rattle.exports.proofs.edd_write.Tie as tie
