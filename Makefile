@@ -7,7 +7,8 @@ REQUESTS ?= 4000
 SEED ?= 1
 
 LIBRARY = $(LIBDIR)/libexports.a
-OVER = $(notdir $(LIBDIR))
+# a directory of its own for the programs over each library: target_staticlib, target_standin
+OVER = $(subst /,_,$(patsubst $(CURDIR)/%,%,$(abspath $(LIBDIR))))
 DEMO = target/demo/$(OVER)/demo
 TOUCH = target/touch/$(OVER)/touch
 CFLAGS ?= -O2 -g

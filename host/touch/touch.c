@@ -260,8 +260,8 @@ int main(void)
 {
     struct sigaction action;
     if (sysconf(_SC_PAGESIZE) != PAGE_BLOCKS * EDD_BLOCK_SIZE) {
-        printf("touch: left out, pages are not of 4096 bytes\n");
-        return 0;
+        printf("touch: FAILED: pages are not of 4096 bytes here, and this program supposes that\n");
+        return 1;
     }
     memset(&action, 0, sizeof action);
     action.sa_sigaction = touched;
