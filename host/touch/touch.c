@@ -6,9 +6,9 @@
  *   turn             the window of the guest that it serves and the store blocks that it moves. A read only reads the blocks, a write
  *                    only reads the window.
  *
- * This is tested, not proved: a promise says what memory holds before and after a call, not which bytes are looked at meanwhile. It is
- * what a monitor rests on that lets the other guests run in their windows while a call works for one of them; edd_desk.h does not ask
- * for so little.
+ * This is tested, not proved: a promise says what memory holds before and after a call, not which bytes are looked at meanwhile. On it
+ * rests what edd_desk.h allows, "What may run at the same time": a guest with no request waiting runs on in its own window, without
+ * the lock, while calls for other guests run.
  */
 #include <signal.h>
 #include <stdio.h>
