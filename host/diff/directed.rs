@@ -978,6 +978,11 @@ fn d1_accepted_though_unreachable(service: &dyn Service) {
     stand.set_word(ARENA_LENGTH, 1 << 40);
     stand.set_word(row(0, 12), 0x20_0000);
     assert!(stand.accepted(), "a buffer above 10FFEFh");
+    // a block that was never opened can be the image of a desk: zeros are the one without drives and with lengths 0
+    stand.desk.bytes_mut().fill(0);
+    let mut out = [0xA5; 5];
+    assert_eq!((stand.write(&mut out), out), ((DONE, 4), [4, 0, 0, 0, 0xA5]), "a block of zeros");
+    assert_eq!(stand.turn().0, 24, "zeros, and an arena with bytes");
 }
 
 fn d1_refused_by_one_word(service: &dyn Service) {
