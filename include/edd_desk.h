@@ -29,19 +29,18 @@
  *   which is written when the table is refused (1 to 8) and at no other time.
  *
  *   The caller owns everything. The library keeps no pointer after a call returns, allocates nothing, starts nothing, and
- *   has no variable of its own: no static record, no cache, no errno. A call takes some 10 KiB of stack, at most.
+ *   has no variable of its own: no static record, no cache, no errno. A call takes up to some 11 KiB of stack.
  *
  *   What may run at the same time. All calls on one desk, its arena and its store run one at a time, under the host's own
  *   lock. Calls with different desks, arenas and stores need no lock and may run on any threads: since the library has
  *   nothing of its own that they could share, no request can meet another's scratch data.
  *
  *   What is proved speaks of the bytes at a call's beginning and at its end. It holds if nobody else writes the desk block,
- *   the window of the guest that is posted, served or withdrawn, or the blocks moved while the call runs.
- *
- *   Beside the lengths, a post or a withdrawal touches of the arena only its guest's window, and a turn only the window of
- *   the guest that it serves, which is one whose request waits. Of the store a turn touches only the blocks that it moves,
- *   and no other call touches any. That is tested with protected pages (host/touch, host/diff) and not proved. So a guest
- *   with no request waiting may run on in its own window, without the lock, while calls for other guests run.
+ *   the window of the guest that is posted, served or withdrawn, or the blocks moved while the call runs. Of the rest of
+ *   arena and store a call uses the lengths only: a post or a withdrawal touches no window but its guest's, and a turn none
+ *   but that of the guest that it serves, which is one whose request waits; a turn touches the blocks that it moves, and no
+ *   other call touches a block. That is tested with protected pages (host/touch, host/diff) and not proved. So a guest with
+ *   no request waiting may run on in its own window, without the lock, while calls for other guests run.
  *
  *   A guest whose request waits leaves its buffer alone until the request has ended: a turn may be reading or writing it. It
  *   may overwrite its packet, of which a withdrawal writes two bytes.
