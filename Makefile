@@ -7,7 +7,8 @@ REQUESTS ?= 4000
 SEED ?= 1
 
 LIBRARY = $(LIBDIR)/libexports.a
-OVER = $(notdir $(LIBDIR))
+# a directory of its own for the programs over each library: target_staticlib, target_standin
+OVER = $(subst /,_,$(patsubst $(CURDIR)/%,%,$(abspath $(LIBDIR))))
 DEMO = target/demo/$(OVER)/demo
 TOUCH = target/touch/$(OVER)/touch
 CFLAGS ?= -O2 -g
@@ -17,7 +18,7 @@ MODEL = $(if $(shell command -v rustc),target/bench/model.so)
 
 help:
 	@echo 'make demo    eight guests on OpenMP threads over one desk; REQUESTS=$(REQUESTS) of each, SEED=$(SEED)'
-	@echo 'make tsan    the demo under ThreadSanitizer: no report, and a wrong lock is reported'
+	@echo 'make tsan    the demo under ThreadSanitizer: no report, and broken rules are reported; not part of the gate'
 	@echo 'make touch   which bytes of arena and store a call touches: those of its guest only'
 	@echo 'make bench   what a call costs, as ratios to memcpy and to the model (docs/PERFORMANCE.md)'
 	@echo 'make test    the host tests (host/test), on what `make check` or `rt check` left in target/'

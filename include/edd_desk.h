@@ -1,14 +1,16 @@
 /*
  * edd_desk.h - the INT 13h disk service as a desk: a guest posts, the host gives turns, the guest collects.
  *
- * Link libexports.a. C11 and C++17. "Document 01" is the paper of rules; this header says what a caller needs of it.
+ * Link libexports.a. C11 and C++17, on 64-bit hosts only. "Document 01" is the paper of rules; this header says what a
+ * caller needs of it.
  *
  *
  * The parts
  *
  *   desk    EDD_DESK_SIZE bytes that hold the whole state of one service: the drives, one row for each guest, the turn
  *           pointer, and the arena and store length of the opening. To the host they are opaque (docs/BLOCK.md names
- *           every word, for a debugger). They may be copied, kept in a file and put back: they hold no address.
+ *           every word, for a debugger). They hold no address, so a block may be copied and put back while the same library
+ *           is linked. A block is for the library that wrote it, and not for a file that outlives it.
  *   arena   the memory of all guests. Guest g, 0 to 7, has the window that starts at g * M, M = arena length / 8 rounded
  *           down (edd_window). Every segment:offset address of a guest counts from the start of its window: 16 * segment
  *           + offset, never wrapped. Up to seven bytes at the end of the arena belong to nobody.
@@ -18,23 +20,30 @@
  *
  * What every call keeps to
  *
- *   All input has an answer. Registers, packets, tables, desk blocks and lengths may hold anything. The result is EDD_DONE
- *   (0), a number that says why the call was refused, or EDD_NOTHING_YET (256) where there is nothing to hand out yet.
+ *   All input has an answer. Registers, packets, tables and desk blocks may hold anything, a guest's number and the two
+ *   lengths of edd_open too. A slice may have any length, but it must be that of its memory. The result is EDD_DONE (0), a
+ *   number that says why the call was refused, or EDD_NOTHING_YET (256) where there is nothing to hand out yet.
  *
  *   A refusal changes nothing, and neither does 256 behind any pointer but the desk's: there a post keeps the request
  *   that waits. No register, count or byte of arena, store or buffer is written. The one exception is *place of edd_open,
  *   which is written when the table is refused (1 to 8) and at no other time.
  *
  *   The caller owns everything. The library keeps no pointer after a call returns, allocates nothing, starts nothing, and
- *   has no variable of its own: no static record, no cache, no errno.
+ *   has no variable of its own: no static record, no cache, no errno. A call takes up to some 11 KiB of stack.
  *
- *   What may run at the same time. Calls that are lent the same desk, or the same arena, or the same store run one at a
- *   time: that is the host's own lock, one for each desk with its arena and store. While a call runs nobody else writes
- *   what it was lent, nor reads what it was lent for change. Calls with different desks, arenas and stores need no lock
- *   and may run on any threads: since the library has nothing of its own that they could share, no request can meet
- *   another's scratch data. (Of the arena a call touches one window only, that of the guest whom it posts, serves or
- *   withdraws. That it changes no other is proved; that it reads no other is tested, by host/touch and host/diff, and not
- *   promised. A monitor whose other guests run on in their windows meanwhile rests on that test.)
+ *   What may run at the same time. All calls on one desk, its arena and its store run one at a time, under the host's own
+ *   lock. Calls with different desks, arenas and stores need no lock and may run on any threads: since the library has
+ *   nothing of its own that they could share, no request can meet another's scratch data.
+ *
+ *   What is proved speaks of the bytes at a call's beginning and at its end. It holds if nobody else writes the desk block,
+ *   the window of the guest that is posted, served or withdrawn, or the blocks moved while the call runs. Of the rest of
+ *   arena and store a call uses the lengths only: a post or a withdrawal touches no window but its guest's, and a turn none
+ *   but that of the guest that it serves, which is one whose request waits; a turn touches the blocks that it moves, and no
+ *   other call touches a block. That is tested with protected pages (host/touch, host/diff) and not proved. So a guest with
+ *   no request waiting may run on in its own window, without the lock, while calls for other guests run.
+ *
+ *   A guest whose request waits leaves its buffer alone until the request has ended: a turn may be reading or writing it. It
+ *   may overwrite its packet, of which a withdrawal writes two bytes.
  *
  *   What is lent to one call must not overlap: desk, arena, store, table and buffer among each other, the places of the
  *   results, and the register pointers among each other too. This is the caller's duty and is not tested.
@@ -43,8 +52,10 @@
  *   NULL: not a slice of length above 0, and not the place of a result or a register. No alignment is asked of a slice;
  *   the places of results and registers are aligned as their types ask.
  *
- *   The interface may grow by change request. What stands here keeps its name, order and meaning; a call that needs more
- *   arguments comes under a new name, and a new number for a refusal is a number that is not used here.
+ *   The interface may grow by change request. What stays are the names of these ten calls, and the order and types of their
+ *   parameters; a call that needs more arguments comes under a new name. The sizes (EDD_DESK_SIZE, EDD_TABLE_SIZE_MAX), the
+ *   form of the block, the refusals and what a turn may answer can change with a version of the library: compile with the
+ *   header that came with it.
  *
  *
  * What is proved of every list of calls at one desk after an opening
@@ -88,6 +99,11 @@
 #include <stddef.h>
 #include <stdint.h>
 
+/* The length of a slice is a size_t, and the library takes it as 64 bits. */
+#if SIZE_MAX < UINT64_MAX
+#error "edd_desk.h is for 64-bit hosts only: the library takes a size_t of 64 bits"
+#endif
+
 #ifdef __cplusplus
 extern "C" {
 #endif
@@ -119,11 +135,16 @@ extern "C" {
 /* House refusals. Where several apply the order is 25, 24, 20, then 19, 21, 22 or 23. */
 #define EDD_BUFFER_SHORT 19      /* edd_write: the buffer is shorter than the table: EDD_TABLE_SIZE_MAX is always enough */
 #define EDD_NO_SUCH_GUEST 20     /* guest is 8 or more: a fault of the host */
-#define EDD_ROW_NOT_VACANT 21    /* edd_post: the guest has a request that waits, or registers to collect: collect first */
+#define EDD_ROW_NOT_VACANT 21    /* edd_post: the guest's row waits or is finished: give turns and collect, or withdraw */
 #define EDD_NOT_FINISHED 22      /* edd_collect: nothing to collect: post, or give more turns */
 #define EDD_NOT_WAITING 23       /* edd_withdraw: no request waits: if it has finished, collect it */
 #define EDD_LENGTH_DIFFERS 24    /* arena or store is not as long as at the opening: lend the same, or open again */
-#define EDD_DESK_NOT_ACCEPTED 25 /* the desk block has another size, was never opened or was damaged: open it again */
+#define EDD_DESK_NOT_ACCEPTED 25 /* the block has another size, or is not the image of an acceptable desk: open it */
+
+/*
+ * 25 does not find every block that was never opened, nor every damage: a block of zeros, for one, is the image of a desk
+ * without drives and with lengths 0. Open a block before anything else.
+ */
 
 /* Refusal of edd_block and edd_address: outside the geometry, or the geometry outside its limits. It is 04h of INT 13h. */
 #define EDD_OUTSIDE 4
@@ -192,8 +213,8 @@ uint32_t edd_write(const uint8_t *desk, size_t desk_len, uint8_t *out, size_t ou
  * 256             the row waits: give turns, then collect. No register is written, carry neither.
  * 25, 24, 20, 21  refused, in this order of tests. Nothing is written.
  *
- * The packet is read here and never again: the guest may use its memory as it likes from now on. Where it lay is kept,
- * for a withdrawal.
+ * The packet is read here and never again: the guest may overwrite it from now on. Where it lay is kept: a withdrawal
+ * writes its count word there. The buffer the guest leaves alone until the request has ended.
  */
 uint32_t edd_post(uint8_t *desk, size_t desk_len, uint8_t *arena, size_t arena_len, const uint8_t *store,
                   size_t store_len, uint64_t guest, uint16_t *ax, uint16_t *bx, uint16_t *cx, uint16_t *dx, uint16_t ds,
@@ -207,7 +228,7 @@ uint32_t edd_post(uint8_t *desk, size_t desk_len, uint8_t *arena, size_t arena_l
  *   desk, desk_len    the served row and the pointer change
  *   arena, arena_len  the whole arena. A read (02h, 42h) writes the blocks into the served guest's window.
  *   store, store_len  the whole store. A write (03h, 43h) writes the blocks.
- *   guest, moved      whom the turn served and how many blocks were moved, 1 to 16
+ *   guest, moved      whom the turn served, 0 to 7, and how many blocks were moved, 1 to 16
  *
  * 0         a request was served.
  * 256       idle: no row waits. Nothing is written, the pointer stays.

@@ -1,8 +1,9 @@
 /*
  * demo - eight guests on OpenMP threads and a ninth thread that gives turns, over one desk, one arena and one store.
  *
- * Every guest works on its own disk, keeps its own copy of what its memory and its disk must hold, and compares. At the end
- * the whole store is compared with those copies. monitor.c is the part to copy for a monitor of your own.
+ * Every guest works on its own disk, keeps its own copy of what its memory and its disk must hold, and compares after each
+ * request: the registers, what it laid down, what it read, and the blocks of the store that it named. At the end the whole
+ * store is compared with those copies. monitor.c is the part to copy for a monitor of your own.
  *
  *   demo [-r requests] [-s seed] [-p pause]
  */

@@ -110,6 +110,7 @@ struct request {
     unsigned result_length;
 
     int write;                /* the blocks to be moved: to the disk, or from it */
+    uint64_t first;           /* the store block of the first of them */
     uint8_t *disk;            /* their place in the guest's copy of its disk; NULL when the disk is another's */
     const uint8_t *contents;  /* what they hold there */
     uint64_t blocks, buffer;
@@ -200,9 +201,17 @@ static void check_answer(struct guest *g, const struct request *q, const struct 
              r->carry, q->wanted.ax, q->wanted.carry);
 }
 
+/* Do the blocks that the request names hold in the store what they must? What it has not moved must be as before. */
+static void compare_disk(struct guest *g, const struct request *q)
+{
+    if (q->blocks && memcmp(g->monitor->store + q->first * EDD_BLOCK_SIZE, q->contents, q->blocks * EDD_BLOCK_SIZE) != 0)
+        fail(g, "AH=%02x: blocks of the store from %llu on are not what they must be", q->given.ax >> 8,
+             (unsigned long long)q->first);
+}
+
 /*
- * Makes the request and checks everything that came back. All that touches the window happens under the lock. The guest
- * gives the lock up only inside monitor_int13, while the request waits, and then leaves its window alone.
+ * Makes the request and checks everything that came back. While no request of its own waits the guest uses its window
+ * without the lock, whatever calls run for others. The store is looked at under the lock.
  */
 static void make(struct guest *g, struct request *q)
 {
@@ -211,20 +220,21 @@ static void make(struct guest *g, struct request *q)
     struct registers r = q->given;
     uint64_t moved;
 
-    monitor_lock(m);
     lay_down(g, q, window);
+    monitor_lock(m);
     enum ending ending = monitor_int13(m, g->number, &r, q->blocks, q->patience, &moved);
     follow(g, q, ending, moved);
+    compare_disk(g, q);
+    int all = m->guest[g->number].requests % 256 == 0;
+    monitor_unlock(m);
 
     /* Does the window hold the same? 16 bytes on either side of a buffer are looked at as well. */
     for (unsigned i = 0; i < q->parts; i++)
         compare(g, window, q->laid[i].at, q->laid[i].length, "its packet, result or data");
     if (q->blocks && !q->write)
         compare(g, window, q->buffer - 16, q->blocks * EDD_BLOCK_SIZE + 32, "what it read");
-    if (m->guest[g->number].requests % 256 == 0)
+    if (all)
         compare(g, window, 0, WINDOW_SIZE, "its memory");
-    monitor_unlock(m);
-
     check_answer(g, q, &r, ending, moved);
 }
 
@@ -278,6 +288,7 @@ static void transfer(struct guest *g, struct request *q, unsigned drive, uint64_
 {
     q->blocks = blocks;
     q->buffer = buffer;
+    q->first = disks[drive].first + start;
     if (drive == g->number)
         q->disk = g->disk + start * EDD_BLOCK_SIZE;
     q->contents = (drive == g->number ? g->disk : g->shared) + start * EDD_BLOCK_SIZE;
@@ -301,10 +312,21 @@ static void want_transfer(struct request *q, const struct disk *disk)
         set_al(&q->wanted, 0);
 }
 
-static void set_address(struct request *q, const struct disk *disk, uint64_t block, unsigned sector_off)
+/*
+ * The address of a block of the guest's disk, from document 01's formula, block = (cylinder x H + head) x S + sector - 1. The
+ * library must give the same.
+ */
+static void set_address(struct guest *g, struct request *q, const struct disk *disk, uint64_t block, unsigned sector_off)
 {
-    uint32_t cylinder = 0, head = 0, sector = 0;
-    edd_address(disk->cylinders, disk->heads, disk->sectors, block, &cylinder, &head, &sector);
+    uint32_t sector = (uint32_t)(block % disk->sectors) + 1;
+    uint32_t head = (uint32_t)(block / disk->sectors % disk->heads);
+    uint32_t cylinder = (uint32_t)(block / disk->sectors / disk->heads);
+    uint32_t c = 0, h = 0, s = 0, back = 0;
+    if (edd_address(disk->cylinders, disk->heads, disk->sectors, block, &c, &h, &s) != EDD_DONE || c != cylinder ||
+        h != head || s != sector)
+        fail(g, "edd_address gives another address of block %llu", (unsigned long long)block);
+    if (edd_block(disk->cylinders, disk->heads, disk->sectors, cylinder, head, sector, &back) != EDD_DONE || back != block)
+        fail(g, "edd_block gives another block than %llu", (unsigned long long)block);
     q->given.cx = (uint16_t)((cylinder & 0xff) << 8 | (cylinder >> 8) << 6 | (sector - sector_off));
     q->given.dx = (uint16_t)(head << 8 | (q->given.dx & 0xff));
 }
@@ -325,7 +347,7 @@ static void chs_transfer(struct guest *g, int write)
     q.patience = pick_patience(g, blocks);
     transfer(g, &q, g->number, start, blocks, buffer);
     set_al(&q.given, (unsigned)blocks);
-    set_address(&q, disk, start, 0);
+    set_address(g, &q, disk, start, 0);
     as_pair(g, buffer, &q.given.es, &q.given.bx);
     want_transfer(&q, disk);
     make(g, &q);
@@ -438,7 +460,7 @@ static void wrong_chs(struct guest *g, unsigned al, uint64_t block, unsigned sec
 {
     struct request q = begin(g, 0x02);
     set_al(&q.given, al);
-    set_address(&q, &disks[g->number], block, sector_off);
+    set_address(g, &q, &disks[g->number], block, sector_off);
     as_pair(g, 0x8010, &q.given.es, &q.given.bx);
     want(&q, code);
     set_al(&q.wanted, 0);

@@ -16,6 +16,14 @@ static void refused(const char *call, uint32_t number)
     abort();
 }
 
+/* An answer that the header does not allow. To go on would mean to sleep for ever, or to use a wrong number. */
+static void impossible(const char *call, const char *what, uint64_t guest, uint64_t number)
+{
+    fprintf(stderr, "monitor: %s: %s (guest %llu, %llu blocks)\n", call, what, (unsigned long long)guest,
+            (unsigned long long)number);
+    abort();
+}
+
 uint32_t monitor_open(struct monitor *m, const uint8_t *table, size_t table_length, uint8_t *arena, size_t arena_length,
                       uint8_t *store, size_t store_length, uint64_t *place)
 {
@@ -65,7 +73,8 @@ uint8_t *monitor_window(struct monitor *m, unsigned guest)
 
 static uint32_t post(struct monitor *m, unsigned guest, struct registers *r)
 {
-    tsan_lend(m);
+    tsan_desk(m);
+    tsan_window(m, guest);
     uint32_t number = edd_post(m->desk, sizeof m->desk, m->arena, m->arena_length, m->store, m->store_length, guest,
                                &r->ax, &r->bx, &r->cx, &r->dx, r->ds, r->si, r->es, &r->carry);
     if (number != EDD_DONE && number != EDD_NOTHING_YET)
@@ -75,7 +84,7 @@ static uint32_t post(struct monitor *m, unsigned guest, struct registers *r)
 
 static uint32_t collect(struct monitor *m, unsigned guest, struct registers *r)
 {
-    tsan_lend(m);
+    tsan_desk(m);
     uint32_t number = edd_collect(m->desk, sizeof m->desk, guest, &r->ax, &r->bx, &r->cx, &r->dx, &r->ds, &r->si, &r->es,
                                   &r->carry);
     if (number != EDD_DONE && number != EDD_NOT_FINISHED)
@@ -85,7 +94,8 @@ static uint32_t collect(struct monitor *m, unsigned guest, struct registers *r)
 
 static uint32_t withdraw(struct monitor *m, unsigned guest, struct registers *r)
 {
-    tsan_lend(m);
+    tsan_desk(m);
+    tsan_window(m, guest);
     uint32_t number = edd_withdraw(m->desk, sizeof m->desk, m->arena, m->arena_length, m->store, m->store_length, guest,
                                    &r->ax, &r->bx, &r->cx, &r->dx, &r->ds, &r->si, &r->es, &r->carry);
     if (number != EDD_DONE && number != EDD_NOT_WAITING)
@@ -132,19 +142,27 @@ enum ending monitor_int13(struct monitor *m, unsigned guest, struct registers *r
     if (post(m, guest, r) == EDD_DONE)
         return note_ending(n, r, ANSWERED, moved);
 
+    if (blocks == 0)
+        impossible("edd_post", "a request waits that must be answered at once", guest, blocks);
     n->accepted = n->served = m->turns;
     n->moved = 0;
+    n->left = blocks;
     pthread_cond_signal(&m->posted);
 
     /* A wake-up may come for no reason; then edd_collect answers that the row has not finished, and the guest sleeps on. */
     uint64_t services = n->turns;
     while (collect(m, guest, r) == EDD_NOT_FINISHED) {
+        if (n->left == 0)
+            impossible("edd_collect", "all blocks are moved and the row has not finished", guest, blocks);
         if (patience >= 0 && n->turns - services >= (uint64_t)patience && withdraw(m, guest, r) == EDD_DONE) {
+            n->left = 0;
             note_wait(n, m->turns - n->accepted, bound(blocks) - 1);
             return note_ending(n, r, WITHDRAWN, moved);
         }
         pthread_cond_wait(&m->served[guest], &m->lock);
     }
+    if (n->left != 0)
+        impossible("edd_collect", "the row has finished and blocks are not moved", guest, n->left);
     note_wait(n, n->served - n->accepted, bound(blocks));
     return note_ending(n, r, FINISHED, moved);
 }
@@ -159,6 +177,24 @@ void monitor_leave(struct monitor *m)
 
 /* ---- the host's part */
 
+/* An idle turn is right only if the monitor knows of no request that waits. */
+static void check_idle(const struct monitor *m)
+{
+    for (unsigned g = 0; g < EDD_GUESTS; g++)
+        if (m->guest[g].left != 0)
+            impossible("edd_turn", "idle while a request waits", g, m->guest[g].left);
+}
+
+/* The numbers that a turn hands out, before anything is done with them. */
+static void check_served(const struct monitor *m, uint64_t guest, uint64_t moved)
+{
+    if (guest >= EDD_GUESTS)
+        impossible("edd_turn", "there is no such guest", guest, moved);
+    uint64_t left = m->guest[guest].left;
+    if (moved == 0 || moved != (left < EDD_TURN_BLOCKS ? left : EDD_TURN_BLOCKS))
+        impossible("edd_turn", "another number of blocks than the guest's request has next", guest, moved);
+}
+
 int monitor_turn(struct monitor *m)
 {
     uint64_t guest = 0, moved = 0;
@@ -166,9 +202,12 @@ int monitor_turn(struct monitor *m)
 
     monitor_lock(m);
     for (;;) {
-        tsan_lend(m);
+        tsan_desk(m);
         number = edd_turn(m->desk, sizeof m->desk, m->arena, m->arena_length, m->store, m->store_length, &guest, &moved);
-        if (number != EDD_NOTHING_YET || m->running == 0)
+        if (number != EDD_NOTHING_YET)
+            break;
+        check_idle(m);
+        if (m->running == 0)
             break;
         pthread_cond_wait(&m->posted, &m->lock);
     }
@@ -178,6 +217,8 @@ int monitor_turn(struct monitor *m)
     }
     if (number != EDD_DONE)
         refused("edd_turn", number);
+    check_served(m, guest, moved);
+    tsan_window(m, (unsigned)guest);
 
     struct record *n = &m->guest[guest];
     m->turns++;
@@ -186,6 +227,7 @@ int monitor_turn(struct monitor *m)
     n->served = m->turns;
     n->turns++;
     n->moved += moved;
+    n->left -= moved;
     n->blocks += moved;
     pthread_cond_signal(&m->served[guest]);
     monitor_unlock(m);

@@ -2,11 +2,11 @@
  * monitor.h - what a monitor keeps around one desk: the desk with its arena and store, one lock, and the three things that
  * are done under it. A guest's thread calls monitor_int13; one other thread calls monitor_turn again and again.
  *
- * The lock. Every call of the library is lent the whole arena, and most are lent the whole store. While a call runs nobody
- * else may write what it was lent (edd_desk.h, "What may run at the same time"). So one lock covers all three: whoever
- * calls the library, and whoever reads or writes a byte of a guest's window, holds it. (A monitor that lets guests run in
- * their windows while a call works for another guest rests on more than the header promises: that a call touches no other
- * window. host/touch tests this.) OpenMP's own locks cannot wait for an event; a guest must wait until its blocks have
+ * The lock. All calls on the desk, its arena and its store run one at a time, under this one lock, and so does whatever
+ * else looks at the desk or the store (edd_desk.h, "What may run at the same time"). A guest with no request waiting uses
+ * its own window without the lock, also while a call works for another guest: a call touches no other window, which
+ * host/touch tests. A guest whose request waits leaves its buffer alone until the request has ended; here it sleeps, and
+ * leaves its whole window alone. OpenMP's own locks cannot wait for an event; a guest must wait until its blocks have
  * moved, so this is a pthread mutex with conditions.
  *
  * The order. A guest posts. If the request waits, the guest sleeps until a turn has served it and then tries to collect;
@@ -40,7 +40,8 @@ struct record {
 
     uint64_t accepted;        /* the request that waits now: monitor->turns at its post, */
     uint64_t served;          /* at its last service, or at the post, */
-    uint64_t moved;           /* and its blocks moved so far */
+    uint64_t moved;           /* its blocks moved so far */
+    uint64_t left;            /* and its blocks that have still to be moved; 0 also when no request waits */
 };
 
 struct monitor {
@@ -74,7 +75,8 @@ void monitor_unlock(struct monitor *m);
  * One INT 13h of a guest, from the registers it gives to the registers it gets. Call it with the lock held; it returns with
  * the lock held, and has let others in while the request waited.
  *
- *   blocks    how many blocks the guest asks for, to compare the wait with its bound
+ *   blocks    how many blocks the guest asks for: turns must move just these, and within the bound; 0 for a request that
+ *             must be answered at once
  *   patience  withdraw after so many services, if the request still waits; 0 withdraws right after the post, a negative
  *             number never withdraws
  *   *moved    the blocks that turns have moved
@@ -84,14 +86,15 @@ enum ending monitor_int13(struct monitor *m, unsigned guest, struct registers *r
 
 /*
  * One turn. Returns the guest that was served, or -1 when no guest will post any more. With no row waiting it sleeps until
- * there is one. Call it without the lock.
+ * there is one. Call it without the lock. An idle turn while a request is known to wait, or a turn for a guest that has
+ * none, would let guests sleep for ever: then the program is stopped with a message.
  */
 int monitor_turn(struct monitor *m);
 
 /* A guest's thread has made its last call. Call it without the lock. */
 void monitor_leave(struct monitor *m);
 
-/* The start of a guest's window. Touch it with the lock held only. */
+/* The start of a guest's window. It is the guest's own while no request of the guest waits; see "The lock". */
 uint8_t *monitor_window(struct monitor *m, unsigned guest);
 
 #endif

@@ -1,9 +1,11 @@
 /*
- * tsan.h - tells ThreadSanitizer what a call of the library is lent. It sees only code that was compiled for it, and the
- * library was not: a guest that touched its window while a call runs would not be noticed. So, in that build only, the
- * caller itself touches what it lends, just before the call and under the same lock: every byte of the desk, one byte of
- * each 512 of the arena, so that no transfer of a block can miss one, and one of each 64 KiB of the store, which no guest
- * touches by itself. In every other build this is nothing. A monitor needs none of it.
+ * tsan.h - tells ThreadSanitizer what a call of the library touches. It sees only code that was compiled for it, and the
+ * library was not: a call without the lock, or a guest that writes its buffer while a call moves blocks there, would not
+ * be noticed. So, in that build only, the caller itself touches what the call may touch (edd_desk.h, "What may run at the
+ * same time"), next to the call and under the same lock: every byte of the desk; of the window of the guest that is posted,
+ * served or withdrawn one byte of each 512, so that no transfer of a block can miss one; and one of each 64 KiB of the
+ * store. Whom a turn serves is known after it, so that window is touched then. In every other build this is nothing. A
+ * monitor needs none of it.
  */
 #ifndef TSAN_H
 #define TSAN_H
@@ -28,16 +30,26 @@ static inline void tsan_touch(uint8_t *bytes, size_t length, size_t step)
     }
 }
 
-static inline void tsan_lend(struct monitor *m)
+static inline void tsan_desk(struct monitor *m)
 {
     tsan_touch(m->desk, sizeof m->desk, 1);
-    tsan_touch(m->arena, m->arena_length, EDD_BLOCK_SIZE);
     tsan_touch(m->store, m->store_length, 65536);
 }
+
+static inline void tsan_window(struct monitor *m, unsigned guest)
+{
+    tsan_touch(monitor_window(m, guest), m->arena_length / EDD_GUESTS, EDD_BLOCK_SIZE);
+}
 #else
-static inline void tsan_lend(struct monitor *m)
+static inline void tsan_desk(struct monitor *m)
 {
     (void)m;
+}
+
+static inline void tsan_window(struct monitor *m, unsigned guest)
+{
+    (void)m;
+    (void)guest;
 }
 #endif
 

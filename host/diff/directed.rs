@@ -65,18 +65,16 @@ impl<'a> Stand<'a> {
         Stand::open(service, &[paper_drive()], 8 * window, 2048 * 512)
     }
 
-    /// The same over memory of zeros that may be longer than the machine's. Where it gives no address space for that, the rest of the
-    /// case is left out.
-    fn vast(service: &'a dyn Service, drives: &[Drive], arena_length: usize, store_length: usize) -> Option<Stand<'a>> {
+    /// The same over memory of zeros that may be longer than the machine's. The machine must give address space for that.
+    fn vast(service: &'a dyn Service, drives: &[Drive], arena_length: usize, store_length: usize) -> Stand<'a> {
         let desk = Lent::holding(&[0; DESK_SIZE], Place::END);
         let (Some(arena), Some(store)) = (Lent::vast(arena_length), Lent::vast(store_length)) else {
-            println!("directed: {} left out: no address space for {} bytes", doing().unwrap_or(""), arena_length + store_length);
-            return None;
+            panic!("no address space for {} bytes: lift the limit (ulimit -v)", arena_length + store_length);
         };
         let mut stand = Stand { service, desk, arena, store };
         let answer = stand.open_again(&drives::table(drives), arena_length as u64, store_length as u64);
         assert_eq!(answer, (DONE, UNWRITTEN), "opening");
-        Some(stand)
+        stand
     }
 
     fn open_again(&mut self, table: &[u8], arena_length: u64, store_length: u64) -> (u32, u64) {
@@ -697,7 +695,7 @@ fn b10_drive_parameters(service: &dyn Service) {
     let given = registers(0x08, 0x77, 0x83);
     assert_eq!(stand.post(0, given), (DONE, refused(given, 0x07)));
     // P6
-    let Some(mut stand) = Stand::vast(service, &[largest_drive()], 0, LARGEST as usize * 512) else { return };
+    let mut stand = Stand::vast(service, &[largest_drive()], 0, LARGEST as usize * 512);
     let given = registers(0x08, 1, 0x80);
     assert_eq!(stand.post(0, given), (DONE, Registers { ax: 0, cx: 0xFFFF, dx: 0xFE01, ..given }));
 }
@@ -980,6 +978,11 @@ fn d1_accepted_though_unreachable(service: &dyn Service) {
     stand.set_word(ARENA_LENGTH, 1 << 40);
     stand.set_word(row(0, 12), 0x20_0000);
     assert!(stand.accepted(), "a buffer above 10FFEFh");
+    // a block that was never opened can be the image of a desk: zeros are the one without drives and with lengths 0
+    stand.desk.bytes_mut().fill(0);
+    let mut out = [0xA5; 5];
+    assert_eq!((stand.write(&mut out), out), ((DONE, 4), [4, 0, 0, 0, 0xA5]), "a block of zeros");
+    assert_eq!(stand.turn().0, 24, "zeros, and an arena with bytes");
 }
 
 fn d1_refused_by_one_word(service: &dyn Service) {
@@ -1188,7 +1191,8 @@ fn e1_windows(service: &dyn Service) {
 }
 
 fn e2_odd_arenas(service: &dyn Service) {
-    for arena_length in [0, 7, 8, 127, 128, 8 * 511, 4096 + 7, 8 * 512 + 7] {
+    let edges = [1, 2, 25, 26, 29, 30, 65, 66].map(|m| 8 * m + 3);
+    for arena_length in [0, 7, 8, 127, 128, 8 * 511, 4096 + 7, 8 * 512 + 7].into_iter().chain(edges) {
         let mut stand = Stand::open(service, &[small_drive(0, 4)], arena_length, 4 * 512 + 100);
         let m = arena_length / 8;
         let tail = stand.arena.bytes()[8 * m..].to_vec();
@@ -1213,10 +1217,16 @@ fn e2_odd_arenas(service: &dyn Service) {
             assert_eq!((stand.turn().1, stand.turn().1), (6, 7));
             assert!(stand.store.bytes()[4 * 512..] == last[..], "bytes past the last block");
         }
-        if m >= 2 {
-            stand.window(5)[..2].copy_from_slice(&[66, 0]);
+        // P8; None is 01h
+        let sizes = [(25, None), (26, Some(26)), (29, Some(26)), (30, Some(30)), (65, Some(30)), (66, Some(66)), (65535, Some(66))];
+        for (asked, returned) in sizes {
+            if m >= 2 {
+                stand.window(5)[..2].copy_from_slice(&u16::to_le_bytes(asked));
+            }
+            let given = by_packet(0x48, 0);
+            let expected = if returned.is_some_and(|size| size <= m) { succeeded(given) } else { refused(given, 0x01) };
+            assert_eq!(stand.post(5, given), (DONE, expected), "48h of size {asked}, window of {m}");
         }
-        assert_eq!(stand.post(5, by_packet(0x48, 0)).1.ah(), if m >= 66 { 0 } else { 1 });
         assert_eq!(stand.post(5, Registers { bx: 0x55AA, ..registers(0x41, 0, 0x80) }).1.bx, 0xAA55);
         assert_eq!(stand.post(5, registers(0x08, 0, 0x80)).1.carry, 0);
         assert!(stand.arena.bytes()[8 * m..] == tail[..], "bytes that belong to nobody");
@@ -1276,7 +1286,7 @@ fn e5_what_moves(service: &dyn Service) {
 fn e5_places_above_4_gib(service: &dyn Service) {
     // the largest geometry, and windows of 640 MiB: guest 7's starts at 4.375 GiB
     const WINDOW: usize = 640 << 20;
-    let Some(mut stand) = Stand::vast(service, &[largest_drive()], 8 * WINDOW, LARGEST as usize * 512) else { return };
+    let mut stand = Stand::vast(service, &[largest_drive()], 8 * WINDOW, LARGEST as usize * 512);
     let mut block = [0; 512];
     Chance::new(5).fill(&mut block);
     let low = WINDOW * 7 & 0xFFFF_FFFF;

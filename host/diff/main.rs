@@ -1,6 +1,6 @@
 //! Compares the library with the model on random calls.
 //!
-//!   diff [CALLS] [SEED]   CALLS random calls (200000), from SEED (1)
+//!   diff [CALLS] [SEED]   CALLS random calls, 1 or more (200000), from SEED (1)
 //!   diff directed         the cases of directed.rs, against the library and against the model
 //!
 //! The status is 0 if all is equal and, from 200000 calls on, every answer on the list of tally.rs was met.
@@ -51,6 +51,10 @@ fn main() -> ExitCode {
         eprintln!("usage: diff [CALLS] [SEED] | diff directed");
         return ExitCode::from(2);
     };
+    if calls == 0 {
+        eprintln!("diff: no calls, so nothing would be compared: CALLS is 1 or more");
+        return ExitCode::from(2);
+    }
     println!("diff: {calls} calls, seed {seed}");
     let begun = Instant::now();
     match random::Run::new(seed, calls).run() {

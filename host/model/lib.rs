@@ -1,5 +1,6 @@
-//! An independent implementation of document 01, written from the paper and from the table of words in docs/BLOCK.md, and from
-//! nothing that is proved. The differential test (host/diff) compares the library with it, and the benchmark measures against it.
+//! Document 01 once more. It follows the paper, the table of words in docs/BLOCK.md, the C interface and the readings in
+//! docs/DECISIONS.md, and shares no code with the crates. The differential test (host/diff) compares the library with it, and the
+//! benchmark measures against it.
 //!
 //! Each file is a section of the paper, each function one of its sentences:
 //!   parts      Parts of the desk

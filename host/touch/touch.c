@@ -6,9 +6,9 @@
  *   turn             the window of the guest that it serves and the store blocks that it moves. A read only reads the blocks, a write
  *                    only reads the window.
  *
- * This is tested, not proved: a promise says what memory holds before and after a call, not which bytes are looked at meanwhile. It is
- * what a monitor rests on that lets the other guests run in their windows while a call works for one of them; edd_desk.h does not ask
- * for so little.
+ * This is tested, not proved: a promise says what memory holds before and after a call, not which bytes are looked at meanwhile. On it
+ * rests what edd_desk.h allows, "What may run at the same time": a guest with no request waiting runs on in its own window, without
+ * the lock, while calls for other guests run.
  */
 #include <signal.h>
 #include <stdio.h>
@@ -21,7 +21,10 @@
 
 #define WINDOW ((size_t)256 * 1024)
 #define ARENA (EDD_GUESTS * WINDOW)
-#define DRIVE_BLOCKS 512u
+#define DRIVE_BLOCKS 512u /* 8 cylinders of 2 heads and 32 sectors */
+#define CYLINDERS 8u
+#define HEADS 2u
+#define SECTORS 32u
 #define STORE ((size_t)EDD_DRIVES * DRIVE_BLOCKS * EDD_BLOCK_SIZE)
 #define PAGE_BLOCKS 8u /* blocks of a page of 4096 bytes, the smallest that can be protected */
 #define PACKET 0x100
@@ -123,8 +126,8 @@ static void post(unsigned guest, const struct request *q)
     if (q->function == 0x41)
         bx = 0x55aa;
     if (q->function == 0x02 || q->function == 0x03) {
-        uint32_t cylinder = 0, head = 0, sector = 0;
-        edd_address(8, 2, 32, q->start, &cylinder, &head, &sector);
+        /* document 01: block = (cylinder x H + head) x S + sector - 1 */
+        unsigned sector = q->start % SECTORS + 1, head = q->start / SECTORS % HEADS, cylinder = q->start / SECTORS / HEADS;
         ax = (uint16_t)(q->function << 8 | q->count);
         bx = BUFFER;
         cx = (uint16_t)(cylinder << 8 | sector);
@@ -237,8 +240,9 @@ static void open_desk(void)
         put_word(at + 0, 4, 0x00010044); /* length 68, kind 1 */
         put_word(at + 16, 8, DRIVE_BLOCKS);
         put_word(at + 24, 8, DRIVE_BLOCKS * i);
-        put_word(at + 34, 4, 0x00020008); /* C 8, H 2 */
-        at[38] = 32;
+        put_word(at + 34, 2, CYLINDERS);
+        put_word(at + 36, 2, HEADS);
+        at[38] = SECTORS;
         memcpy(at + 40, "PCI", 3);
         memcpy(at + 44, "ATA", 3);
     }
@@ -260,8 +264,8 @@ int main(void)
 {
     struct sigaction action;
     if (sysconf(_SC_PAGESIZE) != PAGE_BLOCKS * EDD_BLOCK_SIZE) {
-        printf("touch: left out, pages are not of 4096 bytes\n");
-        return 0;
+        printf("touch: FAILED: pages are not of 4096 bytes here, and this program supposes that\n");
+        return 1;
     }
     memset(&action, 0, sizeof action);
     action.sa_sigaction = touched;
