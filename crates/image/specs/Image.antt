@@ -145,12 +145,13 @@ readDrive b i = record {
 
 abbrev pub readRows : List ℕ → List Row
 readRows b =
-    readRow b (rowAt 0) ∷ readRow b (rowAt 1) ∷ readRow b (rowAt 2) ∷ readRow b (rowAt 3) ∷ readRow b (rowAt 4) ∷ readRow b (rowAt 5) ∷ readRow b (rowAt 6) ∷ readRow b (rowAt 7) ∷ []
+    readRow b (rowAt 0) ∷ readRow b (rowAt 1) ∷ readRow b (rowAt 2) ∷ readRow b (rowAt 3)
+    ∷ readRow b (rowAt 4) ∷ readRow b (rowAt 5) ∷ readRow b (rowAt 6) ∷ readRow b (rowAt 7) ∷ []
 
 abbrev pub blockTable : List ℕ → Table
 blockTable b = record {
   drives =
-      readDrive b (placeAt 0) ∷ readDrive b (placeAt 1) ∷ readDrive b (placeAt 2) ∷ readDrive b 1808
+      readDrive b (placeAt 0) ∷ readDrive b (placeAt 1) ∷ readDrive b (placeAt 2) ∷ readDrive b (placeAt 3)
       ∷ readDrive b (placeAt 4) ∷ readDrive b (placeAt 5) ∷ readDrive b (placeAt 6) ∷ readDrive b (placeAt 7) ∷ [];
   count = le 8 b (tailAt 0);
 }

@@ -7,28 +7,22 @@ use Rattle.exports.proofs.edd_address.Reads as reads
 use Rattle.exports.proofs.edd_address.Lts as lts
 use Rattle.chs.proofs.address_of.Reads as address-of-reads
 
--- src/lib.rt:299:9
 address-of-requires : tie.Need-address-of-requires
 address-of-requires c κs = search needs
 
--- src/lib.rt:301:23
 enum-known-answer : tie.Need-enum-known-answer
 enum-known-answer c = search needs
 
--- src/lib.rt:307:28
 enum-known-answer-2 : tie.Need-enum-known-answer-2
 enum-known-answer-2 c = search needs
 
--- src/lib.rt:307:37
 cast-result : tie.Need-cast-result
 cast-result c = search needs
 
--- src/lib.rt:282:1
 returns : tie.Need-returns
 unfolding addressCall over addressNumbers
 returns c = rw (← c .before .before .before .address-of .ensures, c .before .answer .given .1)
 
--- src/lib.rt:282:1
 returns-2 : tie.Need-returns-2
 unfolding addressCall over addressNumbers
 returns-2 c = rw (← c .before .before .before .address-of .ensures, c .before .answer2 .given .1)

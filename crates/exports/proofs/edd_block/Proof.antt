@@ -7,28 +7,22 @@ use Rattle.exports.proofs.edd_block.Reads as reads
 use Rattle.exports.proofs.edd_block.Lts as lts
 use Rattle.chs.proofs.block_of.Reads as block-of-reads
 
--- src/lib.rt:272:9
 block-of-requires : tie.Need-block-of-requires
 block-of-requires c κs = search needs
 
--- src/lib.rt:274:24
 enum-known-answer : tie.Need-enum-known-answer
 enum-known-answer c = search needs
 
--- src/lib.rt:278:26
 enum-known-answer-2 : tie.Need-enum-known-answer-2
 enum-known-answer-2 c = search needs
 
--- src/lib.rt:278:35
 cast-result : tie.Need-cast-result
 cast-result c = search needs
 
--- src/lib.rt:250:1
 returns : tie.Need-returns
 unfolding blockCall over blockNumbers
 returns c = rw (← c .before .before .before .block-of .ensures, c .before .answer .given .1)
 
--- src/lib.rt:250:1
 returns-2 : tie.Need-returns-2
 unfolding blockCall over blockNumbers
 returns-2 c = rw (← c .before .before .before .block-of .ensures, c .before .answer2 .given .1)

@@ -11,48 +11,37 @@ use Rattle.exports.proofs.hand.Reads as hand-reads
 use Rattle.image.proofs.decode.Reads as decode-reads
 use Rattle.image.proofs.encode.Reads as encode-reads
 
--- src/lib.rt:194:9
 decode-requires : tie.Need-decode-requires
 decode-requires c κs = search needs
 
--- src/lib.rt:195:9
 collect-requires : tie.Need-collect-requires
 collect-requires c κs = search needs
 
--- src/lib.rt:198:30
 enum-known-answer : tie.Need-enum-known-answer
 enum-known-answer c = search needs
 
--- src/lib.rt:199:13
 encode-requires : tie.Need-encode-requires
 encode-requires c κs = search needs
 
--- src/lib.rt:200:13
 hand-requires : tie.Need-hand-requires
 hand-requires c κs = search needs
 
--- src/lib.rt:203:32
 enum-known-answer-2 : tie.Need-enum-known-answer-2
 enum-known-answer-2 c = search needs
 
--- src/lib.rt:203:38
 cast-result : tie.Need-cast-result
 cast-result c = search needs
 
--- src/lib.rt:179:1
 same-length : tie.Need-same-length
 same-length c = search needs
 
--- src/lib.rt:179:1
 returns : tie.Need-returns
 unfolding collectCall over collectNumbers
 returns c = rw (← c .before .before .before .before .before .before .before .before .before .before .before .before .before .before .before .before .before .decode .ensures, ← c .before .before .before .before .before .before .before .before .before .before .before .before .before .before .before .before .collect .ensures [] [], c .before .before .before .before .before .before .before .before .before .before .before .before .before .before .answer .given .1, c .before .before .before .before .before .before .before .before .before .before .before .encode .ensures, c .hand .ensures)
 
--- src/lib.rt:179:1
 same-length-2 : tie.Need-same-length-2
 same-length-2 c = search needs
 
--- src/lib.rt:179:1
 returns-2 : tie.Need-returns-2
 unfolding collectCall over collectNumbers
 returns-2 c = rw (← c .before .before .before .before .decode .ensures, ← c .before .before .before .collect .ensures [] [], c .before .answer2 .given .1)

@@ -9,41 +9,32 @@ use Rattle.exports.proofs.edd_open.Lts as lts
 use Rattle.desk.proofs.Desk.open.Reads as open-reads
 use Rattle.image.proofs.encode.Reads as encode-reads
 
--- src/lib.rt:46:9
 returns : tie.Need-returns
 unfolding openCall over openNumbers
 returns c = rw (ne-eqb _ 2400 (c .if1 .taken))
 
--- src/lib.rt:48:9
 open-requires : tie.Need-open-requires
 open-requires c κs = search needs
 
--- src/lib.rt:52:41
 enum-told : tie.Need-enum-told
 enum-told c = search needs
 
--- src/lib.rt:52:13
 encode-requires : tie.Need-encode-requires
 encode-requires c κs = search needs
 
--- src/lib.rt:55:29
 enum-known-answer : tie.Need-enum-known-answer
 enum-known-answer c = search needs
 
--- src/lib.rt:57:13
 cast-result : tie.Need-cast-result
 cast-result c = search needs
 
--- src/lib.rt:35:1
 same-length : tie.Need-same-length
 same-length c = search needs
 
--- src/lib.rt:35:1
 returns-2 : tie.Need-returns-2
 unfolding openCall over openNumbers
 returns-2 c = rw (eq-eqb _ 2400 (c .before .before .before .before .before .before .before .if1 .left), ← c .before .before .before .before .before .before .«open» .ensures, c .before .before .before .before .enum-told .given .1, c .before .before .encode .ensures)
 
--- src/lib.rt:35:1
 returns-3 : tie.Need-returns-3
 unfolding openCall over openNumbers
 returns-3 c = rw (eq-eqb _ 2400 (c .before .before .before .before .if1 .left), ← c .before .before .before .«open» .ensures, c .before .answer .given .1)

@@ -9,81 +9,62 @@ use Rattle.desk.proofs.Desk.turn.Reads as turn-reads
 use Rattle.image.proofs.decode.Reads as decode-reads
 use Rattle.image.proofs.encode.Reads as encode-reads
 
--- src/lib.rt:140:9
 decode-requires : tie.Need-decode-requires
 decode-requires c κs = search needs
 
--- src/lib.rt:141:9
 turn-requires : tie.Need-turn-requires
 turn-requires c κs = search needs
 
--- src/lib.rt:144:28
 enum-known-answer : tie.Need-enum-known-answer
 enum-known-answer c = search needs
 
--- src/lib.rt:145:13
 encode-requires : tie.Need-encode-requires
 encode-requires c κs = search needs
 
--- src/lib.rt:150:29
 enum-told : tie.Need-enum-told
 enum-told c = search needs
 
--- src/lib.rt:151:29
 enum-known-answer-2 : tie.Need-enum-known-answer-2
 enum-known-answer-2 c = search needs
 
--- src/lib.rt:151:35
 cast-result : tie.Need-cast-result
 cast-result c = search needs
 
--- src/lib.rt:130:1
 same-length : tie.Need-same-length
 same-length c = search needs
 
--- src/lib.rt:130:1
 same-length-2 : tie.Need-same-length-2
 same-length-2 c = search needs
 
--- src/lib.rt:130:1
 same-length-3 : tie.Need-same-length-3
 same-length-3 c = search needs
 
--- src/lib.rt:130:1
 returns : tie.Need-returns
 unfolding turnCall over turnNumbers
 returns c = rw (← c .before .before .before .before .before .before .before .before .before .before .before .before .before .before .decode .ensures, ← c .before .before .before .before .before .before .before .before .before .before .before .turn .ensures, c .before .before .before .before .before .answer .given .1, c .before .before .encode .ensures)
 
--- src/lib.rt:130:1
 same-length-4 : tie.Need-same-length-4
 same-length-4 c = search needs
 
--- src/lib.rt:130:1
 same-length-5 : tie.Need-same-length-5
 same-length-5 c = search needs
 
--- src/lib.rt:130:1
 same-length-6 : tie.Need-same-length-6
 same-length-6 c = search needs
 
--- src/lib.rt:130:1
 returns-2 : tie.Need-returns-2
 unfolding turnCall over turnNumbers
 returns-2 c = rw (← c .before .before .before .before .before .before .before .before .before .decode .ensures, ← c .before .before .before .before .before .before .turn .ensures, c .enum-told .given .1)
 
--- src/lib.rt:130:1
 same-length-7 : tie.Need-same-length-7
 same-length-7 c = search needs
 
--- src/lib.rt:130:1
 same-length-8 : tie.Need-same-length-8
 same-length-8 c = search needs
 
--- src/lib.rt:130:1
 same-length-9 : tie.Need-same-length-9
 same-length-9 c = search needs
 
--- src/lib.rt:130:1
 returns-3 : tie.Need-returns-3
 unfolding turnCall over turnNumbers
 returns-3 c = rw (← c .before .before .before .before .before .before .before .before .before .before .decode .ensures, ← c .before .before .before .before .before .before .before .turn .ensures, c .before .answer2 .given .1)

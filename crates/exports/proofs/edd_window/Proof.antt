@@ -10,22 +10,18 @@ use Rattle.exports.proofs.edd_window.Lts as lts
 use Rattle.memory.proofs.span_of.Reads as span-of-reads
 use Rattle.memory.proofs.window_length.Reads as window-length-reads
 
--- src/lib.rt:244:51
 window-length-requires : tie.Need-window-length-requires
 window-length-requires c κs = search needs
 
--- src/lib.rt:244:9
 span-of-requires : tie.Need-span-of-requires
 span-of-requires c κs = search needs
 
--- src/lib.rt:246:16
 sub-length : tie.Need-sub-length
 sub-length c = search needs
 
 rest : (a b : ℕ) → a + b - a ≡ b
 rest a b = omega arith
 
--- src/lib.rt:239:1
 returns : tie.Need-returns
 unfolding windowCall
 returns c = rw (c .before .span-of .ensures .0, c .before .span-of .ensures .1, c .before .before .window-length .ensures, rest)

@@ -10,56 +10,43 @@ use Rattle.exports.proofs.hand.Reads as hand-reads
 use Rattle.image.proofs.decode.Reads as decode-reads
 use Rattle.image.proofs.encode.Reads as encode-reads
 
--- src/lib.rt:224:9
 decode-requires : tie.Need-decode-requires
 decode-requires c κs = search needs
 
--- src/lib.rt:225:9
 withdraw-requires : tie.Need-withdraw-requires
 withdraw-requires c κs = search needs
 
--- src/lib.rt:228:31
 enum-known-answer : tie.Need-enum-known-answer
 enum-known-answer c = search needs
 
--- src/lib.rt:229:13
 encode-requires : tie.Need-encode-requires
 encode-requires c κs = search needs
 
--- src/lib.rt:230:13
 hand-requires : tie.Need-hand-requires
 hand-requires c κs = search needs
 
--- src/lib.rt:233:33
 enum-known-answer-2 : tie.Need-enum-known-answer-2
 enum-known-answer-2 c = search needs
 
--- src/lib.rt:233:39
 cast-result : tie.Need-cast-result
 cast-result c = search needs
 
--- src/lib.rt:207:1
 same-length : tie.Need-same-length
 same-length c = search needs
 
--- src/lib.rt:207:1
 same-length-2 : tie.Need-same-length-2
 same-length-2 c = search needs
 
--- src/lib.rt:207:1
 returns : tie.Need-returns
 unfolding withdrawCall over withdrawNumbers
 returns c = rw (← c .before .before .before .before .before .before .before .before .before .before .before .before .before .before .before .before .before .before .before .before .decode .ensures, ← c .before .before .before .before .before .before .before .before .before .before .before .before .before .before .before .before .before .before .withdraw .ensures, c .before .before .before .before .before .before .before .before .before .before .before .before .before .before .answer .given .1, c .before .before .before .before .before .before .before .before .before .before .before .encode .ensures, c .hand .ensures)
 
--- src/lib.rt:207:1
 same-length-3 : tie.Need-same-length-3
 same-length-3 c = search needs
 
--- src/lib.rt:207:1
 same-length-4 : tie.Need-same-length-4
 same-length-4 c = search needs
 
--- src/lib.rt:207:1
 returns-2 : tie.Need-returns-2
 unfolding withdrawCall over withdrawNumbers
 returns-2 c = rw (← c .before .before .before .before .before .before .before .decode .ensures, ← c .before .before .before .before .before .withdraw .ensures, c .before .answer2 .given .1)

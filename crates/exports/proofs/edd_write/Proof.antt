@@ -8,40 +8,31 @@ use Rattle.exports.proofs.edd_write.Lts as lts
 use Rattle.desk.proofs.Desk.write.Reads as write-reads
 use Rattle.image.proofs.decode.Reads as decode-reads
 
--- src/lib.rt:66:9
 decode-requires : tie.Need-decode-requires
 decode-requires c κs = search needs
 
--- src/lib.rt:67:9
 write-requires : tie.Need-write-requires
 write-requires c κs = search needs
 
--- src/lib.rt:69:24
 enum-known-answer : tie.Need-enum-known-answer
 enum-known-answer c = search needs
 
--- src/lib.rt:73:26
 enum-known-answer-2 : tie.Need-enum-known-answer-2
 enum-known-answer-2 c = search needs
 
--- src/lib.rt:73:32
 cast-result : tie.Need-cast-result
 cast-result c = search needs
 
--- src/lib.rt:62:1
 same-length : tie.Need-same-length
 same-length c = search needs
 
--- src/lib.rt:62:1
 returns : tie.Need-returns
 unfolding writeCall over writtenNumbers
 returns c = rw (← c .before .before .before .before .before .before .before .decode .ensures, ← c .before .before .before .before .before .write .ensures .0, ← c .before .before .before .before .before .write .ensures .1, c .before .answer .given .1)
 
--- src/lib.rt:62:1
 same-length-2 : tie.Need-same-length-2
 same-length-2 c = search needs
 
--- src/lib.rt:62:1
 returns-2 : tie.Need-returns-2
 unfolding writeCall over writtenNumbers
 returns-2 c = rw (← c .before .before .before .before .before .before .before .decode .ensures, ← c .before .before .before .before .before .write .ensures .0, ← c .before .before .before .before .before .write .ensures .1, c .before .answer2 .given .1)

@@ -5,11 +5,9 @@ use Rattle.exports.proofs.hand.Reads as reads
 use Rattle.exports.proofs.hand.Lts as lts
 use Rattle.exports.proofs.bit.Reads as bit-reads
 
--- src/lib.rt:176:14
 bit-requires : tie.Need-bit-requires
 bit-requires c κs = search needs
 
--- src/lib.rt:156:1
 returns : tie.Need-returns
 returns c = cc
 

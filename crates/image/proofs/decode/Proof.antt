@@ -14,36 +14,28 @@ use Rattle.image.proofs.no_desk.Reads as no-desk-reads
 use Rattle.image.proofs.read.Reads as read-reads
 use Rattle.image.proofs.same.Reads as same-reads
 
--- src/lib.rt:369:9
 no-desk-requires : tie.Need-no-desk-requires
 no-desk-requires c κs = search needs
 
--- src/lib.rt:369:9
 returns : tie.Need-returns
 unfolding deskOf isImage
 returns c = rw (c .no-desk .ensures, ne-eqb _ 2400 (c .before .if1 .taken))
 
--- src/lib.rt:371:9
 read-requires : tie.Need-read-requires
 read-requires c κs = search needs
 
--- src/lib.rt:373:12
 slice-aggregate-lay : tie.Need-slice-aggregate-lay
 slice-aggregate-lay c = search needs
 
--- src/lib.rt:373:5
 lay-requires : tie.Need-lay-requires
 lay-requires c κs = search needs
 
--- src/lib.rt:374:20
 slice-aggregate-same : tie.Need-slice-aggregate-same
 slice-aggregate-same c = search needs
 
--- src/lib.rt:374:8
 same-requires : tie.Need-same-requires
 same-requires c κs = search needs
 
--- src/lib.rt:375:9
 returns-2 : tie.Need-returns-2
 unfolding deskOf isImage
 returns-2 c =
@@ -52,11 +44,9 @@ returns-2 c =
     rw (← c .before .before .before .before .before .before .read .ensures, ← c .before .before .before .before .lay .ensures) (sym (c .before .same .ensures) ∙ c .if2 .taken) in
     rw (c .before .before .before .before .before .before .read .ensures, eq-eqb _ 2400 (c .before .before .before .before .before .before .before .if1 .left), e)
 
--- src/lib.rt:377:5
 no-desk-requires-2 : tie.Need-no-desk-requires-2
 no-desk-requires-2 c κs = search needs
 
--- src/lib.rt:365:1
 returns-3 : tie.Need-returns-3
 unfolding deskOf isImage
 returns-3 c =

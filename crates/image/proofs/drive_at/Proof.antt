@@ -10,115 +10,87 @@ use Rattle.words.proofs.get64.Reads as get64-reads
 use Rattle.words.proofs.load4.Reads as load4-reads
 use Rattle.words.proofs.load8.Reads as load8-reads
 
--- src/lib.rt:97:20
 get32-requires : tie.Need-get32-requires
 get32-requires c κs = search needs
 
--- src/lib.rt:98:32
 add-get32 : tie.Need-add-get32
 add-get32 c = search needs
 
--- src/lib.rt:98:16
 get32-requires-2 : tie.Need-get32-requires-2
 get32-requires-2 c κs = search needs
 
--- src/lib.rt:99:34
 add-get32-2 : tie.Need-add-get32-2
 add-get32-2 c = search needs
 
--- src/lib.rt:99:18
 get32-requires-3 : tie.Need-get32-requires-3
 get32-requires-3 c κs = search needs
 
--- src/lib.rt:100:33
 add-get64 : tie.Need-add-get64
 add-get64 c = search needs
 
--- src/lib.rt:100:17
 get64-requires : tie.Need-get64-requires
 get64-requires c κs = search needs
 
--- src/lib.rt:101:32
 add-get64-2 : tie.Need-add-get64-2
 add-get64-2 c = search needs
 
--- src/lib.rt:101:16
 get64-requires-2 : tie.Need-get64-requires-2
 get64-requires-2 c κs = search needs
 
--- src/lib.rt:102:32
 add-get16 : tie.Need-add-get16
 add-get16 c = search needs
 
--- src/lib.rt:102:16
 get16-requires : tie.Need-get16-requires
 get16-requires c κs = search needs
 
--- src/lib.rt:103:28
 add-get16-2 : tie.Need-add-get16-2
 add-get16-2 c = search needs
 
--- src/lib.rt:103:12
 get16-requires-2 : tie.Need-get16-requires-2
 get16-requires-2 c κs = search needs
 
--- src/lib.rt:104:28
 add-get16-3 : tie.Need-add-get16-3
 add-get16-3 c = search needs
 
--- src/lib.rt:104:12
 get16-requires-3 : tie.Need-get16-requires-3
 get16-requires-3 c κs = search needs
 
--- src/lib.rt:105:14
 add-t18 : tie.Need-add-t18
 add-t18 c = search needs
 
--- src/lib.rt:105:12
 shared-slice-read-t20 : tie.Need-shared-slice-read-t20
 shared-slice-read-t20 c = search needs
 
--- src/lib.rt:106:23
 add-t21 : tie.Need-add-t21
 add-t21 c = search needs
 
--- src/lib.rt:106:21
 shared-slice-read-t23 : tie.Need-shared-slice-read-t23
 shared-slice-read-t23 c = search needs
 
--- src/lib.rt:107:30
 add-load4 : tie.Need-add-load4
 add-load4 c = search needs
 
--- src/lib.rt:107:14
 load4-requires : tie.Need-load4-requires
 load4-requires c κs = search needs
 
--- src/lib.rt:108:36
 add-load8 : tie.Need-add-load8
 add-load8 c = search needs
 
--- src/lib.rt:108:20
 load8-requires : tie.Need-load8-requires
 load8-requires c κs = search needs
 
--- src/lib.rt:109:31
 add-load8-2 : tie.Need-add-load8-2
 add-load8-2 c = search needs
 
--- src/lib.rt:109:15
 load8-requires-2 : tie.Need-load8-requires-2
 load8-requires-2 c κs = search needs
 
--- src/lib.rt:110:33
 add-load8-3 : tie.Need-add-load8-3
 add-load8-3 c = search needs
 
--- src/lib.rt:110:17
 load8-requires-3 : tie.Need-load8-requires-3
 load8-requires-3 c κs = search needs
 
--- src/lib.rt:92:1
 returns : tie.Need-returns
 unfolding readDrive
 returns c = cc

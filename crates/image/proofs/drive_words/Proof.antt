@@ -7,59 +7,45 @@ use Rattle.image.proofs.drive_words.Lts as lts
 use Rattle.words.proofs.value4.Reads as value4-reads
 use Rattle.words.proofs.value8.Reads as value8-reads
 
--- src/lib.rt:251:9
 cast-t6 : tie.Need-cast-t6
 cast-t6 c = search needs
 
--- src/lib.rt:252:9
 cast-t7 : tie.Need-cast-t7
 cast-t7 c = search needs
 
--- src/lib.rt:253:9
 cast-t8 : tie.Need-cast-t8
 cast-t8 c = search needs
 
--- src/lib.rt:256:9
 cast-t9 : tie.Need-cast-t9
 cast-t9 c = search needs
 
--- src/lib.rt:257:9
 cast-t10 : tie.Need-cast-t10
 cast-t10 c = search needs
 
--- src/lib.rt:258:9
 cast-t11 : tie.Need-cast-t11
 cast-t11 c = search needs
 
--- src/lib.rt:259:9
 cast-t12 : tie.Need-cast-t12
 cast-t12 c = search needs
 
--- src/lib.rt:260:9
 cast-t13 : tie.Need-cast-t13
 cast-t13 c = let h = c .struct-known8 .given in omega (arith, h)
 
--- src/lib.rt:261:9
 value4-requires : tie.Need-value4-requires
 value4-requires c κs = search needs
 
--- src/lib.rt:261:9
 cast-t15 : tie.Need-cast-t15
 cast-t15 c = search needs
 
--- src/lib.rt:262:9
 value8-requires : tie.Need-value8-requires
 value8-requires c κs = search needs
 
--- src/lib.rt:263:9
 value8-requires-2 : tie.Need-value8-requires-2
 value8-requires-2 c κs = search needs
 
--- src/lib.rt:264:9
 value8-requires-3 : tie.Need-value8-requires-3
 value8-requires-3 c κs = search needs
 
--- src/lib.rt:243:1
 returns : tie.Need-returns
 returns c = cc
 

@@ -8,20 +8,16 @@ use Rattle.image.proofs.encode.Reads as reads
 use Rattle.image.proofs.encode.Lts as lts
 use Rattle.image.proofs.lay.Reads as lay-reads
 
--- src/lib.rt:326:9
 lay-requires : tie.Need-lay-requires
 lay-requires c κs = search needs
 
--- src/lib.rt:322:1
 same-length : tie.Need-same-length
 same-length c = search needs
 
--- src/lib.rt:322:1
 returns : tie.Need-returns
 unfolding laid
 returns c = rw (eq-eqb _ 2400 (c .before .before .before .before .if1 .taken), c .before .before .lay .ensures)
 
--- src/lib.rt:322:1
 returns-2 : tie.Need-returns-2
 unfolding laid
 returns-2 c = rw (ne-eqb _ 2400 (c .if1 .left))

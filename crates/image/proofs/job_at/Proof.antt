@@ -6,51 +6,39 @@ use Rattle.image.proofs.job_at.Lts as lts
 use Rattle.image.proofs.registers_at.Reads as registers-at-reads
 use Rattle.words.proofs.get64.Reads as get64-reads
 
--- src/lib.rt:50:20
 registers-at-requires : tie.Need-registers-at-requires
 registers-at-requires c κs = search needs
 
--- src/lib.rt:51:18
 add-t4 : tie.Need-add-t4
 add-t4 c = search needs
 
--- src/lib.rt:51:16
 shared-slice-read-t6 : tie.Need-shared-slice-read-t6
 shared-slice-read-t6 c = search needs
 
--- src/lib.rt:52:32
 add-get64 : tie.Need-add-get64
 add-get64 c = search needs
 
--- src/lib.rt:52:16
 get64-requires : tie.Need-get64-requires
 get64-requires c κs = search needs
 
--- src/lib.rt:53:32
 add-get64-2 : tie.Need-add-get64-2
 add-get64-2 c = search needs
 
--- src/lib.rt:53:16
 get64-requires-2 : tie.Need-get64-requires-2
 get64-requires-2 c κs = search needs
 
--- src/lib.rt:54:33
 add-get64-3 : tie.Need-add-get64-3
 add-get64-3 c = search needs
 
--- src/lib.rt:54:17
 get64-requires-3 : tie.Need-get64-requires-3
 get64-requires-3 c κs = search needs
 
--- src/lib.rt:55:33
 add-get64-4 : tie.Need-add-get64-4
 add-get64-4 c = search needs
 
--- src/lib.rt:55:17
 get64-requires-4 : tie.Need-get64-requires-4
 get64-requires-4 c κs = search needs
 
--- src/lib.rt:45:1
 returns : tie.Need-returns
 returns c = cc
 

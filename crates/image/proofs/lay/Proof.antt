@@ -11,27 +11,21 @@ use Rattle.image.proofs.put_drives.Reads as put-drives-reads
 use Rattle.image.proofs.put_rows.Reads as put-rows-reads
 use Rattle.image.proofs.put_words.Reads as put-words-reads
 
--- src/lib.rt:315:5
 put-rows-requires : tie.Need-put-rows-requires
 put-rows-requires c κs = search needs
 
--- src/lib.rt:316:5
 put-drives-requires : tie.Need-put-drives-requires
 put-drives-requires c κs = search needs
 
--- src/lib.rt:318:26
 slice-aggregate-put-words : tie.Need-slice-aggregate-put-words
 slice-aggregate-put-words c = search needs
 
--- src/lib.rt:318:5
 put-words-requires : tie.Need-put-words-requires
 put-words-requires c κs = search needs
 
--- src/lib.rt:308:1
 same-length : tie.Need-same-length
 same-length c = search needs
 
--- src/lib.rt:308:1
 returns : tie.Need-returns
 returns c =
     let h = c .before .before .before .before .before .before .before .before .before .before .before .before .before .before .before .before .before in

@@ -5,11 +5,9 @@ use Rattle.image.proofs.no_desk.Reads as reads
 use Rattle.image.proofs.no_desk.Lts as lts
 use Rattle.table.proofs.empty_table.Reads as empty-table-reads
 
--- src/lib.rt:358:16
 empty-table-requires : tie.Need-empty-table-requires
 empty-table-requires c κs = search needs
 
--- src/lib.rt:349:1
 returns : tie.Need-returns
 returns c = cc
 

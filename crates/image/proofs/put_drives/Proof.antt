@@ -20,48 +20,37 @@ Inv-loop out₀ drives k₀ out k = (k ≤ 8) × (length out ≡ 2400) × (out �
 abbrev μ-loop : tie.MeasureT-loop
 μ-loop out₀ drives k₀ out k = 8 - k
 
--- src/lib.rt:299:5
 loop-holds : tie.Need-loop-holds Inv-loop μ-loop
 unfolding each
 loop-holds c = (search needs, search needs, refl)
 
--- src/lib.rt:300:17
 mul-d : tie.Need-mul-d Inv-loop μ-loop
 mul-d c = search needs
 
--- src/lib.rt:300:17
 array-copy-out-d : tie.Need-array-copy-out-d Inv-loop μ-loop
 array-copy-out-d c = search needs
 
--- src/lib.rt:301:17
 drive-words-requires : tie.Need-drive-words-requires Inv-loop μ-loop
 drive-words-requires c κs = search needs
 
--- src/lib.rt:302:31
 mul-put-words : tie.Need-mul-put-words Inv-loop μ-loop
 mul-put-words c = search needs
 
--- src/lib.rt:302:24
 add-put-words : tie.Need-add-put-words Inv-loop μ-loop
 add-put-words c = search needs
 
--- src/lib.rt:302:40
 slice-aggregate-put-words : tie.Need-slice-aggregate-put-words Inv-loop μ-loop
 slice-aggregate-put-words c = search needs
 
--- src/lib.rt:302:9
 put-words-requires : tie.Need-put-words-requires Inv-loop μ-loop
 put-words-requires c κs = search needs
 
--- src/lib.rt:303:9
 add-k : tie.Need-add-k Inv-loop μ-loop
 add-k c = search needs
 
--- src/lib.rt:299:5
 loop-less : tie.Need-loop-less Inv-loop μ-loop
 loop-less c = search needs
 
--- src/lib.rt:299:5
 loop-again : tie.Need-loop-again Inv-loop μ-loop
 loop-again c =
     let h = c .before .before .before .before .before .before .before .before in
@@ -74,11 +63,9 @@ loop-again c =
           (part-more driveWords 14 length-drive (now (a .out)) 1472 (1472 + 112 * h .loop .k) (a .t2) (h .loop .k) _ (omega arith) (omega arith)),
     )
 
--- src/lib.rt:294:1
 same-length : tie.Need-same-length Inv-loop μ-loop
 same-length c = search needs
 
--- src/lib.rt:294:1
 returns : tie.Need-returns Inv-loop μ-loop
 returns c =
     let h = c .before in

@@ -20,44 +20,34 @@ Inv-loop out₀ rows k₀ out k = (k ≤ 8) × (length out ≡ 2400) × (out ≡
 abbrev μ-loop : tie.MeasureT-loop
 μ-loop out₀ rows k₀ out k = 8 - k
 
--- src/lib.rt:285:5
 loop-holds : tie.Need-loop-holds Inv-loop μ-loop
 unfolding each
 loop-holds c = (search needs, search needs, refl)
 
--- src/lib.rt:286:19
 mul-row : tie.Need-mul-row Inv-loop μ-loop
 mul-row c = search needs
 
--- src/lib.rt:286:19
 array-copy-out-row : tie.Need-array-copy-out-row Inv-loop μ-loop
 array-copy-out-row c = search needs
 
--- src/lib.rt:288:17
 stage-words-requires : tie.Need-stage-words-requires Inv-loop μ-loop
 stage-words-requires c κs = search needs
 
--- src/lib.rt:289:24
 mul-put-words : tie.Need-mul-put-words Inv-loop μ-loop
 mul-put-words c = search needs
 
--- src/lib.rt:289:33
 slice-aggregate-put-words : tie.Need-slice-aggregate-put-words Inv-loop μ-loop
 slice-aggregate-put-words c = search needs
 
--- src/lib.rt:289:9
 put-words-requires : tie.Need-put-words-requires Inv-loop μ-loop
 put-words-requires c κs = search needs
 
--- src/lib.rt:290:9
 add-k : tie.Need-add-k Inv-loop μ-loop
 add-k c = search needs
 
--- src/lib.rt:285:5
 loop-less : tie.Need-loop-less Inv-loop μ-loop
 loop-less c = search needs
 
--- src/lib.rt:285:5
 loop-again : tie.Need-loop-again Inv-loop μ-loop
 loop-again c =
     let h = c .before .before .before .before .before .before .before .before in
@@ -70,11 +60,9 @@ loop-again c =
           (part-more rowWords 23 length-row (now (a .out)) 0 (184 * h .loop .k) (a .t2) (h .loop .k) _ (omega arith) (omega arith)),
     )
 
--- src/lib.rt:280:1
 same-length : tie.Need-same-length Inv-loop μ-loop
 same-length c = search needs
 
--- src/lib.rt:280:1
 returns : tie.Need-returns Inv-loop μ-loop
 returns c =
     let h = c .before in

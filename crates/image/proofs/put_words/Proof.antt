@@ -19,57 +19,46 @@ Inv-loop out₀ at w j₀ out j = (j ≤ length w) × (out ≡ sets out₀ at (f
 abbrev μ-loop : tie.MeasureT-loop
 μ-loop out₀ at w j₀ out j = length w - j
 
--- src/lib.rt:274:5
 loop-holds : tie.Need-loop-holds Inv-loop μ-loop
 unfolding each
 loop-holds c = (search needs, refl)
 
--- src/lib.rt:275:34
 mul-store64 : tie.Need-mul-store64 Inv-loop μ-loop
 mul-store64 c = search needs
 
--- src/lib.rt:275:29
 add-store64 : tie.Need-add-store64 Inv-loop μ-loop
 add-store64 c = search needs
 
--- src/lib.rt:275:41
 mul-store64-2 : tie.Need-mul-store64-2 Inv-loop μ-loop
 mul-store64-2 c = search needs
 
--- src/lib.rt:275:41
 shared-slice-read-store64 : tie.Need-shared-slice-read-store64 Inv-loop μ-loop
 shared-slice-read-store64 c = search needs
 
--- src/lib.rt:275:9
 store64-requires : tie.Need-store64-requires Inv-loop μ-loop
 store64-requires c κs =
     let h = c .before .before .before in
     let a = h .before .before .before .args in
     omega (arith, ap length (h .loop .inv .1) ∙ length-sets (now (a .out)) (a .at) (flat (take (h .loop .j) (now (a .w)))))
 
--- src/lib.rt:276:9
 add-j : tie.Need-add-j Inv-loop μ-loop
 add-j c = search needs
 
--- src/lib.rt:274:5
 loop-less : tie.Need-loop-less Inv-loop μ-loop
 loop-less c = search needs
 
--- src/lib.rt:274:5
 loop-again : tie.Need-loop-again Inv-loop μ-loop
 loop-again c =
     let h = c .before .before .before .before .before .before in
     let a = h .before .before .before .args in
     (search needs, c .before .before .store64 .ensures ∙ rw (h .loop .inv .1) (word-more (now (a .out)) (a .at) (now (a .w)) (h .loop .j) (c .before .before .before .before .before .loop-test .taken)))
 
--- src/lib.rt:269:1
 same-length : tie.Need-same-length Inv-loop μ-loop
 same-length c =
     let h = c .before in
     let a = h .before .before .before .args in
     ap length (h .loop .inv .1) ∙ length-sets (now (a .out)) (a .at) (flat (take (h .loop .j) (now (a .w))))
 
--- src/lib.rt:269:1
 returns : tie.Need-returns Inv-loop μ-loop
 returns c =
     let h = c .before in

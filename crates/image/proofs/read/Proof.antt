@@ -8,39 +8,30 @@ use Rattle.image.proofs.rows_of.Reads as rows-of-reads
 use Rattle.image.proofs.table_of.Reads as table-of-reads
 use Rattle.words.proofs.get64.Reads as get64-reads
 
--- src/lib.rt:164:15
 rows-of-requires : tie.Need-rows-of-requires
 rows-of-requires c κs = search needs
 
--- src/lib.rt:165:34
 add-get64 : tie.Need-add-get64
 add-get64 c = search needs
 
--- src/lib.rt:165:18
 get64-requires : tie.Need-get64-requires
 get64-requires c κs = search needs
 
--- src/lib.rt:166:16
 table-of-requires : tie.Need-table-of-requires
 table-of-requires c κs = search needs
 
--- src/lib.rt:167:32
 add-get64-2 : tie.Need-add-get64-2
 add-get64-2 c = search needs
 
--- src/lib.rt:167:16
 get64-requires-2 : tie.Need-get64-requires-2
 get64-requires-2 c κs = search needs
 
--- src/lib.rt:168:32
 add-get64-3 : tie.Need-add-get64-3
 add-get64-3 c = search needs
 
--- src/lib.rt:168:16
 get64-requires-3 : tie.Need-get64-requires-3
 get64-requires-3 c κs = search needs
 
--- src/lib.rt:159:1
 returns : tie.Need-returns
 unfolding readDesk
 returns c = cc

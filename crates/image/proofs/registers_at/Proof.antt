@@ -5,67 +5,51 @@ use Rattle.image.proofs.registers_at.Reads as reads
 use Rattle.image.proofs.registers_at.Lts as lts
 use Rattle.words.proofs.get16.Reads as get16-reads
 
--- src/lib.rt:34:13
 get16-requires : tie.Need-get16-requires
 get16-requires c κs = search needs
 
--- src/lib.rt:35:29
 add-get16 : tie.Need-add-get16
 add-get16 c = search needs
 
--- src/lib.rt:35:13
 get16-requires-2 : tie.Need-get16-requires-2
 get16-requires-2 c κs = search needs
 
--- src/lib.rt:36:29
 add-get16-2 : tie.Need-add-get16-2
 add-get16-2 c = search needs
 
--- src/lib.rt:36:13
 get16-requires-3 : tie.Need-get16-requires-3
 get16-requires-3 c κs = search needs
 
--- src/lib.rt:37:29
 add-get16-3 : tie.Need-add-get16-3
 add-get16-3 c = search needs
 
--- src/lib.rt:37:13
 get16-requires-4 : tie.Need-get16-requires-4
 get16-requires-4 c κs = search needs
 
--- src/lib.rt:38:29
 add-get16-4 : tie.Need-add-get16-4
 add-get16-4 c = search needs
 
--- src/lib.rt:38:13
 get16-requires-5 : tie.Need-get16-requires-5
 get16-requires-5 c κs = search needs
 
--- src/lib.rt:39:29
 add-get16-5 : tie.Need-add-get16-5
 add-get16-5 c = search needs
 
--- src/lib.rt:39:13
 get16-requires-6 : tie.Need-get16-requires-6
 get16-requires-6 c κs = search needs
 
--- src/lib.rt:40:29
 add-get16-6 : tie.Need-add-get16-6
 add-get16-6 c = search needs
 
--- src/lib.rt:40:13
 get16-requires-7 : tie.Need-get16-requires-7
 get16-requires-7 c κs = search needs
 
--- src/lib.rt:41:18
 add-t16 : tie.Need-add-t16
 add-t16 c = search needs
 
--- src/lib.rt:41:16
 shared-slice-read-t18 : tie.Need-shared-slice-read-t18
 shared-slice-read-t18 c = search needs
 
--- src/lib.rt:29:1
 returns : tie.Need-returns
 returns c = cc
 

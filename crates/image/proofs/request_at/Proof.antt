@@ -6,19 +6,15 @@ use Rattle.image.proofs.request_at.Lts as lts
 use Rattle.image.proofs.job_at.Reads as job-at-reads
 use Rattle.words.proofs.get64.Reads as get64-reads
 
--- src/lib.rt:64:14
 job-at-requires : tie.Need-job-at-requires
 job-at-requires c κs = search needs
 
--- src/lib.rt:65:32
 add-get64 : tie.Need-add-get64
 add-get64 c = search needs
 
--- src/lib.rt:65:16
 get64-requires : tie.Need-get64-requires
 get64-requires c κs = search needs
 
--- src/lib.rt:59:1
 returns : tie.Need-returns
 returns c = cc
 

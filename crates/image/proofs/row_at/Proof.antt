@@ -5,11 +5,9 @@ use Rattle.image.proofs.row_at.Reads as reads
 use Rattle.image.proofs.row_at.Lts as lts
 use Rattle.image.proofs.stage_at.Reads as stage-at-reads
 
--- src/lib.rt:88:16
 stage-at-requires : tie.Need-stage-at-requires
 stage-at-requires c κs = search needs
 
--- src/lib.rt:83:1
 returns : tie.Need-returns
 returns c = cc
 

@@ -22,27 +22,21 @@ Inv-loop a b bad₀ i₀ bad i = (i ≤ length a) × (same a b ≡ both (eqb bad
 abbrev μ-loop : tie.MeasureT-loop
 μ-loop a b bad₀ i₀ bad i = length a - i
 
--- src/lib.rt:339:5
 loop-holds : tie.Need-loop-holds Inv-loop μ-loop
 loop-holds c = (search needs, refl)
 
--- src/lib.rt:340:12
 shared-slice-read-if1 : tie.Need-shared-slice-read-if1 Inv-loop μ-loop
 shared-slice-read-if1 c = search needs
 
--- src/lib.rt:340:20
 shared-slice-read-if1-2 : tie.Need-shared-slice-read-if1-2 Inv-loop μ-loop
 shared-slice-read-if1-2 c = search needs
 
--- src/lib.rt:343:9
 add-i : tie.Need-add-i Inv-loop μ-loop
 add-i c = search needs
 
--- src/lib.rt:339:5
 loop-less : tie.Need-loop-less Inv-loop μ-loop
 loop-less c = search needs
 
--- src/lib.rt:339:5
 both-false : (t : Bool) → both t false ≡ false
 both-false true = refl
 both-false false = refl
@@ -66,7 +60,6 @@ loop-again c =
           (c .if1 .came),
     )
 
--- src/lib.rt:333:1
 returns : tie.Need-returns Inv-loop μ-loop
 unfolding same
 returns c =

@@ -8,37 +8,29 @@ use Rattle.image.proofs.stage_at.Lts as lts
 use Rattle.image.proofs.registers_at.Reads as registers-at-reads
 use Rattle.image.proofs.request_at.Reads as request-at-reads
 
--- src/lib.rt:73:18
 shared-slice-read-number : tie.Need-shared-slice-read-number
 shared-slice-read-number c = search needs
 
--- src/lib.rt:75:45
 add-request-at : tie.Need-add-request-at
 add-request-at c = search needs
 
--- src/lib.rt:75:31
 request-at-requires : tie.Need-request-at-requires
 request-at-requires c κs = search needs
 
--- src/lib.rt:75:9
 returns : tie.Need-returns
 unfolding readStage
 returns c = rw (eq-eqb _ 1 (c .before .if1 .taken), c .request-at .ensures)
 
--- src/lib.rt:78:48
 add-registers-at : tie.Need-add-registers-at
 add-registers-at c = search needs
 
--- src/lib.rt:78:32
 registers-at-requires : tie.Need-registers-at-requires
 registers-at-requires c κs = search needs
 
--- src/lib.rt:78:9
 returns-2 : tie.Need-returns-2
 unfolding readStage
 returns-2 c = rw (ne-eqb _ 1 (c .before .before .if1 .left), eq-eqb _ 2 (c .before .if2 .taken), c .registers-at .ensures)
 
--- src/lib.rt:69:1
 returns-3 : tie.Need-returns-3
 unfolding readStage
 returns-3 c = rw (ne-eqb _ 1 (c .before .if1 .left), ne-eqb _ 2 (c .if2 .left))

@@ -6,35 +6,27 @@ use Rattle.image.proofs.stage_words.Lts as lts
 use Rattle.image.proofs.finished_words.Reads as finished-words-reads
 use Rattle.image.proofs.waiting_words.Reads as waiting-words-reads
 
--- src/lib.rt:237:26
 enum-told : tie.Need-enum-told
 enum-told c = search needs
 
--- src/lib.rt:238:24
 enum-known-s : tie.Need-enum-known-s
 enum-known-s c = search needs
 
--- src/lib.rt:238:30
 waiting-words-requires : tie.Need-waiting-words-requires
 waiting-words-requires c κs = search needs
 
--- src/lib.rt:239:25
 enum-known-s-2 : tie.Need-enum-known-s-2
 enum-known-s-2 c = search needs
 
--- src/lib.rt:239:31
 finished-words-requires : tie.Need-finished-words-requires
 finished-words-requires c κs = search needs
 
--- src/lib.rt:233:1
 returns : tie.Need-returns
 returns c = cc
 
--- src/lib.rt:233:1
 returns-2 : tie.Need-returns-2
 returns-2 c = cc
 
--- src/lib.rt:233:1
 returns-3 : tie.Need-returns-3
 returns-3 c = cc
 

@@ -5,11 +5,11 @@ use Rattle.table.proofs.empty_table.Reads as reads
 use Rattle.table.proofs.empty_table.Lts as lts
 use Rattle.table.proofs.zero_drive.Reads as zero-drive-reads
 
--- src/lib.rt:293:9
+-- src/lib.rt:294:9
 zero-drive-requires : tie.Need-zero-drive-requires
 zero-drive-requires c κs = search needs
 
--- src/lib.rt:290:1
+-- src/lib.rt:291:1
 returns : tie.Need-returns
 returns c = cc
 

@@ -18,34 +18,34 @@ use Rattle.table.proofs.is_kind.Reads as is-kind-reads
 use Rattle.table.proofs.record_length.Reads as record-length-reads
 use Rattle.words.proofs.get16.Reads as get16-reads
 
--- src/lib.rt:97:9
+-- src/lib.rt:98:9
 bytes-left-requires : tie.Need-bytes-left-requires
 bytes-left-requires c κs = search needs
 
--- src/lib.rt:99:9
+-- src/lib.rt:100:9
 returns : tie.Need-returns
 unfolding headerAt headerOf
 returns c =
     let e = c .before .bytes-left .ensures in
     rw (lt-ltb _ _ (rw e at (c .if1 .taken)))
 
--- src/lib.rt:101:9
+-- src/lib.rt:102:9
 get16-requires : tie.Need-get16-requires
 get16-requires c κs = search needs
 
--- src/lib.rt:102:32
+-- src/lib.rt:103:32
 add-get16 : tie.Need-add-get16
 add-get16 c = search needs
 
--- src/lib.rt:102:9
+-- src/lib.rt:103:9
 get16-requires-2 : tie.Need-get16-requires-2
 get16-requires-2 c κs = search needs
 
--- src/lib.rt:103:9
+-- src/lib.rt:104:9
 is-kind-requires : tie.Need-is-kind-requires
 is-kind-requires c κs = search needs
 
--- src/lib.rt:104:9
+-- src/lib.rt:105:9
 returns-2 : tie.Need-returns-2
 unfolding headerAt headerOf
 returns-2 c =
@@ -54,15 +54,15 @@ returns-2 c =
     let kind : isKind (le 2 (now (a .t)) (a .at + 2)) ≡ false = ap isKind (sym (c .before .before .get162 .ensures)) ∙ sym (c .before .is-kind .ensures) ∙ not-true _ (c .if2 .taken) in
     rw (left, kind)
 
--- src/lib.rt:106:9
+-- src/lib.rt:107:9
 record-length-requires : tie.Need-record-length-requires
 record-length-requires c κs = search needs
 
--- src/lib.rt:107:8
+-- src/lib.rt:108:8
 cast-if3 : tie.Need-cast-if3
 cast-if3 c = search needs
 
--- src/lib.rt:108:9
+-- src/lib.rt:109:9
 returns-3 : tie.Need-returns-3
 unfolding headerAt headerOf
 returns-3 c =
@@ -73,7 +73,7 @@ returns-3 c =
     let size : eqb (le 2 (now (a .t)) (a .at)) (recordLength (le 2 (now (a .t)) (a .at + 2))) ≡ false = ne-eqb _ _ (λ e. c .if3 .taken (c .before .before .before .before .before .get16 .ensures ∙ e ∙ ap recordLength (sym k) ∙ sym (c .before .record-length .ensures))) in
     rw (left, kind, size)
 
--- src/lib.rt:111:9
+-- src/lib.rt:112:9
 returns-4 : tie.Need-returns-4
 unfolding headerAt headerOf
 returns-4 c =
@@ -85,7 +85,7 @@ returns-4 c =
     let cut = lt-ltb _ _ (rw (c .before .before .before .before .before .before .before .before .bytes-left .ensures, c .before .before .record-length .ensures, k) at (c .if4 .taken)) in
     rw (left, kind, size, cut)
 
--- src/lib.rt:94:1
+-- src/lib.rt:95:1
 returns-5 : tie.Need-returns-5
 unfolding headerAt headerOf
 returns-5 c =

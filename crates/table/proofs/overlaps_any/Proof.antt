@@ -17,43 +17,43 @@ Inv-loop d drives n found₀ i₀ found i = (i ≤ n) × (found ≡ overlapsAny 
 abbrev μ-loop : tie.MeasureT-loop
 μ-loop d drives n found₀ i₀ found i = n - i
 
--- src/lib.rt:127:5
+-- src/lib.rt:128:5
 loop-holds : tie.Need-loop-holds Inv-loop μ-loop
 unfolding overlapsAny
 loop-holds c = search needs
 
--- src/lib.rt:128:17
+-- src/lib.rt:129:17
 mul-e : tie.Need-mul-e Inv-loop μ-loop
 mul-e c = search needs
 
--- src/lib.rt:128:17
+-- src/lib.rt:129:17
 array-copy-out-e : tie.Need-array-copy-out-e Inv-loop μ-loop
 array-copy-out-e c = search needs
 
--- src/lib.rt:129:27
+-- src/lib.rt:130:27
 overlaps-requires : tie.Need-overlaps-requires Inv-loop μ-loop
 overlaps-requires c κs = search needs
 
--- src/lib.rt:129:9
+-- src/lib.rt:130:9
 or-requires : tie.Need-or-requires Inv-loop μ-loop
 or-requires c κs = search needs
 
--- src/lib.rt:130:9
+-- src/lib.rt:131:9
 add-i : tie.Need-add-i Inv-loop μ-loop
 add-i c = search needs
 
--- src/lib.rt:127:5
+-- src/lib.rt:128:5
 loop-less : tie.Need-loop-less Inv-loop μ-loop
 loop-less c = search needs
 
--- src/lib.rt:127:5
+-- src/lib.rt:128:5
 loop-again : tie.Need-loop-again Inv-loop μ-loop
 loop-again c =
     let h = c .before .before .before .before in
     let a = h .before .before .args in
     (search needs, overlapsAny-more (h .loop .i) (a .b .drives) (a .d) (h .loop .inv .1) (c .or .ensures) (c .before .overlaps .ensures))
 
--- src/lib.rt:119:1
+-- src/lib.rt:120:1
 returns : tie.Need-returns Inv-loop μ-loop
 returns c =
     let h = c .before in

@@ -21,48 +21,48 @@ Inv-loop n out₀ drives at₀ i₀ out at i = (i ≤ n) × (length out ≡ leng
 abbrev μ-loop : tie.MeasureT-loop
 μ-loop n out₀ drives at₀ i₀ out at i = n - i
 
--- src/lib.rt:376:5
+-- src/lib.rt:377:5
 loop-holds : tie.Need-loop-holds Inv-loop μ-loop
 unfolding recordsOf
 loop-holds c = (search needs, refl, refl, refl, refl)
 
--- src/lib.rt:377:17
+-- src/lib.rt:378:17
 mul-d : tie.Need-mul-d Inv-loop μ-loop
 mul-d c = search needs
 
--- src/lib.rt:377:17
+-- src/lib.rt:378:17
 array-copy-out-d : tie.Need-array-copy-out-d Inv-loop μ-loop
 array-copy-out-d c = search needs
 
--- src/lib.rt:378:17
+-- src/lib.rt:379:17
 encode-requires : tie.Need-encode-requires Inv-loop μ-loop
 encode-requires c κs = search needs
 
--- src/lib.rt:379:31
+-- src/lib.rt:380:31
 slice-aggregate-store : tie.Need-slice-aggregate-store Inv-loop μ-loop
 slice-aggregate-store c = search needs
 
--- src/lib.rt:379:9
+-- src/lib.rt:380:9
 store-requires : tie.Need-store-requires Inv-loop μ-loop
 store-requires c κs = search needs
 
--- src/lib.rt:380:15
+-- src/lib.rt:381:15
 record-length-requires : tie.Need-record-length-requires Inv-loop μ-loop
 record-length-requires c κs = search needs
 
--- src/lib.rt:380:9
+-- src/lib.rt:381:9
 add-at : tie.Need-add-at Inv-loop μ-loop
 add-at c = omega arith
 
--- src/lib.rt:381:9
+-- src/lib.rt:382:9
 add-i : tie.Need-add-i Inv-loop μ-loop
 add-i c = search needs
 
--- src/lib.rt:376:5
+-- src/lib.rt:377:5
 loop-less : tie.Need-loop-less Inv-loop μ-loop
 loop-less c = search needs
 
--- src/lib.rt:376:5
+-- src/lib.rt:377:5
 loop-again : tie.Need-loop-again Inv-loop μ-loop
 loop-again c =
     let h = c .before .before .before .before .before .before .before .before .before in
@@ -78,11 +78,11 @@ loop-again c =
       omega (arith, c .record-length .ensures .1, h .loop .inv .4),
     )
 
--- src/lib.rt:370:1
+-- src/lib.rt:371:1
 same-length : tie.Need-same-length Inv-loop μ-loop
 same-length c = search needs
 
--- src/lib.rt:370:1
+-- src/lib.rt:371:1
 returns : tie.Need-returns Inv-loop μ-loop
 returns c =
     let h = c .before in

@@ -4,11 +4,11 @@ use Rattle.table.proofs.record_length.Tie as tie
 use Rattle.table.proofs.record_length.Reads as reads
 use Rattle.table.proofs.record_length.Lts as lts
 
--- src/lib.rt:89:9
+-- src/lib.rt:90:9
 returns : tie.Need-returns
 returns c = rw (eq-eqb _ _ (c .if1 .taken))
 
--- src/lib.rt:85:1
+-- src/lib.rt:86:1
 returns-2 : tie.Need-returns-2
 returns-2 c = rw (ne-eqb _ _ (c .if1 .left))
 

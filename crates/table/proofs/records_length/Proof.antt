@@ -17,36 +17,36 @@ Inv-loop n drives total₀ i₀ total i = (i ≤ n) × (total ≡ length (record
 abbrev μ-loop : tie.MeasureT-loop
 μ-loop n drives total₀ i₀ total i = n - i
 
--- src/lib.rt:361:5
+-- src/lib.rt:362:5
 loop-holds : tie.Need-loop-holds Inv-loop μ-loop
 unfolding recordsOf
 loop-holds c = (search needs, refl, refl)
 
--- src/lib.rt:362:17
+-- src/lib.rt:363:17
 mul-d : tie.Need-mul-d Inv-loop μ-loop
 mul-d c = search needs
 
--- src/lib.rt:362:17
+-- src/lib.rt:363:17
 array-copy-out-d : tie.Need-array-copy-out-d Inv-loop μ-loop
 array-copy-out-d c = search needs
 
--- src/lib.rt:363:18
+-- src/lib.rt:364:18
 record-length-requires : tie.Need-record-length-requires Inv-loop μ-loop
 record-length-requires c κs = search needs
 
--- src/lib.rt:363:9
+-- src/lib.rt:364:9
 add-total : tie.Need-add-total Inv-loop μ-loop
 add-total c = omega arith
 
--- src/lib.rt:364:9
+-- src/lib.rt:365:9
 add-i : tie.Need-add-i Inv-loop μ-loop
 add-i c = search needs
 
--- src/lib.rt:361:5
+-- src/lib.rt:362:5
 loop-less : tie.Need-loop-less Inv-loop μ-loop
 loop-less c = search needs
 
--- src/lib.rt:361:5
+-- src/lib.rt:362:5
 loop-again : tie.Need-loop-again Inv-loop μ-loop
 loop-again c =
     let h = c .before .before .before in
@@ -55,7 +55,7 @@ loop-again c =
     let m = length-more (a .t1) (h .loop .i) (omega arith) in
     (search needs, omega (arith, m, c .record-length .ensures .0, h .loop .inv .1), omega (arith, c .record-length .ensures .1, h .loop .inv .2))
 
--- src/lib.rt:355:1
+-- src/lib.rt:356:1
 returns : tie.Need-returns Inv-loop μ-loop
 returns c =
     let h = c .before in

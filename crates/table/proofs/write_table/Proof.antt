@@ -12,19 +12,19 @@ use Rattle.table.proofs.put_records.Reads as put-records-reads
 use Rattle.table.proofs.records_length.Reads as records-length-reads
 use Rattle.words.proofs.store16.Reads as store16-reads
 
--- src/lib.rt:390:9
+-- src/lib.rt:391:9
 held-requires : tie.Need-held-requires
 held-requires c κs = search needs
 
--- src/lib.rt:391:9
+-- src/lib.rt:392:9
 records-length-requires : tie.Need-records-length-requires
 records-length-requires c κs = search needs
 
--- src/lib.rt:392:20
+-- src/lib.rt:393:20
 add-if1 : tie.Need-add-if1
 add-if1 c = search needs
 
--- src/lib.rt:393:9
+-- src/lib.rt:394:9
 returns : tie.Need-returns
 returns c =
     let s = c .before .before .before .before .before in
@@ -32,35 +32,35 @@ returns c =
     let l : length (a .b .drives) ≡ 8 = simp length-map at (s .good .0 .1 .1 .0 .1 .0 .1) in
     write-short (a .b) (now (a .out)) (c .before .before .held .result) (c .before .records-length .result) l (c .before .before .held .ensures) (c .before .records-length .ensures .0) (c .if1 .taken)
 
--- src/lib.rt:395:5
+-- src/lib.rt:396:5
 put-records-requires : tie.Need-put-records-requires
 put-records-requires c κs = search needs
 
--- src/lib.rt:396:30
+-- src/lib.rt:397:30
 cast-store16 : tie.Need-cast-store16
 cast-store16 c = search needs
 
--- src/lib.rt:396:5
+-- src/lib.rt:397:5
 store16-requires : tie.Need-store16-requires
 store16-requires c κs = search needs
 
--- src/lib.rt:397:25
+-- src/lib.rt:398:25
 add-store16 : tie.Need-add-store16
 add-store16 c = search needs
 
--- src/lib.rt:397:5
+-- src/lib.rt:398:5
 store16-requires-2 : tie.Need-store16-requires-2
 store16-requires-2 c κs = search needs
 
--- src/lib.rt:398:20
+-- src/lib.rt:399:20
 add-t7 : tie.Need-add-t7
 add-t7 c = search needs
 
--- src/lib.rt:386:1
+-- src/lib.rt:387:1
 same-length : tie.Need-same-length
 same-length c = search needs
 
--- src/lib.rt:386:1
+-- src/lib.rt:387:1
 returns-2 : tie.Need-returns-2
 returns-2 c =
     let s = c .before .before .before .before .before .before .before .before .before .before .before .before .before .before .before .before .before in
