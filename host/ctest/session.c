@@ -123,6 +123,42 @@ static void opening_and_table(machine *m)
     free(before);
 }
 
+/* a table of 136 bytes and its end, the drive of the paper's table twice, changed at a byte: the number, and the place */
+static uint32_t refused_at(size_t byte, uint8_t value, size_t length, uint64_t *place)
+{
+    uint8_t *desk = bytes(EDD_DESK_SIZE, 0);
+    uint8_t *table = bytes(length, 0);
+
+    for (size_t i = 0; i < length; i++)
+        table[i] = i < 136 ? paper_table[i % 68] : (uint8_t)(i == 136 ? 4 : 0);
+    table[68 + 25] = 0x08; /* the second drive starts behind the first */
+    table[byte] = value;
+    uint32_t number = edd_open(desk, EDD_DESK_SIZE, table, length, ARENA, UINT64_MAX, place);
+    free(table);
+    free(desk);
+    return number;
+}
+
+static void table_refusals(void)
+{
+    uint64_t place = 77;
+    uint8_t *desk = bytes(EDD_DESK_SIZE, 0);
+    uint8_t *nine = bytes(9 * 68 + 4, 0);
+
+    CHECK(refused_at(0, 0x44, 140, &place) == EDD_DONE && place == 77);
+    CHECK(refused_at(0, 0x45, 140, &place) == EDD_TABLE_LENGTH && place == 0);
+    CHECK(refused_at(68 + 2, 2, 140, &place) == EDD_TABLE_KIND && place == 68);
+    CHECK(refused_at(68 + 39, 2, 140, &place) == EDD_TABLE_FIELD && place == 68);
+    CHECK(refused_at(68 + 25, 0x07, 140, &place) == EDD_TABLE_OVERLAP && place == 68);
+    CHECK(refused_at(140, 0, 141, &place) == EDD_TABLE_TRAILING && place == 140);
+    for (size_t i = 0; i < 9 * 68; i++)
+        nine[i] = i % 68 == 25 ? (uint8_t)(8 * (i / 68)) : paper_table[i % 68];
+    nine[9 * 68] = 4;
+    CHECK(edd_open(desk, EDD_DESK_SIZE, nine, 9 * 68 + 4, ARENA, UINT64_MAX, &place) == EDD_TABLE_NINTH_DRIVE && place == 8 * 68);
+    free(nine);
+    free(desk);
+}
+
 /* twenty blocks from guest 5's window to the store, in two parts; another guest reads in between */
 static void two_guests(machine *m)
 {
@@ -178,6 +214,32 @@ static void at_once(machine *m)
     out = expected = given = set(0x0277, 0, 0, 0x0085, 6, 7, 8);
     expected.ax = EDD_AH_BAD_PARAMETER << 8, expected.carry = 1;
     CHECK(post(m, 0, &out) == EDD_DONE && same(out, expected));
+    /* sector 0; 129 sectors; the parameters of a drive that is not there */
+    out = expected = set(0x0201, 0, 0, 0x0080, 6, 7, 8);
+    expected.ax = EDD_AH_NOT_FOUND << 8, expected.carry = 1;
+    CHECK(post(m, 0, &out) == EDD_DONE && same(out, expected));
+    out = expected = set(0x0281, 0, 1, 0x0080, 6, 7, 8);
+    expected.ax = EDD_AH_BUFFER << 8, expected.carry = 1;
+    CHECK(post(m, 0, &out) == EDD_DONE && same(out, expected));
+    out = expected = set(0x0833, 1, 2, 0x0081, 6, 7, 8);
+    expected.ax = EDD_AH_NO_PARAMETERS << 8 | 0x33, expected.carry = 1;
+    CHECK(post(m, 0, &out) == EDD_DONE && same(out, expected));
+}
+
+/* a drive that is protected takes no block */
+static void protected_drive(machine *m)
+{
+    uint8_t *table = bytes(72, 0);
+    uint64_t place = 77;
+    registers out = set(0x0301, 0, 1, 0x0080, 6, 7, 8), expected = out;
+
+    memcpy(table, paper_table, 72);
+    table[39] = 1;
+    CHECK(edd_open(m->desk, EDD_DESK_SIZE, table, 72, ARENA, STORE, &place) == EDD_DONE);
+    expected.ax = EDD_AH_WRITE_PROTECTED << 8, expected.carry = 1;
+    CHECK(post(m, 0, &out) == EDD_DONE && same(out, expected));
+    CHECK(edd_open(m->desk, EDD_DESK_SIZE, paper_table, 72, ARENA, STORE, &place) == EDD_DONE);
+    free(table);
 }
 
 static void house_refusals(machine *m)
@@ -227,9 +289,11 @@ int main(void)
     CHECK(read_first_block(m.desk, paper_table + 68, 4, m.arena, ARENA, m.store, STORE) == EDD_AH_BAD_PARAMETER);
     CHECK(read_first_block(m.desk, paper_table, 70, m.arena, ARENA, m.store, STORE) == -1);
     opening_and_table(&m);
+    table_refusals();
     two_guests(&m);
     withdrawal(&m);
     at_once(&m);
+    protected_drive(&m);
     house_refusals(&m);
     numbers();
     free(m.desk);
