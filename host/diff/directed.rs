@@ -1511,9 +1511,9 @@ fn g5_no_other_memory_is_touched(service: &dyn Service) {
     }
 }
 
-// rule: postOf exports::edd_post
 /// Every handled function with every AL and DL, and every unknown one: what is answered at once leaves the block as it was.
 fn g3_answered_at_once_leaves_the_desk(service: &dyn Service) {
+    // rule: postOf exports::edd_post
     let mut stand = Stand::paper(service, 1024);
     stand.packet(4, 0x100, 0, (0, 0), 0);
     let desk = stand.desk.bytes().to_vec();
