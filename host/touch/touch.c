@@ -181,6 +181,7 @@ static void withdraw(unsigned guest)
 
 /* ---- what is run */
 
+/* rule: exports::edd_post exports::edd_turn exports::edd_collect exports::edd_withdraw */
 /* Every request of every guest by itself. */
 static void one_by_one(void)
 {
@@ -197,6 +198,7 @@ static void one_by_one(void)
     }
 }
 
+/* rule: exports::edd_turn */
 /* All eight wait, and all are served by turns; then they are withdrawn. */
 static void together(const struct request *q)
 {
