@@ -1,19 +1,19 @@
 # What can be made here; `make` alone lists it. Everything is built below target/.
 #
-# LIBDIR is the directory of libexports.a. `make demo LIBDIR=target/standin` takes the model behind the same interface: it needs no rt.
+# LIBDIR is the directory of libedd_desk.a. `make demo LIBDIR=target/standin` takes the model behind the same interface: it needs no rt.
 
 LIBDIR ?= target/staticlib
 REQUESTS ?= 4000
 SEED ?= 1
 
-LIBRARY = $(LIBDIR)/libexports.a
+LIBRARY = $(LIBDIR)/libedd_desk.a
 # a directory of its own for the programs over each library: target_staticlib, target_standin
 OVER = $(subst /,_,$(patsubst $(CURDIR)/%,%,$(abspath $(LIBDIR))))
 DEMO = target/demo/$(OVER)/demo
 TOUCH = target/touch/$(OVER)/touch
 CFLAGS ?= -O2 -g
 HOST_CFLAGS = -std=c11 -D_POSIX_C_SOURCE=200809L -Wall -Wextra -Wshadow -Wconversion $(CFLAGS) -Iinclude
-CALLS = desk_size open write post turn collect withdraw window block address
+CALLS = version desk_size open write post turn collect withdraw window block address
 MODEL = $(if $(shell command -v rustc),target/bench/model.so)
 
 help:
@@ -50,23 +50,23 @@ clean:
 # ---- the library, and what stands in for it when the host programs themselves are to be tried
 
 # A proof does not change what is built, so only the sources count.
-target/staticlib/libexports.a: crates.txt $(wildcard crates/*/src/*.rt)
+target/staticlib/libedd_desk.a: crates.txt $(wildcard crates/*/src/*.rt)
 	host/build library
 
-target/standin/libexports.a: $(wildcard host/model/*.rs host/standin/*.rs)
+target/standin/libedd_desk.a: $(wildcard host/model/*.rs host/standin/*.rs)
 	host/build standin
 
 # ---- the demo
 
 $(DEMO): $(wildcard host/demo/*.[ch]) include/edd_desk.h $(LIBRARY) | need-cc
 	@mkdir -p $(@D)
-	$(CC) $(HOST_CFLAGS) -fopenmp $(wildcard host/demo/*.c) -L$(LIBDIR) -lexports -o $@
+	$(CC) $(HOST_CFLAGS) -fopenmp $(wildcard host/demo/*.c) -L$(LIBDIR) -ledd_desk -o $@
 
 # ---- what a call touches
 
 $(TOUCH): host/touch/touch.c include/edd_desk.h $(LIBRARY) | need-cc
 	@mkdir -p $(@D)
-	$(CC) $(HOST_CFLAGS) -D_DEFAULT_SOURCE host/touch/touch.c -L$(LIBDIR) -lexports -o $@
+	$(CC) $(HOST_CFLAGS) -D_DEFAULT_SOURCE host/touch/touch.c -L$(LIBDIR) -ledd_desk -o $@
 
 # ---- the benchmark: the library and the model as shared objects, since both have the same names
 

@@ -165,8 +165,9 @@ static void lay_down(struct guest *g, const struct request *q, uint8_t *window)
 }
 
 /* What the request has done to the guest's memory and disk, on the guest's own copies. */
-static void follow(struct guest *g, struct request *q, enum ending ending, uint64_t moved)
+static void follow(struct guest *g, struct request *q, struct outcome outcome)
 {
+    uint64_t moved = outcome.moved;
     if (moved > q->blocks)
         moved = q->blocks; /* check_answer finds that */
     if (q->write && q->disk)
@@ -177,7 +178,7 @@ static void follow(struct guest *g, struct request *q, enum ending ending, uint6
         put_word(g->memory + q->packet + 2, 2, 0);
     if (q->result_length)
         memcpy(g->memory + q->laid[0].at, q->result, q->result_length);
-    if (ending == WITHDRAWN) {
+    if (outcome.ending == WITHDRAWN) {
         want(q, EDD_AH_WITHDRAWN);
         if (q->packet)
             put_word(g->memory + q->packet + 2, 2, moved);
@@ -186,16 +187,19 @@ static void follow(struct guest *g, struct request *q, enum ending ending, uint6
     }
 }
 
-/* The number moved, and the registers. */
-static void check_answer(struct guest *g, const struct request *q, const struct registers *r, enum ending ending,
-                         uint64_t moved)
+/*
+ * The number moved, and the registers. The guest, unlike the monitor, knows how many blocks it asked for: each turn moves
+ * sixteen of them, and only the last may move fewer.
+ */
+static void check_answer(struct guest *g, const struct request *q, const struct registers *r, struct outcome o)
 {
-    int good = ending == FINISHED    ? moved == q->blocks
-               : ending == WITHDRAWN ? moved < q->blocks && moved % EDD_TURN_BLOCKS == 0
-                                     : moved == 0 && (q->blocks == 0 || q->wanted.carry);
+    uint64_t turns = (q->blocks + EDD_TURN_BLOCKS - 1) / EDD_TURN_BLOCKS;
+    int good = o.ending == FINISHED    ? q->blocks != 0 && o.moved == q->blocks && o.services == turns
+               : o.ending == WITHDRAWN ? o.moved < q->blocks && o.moved == o.services * EDD_TURN_BLOCKS
+                                       : o.moved == 0 && (q->blocks == 0 || q->wanted.carry);
     if (!good)
-        fail(g, "AH=%02x: %llu blocks moved of %llu", q->given.ax >> 8, (unsigned long long)moved,
-             (unsigned long long)q->blocks);
+        fail(g, "AH=%02x: %llu blocks moved of %llu in %llu turns", q->given.ax >> 8, (unsigned long long)o.moved,
+             (unsigned long long)q->blocks, (unsigned long long)o.services);
     if (memcmp(r, &q->wanted, sizeof *r) != 0)
         fail(g, "AH=%02x: AX %04x carry %u, not AX %04x carry %u, or another register changed", q->given.ax >> 8, r->ax,
              r->carry, q->wanted.ax, q->wanted.carry);
@@ -218,12 +222,11 @@ static void make(struct guest *g, struct request *q)
     struct monitor *m = g->monitor;
     uint8_t *window = monitor_window(m, g->number);
     struct registers r = q->given;
-    uint64_t moved;
 
     lay_down(g, q, window);
     monitor_lock(m);
-    enum ending ending = monitor_int13(m, g->number, &r, q->blocks, q->patience, &moved);
-    follow(g, q, ending, moved);
+    struct outcome outcome = monitor_int13(m, g->number, &r, q->patience);
+    follow(g, q, outcome);
     compare_disk(g, q);
     int all = m->guest[g->number].requests % 256 == 0;
     monitor_unlock(m);
@@ -235,7 +238,7 @@ static void make(struct guest *g, struct request *q)
         compare(g, window, q->buffer - 16, q->blocks * EDD_BLOCK_SIZE + 32, "what it read");
     if (all)
         compare(g, window, 0, WINDOW_SIZE, "its memory");
-    check_answer(g, q, &r, ending, moved);
+    check_answer(g, q, &r, outcome);
 }
 
 /* ---- the parts of a request */

@@ -1170,6 +1170,7 @@ fn d9_wrong_size(service: &dyn Service) {
         assert!(stand.all() == before);
     }
     assert_eq!(service.desk_size(), DESK_SIZE as u64);
+    assert_eq!(service.version(), model::version());
 }
 
 // ---- e: windows, turns, collects, withdrawals

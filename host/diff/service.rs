@@ -6,6 +6,7 @@ use std::cell::Cell;
 use std::ffi::c_void;
 
 pub trait Service {
+    fn version(&self) -> u32;
     fn desk_size(&self) -> u64;
     fn open(&self, desk: &mut [u8], table: &[u8], arena_length: u64, store_length: u64, place: &mut u64) -> u32;
     fn write(&self, desk: &[u8], out: &mut [u8], written: &mut u64) -> u32;
@@ -24,6 +25,9 @@ pub trait Service {
 pub struct Model;
 
 impl Service for Model {
+    fn version(&self) -> u32 {
+        model::version()
+    }
     fn desk_size(&self) -> u64 {
         model::desk_size()
     }
@@ -58,8 +62,9 @@ impl Service for Model {
 
 // ---- the library
 
-#[link(name = "exports", kind = "static")]
+#[link(name = "edd_desk", kind = "static")]
 extern "C" {
+    fn edd_version() -> u32;
     fn edd_desk_size() -> u64;
     fn edd_open(
         desk: *mut u8,
@@ -194,6 +199,9 @@ fn take_registers(places: &Places<u16, 8>) -> Registers {
 }
 
 impl Service for Library {
+    fn version(&self) -> u32 {
+        unsafe { edd_version() }
+    }
     fn desk_size(&self) -> u64 {
         unsafe { edd_desk_size() }
     }

@@ -36,6 +36,11 @@ mod words {
 }
 
 #[no_mangle]
+pub extern "C" fn edd_version() -> u32 {
+    model::version()
+}
+
+#[no_mangle]
 pub extern "C" fn edd_desk_size() -> u64 {
     model::desk_size()
 }
