@@ -138,7 +138,7 @@ extern "C" {
     fn edd_address(c: u32, h: u32, s: u32, block: u64, cylinder: *mut u32, head: *mut u32, sector: *mut u32) -> u32;
 }
 
-/// The proved library. With `null_for_empty` an empty slice goes over as a null pointer, else as its own address.
+/// The proved library. With `null_for_empty` an empty slice is passed as a null pointer, otherwise as its own address.
 #[derive(Default)]
 pub struct Library {
     pub null_for_empty: Cell<bool>,
@@ -349,7 +349,7 @@ pub struct Lent {
     pages: usize,
     start: usize,
     length: usize,
-    /// Pages are taken away, the margins among them.
+    /// Some pages are inaccessible, and the margins are among them.
     partly: Cell<bool>,
 }
 
@@ -374,7 +374,7 @@ impl Lent {
         Some(lent)
     }
 
-    /// A slice of zeros of which only the pages that are touched take memory; none if the machine gives no address space for it.
+    /// A slice of zeros of which only the pages that are touched take memory; `None` if the machine has no address space for it.
     pub fn vast(length: usize) -> Option<Lent> {
         let mut lent = Lent::mapped(length)?;
         lent.set_length(length, Place::END);
@@ -413,12 +413,12 @@ impl Lent {
         assert_eq!(done, 0, "mprotect");
     }
 
-    /// While it is only read, a write to it is stopped by the machine.
+    /// While it is read-only, the machine stops a write to it.
     pub fn set_read_only(&self, on: bool) {
         self.protect(if on { READ } else { READ_WRITE });
     }
 
-    /// Takes everything but a part of the slice away, or gives it all back. Slice and part begin and end with pages.
+    /// Makes everything but a part of the slice inaccessible, or makes all of it accessible again. Slice and part begin and end with pages.
     pub fn keep_only(&self, part: Option<std::ops::Range<usize>>) {
         self.partly.set(part.is_some());
         let Some(part) = part else { return self.protect(READ_WRITE) };

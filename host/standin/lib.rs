@@ -1,5 +1,5 @@
 //! The model behind the C interface of include/edd_desk.h, as a library of the same name. It stands in for the proved library when
-//! the test program itself is to be tried: host/standin/try_faults builds it once with each fault below and expects every one to be found.
+//! the tests themselves are to be tried: host/standin/try_faults builds it once with each fault below and expects every one to be found.
 //!
 //! A fault is chosen with `--cfg fault="NAME"`. Without one the stand-in is the model.
 
