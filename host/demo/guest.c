@@ -71,7 +71,7 @@ static void set_al(struct registers *r, unsigned al)
     r->ax = (uint16_t)((r->ax & 0xff00) | al);
 }
 
-/* An address of the window as one of its many segment:offset pairs. */
+/* One of the many segment:offset pairs of an address in the window. */
 static void as_pair(struct guest *g, uint64_t address, uint16_t *segment, uint16_t *offset)
 {
     uint64_t paragraphs = address >> 4;
@@ -80,7 +80,7 @@ static void as_pair(struct guest *g, uint64_t address, uint16_t *segment, uint16
     *offset = (uint16_t)(16 * moved + (address & 15));
 }
 
-/* Blocks that say who wrote them and when, and never the same twice. */
+/* Blocks that say who wrote them and when; no two are the same. */
 static void fill_blocks(struct guest *g, uint8_t *at, uint64_t blocks)
 {
     for (uint64_t i = 0; i < blocks; i++, at += EDD_BLOCK_SIZE) {
@@ -102,7 +102,7 @@ struct part {
 struct request {
     struct registers given;
     struct registers wanted;  /* what must come back, if it is not withdrawn */
-    struct part laid[2];      /* what the guest has written in its memory for this request */
+    struct part laid[2];      /* what the guest has put into its memory for this request */
     unsigned parts;
     uint64_t packet;          /* where the packet lies; 0 for none */
     int clears_count;         /* the refusal writes 0 to the packet's count word */
@@ -124,7 +124,7 @@ static void lay(struct request *q, uint64_t at, uint64_t length)
     q->parts++;
 }
 
-/* Registers with any values, so that one that is not named in an answer is seen to stay. Carry on the way in is not read. */
+/* Registers with arbitrary values, so that a change to one that the answer does not name shows. Carry on the way in is not read. */
 static struct request begin(struct guest *g, unsigned function)
 {
     struct request q;
@@ -148,7 +148,7 @@ static void want(struct request *q, unsigned code)
     q->wanted.carry = code != 0;
 }
 
-/* Does a part of the window, as far as the window goes, hold what the guest's copy has? */
+/* Compares a part of the window, up to the end of the window, with the guest's copy. */
 static void compare(struct guest *g, const uint8_t *window, uint64_t at, uint64_t length, const char *what)
 {
     if (length > WINDOW_SIZE - at)
@@ -164,7 +164,7 @@ static void lay_down(struct guest *g, const struct request *q, uint8_t *window)
         memcpy(window + q->laid[i].at, g->memory + q->laid[i].at, q->laid[i].length);
 }
 
-/* What the request has done to the guest's memory and disk, on the guest's own copies. */
+/* Repeats on the guest's own copies what the request has done to its memory and its disk. */
 static void follow(struct guest *g, struct request *q, struct outcome outcome)
 {
     uint64_t moved = outcome.moved;
@@ -205,7 +205,7 @@ static void check_answer(struct guest *g, const struct request *q, const struct 
              r->carry, q->wanted.ax, q->wanted.carry);
 }
 
-/* Do the blocks that the request names hold in the store what they must? What it has not moved must be as before. */
+/* Compares the blocks that the request names with what the store must hold. Those that it has not moved must be as before. */
 static void compare_disk(struct guest *g, const struct request *q)
 {
     if (q->blocks && memcmp(g->monitor->store + q->first * EDD_BLOCK_SIZE, q->contents, q->blocks * EDD_BLOCK_SIZE) != 0)
@@ -368,8 +368,8 @@ static void packet_transfer(struct guest *g, int write, unsigned drive)
     q.write = write;
     q.patience = pick_patience(g, blocks);
     q.packet = low_place(g);
-    /* A read may lay its data over its own packet: that was read at the post, and not again. A withdrawal then writes the
-     * number moved over the data. */
+    /* A read may put its data over its own packet, because the packet was read at the post and is not read again. A withdrawal
+     * then writes the number moved over the data. */
     if (!write && blocks && between(g, 1, 8) == 1)
         q.packet = buffer + between(g, 0, EDD_BLOCK_SIZE * blocks - 16);
     transfer(g, &q, drive, start, blocks, buffer);

@@ -1,5 +1,8 @@
 /*
  * monitor.h - INT 13h for up to eight guests over one desk. Copy this file and monitor.c.
+ *
+ * A guest's memory is its window of the arena (edd_window). While it is not inside monitor_int13 the guest uses its window freely,
+ * without the lock. Anything else that looks at the desk or the store takes the lock.
  */
 #ifndef MONITOR_H
 #define MONITOR_H
