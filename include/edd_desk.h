@@ -1,7 +1,7 @@
 /*
  * edd_desk.h - an INT 13h disk service as a desk: a guest posts its registers, the host gives turns, the guest collects.
  *
- * This is version 1 of the interface. Link with -ledd_desk. For C11 and C++17, on 64-bit hosts only.
+ * Link with -ledd_desk. For C11 and C++17, on 64-bit hosts only. EDD_VERSION is the version of this interface.
  *
  *
  * The parts
@@ -29,7 +29,8 @@
  *   answers 256 changes nothing either, except that a post stores the waiting request in the desk.
  *
  *   The caller owns everything. The library keeps no pointer after a call returns, allocates nothing, starts nothing, and
- *   has no variable of its own: no static record, no cache, no errno. A call uses up to about 11 KiB of stack.
+ *   has no variable of its own: no static record, no cache, no errno. A call uses at most EDD_STACK_MAX bytes of stack, which
+ *   is tested and not proved.
  *
  *   What may run at the same time. All calls on one desk, its arena and its store run one at a time, under the host's own
  *   lock. Calls with different desks, arenas and stores need no lock and may run on any threads: the library has nothing
@@ -55,8 +56,8 @@
  *
  *   The interface may grow by change request. The names of these eleven calls and the order and types of their parameters
  *   stay; a call that needs more arguments comes under a new name. Everything else can change from one version to the
- *   next: the sizes (EDD_DESK_SIZE, EDD_TABLE_SIZE_MAX), the form of the block, the refusals, and what a turn may answer.
- *   Compile with the header that came with the library; edd_version() == EDD_VERSION says whether you did.
+ *   next: the sizes (EDD_DESK_SIZE, EDD_TABLE_SIZE_MAX, EDD_STACK_MAX), the form of the block, the refusals, and what a
+ *   turn may answer. Compile with the header that came with the library; edd_version() == EDD_VERSION says whether you did.
  *
  *
  * What is proved of every list of calls at one desk after an opening
@@ -154,6 +155,7 @@ extern "C" {
 #define EDD_DRIVES 8           /* drives of a table, at most */
 #define EDD_TABLE_SIZE_MAX 548 /* bytes of the longest table: eight drives of 68 and the end record of 4 */
 #define EDD_TURN_BLOCKS 16     /* blocks that one turn moves, at most */
+#define EDD_STACK_MAX 12288    /* bytes of stack that a call uses, at most */
 
 /* ---- results of every call */
 
