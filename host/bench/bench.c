@@ -17,7 +17,7 @@
 #define BELOW 1000.0            /* the aim for a call beside its data, in nanoseconds */
 #define MEMCPY_TIMES 1.5        /* the aim for a turn against memcpy, not in cache */
 #define SAME 1.25               /* a call whose best times differ less costs the same */
-#define NOISE 1.05              /* the ratio of the model to itself comes out as high */
+#define NOISE 1.05              /* even the ratio of the model to itself can come out this high */
 
 static struct service services[2]; /* the library, and the model if there is one */
 static unsigned service_count;
@@ -28,7 +28,7 @@ static void line(void)
     printf("\n");
 }
 
-/* A call changes the desk, so the block is put back before each call of a batch. What that takes alone, in so many rounds. */
+/* A call changes the desk, so the block is put back before each call of a batch. This times the putting back alone. */
 static double put_back(uint8_t *desk, const uint8_t *ready, unsigned rounds)
 {
     double begun = nanoseconds();
@@ -43,7 +43,7 @@ static double put_back(uint8_t *desk, const uint8_t *ready, unsigned rounds)
 
 enum mover { LIBRARY, MODEL, MEMCPY, MOVERS };
 
-/* In cache: the same sixteen blocks again and again. The desk is put back before each turn, and that is taken off. */
+/* In cache: the same sixteen blocks again and again. The desk is put back before each turn, and the time for that is subtracted. */
 static void turn_hot(struct times *t, int batch, enum mover mover, unsigned function)
 {
     static struct place p;
@@ -73,9 +73,9 @@ static void turn_hot(struct times *t, int batch, enum mover mover, unsigned func
 }
 
 /*
- * Not in cache: eight guests with 112 blocks each, seven turns apiece. Each round takes other blocks and other memory, and comes back to
- * the same ones after all of both. A guest can name little more than its first MiB, so the memory is many arenas of 8 MiB, one after the
- * other; only the arena's length belongs to the desk. The posts are not timed. memcpy makes the same moves in the same order.
+ * Not in cache: eight guests with 112 blocks each, seven turns apiece. Each round uses other blocks and other memory, and none is used
+ * again before all others have been. A guest can name little more than its first MiB, so the memory consists of many arenas of 8 MiB, one
+ * after the other; the desk knows only the arena's length. The posts are not timed. memcpy makes the same moves in the same order.
  *
  * A processor begins the next memcpy while the last one still waits for memory, and has nothing else to do meanwhile; a turn has its
  * checks between two copies. With a fence after each move, of either kind, a move is over before the next begins.
@@ -88,7 +88,7 @@ static void turn_hot(struct times *t, int batch, enum mover mover, unsigned func
 static void turn_cold(struct times *time, int batch, enum mover mover, unsigned function, int fence)
 {
     static struct place p;
-    static size_t round; /* goes on over all batches of all movers */
+    static size_t round; /* continues through all batches of all movers */
     const size_t rounds = 40, turns = EDD_GUESTS * WALK_BLOCKS / EDD_TURN_BLOCKS;
     const size_t drive_blocks = LARGE / EDD_BLOCK_SIZE / EDD_DRIVES;
     const struct service *s = &services[mover == MODEL ? 1 : 0];
@@ -398,7 +398,7 @@ struct setting {
     int crowded; /* the rows of guests 1 to 7 wait, each with sixteen blocks */
 };
 
-/* With no drive nothing can wait, and where rows wait no turn is idle. */
+/* With no drive nothing can wait, and while rows wait no turn is idle. */
 static int can(const struct call *c, const struct setting *at)
 {
     if (at->crowded && c->make == turn && c->answer == EDD_NOTHING_YET)
@@ -454,9 +454,9 @@ static void one_batch(struct times *t, int batch, const struct service *s, const
 
 #define SETTINGS 6
 
-/* What a table of calls comes to, from the best of each cell. */
+/* The result of a table of calls, from the best time of each cell. */
 struct summary {
-    double most;          /* the slowest call but for the turn of 16 blocks, whose data is most of its time; ns */
+    double most;          /* the slowest call in ns, except for the turn of 16 blocks, which spends most of its time on its data */
     const char *slowest;
     double growth;        /* the last setting against the first, where that grew most; calls below 50 ns are left out */
     const char *grew;

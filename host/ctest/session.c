@@ -106,6 +106,7 @@ static void opening_and_table(machine *m)
     uint64_t place = 77, written = 77;
     uint8_t *before = bytes(EDD_DESK_SIZE, 1);
 
+    CHECK(edd_version() == EDD_VERSION);
     CHECK(edd_desk_size() == EDD_DESK_SIZE);
     memcpy(m->desk, before, EDD_DESK_SIZE);
     CHECK(edd_open(m->desk, EDD_DESK_SIZE - 1, paper_table, 72, ARENA, STORE, &place) == EDD_DESK_NOT_ACCEPTED);

@@ -41,7 +41,7 @@ struct Stand<'a> {
 
 type Snapshot = (Vec<u8>, Vec<u8>, Vec<u8>);
 
-/// What the places of results hold before a call, so that one sees whether they were written.
+/// What the places of results hold before a call, so that a write to them shows.
 const UNWRITTEN: u64 = 0xDEAD_BEEF_5EED;
 const STALE: Registers = Registers { ax: 0x1111, bx: 0x2222, cx: 0x3333, dx: 0x4444, ds: 0x5555, si: 0x6666, es: 0x7777, carry: 0x8888 };
 
@@ -1212,6 +1212,7 @@ fn d9_wrong_size(service: &dyn Service) {
         assert!(stand.all() == before);
     }
     assert_eq!(service.desk_size(), DESK_SIZE as u64);
+    assert_eq!(service.version(), model::version());
 }
 
 // ---- e: windows, turns, collects, withdrawals
@@ -1466,7 +1467,7 @@ fn g2_run_by_program(service: &dyn Service) {
 
 // rule: exports::edd_post exports::edd_turn
 /// A call touches the window of its own guest and the blocks that it moves, and nothing else of arena and store: it does not even read
-/// there. So another guest may run on in its own window meanwhile. While a call runs all other pages are taken away.
+/// there. So another guest may go on running in its own window. While a call runs, all other pages are made inaccessible.
 fn g5_no_other_memory_is_touched(service: &dyn Service) {
     const WINDOW: usize = 16 * 4096;
     let drive = Drive { first: 16, blocks: 256, cylinders: 4, heads: 1, sectors: 63, ..paper_drive() };
@@ -1511,7 +1512,7 @@ fn g5_no_other_memory_is_touched(service: &dyn Service) {
     }
 }
 
-/// Every handled function with every AL and DL, and every unknown one: what is answered at once leaves the block as it was.
+/// Every known function with every AL and DL, and every unknown one: what is answered at once leaves the block as it was.
 fn g3_answered_at_once_leaves_the_desk(service: &dyn Service) {
     // rule: postOf exports::edd_post
     let mut stand = Stand::paper(service, 1024);

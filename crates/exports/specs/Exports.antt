@@ -30,6 +30,12 @@ use Rattle.desk.specs.Calls.{Done, notAcceptable, openOf, writtenOf, writtenOut
 use Rattle.desk.specs.Numbers.{openNumbers, postNumbers, turnNumbers, collectNumbers, withdrawNumbers}
 use Rattle.image.specs.Image.{blockSize, deskOf, laid}
 
+-- ---- the version, ours and in no paper: a block is for the library of its version, since a change request may give it another form
+
+-- 1 is the base; each change request adds 1
+abbrev pub version : ℕ
+version = 1
+
 -- what a call leaves: the number that it returns and the values behind its pointers, in the order of its parameters; and the bytes of each
 -- slice that was lent for change, in that order
 pub record Effect : Type 0 where

@@ -18,13 +18,23 @@ ghost use Prim.Native.Nat.{_+_};
 ghost use Rattle.logic.specs.Logic.{pick};
 ghost use Rattle.desk.specs.Numbers.{registerNumbers};
 ghost use Rattle.image.specs.Image.{blockSize};
-ghost use Rattle.exports.specs.Exports.{effect, openCall, writeCall, postCall, turnCall, collectCall, withdrawCall, windowCall, blockCall, addressCall};
+ghost use Rattle.exports.specs.Exports.{version, effect, openCall, writeCall, postCall, turnCall, collectCall, withdrawCall, windowCall, blockCall, addressCall};
 
 // There is nothing to hand out yet.
 const NOTHING_YET: u32 = 256;
 
 // House number of a block of another size.
 const NOT_ACCEPTABLE: u32 = 25;
+
+// The version of the interface and of the block's form: 1 is the base, and each change request adds 1.
+const VERSION: u32 = 1;
+
+#[no_mangle]
+pub extern "C" fn edd_version() -> u32
+    ensures { λ r. ⌜ r ≡ version ⌝ }
+{
+    VERSION
+}
 
 #[no_mangle]
 pub extern "C" fn edd_desk_size() -> u64
