@@ -9,6 +9,7 @@ use Rattle.words.specs.Words.{leBytes}
 use Rattle.drive.specs.declared.Drive.{Drive}
 use Rattle.memory.specs.Blocks.{blockLength}
 use Rattle.layout.specs.Packet.{badParameter}
+use Rattle.layout.specs.declared.Pointer.{Pointer}
 use Rattle.layout.specs.declared.ResultAnswer.{ResultAnswer}
 use Rattle.layout.specs.declared.ResultAnswer.the-variants.{Written, Refused}
 
@@ -34,28 +35,25 @@ returnedSize asked = pick (ltb asked pointerSize) leastSize (pick (ltb asked pat
 abbrev pub flagsShown : Drive → ℕ
 flagsShown d = d .flags
 
--- FFFFh:FFFFh
-abbrev pub pointerOffset : ℕ
-pointerOffset = 65535
+-- the pointer of every result today: FFFFh:FFFFh, which is no pointer
+abbrev pub noPointer : Pointer
+noPointer = record { offset = 0xFFFF; segment = 0xFFFF }
 
-abbrev pub pointerSegment : ℕ
-pointerSegment = 65535
-
--- BEDDh
+-- the word that begins the device path
 abbrev pub pathKey : ℕ
-pathKey = 48861
+pathKey = 0xBEDD
 
--- 24h, the length from byte 30 on
+-- the length from byte 30 on
 abbrev pub pathLength : ℕ
-pathLength = 36
+pathLength = 0x24
 
 -- offsets 0, 2, 4, 8, 12: returned size, flags, physical cylinders, heads, sectors
 unfoldable pub parameterBytes : Drive → ℕ → List ℕ
 parameterBytes d n = leBytes 2 n ++ (leBytes 2 (flagsShown d) ++ (leBytes 4 (d .cylinders) ++ (leBytes 4 (d .heads) ++ leBytes 4 (d .sectors))))
 
 -- offsets 16, 24, 26, 28: blocks, bytes in a block, offset and segment of the pointer
-unfoldable pub blockBytes : Drive → List ℕ
-blockBytes d = leBytes 8 (d .blocks) ++ (leBytes 2 blockLength ++ (leBytes 2 pointerOffset ++ leBytes 2 pointerSegment))
+unfoldable pub blockBytes : Drive → Pointer → List ℕ
+blockBytes d p = leBytes 8 (d .blocks) ++ (leBytes 2 blockLength ++ (leBytes 2 (p .offset) ++ leBytes 2 (p .segment)))
 
 -- offsets 30, 32, 33, 36, 40: BEDDh, 24h, three zeros, host bus, interface type
 unfoldable pub interfaceBytes : Drive → List ℕ
@@ -79,12 +77,12 @@ abbrev pub summedBytes : Drive → List ℕ
 summedBytes d = interfaceBytes d ++ pathBytes d
 
 -- all 66 bytes, with the returned size n
-unfoldable pub wholeResult : Drive → ℕ → List ℕ
-wholeResult d n = parameterBytes d n ++ (blockBytes d ++ (summedBytes d ++ (checksum (summedBytes d) ∷ [])))
+unfoldable pub wholeResult : Drive → Pointer → ℕ → List ℕ
+wholeResult d p n = parameterBytes d n ++ (blockBytes d p ++ (summedBytes d ++ (checksum (summedBytes d) ∷ [])))
 
 -- the returned bytes
-unfoldable pub resultBytes : Drive → ℕ → List ℕ
-resultBytes d n = take n (wholeResult d n)
+unfoldable pub resultBytes : Drive → Pointer → ℕ → List ℕ
+resultBytes d p n = take n (wholeResult d p n)
 
 -- ---- the answer
 
@@ -95,12 +93,12 @@ resultAnswer d asked room =
     pick (both (leb leastSize asked) (leb (returnedSize asked) room)) (Written (returnedSize asked)) (Refused badParameter)
 
 -- the bytes from DS:SI after an answer: those past the returned size stay, and a refusal writes none
-abbrev pub written : Drive → ResultAnswer → List ℕ → List ℕ
-written d (Written n) out = resultBytes d n ++ drop n out
-written d (Refused code) out = out
+abbrev pub written : Drive → Pointer → ResultAnswer → List ℕ → List ℕ
+written d p (Written n) out = resultBytes d p n ++ drop n out
+written d p (Refused code) out = out
 
-abbrev pub resultOut : Drive → ℕ → List ℕ → List ℕ
-resultOut d asked out = written d (resultAnswer d asked (length out)) out
+abbrev pub resultOut : Drive → Pointer → ℕ → List ℕ → List ℕ
+resultOut d p asked out = written d p (resultAnswer d asked (length out)) out
 
 -- the answer as numbers: 0 and the returned size, or the code
 unfoldable pub resultNumbers : ResultAnswer → List ℕ
