@@ -1,6 +1,6 @@
 -- Laws of the 48h result buffer.
 -- Assumes nothing.
-use mathlib.Core.Path.{_≡_, refl, sym, _∙_}
+use mathlib.Core.Path.{_≡_, refl, sym, ap, _∙_}
 use mathlib.Core.List.{List, [], _∷_, _++_, append-assoc}
 use mathlib.Core.Bool.{Bool, true, false}
 use Prim.Native.Nat.{ℕ, suc, _+_, _-_, _%_, _≤_, _<_}
@@ -8,19 +8,20 @@ use native.Mathlib.Nat.{add-zero, zero-add, add-assoc, mod-add-mod, add-mod-mod,
 use native.Mathlib.Numerals.{add-one}
 use native.Mathlib.Omega.{arith}
 use lib.ListN.{length, getD, set, take, drop, length-append, length-drop}
-use lib.Seq.{sets, sets-eq, take-all, take-at, take-suc, drop-at, length-take-le}
+use lib.Seq.{sets, take-all, take-at, take-suc, drop-at, length-take-le}
 use lib.Dec.{leb, ltb}
 use borrow.Author.Tests.{le-leb, lt-leb, leb-true}
 use Rattle.logic.specs.Logic.{pick, both}
 use Rattle.logic.proofs.Logic.{both-true}
 use Rattle.words.specs.Words.{leBytes, part}
-use Rattle.words.proofs.Words.{sets-append, sets-whole, length-leBytes}
+use Rattle.words.proofs.Words.{sets-append, sets-front, sets-whole, length-leBytes}
 use Rattle.drive.specs.declared.Drive.{Drive}
 use Rattle.drive.proofs.Drives.{Arrays}
 use Rattle.layout.specs.declared.Pointer.{Pointer}
+use Rattle.layout.specs.declared.ResultAnswer.{ResultAnswer}
 use Rattle.layout.specs.declared.ResultAnswer.the-variants.{Written, Refused}
 use Rattle.layout.specs.Packet.{badParameter}
-use Rattle.layout.specs.ResultBuffer.{leastSize, pointerSize, pathSize, returnedSize, flagsShown, pathKey, pathLength, parameterBytes, blockBytes, interfaceBytes, pathBytes, summedBytes, sum, checksum, wholeResult, resultBytes, resultAnswer, written, resultOut}
+use Rattle.layout.specs.ResultBuffer.{leastSize, pointerSize, pathSize, returnedSize, flagsShown, pathKey, pathLength, parameterBytes, blockBytes, interfaceBytes, pathBytes, summedBytes, sum, checksum, wholeResult, resultBytes, resultAnswer, written, resultOut, resultNumbers, sizeGiven}
 use Rattle.memory.specs.Blocks.{blockLength}
 
 -- ---- the sum
@@ -107,10 +108,6 @@ summed-part d p n rest f =
     let a : (parameterBytes d n ++ (blockBytes d p ++ summedBytes d)) ++ rest ≡ (parameterBytes d n ++ blockBytes d p) ++ x = simp append-assoc in
     rw (a, drop-at (parameterBytes d n ++ blockBytes d p) x 30 front) (take-at (summedBytes d) rest 35 (length-summed d f))
 
--- a run of stores from the start
-sets-front : (s head : List ℕ) → length head ≤ length s → sets s 0 head ≡ head ++ drop (length head) s
-sets-front s head h = rw (sets-eq head s 0 (omega arith), zero-add)
-
 -- the store of the last byte
 sets-last : (s head : List ℕ) (x : ℕ) → length s ≡ suc (length head) → set (sets s 0 head) (length head) x ≡ head ++ (x ∷ [])
 sets-last s head x h =
@@ -177,27 +174,47 @@ returned-most asked = by-test (ltb asked pointerSize) (ltb asked pathSize)
     by-test false false = omega arith
 
 module _ (d : Drive) (p : Pointer) (asked : ℕ) (out : List ℕ) where
-  pub answer-small : asked < leastSize → (Refused badParameter ≡ resultAnswer d asked (length out)) × (out ≡ resultOut d p asked out)
-  unfolding resultAnswer
-  answer-small h = let t : leb leastSize asked ≡ false = lt-leb leastSize asked h in (rw t, rw t)
+  -- the answer, the bytes after it, and the answer's numbers
+  abbrev Answers : ResultAnswer → List ℕ → Type 0
+  Answers r o = (r ≡ resultAnswer d asked (length out)) × (o ≡ resultOut d p asked out) × (resultNumbers r ≡ sizeGiven asked (length out))
 
-  pub answer-no-room : leastSize ≤ asked → length out < returnedSize asked
-      → (Refused badParameter ≡ resultAnswer d asked (length out)) × (out ≡ resultOut d p asked out)
+  -- whoever answers with the definition answers with the paper's numbers
+  answered : {r : ResultAnswer} {o : List ℕ} → r ≡ resultAnswer d asked (length out) → o ≡ resultOut d p asked out → Answers r o
+  unfolding resultAnswer resultNumbers sizeGiven
+  answered e f = (e, f, ap resultNumbers e ∙ by-test (both (leb leastSize asked) (leb (returnedSize asked) (length out))))
+    where
+      by-test : (t : Bool) → resultNumbers (pick t (Written (returnedSize asked)) (Refused badParameter)) ≡ pick t (0 ∷ returnedSize asked ∷ []) (0x01 ∷ [])
+      by-test true = refl
+      by-test false = refl
+
+  pub answer-small : asked < leastSize → Answers (Refused badParameter) out
+  unfolding resultAnswer
+  answer-small h = let t : leb leastSize asked ≡ false = lt-leb leastSize asked h in answered (rw t) (rw t)
+
+  pub answer-no-room : leastSize ≤ asked → length out < returnedSize asked → Answers (Refused badParameter) out
   unfolding resultAnswer
   answer-no-room h q =
       let t : leb leastSize asked ≡ true = le-leb leastSize asked h in
       let u : leb (returnedSize asked) (length out) ≡ false = lt-leb (returnedSize asked) (length out) q in
-      (rw (t, u), rw (t, u))
+      answered (rw (t, u)) (rw (t, u))
 
   pub answer-written : {n : ℕ} {o : List ℕ} → length (wholeResult d p n) ≡ pathSize → leastSize ≤ asked → n ≡ returnedSize asked → n ≤ length out
-      → o ≡ sets out 0 (take n (wholeResult d p n)) → (Written n ≡ resultAnswer d asked (length out)) × (o ≡ resultOut d p asked out)
+      → o ≡ sets out 0 (take n (wholeResult d p n)) → Answers (Written n) o
   unfolding resultAnswer resultBytes
   answer-written {n} {o} l h en q eo =
       let t : leb leastSize asked ≡ true = le-leb leastSize asked h in
       let u : leb (returnedSize asked) (length out) ≡ true = le-leb (returnedSize asked) (length out) (omega arith) in
       let k : length (take n (wholeResult d p n)) ≡ n = length-take-le n (wholeResult d p n) (omega (arith, returned-most asked)) in
       let w : sets out 0 (take n (wholeResult d p n)) ≡ take n (wholeResult d p n) ++ drop n out = rw k at (sets-front out (take n (wholeResult d p n)) (omega arith)) in
-      (rw (t, u, en), rw (t, u, ← en) (eo ∙ w))
+      answered (rw (t, u, en)) (rw (t, u, ← en) (eo ∙ w))
+
+-- no two answers have the same numbers
+pub resultNumbers-injective : (x y : ResultAnswer) → resultNumbers x ≡ resultNumbers y → x ≡ y
+unfolding resultNumbers
+resultNumbers-injective (Written m) (Written n) e = cc
+resultNumbers-injective (Written m) (Refused d) e = let z : _≡_ {A = ℕ} 0 1 = cc in absurd (omega arith)
+resultNumbers-injective (Refused c) (Written n) e = let z : _≡_ {A = ℕ} 0 1 = cc in absurd (omega arith)
+resultNumbers-injective (Refused c) (Refused d) e = cc
 
 -- as many bytes after the answer as before it
 pub length-out : (d : Drive) (p : Pointer) (asked : ℕ) (out : List ℕ) → Arrays d → length (resultOut d p asked out) ≡ length out

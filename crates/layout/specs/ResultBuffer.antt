@@ -13,15 +13,17 @@ use Rattle.layout.specs.declared.Pointer.{Pointer}
 use Rattle.layout.specs.declared.ResultAnswer.{ResultAnswer}
 use Rattle.layout.specs.declared.ResultAnswer.the-variants.{Written, Refused}
 
--- ---- the sizes
+-- ---- "Steps of each function", 48h: the sizes
 
--- up to the bytes in a block, with the pointer after them, with the device path after that
+-- up to the bytes in a block
 abbrev pub leastSize : ℕ
 leastSize = 26
 
+-- with the pointer after them
 abbrev pub pointerSize : ℕ
 pointerSize = 30
 
+-- with the device path after that
 abbrev pub pathSize : ℕ
 pathSize = 66
 
@@ -29,7 +31,7 @@ pathSize = 66
 unfoldable pub returnedSize : ℕ → ℕ
 returnedSize asked = pick (ltb asked pointerSize) leastSize (pick (ltb asked pathSize) pointerSize pathSize)
 
--- ---- the bytes, by the paper's offsets
+-- ---- "Steps of each function", 48h: the bytes, by the paper's offsets
 
 -- information flags as the table has them
 abbrev pub flagsShown : Drive → ℕ
@@ -84,7 +86,7 @@ wholeResult d p n = parameterBytes d n ++ (blockBytes d p ++ (summedBytes d ++ (
 unfoldable pub resultBytes : Drive → Pointer → ℕ → List ℕ
 resultBytes d p n = take n (wholeResult d p n)
 
--- ---- the answer
+-- ---- "Steps of each function", 48h: the answer
 
 -- asked: the word at DS:SI; room: the bytes from DS:SI to the window's end. All returned bytes must be inside, no smaller size is tried.
 -- Every drive has the same sizes
@@ -97,10 +99,17 @@ abbrev pub written : Drive → Pointer → ResultAnswer → List ℕ → List �
 written d p (Written n) out = resultBytes d p n ++ drop n out
 written d p (Refused code) out = out
 
+-- the bytes from DS:SI after the answer to a size asked
 abbrev pub resultOut : Drive → Pointer → ℕ → List ℕ → List ℕ
 resultOut d p asked out = written d p (resultAnswer d asked (length out)) out
 
--- the answer as numbers: 0 and the returned size, or the code
+-- ---- "Forms we want to see": the answer as numbers, 0 and the returned size, or the code
+
+-- of an answer
 unfoldable pub resultNumbers : ResultAnswer → List ℕ
 resultNumbers (Written n) = 0 ∷ n ∷ []
 resultNumbers (Refused code) = code ∷ []
+
+-- the numbers for a size asked and the room
+unfoldable pub sizeGiven : ℕ → ℕ → List ℕ
+sizeGiven asked room = pick (both (leb 26 asked) (leb (returnedSize asked) room)) (0 ∷ returnedSize asked ∷ []) (0x01 ∷ [])

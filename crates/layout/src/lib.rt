@@ -5,11 +5,11 @@ ghost use mathlib.Core.Path.{_≡_};
 ghost use Prim.Native.Nat.{_%_, _≤_};
 ghost use lib.ListN.{length};
 ghost use lib.Seq.{sets};
-ghost use Rattle.layout.specs.Packet.{linear, readPacket};
-ghost use Rattle.layout.specs.ResultBuffer.{pathSize, returnedSize, flagsShown, parameterBytes, blockBytes, interfaceBytes, pathBytes, sum, checksum, wholeResult, resultAnswer, resultOut};
+ghost use Rattle.layout.specs.Packet.{linear, readPacket, packetNumbers, packetGiven};
+ghost use Rattle.layout.specs.ResultBuffer.{pathSize, returnedSize, flagsShown, parameterBytes, blockBytes, interfaceBytes, pathBytes, sum, checksum, wholeResult, resultAnswer, resultOut, resultNumbers, sizeGiven};
 
 // AH 01h.
-const BAD_PARAMETER: u8 = 1;
+const BAD_PARAMETER: u8 = 0x01;
 
 // ---- the device address packet
 
@@ -41,7 +41,7 @@ const PACKET_LENGTH: usize = 16;
 // The packet at a place of the window. Refused with 01h: a packet that is not wholly inside. Tested by difference, since the place
 // may be any number.
 pub fn read_packet(window: &[u8], at: usize) -> PacketRead
-    ensures { λ r. ⌜ r ≡ readPacket (now (window .entry)) at ⌝ }
+    ensures { λ r. ⌜ (r ≡ readPacket (now (window .entry)) at) × (packetNumbers r ≡ packetGiven (now (window .entry)) at) ⌝ }
 {
     if window.len() < PACKET_LENGTH {
         return PacketRead::Refused(BAD_PARAMETER);
@@ -190,7 +190,7 @@ pub enum ResultAnswer {
 // The result for a drive, a pointer and the size asked; out is the window from DS:SI to its end. Refused with 01h, out unchanged: a size below
 // 26, or too little room for the returned size. Bytes past the returned size stay.
 pub fn write_result(d: Drive, p: Pointer, asked: u16, out: &mut [u8]) -> ResultAnswer
-    ensures { λ r. ⌜ (r ≡ resultAnswer d asked (length (now (out .entry)))) × (now (out .exit) ≡ resultOut d p asked (now (out .entry))) ⌝ }
+    ensures { λ r. ⌜ (r ≡ resultAnswer d asked (length (now (out .entry)))) × (now (out .exit) ≡ resultOut d p asked (now (out .entry))) × (resultNumbers r ≡ sizeGiven asked (length (now (out .entry)))) ⌝ }
 {
     if asked < LEAST_SIZE {
         return ResultAnswer::Refused(BAD_PARAMETER);
