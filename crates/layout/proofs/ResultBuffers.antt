@@ -87,7 +87,7 @@ length-paths : (d : Drive) → Arrays d → length (pathBytes d) ≡ 17
 unfolding pathBytes
 length-paths d f = simp (length-append, f .path, f .device)
 
-length-summed : (d : Drive) → Arrays d → length (summedBytes d) ≡ 35
+pub length-summed : (d : Drive) → Arrays d → length (summedBytes d) ≡ 35
 length-summed d f = simp (length-append, length-interface d f, length-paths d f)
 
 pub length-whole : (d : Drive) (p : Pointer) (n : ℕ) → Arrays d → length (wholeResult d p n) ≡ pathSize
