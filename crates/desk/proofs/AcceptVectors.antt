@@ -1,21 +1,23 @@
 -- Acceptance and the calls at a desk by number ("Calls the host makes"): one accepted desk in which every field has a value of its own and
 -- every limit is reached, one refused desk for each condition, which differs from it in one thing, and what the calls do at it.
 -- Assumes nothing.
-use mathlib.Core.Path.{_≡_, refl}
+use mathlib.Core.Path.{_≡_, refl, _∙_}
 use mathlib.Core.Bool.{Bool, true, false}
 use mathlib.Core.List.{List, [], _∷_, map}
 use Prim.Native.Nat.{ℕ}
 use lib.ListN.{length, replicate, set}
 use lib.Seq.{sets}
 use Rattle.words.specs.Words.{le, leBytes}
-use Rattle.chs.specs.Chs.{inLimits}
+use Rattle.chs.specs.Chs.{inLimits, isValid, blockOf}
 use Rattle.drive.specs.declared.Drive.{Drive}
 use Rattle.drive.specs.Drive.{driveOf, isBlank, blankNumbers, blankNames, same, busOk, interfaceOk, geometryFits, fieldsOk, inStore, overlap, isa, pci, ata, scsi}
 use Rattle.table.specs.Table.{zeroDrive, headerOf, headerAt, overlapsAny, refusal, driveStep, endStep, stepOf, stepAt, readFrom, readTable, soundTo, blankTo, isSound}
-use Rattle.memory.specs.Window.{windowOf, withWindow}
+use Rattle.memory.specs.Window.{spanLength, windowOf, withWindow}
+use Rattle.memory.proofs.Windows.{length-window}
 use Rattle.memory.specs.Blocks.{blocks}
 use Rattle.int13.specs.declared.Registers.{Registers}
-use Rattle.int13.specs.Steps.{isDrive}
+use Rattle.int13.specs.declared.Job.{Job}
+use Rattle.int13.specs.Steps.{isDrive, sectors, check}
 use Rattle.int13.specs.Alone.{moves}
 use Rattle.desk.specs.declared.Request.{Request}
 use Rattle.desk.specs.declared.Row.{Row}
@@ -24,6 +26,7 @@ use Rattle.desk.specs.declared.Stage.the-variants.{Vacant, Waiting, Fini
 use Rattle.desk.specs.declared.Desk.{Desk}
 use Rattle.desk.specs.declared.Opening.{Opening}
 use Rattle.desk.specs.declared.OpenAnswer.the-variants.{Opened}
+use Rattle.desk.specs.declared.PostAnswer.the-variants.{Waits as PostWaits}
 use Rattle.desk.specs.declared.TurnAnswer.{TurnAnswer}
 use Rattle.desk.specs.declared.TurnAnswer.the-variants.{Served}
 use Rattle.desk.specs.declared.CollectAnswer.{CollectAnswer}
@@ -32,7 +35,7 @@ use Rattle.desk.specs.declared.WithdrawAnswer.{WithdrawAnswer}
 use Rattle.desk.specs.declared.WithdrawAnswer.the-variants.{Given as WithdrawGiven}
 use Rattle.desk.specs.Parts.{vacantRow}
 use Rattle.desk.specs.Acceptable.{jobOk, rowsOk, accept}
-use Rattle.desk.specs.Calls.{Done, done, openOf, seek, stageAfter, turnOf, collectOf, withdrawOf}
+use Rattle.desk.specs.Calls.{done, openOf, postOf, seek, stageAfter, turnOf, collectOf, withdrawOf}
 
 -- ---- the table: two drives, of 4000 blocks from store block 5 and of 300 from 4010; C x H x S 459 and 280; the second is protected
 
@@ -223,6 +226,20 @@ opening = refl
 
 -- ---- the calls, for every arena and store of those lengths
 
+-- 02h of three sectors of 81h, and the request that it makes
+abbrev call : Registers
+call = record { ax = 0x0203; bx = 0x0123; cx = 0x0305; dx = 0x0281; ds = 0xE1E2; si = 0xF1F2; es = 0x1001; carry = true }
+
+abbrev asked : Job
+asked = record {
+  registers = record { ax = 0x0203; bx = 0x0123; cx = 0x0305; dx = 0x0281; ds = 0xE1E2; si = 0xF1F2; es = 0x1001; carry = false };
+  drive = 0x81;
+  start = 188;
+  count = 3;
+  buffer = 0x10133;
+  packet = 0;
+}
+
 -- the desk after a call: its pointer, and another row
 abbrev after : ℕ → ℕ → Stage → Desk
 after pointer g stage = desk (places secondDrive zeroDrive) 2 pointer 560005 2207235 (set rows g (row stage))
@@ -280,6 +297,16 @@ module _ (arena store : List ℕ) (la : length arena ≡ 560005) (ls : length st
       ∷ []
   unfolding withdrawOf leBytes accept rowsOk jobOk isDrive isSound soundTo blankTo refusal overlapsAny overlap inStore fieldsOk geometryFits inLimits busOk interfaceOk isBlank blankNumbers blankNames same
   count-words = rw (la, ls)
+
+  -- a post of 02h: the block of 3/2/5 in 5/7/8, the buffer at ES:BX, 10010h + 123h; it waits with nothing moved, and carry is dropped
+  window-5 : length (windowOf arena 5 70000) ≡ 70000
+  unfolding spanLength
+  window-5 = length-window arena 5 70000 ∙ rw la
+
+  pub post-waits : (postOf (good 7) 5 call arena store .answer ≡ PostWaits)
+      × (postOf (good 7) 5 call arena store .desk ≡ after 7 5 (Waiting (record { job = asked; moved = 0 })))
+  unfolding postOf check sectors blockOf isValid accept rowsOk jobOk isDrive isSound soundTo blankTo refusal overlapsAny overlap inStore fieldsOk geometryFits inLimits busOk interfaceOk isBlank blankNumbers blankNames same
+  post-waits = (rw (window-5, la, ls), rw (window-5, la, ls))
 
 -- collect: the finished registers as they stand, and the row is vacant
 pub collected : collectOf (good 7) 4 [] [] ≡ done (after 7 4 Vacant) (CollectGiven (registers 0x4809)) [] []
