@@ -41,15 +41,39 @@ use Rattle.desk.specs.Calls.{done, openOf, postOf, seek, stageAfter, tur
 
 abbrev readable : Drive
 readable = record {
-  cylinders = 1011; heads = 1012; sectors = 1013; blocks = 4000; first = 5; flags = 0x0A; c = 17; h = 3; s = 9; protection = 0;
-  bus = pci; interface = ata; path = 11 ∷ 12 ∷ 13 ∷ 14 ∷ 15 ∷ 16 ∷ 17 ∷ 18 ∷ []; device = 21 ∷ 22 ∷ 23 ∷ 24 ∷ 25 ∷ 26 ∷ 27 ∷ 28 ∷ [];
+  cylinders = 1011;
+  heads = 1012;
+  sectors = 1013;
+  blocks = 4000;
+  first = 5;
+  flags = 0x0A;
+  c = 17;
+  h = 3;
+  s = 9;
+  protection = 0;
+  bus = pci;
+  interface = ata;
+  path = 11 ∷ 12 ∷ 13 ∷ 14 ∷ 15 ∷ 16 ∷ 17 ∷ 18 ∷ [];
+  device = 21 ∷ 22 ∷ 23 ∷ 24 ∷ 25 ∷ 26 ∷ 27 ∷ 28 ∷ [];
 }
 
 -- the second, with a first store block, flags, C and a protection byte
 abbrev other : ℕ → ℕ → ℕ → ℕ → Drive
 other first flags c protection = record {
-  cylinders = 2011; heads = 2012; sectors = 2013; blocks = 300; first = first; flags = flags; c = c; h = 7; s = 8; protection = protection;
-  bus = isa; interface = scsi; path = 31 ∷ 32 ∷ 33 ∷ 34 ∷ 35 ∷ 36 ∷ 37 ∷ 38 ∷ []; device = 41 ∷ 42 ∷ 43 ∷ 44 ∷ 45 ∷ 46 ∷ 47 ∷ 48 ∷ [];
+  cylinders = 2011;
+  heads = 2012;
+  sectors = 2013;
+  blocks = 300;
+  first = first;
+  flags = flags;
+  c = c;
+  h = 7;
+  s = 8;
+  protection = protection;
+  bus = isa;
+  interface = scsi;
+  path = 31 ∷ 32 ∷ 33 ∷ 34 ∷ 35 ∷ 36 ∷ 37 ∷ 38 ∷ [];
+  device = 41 ∷ 42 ∷ 43 ∷ 44 ∷ 45 ∷ 46 ∷ 47 ∷ 48 ∷ [];
 }
 
 abbrev secondDrive : Drive

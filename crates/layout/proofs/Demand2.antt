@@ -44,21 +44,21 @@ unfolding parameterBytes blockBytes leBytes le
 pointing d p n rest f = record { at-26 = read-write 2 (p .offset) (f .offset); at-28 = read-write 2 (p .segment) (f .segment) }
 
 -- the four names and what follows them
-abbrev names : List ℕ → List ℕ → List ℕ → List ℕ → List ℕ → List ℕ
-names b k p v t = b ++ (k ++ (p ++ (v ++ t)))
+abbrev names : Drive → List ℕ → List ℕ
+names d t = d .bus ++ (d .interface ++ (d .path ++ (d .device ++ t)))
 
-module _ (b k p v t : List ℕ) (hb : length b ≡ 4) (hk : length k ≡ 8) (hp : length p ≡ 8) (hv : length v ≡ 8) where
-  from-4 : drop 4 (names b k p v t) ≡ k ++ (p ++ (v ++ t))
-  from-4 = drop-at b (k ++ (p ++ (v ++ t))) 4 hb
+module _ (d : Drive) (t : List ℕ) (f : Arrays d) where
+  from-4 : drop 4 (names d t) ≡ d .interface ++ (d .path ++ (d .device ++ t))
+  from-4 = drop-at (d .bus) (d .interface ++ (d .path ++ (d .device ++ t))) 4 (f .bus)
 
-  from-12 : drop 12 (names b k p v t) ≡ p ++ (v ++ t)
-  from-12 = sym (drop-drop 8 4 (names b k p v t)) ∙ ap (drop 8) from-4 ∙ drop-at k (p ++ (v ++ t)) 8 hk
+  from-12 : drop 12 (names d t) ≡ d .path ++ (d .device ++ t)
+  from-12 = sym (drop-drop 8 4 (names d t)) ∙ ap (drop 8) from-4 ∙ drop-at (d .interface) (d .path ++ (d .device ++ t)) 8 (f .interface)
 
-  from-20 : drop 20 (names b k p v t) ≡ v ++ t
-  from-20 = sym (drop-drop 8 12 (names b k p v t)) ∙ ap (drop 8) from-12 ∙ drop-at p (v ++ t) 8 hp
+  from-20 : drop 20 (names d t) ≡ d .device ++ t
+  from-20 = sym (drop-drop 8 12 (names d t)) ∙ ap (drop 8) from-12 ∙ drop-at (d .path) (d .device ++ t) 8 (f .path)
 
-  from-28 : drop 28 (names b k p v t) ≡ t
-  from-28 = sym (drop-drop 8 20 (names b k p v t)) ∙ ap (drop 8) from-20 ∙ drop-at v t 8 hv
+  from-28 : drop 28 (names d t) ≡ t
+  from-28 = sym (drop-drop 8 20 (names d t)) ∙ ap (drop 8) from-20 ∙ drop-at (d .device) t 8 (f .device)
 
 -- bytes 30 on: what is summed and the checksum; bytes 36 on: the names, zero and the checksum
 module _ (d : Drive) (p : Pointer) (n : ℕ) (rest : List ℕ) where
@@ -66,7 +66,7 @@ module _ (d : Drive) (p : Pointer) (n : ℕ) (rest : List ℕ) where
   unfolding wholeResult parameterBytes blockBytes leBytes
   from-30 = refl
 
-  from-36 : drop 36 (wholeResult d p n ++ rest) ≡ names (d .bus) (d .interface) (d .path) (d .device) (0 ∷ checksum (summedBytes d) ∷ rest)
+  from-36 : drop 36 (wholeResult d p n ++ rest) ≡ names d (0 ∷ checksum (summedBytes d) ∷ rest)
   unfolding wholeResult parameterBytes blockBytes interfaceBytes pathBytes leBytes
   from-36 = simp append-assoc
 
@@ -79,16 +79,12 @@ paths : (d : Drive) (p : Pointer) (n : ℕ) (rest : List ℕ) → Arrays d → P
 paths d p n rest f =
     let r : List ℕ = wholeResult d p n ++ rest in
     let t : List ℕ = 0 ∷ checksum (summedBytes d) ∷ rest in
-    let e : drop 36 r ≡ names (d .bus) (d .interface) (d .path) (d .device) t = from-36 d p n rest in
+    let e : drop 36 r ≡ names d t = from-36 d p n rest in
     let k = key d p n rest in
-    let x₄ : drop 40 r ≡ d .interface ++ (d .path ++ (d .device ++ t))
-        = sym (drop-drop 4 36 r) ∙ ap (drop 4) e ∙ from-4 (d .bus) (d .interface) (d .path) (d .device) t (f .bus) (f .interface) (f .path) (f .device) in
-    let x₁₂ : drop 48 r ≡ d .path ++ (d .device ++ t)
-        = sym (drop-drop 12 36 r) ∙ ap (drop 12) e ∙ from-12 (d .bus) (d .interface) (d .path) (d .device) t (f .bus) (f .interface) (f .path) (f .device) in
-    let x₂₀ : drop 56 r ≡ d .device ++ t
-        = sym (drop-drop 20 36 r) ∙ ap (drop 20) e ∙ from-20 (d .bus) (d .interface) (d .path) (d .device) t (f .bus) (f .interface) (f .path) (f .device) in
-    let x₂₈ : drop 64 r ≡ t
-        = sym (drop-drop 28 36 r) ∙ ap (drop 28) e ∙ from-28 (d .bus) (d .interface) (d .path) (d .device) t (f .bus) (f .interface) (f .path) (f .device) in
+    let x₄ : drop 40 r ≡ d .interface ++ (d .path ++ (d .device ++ t)) = sym (drop-drop 4 36 r) ∙ ap (drop 4) e ∙ from-4 d t f in
+    let x₁₂ : drop 48 r ≡ d .path ++ (d .device ++ t) = sym (drop-drop 12 36 r) ∙ ap (drop 12) e ∙ from-12 d t f in
+    let x₂₀ : drop 56 r ≡ d .device ++ t = sym (drop-drop 20 36 r) ∙ ap (drop 20) e ∙ from-20 d t f in
+    let x₂₈ : drop 64 r ≡ t = sym (drop-drop 28 36 r) ∙ ap (drop 28) e ∙ from-28 d t f in
     let s : List ℕ = summedBytes d ++ (checksum (summedBytes d) ∷ []) in
     let l : length s ≡ 36 = length-append (summedBytes d) (checksum (summedBytes d) ∷ []) ∙ ap (λ (m : ℕ). m + 1) (length-summed d f) in
     let y : part 36 r 30 ≡ s = ap (take 36) (from-30 d p n rest) ∙ take-at s rest 36 l in
@@ -145,9 +141,10 @@ module _ (d : Drive) (p : Pointer) (before : List ℕ) (f : Fits d) (g : FitsPoi
   front-66 : Parameters d 66 (wholeResult d p 66 ++ drop 66 before) × Pointing p (wholeResult d p 66 ++ drop 66 before)
   unfolding wholeResult parameterBytes blockBytes leBytes
   front-66 =
-      let path : List ℕ = summedBytes d ++ (checksum (summedBytes d) ∷ []) in
-      (parameters d 66 (leBytes 2 (p .offset) ++ (leBytes 2 (p .segment) ++ (path ++ drop 66 before))) f (omega arith),
-      pointing d p 66 (path ++ drop 66 before) g)
+      let path : List ℕ = summedBytes d ++ (checksum (summedBytes d) ∷ []) in (
+        parameters d 66 (leBytes 2 (p .offset) ++ (leBytes 2 (p .segment) ++ (path ++ drop 66 before))) f (omega arith),
+        pointing d p 66 (path ++ drop 66 before) g,
+      )
 
   laid-66 : Laid d p 66 before (resultBytes d p 66 ++ drop 66 before)
   laid-66 = rw whole-66 (record {
