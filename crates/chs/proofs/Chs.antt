@@ -1,29 +1,26 @@
 -- Laws of the definitions: what the tests say, the bounds of the arithmetic, the cases of the answers.
 -- Assumes nothing.
-use mathlib.Core.Path.{_≡_}
-use mathlib.Core.Bool.{true, false}
-use Prim.Native.Nat.{ℕ, _+_, _-_, _*_, _≤_, _<_}
+use mathlib.Core.Path.{_≡_, refl, ap, _∙_}
+use mathlib.Core.Bool.{Bool, true, false}
+use mathlib.Core.List.{[], _∷_}
+use Prim.Native.Nat.{ℕ, _+_, _-_, _*_, _/_, _%_, _≤_, _<_}
 use native.Mathlib.Nat.{mul-le-mul}
 use native.Mathlib.Omega.{arith}
-use borrow.Author.Tests.{ltb-true}
+use borrow.Author.Tests.{ltb-true, lt-ltb, le-leb}
 use lib.Arith.{digits-lt}
 use lib.Dec.{ltb}
+use Rattle.logic.specs.Logic.{pick, both}
 use Rattle.logic.proofs.Logic.{both-true, inRange-true}
 use Rattle.chs.specs.declared.Geometry.{Geometry}
 use Rattle.chs.specs.declared.Address.{Address}
+use Rattle.chs.specs.declared.ToBlock.{ToBlock}
 use Rattle.chs.specs.declared.ToBlock.the-variants.{Block, Refused as NoBlock}
+use Rattle.chs.specs.declared.ToAddress.{ToAddress}
 use Rattle.chs.specs.declared.ToAddress.the-variants.{At, Refused as NoAddress}
-use Rattle.chs.specs.Chs.{outside, mostCylinders, mostHeads, mostSectors, inLimits, isValid, number, size, split, blockOf, addressOf}
+use Rattle.chs.specs.Demand2.{Limits, Valid}
+use Rattle.chs.specs.Chs.{outside, mostCylinders, mostHeads, mostSectors, inLimits, isValid, number, size, split, blockOf, addressOf, blockNumbers, addressNumbers, blockGiven, addressGiven}
 
 -- ---- inLimits and isValid, as facts
-
-pub record Limits (g : Geometry) : Type 0 where
-  pub c-low : 1 ≤ g .c
-  pub c-high : g .c ≤ mostCylinders
-  pub h-low : 1 ≤ g .h
-  pub h-high : g .h ≤ mostHeads
-  pub s-low : 1 ≤ g .s
-  pub s-high : g .s ≤ mostSectors
 
 pub inLimits-true : (g : Geometry) → inLimits g ≡ true → Limits g
 unfolding inLimits
@@ -35,12 +32,6 @@ inLimits-true g e =
     let s = inRange-true (g .s) 1 mostSectors (q .1) in
     record { c-low = c .0; c-high = c .1; h-low = h .0; h-high = h .1; s-low = s .0; s-high = s .1 }
 
-pub record Valid (g : Geometry) (a : Address) : Type 0 where
-  pub cylinder-low : a .cylinder < g .c
-  pub head-low : a .head < g .h
-  pub sector-pos : 1 ≤ a .sector
-  pub sector-high : a .sector ≤ g .s
-
 pub isValid-true : (g : Geometry) (a : Address) → isValid g a ≡ true → Valid g a
 unfolding isValid
 isValid-true g a e =
@@ -48,6 +39,16 @@ isValid-true g a e =
     let q = both-true _ _ (p .1) in
     let s = inRange-true (a .sector) 1 (g .s) (q .1) in
     record { cylinder-low = ltb-true _ _ (p .0); head-low = ltb-true _ _ (q .0); sector-pos = s .0; sector-high = s .1 }
+
+-- and back
+pub limits-inLimits : (g : Geometry) → Limits g → inLimits g ≡ true
+unfolding inLimits
+limits-inLimits g l =
+    rw (le-leb _ _ (l .c-low), le-leb _ _ (l .c-high), le-leb _ _ (l .h-low), le-leb _ _ (l .h-high), le-leb _ _ (l .s-low), le-leb _ _ (l .s-high))
+
+pub valid-isValid : (g : Geometry) (a : Address) → Valid g a → isValid g a ≡ true
+unfolding isValid
+valid-isValid g a v = rw (lt-ltb _ _ (v .cylinder-low), lt-ltb _ _ (v .head-low), le-leb _ _ (v .sector-pos), le-leb _ _ (v .sector-high))
 
 -- ---- the bounds of the arithmetic
 
@@ -98,3 +99,42 @@ addressOf-above g n e f = rw (e, f)
 pub addressOf-below : (g : Geometry) (n : ℕ) → inLimits g ≡ true → ltb n (size g) ≡ true → addressOf g n ≡ At (split g n)
 unfolding addressOf
 addressOf-below g n e f = rw (e, f)
+
+-- ---- the answers by their numbers
+
+-- whoever answers with the definition answers with the paper's numbers
+pub block-answered : {r : ToBlock} (g : Geometry) (a : Address) → r ≡ blockOf g a → (r ≡ blockOf g a) × (blockNumbers r ≡ blockGiven g a)
+unfolding blockOf blockNumbers blockGiven
+block-answered g a e = (e, ap blockNumbers e ∙ by-test (both (inLimits g) (isValid g a)))
+  where
+    by-test : (t : Bool) → blockNumbers (pick t (Block (number g a)) (NoBlock outside)) ≡ pick t (0 ∷ number g a ∷ []) (0x04 ∷ [])
+    by-test true = refl
+    by-test false = refl
+
+pub address-answered : {r : ToAddress} (g : Geometry) (n : ℕ) → r ≡ addressOf g n → (r ≡ addressOf g n) × (addressNumbers r ≡ addressGiven g n)
+unfolding addressOf addressNumbers addressGiven
+address-answered g n e = (e, ap addressNumbers e ∙ by-test (both (inLimits g) (ltb n (size g))))
+  where
+    by-test : (t : Bool) → addressNumbers (pick t (At (split g n)) (NoAddress outside))
+        ≡ pick t (0 ∷ (n / g .s / g .h) ∷ (n / g .s % g .h) ∷ (n % g .s + 1) ∷ []) (0x04 ∷ [])
+    by-test true = refl
+    by-test false = refl
+
+-- no two answers have the same numbers
+pub blockNumbers-injective : (x y : ToBlock) → blockNumbers x ≡ blockNumbers y → x ≡ y
+unfolding blockNumbers
+blockNumbers-injective (Block m) (Block n) e = cc
+blockNumbers-injective (Block m) (NoBlock d) e = let z : _≡_ {A = ℕ} 0 1 = cc in absurd (omega arith)
+blockNumbers-injective (NoBlock c) (Block n) e = let z : _≡_ {A = ℕ} 0 1 = cc in absurd (omega arith)
+blockNumbers-injective (NoBlock c) (NoBlock d) e = cc
+
+pub addressNumbers-injective : (x y : ToAddress) → addressNumbers x ≡ addressNumbers y → x ≡ y
+unfolding addressNumbers
+addressNumbers-injective (At a) (At b) e =
+    let c : a .cylinder ≡ b .cylinder = cc in
+    let h : a .head ≡ b .head = cc in
+    let s : a .sector ≡ b .sector = cc in
+    λ i. At (record { cylinder = c i; head = h i; sector = s i })
+addressNumbers-injective (At a) (NoAddress d) e = let z : _≡_ {A = ℕ} 0 1 = cc in absurd (omega arith)
+addressNumbers-injective (NoAddress c) (At b) e = let z : _≡_ {A = ℕ} 0 1 = cc in absurd (omega arith)
+addressNumbers-injective (NoAddress c) (NoAddress d) e = cc

@@ -3,3 +3,4 @@ pub mod Acceptances
 pub mod Callings
 pub mod Transfers
 pub mod Vectors
+pub mod AcceptVectors

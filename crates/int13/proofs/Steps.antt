@@ -20,6 +20,7 @@ use Rattle.drive.proofs.Drives.{Arrays}
 use Rattle.table.specs.declared.Table.{Table}
 use Rattle.layout.specs.declared.PacketRead.the-variants.{Whole, Refused as NoPacket}
 use Rattle.layout.specs.Packet.{packetLength, packetAt, readPacket}
+use Rattle.layout.specs.ResultBuffer.{noPointer}
 use Rattle.layout.proofs.ResultBuffers.{length-out}
 use Rattle.int13.specs.declared.Registers.{Registers}
 use Rattle.int13.specs.declared.Outcome.the-variants.{Answered}
@@ -104,7 +105,7 @@ length-result b r w arrays = by-tests (isDrive b (dl r)) (ltb (length w) (packet
     by-tests false short e = refl
     by-tests true true e = refl
     by-tests true false e =
-        let kept = length-out (driveOf b r) (le 2 w (packetPlace r)) (drop (packetPlace r) w) (arrays e) in
+        let kept = length-out (driveOf b r) noPointer (le 2 w (packetPlace r)) (drop (packetPlace r) w) (arrays e) in
         rw (length-append, kept) (omega (arith, length-take (packetPlace r) w, length-drop (packetPlace r) w))
 
 -- every drive of the code has its arrays' lengths

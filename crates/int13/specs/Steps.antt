@@ -21,7 +21,7 @@ use Rattle.layout.specs.declared.PacketRead.the-variants.{Whole, Refused as NoP
 use Rattle.layout.specs.declared.ResultAnswer.{ResultAnswer}
 use Rattle.layout.specs.declared.ResultAnswer.the-variants.{Written, Refused as NoResult}
 use Rattle.layout.specs.Packet.{linear, packetLength, readPacket}
-use Rattle.layout.specs.ResultBuffer.{resultAnswer, resultOut}
+use Rattle.layout.specs.ResultBuffer.{noPointer, resultAnswer, resultOut}
 use Rattle.memory.specs.Blocks.{blockLength}
 use Rattle.int13.specs.declared.Registers.{Registers}
 use Rattle.int13.specs.declared.Job.{Job}
@@ -176,7 +176,7 @@ abbrev pub resultSteps : Drive → Registers → List ℕ → ℕ → Checked
 resultSteps d r w place =
     record {
       outcome = resultGiven (resultAnswer d (le 2 w place) (length (drop place w))) r;
-      window = take place w ++ resultOut d (le 2 w place) (drop place w);
+      window = take place w ++ resultOut d noPointer (le 2 w place) (drop place w);
     }
 
 unfoldable pub result : Table → Registers → List ℕ → Checked

@@ -3,6 +3,7 @@ use chs::ToBlock;
 use drive::Drive;
 use layout::Packet;
 use layout::PacketRead;
+use layout::Pointer;
 use layout::ResultAnswer;
 use table::Table;
 ghost use mathlib.Core.Path.{_≡_};
@@ -516,6 +517,9 @@ fn result_given(given: ResultAnswer, r: Registers) -> Outcome
     }
 }
 
+// FFFFh, twice: no pointer.
+const NO_POINTER: u16 = 0xFFFF;
+
 fn result_48(b: Table, r: Registers, window: &mut [u8]) -> Outcome
     ensures { λ o. ⌜ (o ≡ result b r (now (window .entry)) .outcome) × (now (window .exit) ≡ result b r (now (window .entry)) .window) ⌝ }
 {
@@ -529,7 +533,11 @@ fn result_48(b: Table, r: Registers, window: &mut [u8]) -> Outcome
     }
     let d = drive_at(b, n);
     let asked = words::get16(window, place);
-    let given = layout::write_result(d, asked, &mut window[place..]);
+    let none = Pointer {
+        offset: NO_POINTER,
+        segment: NO_POINTER,
+    };
+    let given = layout::write_result(d, none, asked, &mut window[place..]);
     result_given(given, r)
 }
 

@@ -25,7 +25,7 @@ use Rattle.layout.specs.declared.PacketRead.the-variants.{Whole, Refused as NoP
 use Rattle.layout.specs.declared.ResultAnswer.{ResultAnswer}
 use Rattle.layout.specs.declared.ResultAnswer.the-variants.{Written, Refused as NoResult}
 use Rattle.layout.specs.Packet.{packetAt, readPacket}
-use Rattle.layout.specs.ResultBuffer.{resultAnswer, resultOut}
+use Rattle.layout.specs.ResultBuffer.{noPointer, resultAnswer, resultOut}
 use Rattle.layout.proofs.ResultBuffers.{length-out}
 use Rattle.memory.specs.Blocks.{blockLength}
 use Rattle.int13.specs.declared.Registers.{Registers}
@@ -198,15 +198,15 @@ module _ (b : Table) (store : ℕ) (g : Good b store) (r : Registers) (w : List 
       place : ℕ
       place = packetPlace r
 
-      whole : isDrive b (dl r) ≡ true → ltb (length w) (place + 2) ≡ false → length (take place w ++ resultOut (driveOf b r) (le 2 w place) (drop place w)) ≡ length w
+      whole : isDrive b (dl r) ≡ true → ltb (length w) (place + 2) ≡ false → length (take place w ++ resultOut (driveOf b r) noPointer (le 2 w place) (drop place w)) ≡ length w
       whole d e =
           let l : place + 2 ≤ length w = ltb-false (length w) (place + 2) e in
-          let n : length (resultOut (driveOf b r) (le 2 w place) (drop place w)) ≡ length w - place
-          = length-out (driveOf b r) (le 2 w place) (drop place w) (known b store (dl r) g d .arrays) ∙ length-drop place w in
-          length-append (take place w) (resultOut (driveOf b r) (le 2 w place) (drop place w)) ∙ omega (arith, l, n, length-take place w)
+          let n : length (resultOut (driveOf b r) noPointer (le 2 w place) (drop place w)) ≡ length w - place
+          = length-out (driveOf b r) noPointer (le 2 w place) (drop place w) (known b store (dl r) g d .arrays) ∙ length-drop place w in
+          length-append (take place w) (resultOut (driveOf b r) noPointer (le 2 w place) (drop place w)) ∙ omega (arith, l, n, length-take place w)
 
-      by-answer : (x : ResultAnswer) → length (take place w ++ resultOut (driveOf b r) (le 2 w place) (drop place w)) ≡ length w
-          → Says b r w (resultGiven x r) (take place w ++ resultOut (driveOf b r) (le 2 w place) (drop place w))
+      by-answer : (x : ResultAnswer) → length (take place w ++ resultOut (driveOf b r) noPointer (le 2 w place) (drop place w)) ≡ length w
+          → Says b r w (resultGiven x r) (take place w ++ resultOut (driveOf b r) noPointer (le 2 w place) (drop place w))
       by-answer (NoResult code) e = e
       by-answer (Written n) e = e
 

@@ -10,7 +10,7 @@ use Rattle.words.specs.Words.{le, leBytes}
 use Rattle.chs.specs.Chs.{inLimits, isValid, blockOf, blockNumbers}
 use Rattle.drive.specs.declared.Drive.{Drive}
 use Rattle.drive.specs.Drive.{driveOf, same, pci, ata, busOk, interfaceOk, geometryFits, fieldsOk, inStore, overlap}
-use Rattle.layout.specs.ResultBuffer.{returnedSize, parameterBytes, blockBytes, interfaceBytes, pathBytes, sum, wholeResult, resultBytes, resultAnswer, resultNumbers}
+use Rattle.layout.specs.ResultBuffer.{noPointer, returnedSize, parameterBytes, blockBytes, interfaceBytes, pathBytes, sum, wholeResult, resultBytes, resultAnswer, resultNumbers}
 use Rattle.memory.specs.Window.{guests}
 use Rattle.table.specs.Table.{emptyTable, headerOf, headerAt, overlapsAny, refusal, driveStep, endStep, stepOf, stepAt, readFrom, readTable}
 use Rattle.int13.specs.Steps.{driveAt, geometryGiven}
@@ -94,7 +94,7 @@ pub sums :
     ∷ block 1023 15 63
     ∷ block 0 0 0
     ∷ geometry wide
-    ∷ (geometry tableDrive ++ (getD (resultBytes tableDrive 66) 65 0 ∷ []))
+    ∷ (geometry tableDrive ++ (getD (resultBytes tableDrive noPointer 66) 65 0 ∷ []))
     ∷ flat (map size (25 ∷ 26 ∷ 29 ∷ 30 ∷ 65 ∷ 66 ∷ 65535 ∷ []))
     ∷ flat (turnsOf 6 p9)
     ∷ flat (turnsOf 8 p10)

@@ -75,7 +75,7 @@ returns-3 c =
     let a = c .before .before .before .before .before .before .before .before .before .before .before .before .before .before .args in
     let known : isDrive (a .b) (dl (a .r)) ≡ true = rw (c .before .before .before .before .before .before .before .before .before .before .before .before .dl .ensures) at (sym (c .before .before .before .before .before .before .before .before .before .before .before .is-drive .ensures) ∙ not-false _ (c .before .before .before .before .before .before .before .before .before .before .if1 .left)) in
     let verify : both (isWrite (ah (a .r))) (not (verifyOk (al (a .r)) (driveOf (a .b) (a .r) .flags))) ≡ false = rw (c .before .before .before .before .before .is-write .ensures, c .before .before .before .before .before .before .function-of .ensures, c .before .before .before .before .before .before .before .verify-ok .ensures, c .before .before .before .before .before .before .before .before .al .ensures, c .before .before .before .before .before .before .before .before .before .drive-at .ensures, c .before .before .before .before .before .before .before .before .before .before .before .before .dl .ensures) at (sym (c .before .before .before .before .and .ensures) ∙ c .before .before .before .if2 .left) in
-    rw (known, verify, c .packet-read .ensures, c .before .read-packet .ensures, c .before .before .packet-place .ensures, c .before .before .before .before .before .before .before .before .before .drive-at .ensures, c .before .before .before .before .before .before .before .before .before .before .before .before .dl .ensures)
+    rw (known, verify, c .packet-read .ensures, c .before .read-packet .ensures .0, c .before .before .packet-place .ensures, c .before .before .before .before .before .before .before .before .before .drive-at .ensures, c .before .before .before .before .before .before .before .before .before .before .before .before .dl .ensures)
 
 pub packet-plan-spec : {M : Type 1} → statement M
 packet-plan-spec =

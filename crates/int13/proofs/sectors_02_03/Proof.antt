@@ -129,14 +129,14 @@ returns-5 : tie.Need-returns-5
 unfolding sectors
 returns-5 c =
     let a = c .before .before .before .before .before .before .before .before .before .before .before .before .before .before .before .before .before .before .before .args in
-    let block : blockOf (geometryOf (driveOf (a .b) (a .r))) (addressIn (a .r .cx) (a .r .dx)) ≡ Refused (c .before .before .block .given .0 .0) = rw (c .before .before .before .before .before .before .geometry-of .ensures, c .before .before .before .before .before .address-in .ensures, c .before .before .before .before .before .before .before .before .before .before .before .before .drive-at .ensures, c .before .before .before .before .before .before .before .before .before .before .before .before .before .before .before .before .before .before .dl .ensures) at (sym (c .before .before .before .before .block-of .ensures) ∙ c .before .before .block .given .1) in
+    let block : blockOf (geometryOf (driveOf (a .b) (a .r))) (addressIn (a .r .cx) (a .r .dx)) ≡ Refused (c .before .before .block .given .0 .0) = rw (c .before .before .before .before .before .before .geometry-of .ensures, c .before .before .before .before .before .address-in .ensures, c .before .before .before .before .before .before .before .before .before .before .before .before .drive-at .ensures, c .before .before .before .before .before .before .before .before .before .before .before .before .before .before .before .before .before .before .dl .ensures) at (sym (c .before .before .before .before .block-of .ensures .0) ∙ c .before .before .block .given .1) in
     rw (known (c .before .before .before .before .before .before .before .before .before .before .before .before .before .before .before .before), some (c .before .before .before .before .before .before .before .before .before .before .before .before .before .before), few (c .before .before .before .before .before .before .before .before .before .before .before .before .before), allowed (c .before .before .before .before .before .before .before), block, c .refuse5 .ensures)
 
 returns-6 : tie.Need-returns-6
 unfolding sectors
 returns-6 c =
     let a = c .before .before .before .before .before .before .before .before .before .before .before .before .before .before .before .before .before .before .before .args in
-    let block : blockOf (geometryOf (driveOf (a .b) (a .r))) (addressIn (a .r .cx) (a .r .dx)) ≡ Block (c .before .before .block2 .given .0 .0) = rw (c .before .before .before .before .before .before .geometry-of .ensures, c .before .before .before .before .before .address-in .ensures, c .before .before .before .before .before .before .before .before .before .before .before .before .drive-at .ensures, c .before .before .before .before .before .before .before .before .before .before .before .before .before .before .before .before .before .before .dl .ensures) at (sym (c .before .before .before .before .block-of .ensures) ∙ c .before .before .block2 .given .1) in
+    let block : blockOf (geometryOf (driveOf (a .b) (a .r))) (addressIn (a .r .cx) (a .r .dx)) ≡ Block (c .before .before .block2 .given .0 .0) = rw (c .before .before .before .before .before .before .geometry-of .ensures, c .before .before .before .before .before .address-in .ensures, c .before .before .before .before .before .before .before .before .before .before .before .before .drive-at .ensures, c .before .before .before .before .before .before .before .before .before .before .before .before .before .before .before .before .before .before .dl .ensures) at (sym (c .before .before .before .before .block-of .ensures .0) ∙ c .before .before .block2 .given .1) in
     rw (known (c .before .before .before .before .before .before .before .before .before .before .before .before .before .before .before .before), some (c .before .before .before .before .before .before .before .before .before .before .before .before .before .before), few (c .before .before .before .before .before .before .before .before .before .before .before .before .before), allowed (c .before .before .before .before .before .before .before), block, c .sector-run .ensures, c .before .before .before .before .before .before .before .before .before .before .before .before .drive-at .ensures, c .before .before .before .before .before .before .before .before .before .before .before .before .before .before .before .before .before .before .dl .ensures)
 
 pub sectors-02-03-spec : {M : Type 1} → statement M

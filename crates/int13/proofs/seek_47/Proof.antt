@@ -49,7 +49,7 @@ unfolding seek
 returns-2 c =
     let a = c .before .before .before .before .before .before .before .before .args in
     let known : isDrive (a .b) (dl (a .r)) ≡ true = rw (c .before .before .before .before .before .before .dl .ensures) at (sym (c .before .before .before .before .before .is-drive .ensures) ∙ not-false _ (c .before .before .before .before .if1 .left)) in
-    rw (known, c .seek-read .ensures, c .before .before .read-packet .ensures, c .before .before .before .packet-place .ensures, c .before .drive-at .ensures, c .before .before .before .before .before .before .dl .ensures)
+    rw (known, c .seek-read .ensures, c .before .before .read-packet .ensures .0, c .before .before .before .packet-place .ensures, c .before .drive-at .ensures, c .before .before .before .before .before .before .dl .ensures)
 
 pub seek-47-spec : {M : Type 1} → statement M
 seek-47-spec =

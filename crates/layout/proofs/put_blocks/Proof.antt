@@ -26,7 +26,7 @@ same-length c = search needs
 returns : tie.Need-returns
 returns c =
     let a = c .before .before .before .before .before .before .before .before .before .before .before .before .before .before .before .before .before .args in
-    cc (block-stores (now (a .out)) (a .d))
+    cc (block-stores (now (a .out)) (a .d) (a .p))
 
 pub put-blocks-spec : {M : Type 1} → statement M
 put-blocks-spec =
