@@ -354,7 +354,11 @@ pub fn read_table(t: &[u8], store: u64) -> Reading
 fn held(count: usize) -> usize
     ensures { λ r. ⌜ r ≡ min count 8 ⌝ }
 {
-    if count <= MOST_DRIVES { count } else { MOST_DRIVES }
+    if count <= MOST_DRIVES {
+        count
+    } else {
+        MOST_DRIVES
+    }
 }
 
 // The length of the records of the first n places. `write_table` asks for at most eight.
