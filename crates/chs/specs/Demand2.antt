@@ -27,8 +27,9 @@ pub record Valid (g : Geometry) (a : Address) : Type 0 where
   pub sector-pos : 1 ≤ a .sector
   pub sector-high : a .sector ≤ g .s
 
--- ---- demand 2: addresses and blocks of one geometry
+-- ---- "Steps of each function", 02h and 03h: the address and its reverse, as demand 2
 
+-- the valid addresses and the blocks below C x H x S of one geometry, each with one of the other
 pub record OneToOne (g : Geometry) : Type 0 where
   -- every valid address has a block below C x H x S
   pub has-block : (a : Address) → Valid g a → (n : ℕ) × (blockOf g a ≡ Block n) × (n < g .c * g .h * g .s)
@@ -40,6 +41,6 @@ pub record OneToOne (g : Geometry) : Type 0 where
   pub only-valid : (a : Address) (n : ℕ) → blockOf g a ≡ Block n → Valid g a
   pub only-below : (a : Address) (n : ℕ) → addressOf g n ≡ At a → n < g .c * g .h * g .s
 
--- DEMAND 2, of addresses
+-- DEMAND 2, of addresses: every geometry in its limits
 abbrev pub Demand2 : Type 0
 Demand2 = (g : Geometry) → Limits g → OneToOne g

@@ -3,15 +3,15 @@
 -- Assumes nothing.
 use mathlib.Core.Path.{_≡_, refl, _∙_}
 use mathlib.Core.Bool.{Bool, true, false}
-use mathlib.Core.List.{List, [], _∷_, map}
+use mathlib.Core.List.{List, [], _∷_, _++_, map}
 use Prim.Native.Nat.{ℕ}
 use lib.ListN.{length, replicate, set}
 use lib.Seq.{sets}
 use Rattle.words.specs.Words.{le, leBytes}
 use Rattle.chs.specs.Chs.{inLimits, isValid, blockOf}
 use Rattle.drive.specs.declared.Drive.{Drive}
-use Rattle.drive.specs.Drive.{driveOf, isBlank, blankNumbers, blankNames, same, busOk, interfaceOk, geometryFits, fieldsOk, inStore, overlap, isa, pci, ata, scsi}
-use Rattle.table.specs.Table.{zeroDrive, headerOf, headerAt, overlapsAny, refusal, driveStep, endStep, stepOf, stepAt, readFrom, readTable, soundTo, blankTo, isSound}
+use Rattle.drive.specs.Drive.{driveOf, recordOf, geometryBytes, sizeBytes, nameBytes, isBlank, blankNumbers, blankNames, same, busOk, interfaceOk, geometryFits, fieldsOk, inStore, overlap, isa, pci, ata, scsi}
+use Rattle.table.specs.Table.{zeroDrive, headerOf, headerAt, overlapsAny, refusal, driveStep, endStep, stepOf, stepAt, readFrom, readTable, recordsOf, bytesOf, tableOf, writeAnswer, writeOut, writtenNumbers, soundTo, blankTo, isSound}
 use Rattle.memory.specs.Window.{spanLength, windowOf, withWindow}
 use Rattle.memory.proofs.Windows.{length-window}
 use Rattle.memory.specs.Blocks.{blocks}
@@ -35,7 +35,7 @@ use Rattle.desk.specs.declared.WithdrawAnswer.{WithdrawAnswer}
 use Rattle.desk.specs.declared.WithdrawAnswer.the-variants.{Given as WithdrawGiven}
 use Rattle.desk.specs.Parts.{vacantRow}
 use Rattle.desk.specs.Acceptable.{jobOk, rowsOk, accept}
-use Rattle.desk.specs.Calls.{done, openOf, postOf, seek, stageAfter, turnOf, collectOf, withdrawOf}
+use Rattle.desk.specs.Calls.{done, openOf, writtenOf, writtenOut, postOf, seek, stageAfter, turnOf, collectOf, withdrawOf}
 
 -- ---- the table: two drives, of 4000 blocks from store block 5 and of 300 from 4010; C x H x S 459 and 280; the second is protected
 
@@ -247,6 +247,16 @@ pub opening : openOf tableBytes 560005 2207235
     ≡ record { desk = desk (places secondDrive zeroDrive) 2 0 560005 2207235 (replicate 8 vacantRow); answer = Opened }
 unfolding openOf le driveOf readTable readFrom stepAt stepOf endStep driveStep headerAt headerOf refusal overlapsAny overlap inStore fieldsOk geometryFits inLimits busOk interfaceOk same
 opening = refl
+
+-- ---- write: the bytes of the opening again, in a buffer that has room; bytes past them stay
+
+pub table-written : map (λ (room : ℕ). writtenNumbers (writtenOf (good 7) room)) (139 ∷ 140 ∷ 142 ∷ []) ≡ (19 ∷ []) ∷ (0 ∷ 140 ∷ []) ∷ (0 ∷ 140 ∷ []) ∷ []
+unfolding writtenOf writtenNumbers writeAnswer tableOf bytesOf recordsOf recordOf geometryBytes sizeBytes nameBytes leBytes accept rowsOk jobOk isDrive isSound soundTo blankTo refusal overlapsAny overlap inStore fieldsOk geometryFits inLimits busOk interfaceOk isBlank blankNumbers blankNames same
+table-written = refl
+
+pub table-bytes : writtenOut (good 7) (replicate 142 9) ≡ tableBytes ++ (9 ∷ 9 ∷ [])
+unfolding writtenOut writeOut tableOf bytesOf recordsOf recordOf geometryBytes sizeBytes nameBytes leBytes accept rowsOk jobOk isDrive isSound soundTo blankTo refusal overlapsAny overlap inStore fieldsOk geometryFits inLimits busOk interfaceOk isBlank blankNumbers blankNames same
+table-bytes = refl
 
 -- ---- the calls, for every arena and store of those lengths
 

@@ -41,8 +41,9 @@ pub record Paths (d : Drive) (r : List ℕ) : Type 0 where
   pub at-64 : getD r 64 0 ≡ 0
   pub at-65 : sum (part 36 r 30) % 256 ≡ 0
 
--- ---- demand 2: one answer of n bytes to the size asked; before: the window from DS:SI on as it was
+-- ---- "Steps of each function", 48h: the sizes and the layout, as demand 2
 
+-- an answer of n bytes to the size asked; before is the window from DS:SI on as it was, r as the answer left it
 pub record Result (d : Drive) (p : Pointer) (asked n : ℕ) (before r : List ℕ) : Type 0 where
   -- "Below 26: 01h; 26 to 29 returns 26; 30 to 65 returns 30; from 66, 66", all inside the window
   pub least : 26 ≤ asked
@@ -62,7 +63,7 @@ pub record FitsPointer (p : Pointer) : Type 0 where
   pub offset : p .offset < 256 ^ 2
   pub segment : p .segment < 256 ^ 2
 
--- DEMAND 2, of the 48h result
+-- DEMAND 2, of the 48h result: every answer that writes
 abbrev pub Demand2 : Type 0
 Demand2 = (d : Drive) (p : Pointer) (asked n : ℕ) (before : List ℕ) → Fits d → FitsPointer p
     → resultAnswer d asked (length before) ≡ Written n
