@@ -126,7 +126,8 @@ fn dl(r: Registers) -> u8
 
 // ---- answers
 
-// The one place that sets carry, AH and AL; the other registers stay as given.
+// Sets carry, AH and AL; the other registers stay as given. Every answer goes through it but the successes of 08h and 41h, which set
+// further registers.
 fn answer(carry: bool, code: u8, low: u8, r: Registers) -> Registers
     ensures { λ a. ⌜ a ≡ answer carry code low r ⌝ }
 {
