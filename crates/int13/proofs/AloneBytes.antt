@@ -287,12 +287,12 @@ alone-moves t r m j acc e =
     let is = alone-is t r m j e in
     -- what holds of the job's numbers holds of those that were asked
     let outside : (P : ℕ → ℕ → ℕ → Memory → Type 0) → P (j .count) (storeBlock b j) (j .buffer) (moves j (storeBlock b j) 0 (j .count) m)
-        → P (asked r w) (namedFrom b r w) (askedBuffer r w) (s .memory)
+    → P (asked r w) (namedFrom b r w) (askedBuffer r w) (s .memory)
     = λ P h.
-        subst (λ (x : ℕ). P (asked r w) (namedFrom b r w) x (s .memory)) (a .buffer)
-        (subst (λ (x : ℕ). P (asked r w) x (j .buffer) (s .memory)) (a .first)
-        (subst (λ (x : ℕ). P x (storeBlock b j) (j .buffer) (s .memory)) (a .count)
-        (subst (λ (x : Served). P (j .count) (storeBlock b j) (j .buffer) (x .memory)) is h))) in
+    subst (λ (x : ℕ). P (asked r w) (namedFrom b r w) x (s .memory)) (a .buffer)
+    (subst (λ (x : ℕ). P (asked r w) x (j .buffer) (s .memory)) (a .first)
+    (subst (λ (x : ℕ). P x (storeBlock b j) (j .buffer) (s .memory)) (a .count)
+    (subst (λ (x : Served). P (j .count) (storeBlock b j) (j .buffer) (x .memory)) is h))) in
     let function : (x : Bool) → isWrite (ah r) ≡ x → isWrite (ah (j .registers)) ≡ x = λ x h. ap (λ (y : Registers). isWrite (ah y)) (a .registers) ∙ h in
     record {
       some = rw (a .count) at (a .some);

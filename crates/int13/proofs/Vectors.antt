@@ -211,7 +211,6 @@ pub record Vectors : Type 0 where
       ∷ (holds (withdraw 16 (posted (call 0x4255 0x80))) (kept 0x8055 0x80 1))
       ∷ (holds (withdraw 0 (posted (call 0x4301 0x80))) (kept 0x8001 0x80 1))
       ∷ [])
-
   -- every function: success changes what the paper names, a refusal AH and carry, and AL for 02h and 03h
   --   02h, drive 81h of one: AX 0100h
   --   03h, drive 81h of one: AX 0100h
@@ -245,7 +244,6 @@ pub record Vectors : Type 0 where
       ∷ (givesAll (at plain (call 0x4855 0x80) (26 ∷ replicate 25 0)) (kept 0x0055 0x80 0))
       ∷ (givesAll (at plain (call 0x4855 0x80) (25 ∷ replicate 25 0)) (kept 0x0155 0x80 1))
       ∷ [])
-
   -- 41h: AL becomes 0 on success and stays on refusal, DH is not set
   --   drive known, BX 55AAh: AX 3000h, BX AA55h, CX 0001h
   --   drive known, BX AA55h: AX 0155h
@@ -255,13 +253,11 @@ pub record Vectors : Type 0 where
       ∷ (givesAll (at plain (asks41 0xAA55 0x7780) []) (0x0155 ∷ 0xAA55 ∷ 0x2222 ∷ 0x7780 ∷ 0 ∷ 0 ∷ 0x3333 ∷ 1 ∷ []))
       ∷ (givesAll (at plain (asks41 0x55AA 0x7781) []) (0x0155 ∷ 0x55AA ∷ 0x2222 ∷ 0x7781 ∷ 0 ∷ 0 ∷ 0x3333 ∷ 1 ∷ []))
       ∷ [])
-
   -- a request that waits keeps its registers, with carry clear: drive 80h, then the registers
   --   42h, one block
   pub registers-waiting : Hold
       ((givesAll (at plain (call 0x4255 0x80) (roomy (packet 16 1 16 0 0))) (0x80 ∷ kept 0x4255 0x80 0))
       ∷ [])
-
   -- an unknown function is 01h whatever DL, AL stays
   --   00h, drive 80h: AX 0155h
   --   01h, drive 80h: AX 0155h
@@ -277,7 +273,6 @@ pub record Vectors : Type 0 where
       ∷ (givesAll (at plain (call 0x4555 0x80) []) (kept 0x0155 0x80 1))
       ∷ (givesAll (at plain (call 0xFF55 0x80) []) (kept 0x0155 0x80 1))
       ∷ [])
-
   -- drive numbers 00h, 7Fh, 80h, 80h + n - 1, 80h + n and FFh of n = 0, 1 and 8 drives; DL - 80h is never taken in eight bits
   --   no drive: none is one
   --   one drive: 80h is one
@@ -285,7 +280,6 @@ pub record Vectors : Type 0 where
   pub drive-numbers :
       map (λ (b : Table). map (λ (n : ℕ). bit (isDrive b n)) (0x00 ∷ 0x7F ∷ 0x80 ∷ 0x81 ∷ 0x87 ∷ 0x88 ∷ 0xFF ∷ [])) (emptyTable ∷ plain ∷ eight ∷ [])
       ≡ (0 ∷ 0 ∷ 0 ∷ 0 ∷ 0 ∷ 0 ∷ 0 ∷ []) ∷ (0 ∷ 0 ∷ 1 ∷ 0 ∷ 0 ∷ 0 ∷ 0 ∷ []) ∷ (0 ∷ 0 ∷ 1 ∷ 1 ∷ 1 ∷ 0 ∷ 0 ∷ []) ∷ []
-
   -- a drive function of an unknown drive is 01h, 08h is 07h
   --   02h, 00h: AX 0100h
   --   03h, 7Fh: AX 0100h
@@ -305,7 +299,6 @@ pub record Vectors : Type 0 where
       ∷ (gives (at plain (call 0x4755 0x81) (packet 16 0 16 0 0)) (0x0155 ∷ 1 ∷ []))
       ∷ (gives (at plain (call 0x4855 0x7F) (26 ∷ replicate 25 0)) (0x0155 ∷ 1 ∷ []))
       ∷ [])
-
   -- ---- "Run by program": start and count against 2048 blocks, the limits of AL and of the packet's count
 
   -- 42h, 43h and 44h by start and count, in a window of 528 bytes
@@ -323,7 +316,6 @@ pub record Vectors : Type 0 where
       ∷ (gives (at plain (call 0x4400 0x80) (roomy (packet 16 127 16 0 0))) (0x0000 ∷ 0 ∷ []))
       ∷ (gives (at plain (call 0x4400 0x80) (roomy (packet 16 128 16 0 0))) (0x0100 ∷ 1 ∷ []))
       ∷ [])
-
   -- 02h and 03h by AL, in a window of 65536 bytes
   --   02h, AL 128 at 0/0/1: waits
   --   02h, AL 129: 09h
@@ -333,7 +325,6 @@ pub record Vectors : Type 0 where
       ∷ (comes (sectorsOf plain (run 0x0281 0x0001 0x0080) 65536) (0x0900 ∷ 1 ∷ []))
       ∷ (comes (sectorsOf guarded (run 0x0301 0x0201 0x0080) 65536) (0x0300 ∷ 1 ∷ []))
       ∷ [])
-
   -- 42h by count, in a window of 65040 bytes
   --   count 127: waits
   --   count 128: 01h
@@ -341,7 +332,6 @@ pub record Vectors : Type 0 where
       ((plans (packetTests (drive 0 2 0) (call 0x4200 0x80) 65040 (record { size = 16; count = 127; buffer = 16; start = 0 })) (3 ∷ 0 ∷ 127 ∷ 16 ∷ 0 ∷ []))
       ∷ (plans (packetTests (drive 0 2 0) (call 0x4200 0x80) 65040 (record { size = 16; count = 128; buffer = 16; start = 0 })) (1 ∷ 1 ∷ []))
       ∷ [])
-
   -- ---- 42h, 43h, 44h: each pair of adjoining tests with both faults, and the window after it
 
   -- 42h: the count word is set to 0 once the size byte is found good
@@ -359,7 +349,6 @@ pub record Vectors : Type 0 where
       ∷ (leaves (at plain (call 0x4200 0x80) (packet 16 1 16 0 2048)) (0x0400 ∷ 1 ∷ []) (packet 16 0 16 0 2048))
       ∷ (leaves (at plain (call 0x4200 0x80) (packet 16 1 16 0 0)) (0x0900 ∷ 1 ∷ []) (packet 16 0 16 0 0))
       ∷ [])
-
   -- 43h: AL and protection too
   --   unknown drive and AL 3: 01h, nothing written
   --   AL 3 and 15 bytes left: 01h, nothing written
@@ -379,7 +368,6 @@ pub record Vectors : Type 0 where
       ∷ (leaves (at plain (call 0x4300 0x80) (packet 16 1 16 0 2048)) (0x0400 ∷ 1 ∷ []) (packet 16 0 16 0 2048))
       ∷ (leaves (at plain (call 0x4300 0x80) (packet 16 1 16 0 0)) (0x0900 ∷ 1 ∷ []) (packet 16 0 16 0 0))
       ∷ [])
-
   -- 44h: neither AL, nor protection, nor the buffer
   --   unknown drive and 15 bytes left: 01h, nothing written
   --   15 bytes left and size 15: 01h, nothing written
@@ -395,7 +383,6 @@ pub record Vectors : Type 0 where
       ∷ (leaves (at plain (call 0x4403 0x80) (packet 16 1 16 0 2048)) (0x0403 ∷ 1 ∷ []) (packet 16 0 16 0 2048))
       ∷ (leaves (at guarded (call 0x44FF 0x80) (packet 16 127 0xFFFF 0xFFFF 0)) (0x00FF ∷ 0 ∷ []) (packet 16 127 0xFFFF 0xFFFF 0))
       ∷ [])
-
   -- a count of 0 passes every test before it is answered at once, and success leaves the packet
   --   43h, protected: 03h
   --   42h, start 2049: 04h
@@ -411,7 +398,6 @@ pub record Vectors : Type 0 where
       ∷ (leaves (at plain (call 0x4200 0x80) (packet 16 0 16 0 0)) (0x0000 ∷ 0 ∷ []) (packet 16 0 16 0 0))
       ∷ (leaves (at plain (call 0x4300 0x80) (packet 16 0 17 0 0)) (0x0900 ∷ 1 ∷ []) (packet 16 0 17 0 0))
       ∷ [])
-
   -- the packet is always 16 bytes, its count a whole word, its buffer an address that is never wrapped
   --   44h, size 24: success
   --   44h, size 255: success
@@ -427,7 +413,6 @@ pub record Vectors : Type 0 where
       ∷ (leaves (at plain (call 0x4200 0x80) (packet 16 0xFFFF 16 0 0)) (0x0100 ∷ 1 ∷ []) (packet 16 0 16 0 0))
       ∷ (leaves (at plain (call 0x4200 0x80) (packet 16 0 0xFFFF 0xFFFF 0)) (0x0900 ∷ 1 ∷ []) (packet 16 0 0xFFFF 0xFFFF 0))
       ∷ [])
-
   -- buffers above 1 MiB and across 64 KiB: 42h, one block at FFFFh:FFFFh and eight at 65000
   --   10FFEFh in a window of 10FFEFh + 512: waits
   --   10FFEFh in a window one byte shorter: 09h
@@ -439,7 +424,6 @@ pub record Vectors : Type 0 where
       ∷ (plans (packetTests (drive 0 2 0) (call 0x4200 0x80) 69096 (record { size = 16; count = 8; buffer = 65000; start = 0 })) (3 ∷ 0 ∷ 8 ∷ 65000 ∷ 0 ∷ []))
       ∷ (plans (packetTests (drive 0 2 0) (call 0x4200 0x80) 69095 (record { size = 16; count = 8; buffer = 65000; start = 0 })) (1 ∷ 9 ∷ []))
       ∷ [])
-
   -- start + count never wraps: every one is 04h
   --   42h, start 2^64 - 1 count 0
   --   42h, start 2^64 - 1 count 1
@@ -453,7 +437,6 @@ pub record Vectors : Type 0 where
       ∷ (gives (at plain (call 0x4400 0x80) (roomy (packet 16 127 16 0 18446744073709551489))) (0x0400 ∷ 1 ∷ []))
       ∷ (gives (at plain (call 0x4700 0x80) (roomy (packet 16 1 16 0 18446744073709551615))) (0x0400 ∷ 1 ∷ []))
       ∷ [])
-
   -- 43h: AL 0 and 1, and 2 where information flag bit 3 is set; a bad AL is refused before the packet is looked at
   --   AL 0: success
   --   AL 1: success
@@ -469,7 +452,6 @@ pub record Vectors : Type 0 where
       ∷ (leaves (at verifying (call 0x4303 0x80) (packet 16 128 16 0 0)) (0x0103 ∷ 1 ∷ []) (packet 16 128 16 0 0))
       ∷ (leaves (at verifying (call 0x43FF 0x80) (packet 16 128 16 0 0)) (0x01FF ∷ 1 ∷ []) (packet 16 128 16 0 0))
       ∷ [])
-
   -- ---- 47h, 02h and 03h, 08h, 48h
 
   -- 47h: start below the blocks, count ignored, no refusal writes
@@ -485,7 +467,6 @@ pub record Vectors : Type 0 where
       ∷ (leaves (at plain (call 0x4700 0x80) (packet 15 1 16 0 2048)) (0x0100 ∷ 1 ∷ []) (packet 15 1 16 0 2048))
       ∷ (leaves (at plain (call 0x4700 0x80) (take 15 (packet 16 1 16 0 0))) (0x0100 ∷ 1 ∷ []) (take 15 (packet 16 1 16 0 0)))
       ∷ [])
-
   -- 02h and 03h: drive, AL, protection, address, buffer
   --   unknown drive and AL 129: 01h
   --   03h, AL 0 and protected: 01h
@@ -505,7 +486,6 @@ pub record Vectors : Type 0 where
       ∷ (comes (sectorsOf plain (run 0x0201 0x0001 0x0080) 511) (0x0900 ∷ 1 ∷ []))
       ∷ (comes (sectorsOf plain (run 0x0201 0x0001 0x0080) 512) (0 ∷ 1 ∷ 0 ∷ 0 ∷ []))
       ∷ [])
-
   -- 02h: the address and its run in the geometry of 2016 blocks, of a drive of 2048
   --   cylinder 1, head 15, sector 63, AL 1: waits at block 2015
   --   the same, AL 2, which fits the drive but not the geometry: 04h
@@ -521,7 +501,6 @@ pub record Vectors : Type 0 where
       ∷ (comes (sectorsOf plain (run 0x0201 0x0041 0x0080) 65536) (0x0400 ∷ 1 ∷ []))
       ∷ (comes (sectorsOf plain (run 0x0280 0x003F 0x0080) 65536) (62 ∷ 128 ∷ 0 ∷ 0 ∷ []))
       ∷ [])
-
   -- 08h: the number of drives whichever was asked, and the largest geometry
   --   82h of three: CX 013Fh, DX 0F03h
   --   80h of three: CX 013Fh, DX 0F03h
@@ -531,7 +510,6 @@ pub record Vectors : Type 0 where
       ∷ (givesAll (at three (call 0x0855 0x80) []) (0x0000 ∷ 0x1111 ∷ 0x013F ∷ 0x0F03 ∷ 0 ∷ 0 ∷ 0x3333 ∷ 0 ∷ []))
       ∷ (givesAll (at largest (call 0x0855 0x80) []) (0x0000 ∷ 0x1111 ∷ 0xFFFF ∷ 0xFE01 ∷ 0 ∷ 0 ∷ 0x3333 ∷ 0 ∷ []))
       ∷ [])
-
   -- 48h at place 4 of the window: bytes before it and past the returned size stay, and a refusal writes none
   --   size 29, 29 bytes left: 26 returned
   --   size 30, 29 bytes left: 01h, no smaller size is tried
@@ -667,7 +645,6 @@ pub record Apart : Type 0 where
   -- drives by their numbers: 80h, 81h and 82h have their first blocks, and every number has a place
   pub drive-places : map (λ (n : ℕ). driveAt apart n .first) (0x80 ∷ 0x81 ∷ 0x82 ∷ []) ++ map (λ (n : ℕ). driveIn apart n .first) (0x80 ∷ 0x81 ∷ 0x82 ∷ 0x01 ∷ 0x8A ∷ [])
       ≡ 700 ∷ 6000 ∷ 9001 ∷ 700 ∷ 6000 ∷ 9001 ∷ 6000 ∷ 9001 ∷ []
-
   -- 02h and 03h: buffer at ES:BX, address from CX and DH, geometry and protection of DL's drive
   --   02h, 81h, 258/1/2 of 300/3/2, two blocks in a window that ends with them: block 1551, buffer 37
   --   the same in a window one byte shorter: 09h
@@ -683,7 +660,6 @@ pub record Apart : Type 0 where
       ∷ (numbers (at apart (own 0x0302 5 0x0104 0x0282) (replicate 1061 7)) (0 ∷ kept19 0x0300 5 0x0104 0x0282 1))
       ∷ (numbers (at apart (own 0x0208 5 0x0104 0x0282) (replicate 1061 7)) (0 ∷ kept19 0x0400 5 0x0104 0x0282 1))
       ∷ [])
-
   -- 42h, 43h: packet at DS:SI, buffer from its words 6 and 4, blocks, flags and protection of DL's drive; what a refusal writes
   --   42h, 81h, start 2999 of 3000: waits with buffer 57 and packet 19
   --   43h, 81h, AL 2: waits
@@ -701,7 +677,6 @@ pub record Apart : Type 0 where
       ∷ (both-ways (at apart (own 0x4301 5 0x0242 0x0182) (one57 1 40)) (0 ∷ kept19 0x0301 5 0x0242 0x0182 1) (one57 0 40))
       ∷ (both-ways (at apart (own 0x4277 5 0x0242 0x0182) (placed (packet 16 1 9 3 40) 533)) (0 ∷ kept19 0x0977 5 0x0242 0x0182 1) (placed (packet 16 0 9 3 40) 533))
       ∷ [])
-
   -- 44h and 47h: the same packet, blocks of DL's drive
   --   44h, 82h, start 40 of 41: success
   --   44h, 82h, start 41: 04h, count word 0
@@ -715,7 +690,6 @@ pub record Apart : Type 0 where
       ∷ (both-ways (at apart (own 0x4777 5 0x0242 0x0182) (one57 1 41)) (0 ∷ kept19 0x0477 5 0x0242 0x0182 1) (one57 1 41))
       ∷ (both-ways (at apart (own 0x4777 5 0x0242 0x0180) (one57 1 41)) (0 ∷ kept19 0x0077 5 0x0242 0x0180 0) (one57 1 41))
       ∷ [])
-
   -- 08h: the geometry of DL's drive and the number of drives; 81h has C above 256. Over one drive the number is the one that is given
   pub own-parameters : Hold
       ((numbers (at apart (own 0x0877 5 0x0242 0x0180) []) (0 ∷ kept19 0 5 0x040B 0x0603 0))
@@ -725,25 +699,22 @@ pub record Apart : Type 0 where
       ∷ (numbers (steps true 6 drive81 (own 0x0877 5 0x0242 0x0180) []) (0 ∷ kept19 0 5 0x2B42 0x0206 0))
       ∷ (numbers (steps false 6 drive81 (own 0x0877 5 0x0242 0x0180) []) (0 ∷ kept19 0x0777 5 0x0242 0x0180 1))
       ∷ [])
-
   -- 41h: 82h is known and 83h is not; the registers that are not named stay
   pub own-extensions : Hold
       ((numbers (at apart (own 0x4177 0x55AA 0x0242 0x0182) []) (0 ∷ kept19 0x3000 0xAA55 0x0001 0x0182 0))
       ∷ (numbers (at apart (own 0x4177 0x55AA 0x0242 0x0183) []) (0 ∷ kept19 0x0177 0x55AA 0x0242 0x0183 1))
       ∷ [])
-
   -- 48h: the result of DL's drive, laid at DS:SI
   --   82h: flags 4, physical geometry 1031/10/14, 41 blocks
   --   80h: flags 2, physical geometry 6/8/12, 5000 blocks
   --   82h, the word at DS:SI cut off: 01h
   pub own-results : Hold
       ((both-ways (at apart (own 0x4877 5 0x0242 0x0182) (placed (26 ∷ 0 ∷ []) 26)) (0 ∷ kept19 0x0077 5 0x0242 0x0182 0)
-        (placed (26 ∷ 0 ∷ 4 ∷ 0 ∷ 7 ∷ 4 ∷ 0 ∷ 0 ∷ 10 ∷ 0 ∷ 0 ∷ 0 ∷ 14 ∷ 0 ∷ 0 ∷ 0 ∷ 41 ∷ 0 ∷ 0 ∷ 0 ∷ 0 ∷ 0 ∷ 0 ∷ 0 ∷ 0 ∷ 2 ∷ []) 2))
+      (placed (26 ∷ 0 ∷ 4 ∷ 0 ∷ 7 ∷ 4 ∷ 0 ∷ 0 ∷ 10 ∷ 0 ∷ 0 ∷ 0 ∷ 14 ∷ 0 ∷ 0 ∷ 0 ∷ 41 ∷ 0 ∷ 0 ∷ 0 ∷ 0 ∷ 0 ∷ 0 ∷ 0 ∷ 0 ∷ 2 ∷ []) 2))
       ∷ (both-ways (at apart (own 0x4877 5 0x0242 0x0180) (placed (26 ∷ 0 ∷ []) 26)) (0 ∷ kept19 0x0077 5 0x0242 0x0180 0)
-        (placed (26 ∷ 0 ∷ 2 ∷ 0 ∷ 6 ∷ 0 ∷ 0 ∷ 0 ∷ 8 ∷ 0 ∷ 0 ∷ 0 ∷ 12 ∷ 0 ∷ 0 ∷ 0 ∷ 0x88 ∷ 0x13 ∷ 0 ∷ 0 ∷ 0 ∷ 0 ∷ 0 ∷ 0 ∷ 0 ∷ 2 ∷ []) 2))
+      (placed (26 ∷ 0 ∷ 2 ∷ 0 ∷ 6 ∷ 0 ∷ 0 ∷ 0 ∷ 8 ∷ 0 ∷ 0 ∷ 0 ∷ 12 ∷ 0 ∷ 0 ∷ 0 ∷ 0x88 ∷ 0x13 ∷ 0 ∷ 0 ∷ 0 ∷ 0 ∷ 0 ∷ 0 ∷ 0 ∷ 2 ∷ []) 2))
       ∷ (both-ways (at apart (own 0x4877 5 0x0242 0x0182) (placed (26 ∷ []) 0)) (0 ∷ kept19 0x0177 5 0x0242 0x0182 1) (placed (26 ∷ []) 0))
       ∷ [])
-
   -- unknown functions, and answers given later: AH, AL and carry change, nothing else
   pub own-answers : Hold
       ((numbers (at apart (own 0x0577 5 0x0242 0x0181) []) (0 ∷ kept19 0x0177 5 0x0242 0x0181 1))
@@ -753,7 +724,6 @@ pub record Apart : Type 0 where
       ∷ (holds (withdraw 48 (posted (own 0x0350 5 0x0242 0x0181))) (kept19 0x8030 5 0x0242 0x0181 1))
       ∷ (holds (withdraw 48 (posted (own 0x4277 5 0x0242 0x0181))) (kept19 0x8077 5 0x0242 0x0181 1))
       ∷ [])
-
   -- a request's own words: n, buffer and the store block named first, of 02h on 81h and of 42h on 82h; the store block of a job on 82h
   pub own-words :
       asked (own 0x0202 5 0x0242 0x0181) [] ∷ askedBuffer (own 0x0202 5 0x0242 0x0181) [] ∷ namedFrom apart (own 0x0202 5 0x0242 0x0181) []

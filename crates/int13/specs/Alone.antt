@@ -20,12 +20,13 @@ use Rattle.int13.specs.declared.Outcome.the-variants.{Answered, Waits}
 use Rattle.int13.specs.Answers.{ah, al, isSectors, isWrite, succeed}
 use Rattle.int13.specs.Steps.{Checked, Feeds, fed, driveAt, driveOf, packetPlace, begin}
 
--- ---- a request, from outside: the registers and the window that the post found
+-- ---- "The words of demand 3", a request from outside: the registers and the window that the post found
 
 -- n: its AL or packet count
 abbrev pub asked : Registers → List ℕ → ℕ
 asked r w = pick (isSectors (ah r)) (al r) (le 2 w (packetPlace r + 2))
 
+-- the block of an address that is valid
 abbrev pub blockNumber : ToBlock → ℕ
 blockNumber (Block n) = n
 blockNumber (NoBlock code) = 0
@@ -39,8 +40,9 @@ askedStart b r w =
 abbrev pub namedFrom : Table → Registers → List ℕ → ℕ
 namedFrom b r w = driveOf b r .first + askedStart b r w
 
--- ---- the blocks of a request move between the window and the store
+-- ---- "The words of demand 3", Served alone: the blocks of a request move between the window and the store
 
+-- the guest's window and the store, which are its state
 pub record Memory : Type 0 where
   pub window : List ℕ
   pub store : List ℕ
@@ -56,8 +58,9 @@ moves j first i k m =
     (record { window = m .window; store = blocks (m .store) (blockLength * (first + i)) (m .window) (j .buffer + blockLength * i) k })
     (record { window = blocks (m .window) (j .buffer + blockLength * i) (m .store) (blockLength * (first + i)) k; store = m .store })
 
--- ---- served alone
+-- ---- "The words of demand 3", Served alone: what it gives
 
+-- registers, and the window and store afterwards
 pub record Served : Type 0 where
   pub registers : Registers
   pub memory : Memory

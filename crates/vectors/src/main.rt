@@ -242,6 +242,11 @@ fn block_case(cylinder: u32, head: u32, sector: u32) {
     say(b"\n");
 }
 
+fn say_byte(b: u8) {
+    say(b" ");
+    io::print_hex(OUTPUT, b as u64, 2);
+}
+
 // A guest waits with 40 blocks from block 0, the packet at place 0 of its window.
 fn wait_40(desk: Desk, guest: usize, arena: &mut [u8], store: &[u8]) -> Desk {
     if 8 <= guest {
@@ -256,17 +261,36 @@ fn wait_40(desk: Desk, guest: usize, arena: &mut [u8], store: &[u8]) -> Desk {
     posted.desk
 }
 
+// A byte of the first, of the seventeenth and of the thirty-third block of a guest's buffer: what its three turns lay down.
+fn say_parts(guest: usize, arena: &[u8]) {
+    if 8 <= guest {
+        return;
+    }
+    let at = 20480 * guest;
+    if arena.len() < at + 20480 {
+        return;
+    }
+    say(b"bytes 100, 8292, 16484:");
+    say_byte(arena[at + 100]);
+    say_byte(arena[at + 8292]);
+    say_byte(arena[at + 16484]);
+    say(b"\n");
+}
+
+fn say_served(guest: usize, moved: u64, arena: &[u8]) {
+    say(b"turn: guest ");
+    io::print_decimal(OUTPUT, guest as u64);
+    say(b" moved ");
+    io::print_decimal(OUTPUT, moved);
+    say(b"\n");
+    say_parts(guest, arena);
+}
+
 fn one_turn(desk: Desk, arena: &mut [u8], store: &mut [u8]) -> Desk {
     let turned = desk.turn(arena, store);
     let answer = turned.answer;
     match answer {
-        TurnAnswer::Served(guest, moved) => {
-            say(b"turn: guest ");
-            io::print_decimal(OUTPUT, guest as u64);
-            say(b" moved ");
-            io::print_decimal(OUTPUT, moved);
-            say(b"\n");
-        }
+        TurnAnswer::Served(guest, moved) => say_served(guest, moved, &arena[..]),
         TurnAnswer::Idle => say(b"turn: idle\n"),
         TurnAnswer::Refused(_) => say(b"turn: refused\n"),
     }
@@ -375,8 +399,16 @@ fn waiting(desk: Desk, arena: &mut [u8], store: &[u8]) -> Desk {
     wait_40(one, 5, arena, store)
 }
 
+// A store in which each block, and each byte of a block, can be told: byte i is seed + 7 x its block + i, modulo 251.
+fn fill(store: &mut [u8], seed: u8) {
+    for i in 0..store.len() {
+        store[i] = ((seed as usize + 7 * (i / 512 % 64) + i % 251) % 251) as u8;
+    }
+}
+
 // P9.
 fn turns(arena: &mut [u8], store: &mut [u8]) {
+    fill(store, 1);
     let t = table_bytes(64, 1, 1, 0);
     let opening = Desk::open(&t, arena.len() as u64, store.len() as u64);
     let desk = opening.desk;
@@ -406,6 +438,7 @@ fn nine_turns(desk: Desk, arena: &mut [u8], store: &mut [u8]) {
 
 // P10: the first turn leaves pointer 1 and all eight waiting, and eight follow.
 fn eight_guests(arena: &mut [u8], store: &mut [u8]) {
+    fill(store, 101);
     let t = table_bytes(64, 1, 1, 0);
     let opening = Desk::open(&t, arena.len() as u64, store.len() as u64);
     let desk = opening.desk;

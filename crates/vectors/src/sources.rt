@@ -3,12 +3,14 @@ use super::FIRST_DRIVE;
 use super::OUTPUT;
 use super::STORE_BLOCKS;
 use super::extensions_call;
+use super::fill;
 use super::geometry_call;
 use super::one_turn;
 use super::packet_call;
 use super::put_packet;
 use super::registers;
 use super::say;
+use super::say_byte;
 use super::say_call;
 use super::say_outcome;
 use super::say_word;
@@ -148,11 +150,6 @@ pub(crate) fn functions(window: &mut [u8]) {
 
 // ---- tables and results
 
-fn say_byte(b: u8) {
-    say(b" ");
-    io::print_hex(OUTPUT, b as u64, 2);
-}
-
 // Bytes of a result in hexadecimal.
 fn say_bytes(out: &[u8], from: usize, to: usize) {
     if out.len() < to {
@@ -284,6 +281,7 @@ pub(crate) fn tables(window: &mut [u8]) {
 
 // Guest 0 withdraws after 16 of 40 blocks have been laid over its packet.
 pub(crate) fn withdrawal(arena: &mut [u8], store: &mut [u8]) {
+    fill(store, 201);
     let t = table_bytes(64, 1, 1, 0);
     let opening = Desk::open(&t, arena.len() as u64, store.len() as u64);
     let desk = opening.desk;
