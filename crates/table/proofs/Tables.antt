@@ -24,12 +24,13 @@ use Rattle.table.specs.declared.Header.the-variants.{Whole, Bad}
 use Rattle.table.specs.declared.Step.{Step}
 use Rattle.table.specs.declared.Step.the-variants.{Next, Done, Refused}
 use Rattle.table.specs.declared.Stepped.{Stepped}
+use Rattle.table.specs.declared.Cursor.{Cursor}
 use Rattle.table.specs.declared.Answer.{Answer}
 use Rattle.table.specs.declared.Answer.the-variants.{Accepted, Refused as AnswerRefused}
 use Rattle.table.specs.declared.Reading.{Reading}
 use Rattle.table.specs.declared.Written.{Written}
 use Rattle.table.specs.declared.Written.the-variants.{Bytes, Refused as WriteRefused}
-use Rattle.table.specs.Table.{badField, pastStore, overlapping, isKind, lengthOk, headerOf, headerAt, noDrive, overlapsAny, refusal, more, stepped, driveStep, endStep, driveRecord, stepOf, stepAt, reading, goOn, readFrom, placeRecords, recordsOf, endRecord, bytesOf, drivesOf, tableOf, writeAnswer, writeOut, firstDrives}
+use Rattle.table.specs.Table.{emptyTable, badField, pastStore, overlapping, isKind, lengthOk, headerOf, headerAt, noDrive, overlapsAny, refusal, more, stepped, driveStep, endStep, driveRecord, stepOf, stepAt, placeAfter, advanced, begun, reading, goOn, readFrom, placeRecords, recordsOf, endRecord, bytesOf, drivesOf, tableOf, writeAnswer, writeOut, firstDrives}
 
 -- ---- the header
 
@@ -174,6 +175,23 @@ stepAt-cases P t at b store refuse finish next = by-header (headerAt t at) refl
     by-header (Bad n) h = rw (← stepAt-bad t at n b store h) (refuse n at)
     by-header (Whole k n) h = by-kind k n h (eqb k 0) refl
 
+-- ---- where the reading stands
+
+pub advanced-is : {r : Stepped} {p : ℕ} (t : List ℕ) (c : Cursor) (store : ℕ) → r ≡ stepAt t (c .at) (c .table) store → p ≡ placeAfter (r .step) (c .at)
+    → _≡_ {A = Cursor} record { at = p; step = r .step; table = r .table } (advanced t c store)
+unfolding advanced
+advanced-is t c store e q = rw (q, e)
+
+pub begun-is : {b : Table} → b ≡ emptyTable → _≡_ {A = Cursor} record { at = 0; step = Next 0; table = b } begun
+begun-is e = rw e
+
+-- the place after a record that was read
+pub advanced-at : {d : Cursor} {n : ℕ} (t : List ℕ) (c : Cursor) (store : ℕ) → d ≡ advanced t c store → d .step ≡ Next n → d .at ≡ n
+unfolding advanced
+advanced-at {d} t c store e q =
+    let p : d .at ≡ placeAfter (d .step) (c .at) = rw e in
+    p ∙ ap (λ (s : Step). placeAfter s (c .at)) q
+
 -- ---- the reading
 
 pub readFrom-on : (left : ℕ) (t : List ℕ) (store at : ℕ) (b : Table) → 0 < left
@@ -182,11 +200,17 @@ unfolding readFrom
 readFrom-on zero t store at b l = absurd (omega arith)
 readFrom-on (suc k) t store at b l = rw sub-one
 
--- the reading goes on from a step's answer
-pub readFrom-step : {r : Stepped} {s : Step} (left : ℕ) (t : List ℕ) (store at : ℕ) (b : Table) → 0 < left → r ≡ stepAt t at b store → r .step ≡ s
-    → goOn s (r .table) (readFrom (left - 1) t store) ≡ readFrom left t store at b
-readFrom-step {r} left t store at b l e q =
-    rw (← q, e) (readFrom-on left t store at b l)
+-- the reading goes on from what a step found
+pub readFrom-advance : {d : Cursor} {s : Step} (left : ℕ) (t : List ℕ) (store : ℕ) (c : Cursor) → 0 < left → d ≡ advanced t c store → d .step ≡ s
+    → goOn s (d .table) (readFrom (left - 1) t store) ≡ readFrom left t store (c .at) (c .table)
+unfolding advanced
+readFrom-advance {d} {s} left t store c l e q = rw (← q, e) (readFrom-on left t store (c .at) (c .table) l)
+
+-- and from a record that was read, at the next place
+pub readFrom-next : {d : Cursor} {n : ℕ} (left : ℕ) (t : List ℕ) (store : ℕ) (c : Cursor) → 0 < left → d ≡ advanced t c store → d .step ≡ Next n
+    → readFrom (left - 1) t store (d .at) (d .table) ≡ readFrom left t store (c .at) (c .table)
+readFrom-next {d} left t store c l e q =
+    ap (λ (x : ℕ). readFrom (left - 1) t store x (d .table)) (advanced-at t c store e q) ∙ readFrom-advance left t store c l e q
 
 pub readFrom-zero : (k : ℕ) (t : List ℕ) (store at : ℕ) (b : Table) → k ≡ 0 → reading (AnswerRefused 4 at) b ≡ readFrom k t store at b
 unfolding readFrom

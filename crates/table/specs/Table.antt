@@ -16,6 +16,7 @@ use Rattle.table.specs.declared.Header.the-variants.{Whole, Bad}
 use Rattle.table.specs.declared.Step.{Step}
 use Rattle.table.specs.declared.Step.the-variants.{Next, Done, Refused}
 use Rattle.table.specs.declared.Stepped.{Stepped}
+use Rattle.table.specs.declared.Cursor.{Cursor}
 use Rattle.table.specs.declared.Answer.{Answer}
 use Rattle.table.specs.declared.Answer.the-variants.{Accepted, Refused as AnswerRefused}
 use Rattle.table.specs.declared.Reading.{Reading}
@@ -142,6 +143,17 @@ stepOf (Whole kind size) t at b store = pick (eqb kind endKind) (endStep t at b)
 unfoldable pub stepAt : List ℕ → ℕ → Table → ℕ → Stepped
 stepAt t at b store = stepOf (headerAt t at) t at b store
 
+-- the place after a record that began at `at`: behind it, or where it was, at the end of the table and at a refusal
+abbrev pub placeAfter : Step → ℕ → ℕ
+placeAfter (Next next) at = next
+placeAfter Done at = at
+placeAfter (Refused n place) at = at
+
+-- a step from where the reading stands: what the record was, the drives after it, and the next place, which the reader remembers
+unfoldable pub advanced : List ℕ → Cursor → ℕ → Cursor
+advanced t c store =
+    record { at = placeAfter (stepAt t (c .at) (c .table) store .step) (c .at); step = stepAt t (c .at) (c .table) store .step; table = stepAt t (c .at) (c .table) store .table }
+
 -- ---- the whole table
 
 -- a place that no drive was read into
@@ -152,6 +164,11 @@ zeroDrive = record { cylinders = 0; heads = 0; sectors = 0; blocks = 0; first = 
 abbrev pub emptyTable : Table
 emptyTable = record { drives = replicate mostDrives zeroDrive; count = 0 }
 
+-- before the first record
+abbrev pub begun : Cursor
+begun = record { at = 0; step = Next 0; table = emptyTable }
+
+-- what a table was, and the drives that were taken
 abbrev pub reading : Answer → Table → Reading
 reading a b = record { answer = a; table = b }
 
