@@ -6,7 +6,7 @@ ghost use lib.ListN.{length};
 ghost use lib.Seq.{sets};
 ghost use Rattle.drive.specs.Drive.{fieldsOk, inStore};
 ghost use Rattle.logic.specs.Logic.{both};
-ghost use Rattle.table.specs.Table.{isKind, lengthOk, headerAt, overlapsAny, refusal, more, endStep, driveRecord, stepAt, placeAfter, advanced, begun, zeroDrive, emptyTable, readTable, recordsOf, drivesOf, tableOf, writeAnswer, writeOut, soundTo, blankTo, isSound};
+ghost use Rattle.table.specs.Table.{isKind, lengthOk, headerAt, overlapsAny, refusal, more, endStep, driveRecord, stepAt, placeAfter, Advances, begun, zeroDrive, emptyTable, Reads, recordsOf, drivesOf, tableOf, writeAnswer, writeOut, writtenNumbers, writeNumbers, soundTo, blankTo, isSound};
 
 // Document 01's refusals of a table, in the order of the checks.
 const CUT_OFF: u8 = 1;
@@ -226,7 +226,7 @@ fn drive_step(r: &[u8], at: usize, b: Table, store: u64) -> Stepped
 }
 
 // The record at a place, given the drives before it and the store's number of blocks.
-pub fn step_at(t: &[u8], at: usize, b: Table, store: u64) -> Stepped
+fn step_at(t: &[u8], at: usize, b: Table, store: u64) -> Stepped
     ensures { λ r. ⌜ r ≡ stepAt (now (t .entry)) at b store ⌝ }
 {
     let h = header_at(t, at);
@@ -258,7 +258,7 @@ fn place_after(s: Step, at: usize) -> usize
 
 // The record at the cursor's place, and on to the next.
 pub fn advance(t: &[u8], c: Cursor, store: u64) -> Cursor
-    ensures { λ r. ⌜ r ≡ advanced (now (t .entry)) c store ⌝ }
+    ensures { λ r. ⌜ Advances (now (t .entry)) c store r ⌝ }
 {
     let at = c.at;
     let b = c.table;
@@ -290,7 +290,7 @@ impl<'a> Reader<'a> {
 
     // The reader, handed back at the next place with what it found.
     pub fn step(self, store: u64) -> Self
-        ensures { λ q. ⌜ (q .bytes ≡ self .entry .bytes) × (q .cursor ≡ advanced (now (self .entry .bytes)) (self .entry .cursor) store) ⌝ }
+        ensures { λ q. ⌜ (q .bytes ≡ self .entry .bytes) × Advances (now (self .entry .bytes)) (self .entry .cursor) store (q .cursor) ⌝ }
     {
         let cursor = advance(self.bytes, self.cursor, store);
         Reader {
@@ -302,7 +302,7 @@ impl<'a> Reader<'a> {
 
 // One record on, by a reader.
 pub fn record_at(t: &[u8], c: Cursor, store: u64) -> Cursor
-    ensures { λ r. ⌜ r ≡ advanced (now (t .entry)) c store ⌝ }
+    ensures { λ r. ⌜ Advances (now (t .entry)) c store r ⌝ }
 {
     Reader::new(t, c).step(store).cursor
 }
@@ -354,7 +354,7 @@ fn start() -> Cursor
 
 // All drives of a table, for a store of that many blocks.
 pub fn read_table(t: &[u8], store: u64) -> Reading
-    ensures { λ r. ⌜ r ≡ readTable (now (t .entry)) store ⌝ }
+    ensures { λ r. ⌜ Reads (now (t .entry)) store r ⌝ }
 {
     let mut c = start();
     let mut left: usize = MOST_RECORDS;
@@ -433,7 +433,7 @@ fn put_records(b: Table, n: usize, out: &mut [u8])
 
 // Lays the table's drives out as a table again.
 pub fn write_table(b: Table, out: &mut [u8]) -> Written
-    ensures { λ r. ⌜ (r ≡ writeAnswer b (length (now (out .entry)))) × (now (out .exit) ≡ writeOut b (now (out .entry))) ⌝ }
+    ensures { λ r. ⌜ (r ≡ writeAnswer b (length (now (out .entry)))) × (now (out .exit) ≡ writeOut b (now (out .entry))) × (writtenNumbers r ≡ writeNumbers b (length (now (out .entry)))) ⌝ }
 {
     let n = held(b.count);
     let end = records_length(b, n);

@@ -5,7 +5,7 @@ use mathlib.Core.Path.{_≡_, refl, ap, _∙_}
 use denote.Ref.{now}
 use Rattle.table.specs.declared.Cursor.{Cursor}
 use Rattle.table.specs.Table.{mostRecords, readFrom, readTable}
-use Rattle.table.proofs.Tables.{readFrom-advance, readFrom-next, readFrom-zero}
+use Rattle.table.proofs.Tables.{readFrom-advance, readFrom-next, readFrom-zero, reads-is}
 use Rattle.table.proofs.read_table.Statement.{statement}
 use Rattle.table.proofs.read_table.Tie as tie
 use Rattle.table.proofs.read_table.Reads as reads
@@ -41,7 +41,7 @@ loop-again : tie.Need-loop-again Inv-loop μ-loop
 loop-again c =
     let l = c .before .before .before .before .before .loop in
     let a = c .before .before .before .before .before .before .before .before .args in
-    readFrom-next (l .left) (now (a .t)) (a .store) (l .c) (c .before .before .before .before .loop-test .taken) (c .before .before .before .record-at .ensures) (c .enum-told .given .1) ∙ l .inv
+    readFrom-next (l .left) (now (a .t)) (a .store) (l .c) (c .before .before .before .before .loop-test .taken) (c .before .before .before .record-at .ensures .cursor) (c .enum-told .given .1) ∙ l .inv
 
 enum-told-2 : tie.Need-enum-told-2 Inv-loop μ-loop
 enum-told-2 c = search needs
@@ -51,8 +51,9 @@ unfolding readTable
 returns c =
     let l = c .before .before .before .before .before .loop in
     let a = c .before .before .before .before .before .before .before .before .args in
-    readFrom-advance (l .left) (now (a .t)) (a .store) (l .c) (c .before .before .before .before .loop-test .taken) (c .before .before .before .record-at .ensures) (c .enum-told2 .given .1)
-    ∙ l .inv ∙ ap (λ (x : Cursor). readFrom mostRecords (now (a .t)) (a .store) (x .at) (x .table)) (c .before .before .before .before .before .before .start .ensures)
+    reads-is (now (a .t)) (a .store)
+    (readFrom-advance (l .left) (now (a .t)) (a .store) (l .c) (c .before .before .before .before .loop-test .taken) (c .before .before .before .record-at .ensures .cursor) (c .enum-told2 .given .1)
+    ∙ l .inv ∙ ap (λ (x : Cursor). readFrom mostRecords (now (a .t)) (a .store) (x .at) (x .table)) (c .before .before .before .before .before .before .start .ensures))
 
 enum-known-s : tie.Need-enum-known-s Inv-loop μ-loop
 enum-known-s c = search needs
@@ -62,16 +63,18 @@ unfolding readTable
 returns-2 c =
     let l = c .before .before .before .before .before .before .loop in
     let a = c .before .before .before .before .before .before .before .before .before .args in
-    readFrom-advance (l .left) (now (a .t)) (a .store) (l .c) (c .before .before .before .before .before .loop-test .taken) (c .before .before .before .before .record-at .ensures) (c .before .s .given .1)
-    ∙ l .inv ∙ ap (λ (x : Cursor). readFrom mostRecords (now (a .t)) (a .store) (x .at) (x .table)) (c .before .before .before .before .before .before .before .start .ensures)
+    reads-is (now (a .t)) (a .store)
+    (readFrom-advance (l .left) (now (a .t)) (a .store) (l .c) (c .before .before .before .before .before .loop-test .taken) (c .before .before .before .before .record-at .ensures .cursor) (c .before .s .given .1)
+    ∙ l .inv ∙ ap (λ (x : Cursor). readFrom mostRecords (now (a .t)) (a .store) (x .at) (x .table)) (c .before .before .before .before .before .before .before .start .ensures))
 
 returns-3 : tie.Need-returns-3 Inv-loop μ-loop
 unfolding readTable
 returns-3 c =
     let l = c .before .before .loop in
     let a = c .before .before .before .before .before .args in
-    readFrom-zero (l .left) (now (a .t)) (a .store) (l .c .at) (l .c .table) (omega arith)
-    ∙ l .inv ∙ ap (λ (x : Cursor). readFrom mostRecords (now (a .t)) (a .store) (x .at) (x .table)) (c .before .before .before .start .ensures)
+    reads-is (now (a .t)) (a .store)
+    (readFrom-zero (l .left) (now (a .t)) (a .store) (l .c .at) (l .c .table) (omega arith)
+    ∙ l .inv ∙ ap (λ (x : Cursor). readFrom mostRecords (now (a .t)) (a .store) (x .at) (x .table)) (c .before .before .before .start .ensures))
 
 pub read-table-spec : {M : Type 1} → statement M
 read-table-spec =

@@ -39,7 +39,7 @@ use denote.Triple.Table.{entered, cited}
 use denote.Triple.Walked.{says, Stays, stay-none, stay-none-slice, walkOf, goes-none, goes-none-slice, Walks, ends-at, walked, walk-meets}
 use denote.Exit.{yes}
 use denote.Triple.Clauses.{ensured, lasts}
-use Rattle.table.specs.Table.{advanced}
+use Rattle.table.specs.Table.{Advances}
 use Rattle.table.specs.declared.Reader.{Reader}
 use Rattle.table.specs.declared.Cursor.{Cursor}
 use Rattle.table.proofs.Reader as T
@@ -75,11 +75,11 @@ abbrev Made : RefT (List ℕ) → Cursor → Reader → Type 0
 Made s c r = (r .bytes ≡ s) × (r .cursor ≡ c)
 
 abbrev Found : Reader → ℕ → Reader → Type 0
-Found r m r′ = (r′ .bytes ≡ r .bytes) × (r′ .cursor ≡ advanced (now (r .bytes)) (r .cursor) m)
+Found r m r′ = (r′ .bytes ≡ r .bytes) × Advances (now (r .bytes)) (r .cursor) m (r′ .cursor)
 
 -- and together
-together : (s : RefT (List ℕ)) (c : Cursor) (m : ℕ) (r r′ : Reader) → Made s c r → Found r m r′ → r′ .cursor ≡ advanced (now s) c m
-together s c m r r′ e f = f .1 ∙ (λ i. advanced (now (e .0 i)) (e .1 i) m)
+together : (s : RefT (List ℕ)) (c : Cursor) (m : ℕ) (r r′ : Reader) → Made s c r → Found r m r′ → Advances (now s) c m (r′ .cursor)
+together s c m r r′ e f = rw (e .0, e .1) at (f .1)
 
 module _ {M : Type 1} (𝓤 : URA M) (H : Heap 𝓤) (A : Atoms 𝓤) (mem : Memory → SProp 𝓤) (run : Routine → Fun 𝓤) where
   -- the contracts that the proof cites
@@ -137,7 +137,7 @@ module _ {M : Type 1} (𝓤 : URA M) (H : Heap 𝓤) (A : Atoms 𝓤) (W : Given
   came : (r : Reader) (u : Val) → Is (B (κ, tt)) r (u ∷ []) → Is K.the-row (r .cursor) (held (r .cursor) ∷ [])
   came r u is = LL.owed (T.the-type (namedLft 1 0 tt (κ, tt))) (T′.the-laws (namedLft 1 0 tt (κ, tt))) r (u ∷ []) is .1 .0
 
-  exits : (t : Cursor) → t ≡ advanced (now s) c m → Is K.the-row t (held t ∷ []) → ent 𝓤 (⋆ 𝓤 H A ((‵ (flft κ q) ⊛ ‵ ftrue) ∷ ‵ Own ∷ [])) (Post (held t))
+  exits : (t : Cursor) → Advances (now s) c m t → Is K.the-row t (held t ∷ []) → ent 𝓤 (⋆ 𝓤 H A ((‵ (flft κ q) ⊛ ‵ ftrue) ∷ ‵ Own ∷ [])) (Post (held t))
   exits t e is =
       qed W ((‵ (flft κ q) ⊛ ‵ ftrue) ∷ ‵ Own ∷ []) ∵
       suffices ! _ (ends-at 𝓤 H A record-at.ended stayed (record-at.clauses 𝓤 H A mem run) W (((κ, tt), (q, tt), tt, (s, (c, (m, tt))), at), tt) (held t) t (tt, (tt, (tt, tt))) (tt, (tt, (tt, tt)))) $ says ! e $

@@ -44,7 +44,7 @@ use denote.Triple.Table.{entered, cited}
 use denote.Triple.Walked.{says, Stays, stay-none, walkOf, goes-none, Walks, ends-at, walked, walk-meets}
 use denote.Exit.{yes}
 use denote.Triple.Clauses.{ensured, lasts}
-use Rattle.table.specs.Table.{advanced}
+use Rattle.table.specs.Table.{Advances}
 use Rattle.table.specs.declared.Reader.{Reader}
 use Rattle.table.specs.declared.Cursor.{Cursor}
 use Rattle.table.proofs.Reader as T
@@ -84,8 +84,9 @@ module _ {M : Type 1} (𝓤 : URA M) (H : Heap 𝓤) (A : Atoms 𝓤) (W : Given
   abbrev v : Val
   v = sliceVal (d .bytes .ptr) (length (d .bytes .now))
 
-  abbrev found : Cursor
-  found = advanced (now (d .bytes)) (d .cursor) n
+  -- what `advance` says of its result
+  abbrev Found : Cursor → Type 0
+  Found r = Advances (now (d .bytes)) (d .cursor) n r
 
   -- the reader at a cursor
   abbrev d′ : Cursor → Reader
@@ -136,8 +137,8 @@ module _ {M : Type 1} (𝓤 : URA M) (H : Heap 𝓤) (A : Atoms 𝓤) (W : Given
       move ! (2 ∷ 0 ∷ []) $ use2 W (raw (Advance 𝓤 H A mem run .pre to)) asked $ frame ! $ done !)
 
   -- of the callee's `ensured`, the clause alone: it has no `&mut`, so what is said of last values is dropped
-  said : (r : Cursor) → ent 𝓤 (ensured 𝓤 H A advance.ended (advance.clauses 𝓤 H A mem run) (κ, tt) (d .bytes, (d .cursor, (n, tt))) tt r) (fact 𝓤 (r ≡ found))
-  said r = exE 𝓤 _ (λ ws. snd∗ 𝓤 (sem 𝓤 H A (lasts advance.ended (κ, tt) (d .bytes, (d .cursor, (n, tt))) ws)) (fact 𝓤 (r ≡ found)))
+  said : (r : Cursor) → ent 𝓤 (ensured 𝓤 H A advance.ended (advance.clauses 𝓤 H A mem run) (κ, tt) (d .bytes, (d .cursor, (n, tt))) tt r) (fact 𝓤 (Found r))
+  said r = exE 𝓤 _ (λ ws. snd∗ 𝓤 (sem 𝓤 H A (lasts advance.ended (κ, tt) (d .bytes, (d .cursor, (n, tt))) ws)) (fact 𝓤 (Found r)))
 
   -- what is known of a cursor that came back, and of the reader at it
   came : (r : Cursor) (u : Val) → Is K.the-row r (u ∷ []) → Is K.the-row r (held r ∷ [])
@@ -146,7 +147,7 @@ module _ {M : Type 1} (𝓤 : URA M) (H : Heap 𝓤) (A : Atoms 𝓤) (W : Given
   made : (r : Cursor) (u : Val) → Is K.the-row r (u ∷ []) → Is (B (κ, tt)) (d′ r) (LL.val D L (d′ r) ∷ [])
   made r u is = LL.owes D L (d′ r) (LL.owed D L d (mach ∷ []) isd .0, (came r u is, tt))
 
-  exits : (r : Cursor) (u : Val) → r ≡ found → Is K.the-row r (u ∷ []) → ent 𝓤 (⋆ 𝓤 H A ((‵ (flft κ q) ⊛ ‵ ftrue) ∷ ‵ Own ∷ [])) (Post (LL.val D L (d′ r)))
+  exits : (r : Cursor) (u : Val) → Found r → Is K.the-row r (u ∷ []) → ent 𝓤 (⋆ 𝓤 H A ((‵ (flft κ q) ⊛ ‵ ftrue) ∷ ‵ Own ∷ [])) (Post (LL.val D L (d′ r)))
   exits r u e is =
       qed W ((‵ (flft κ q) ⊛ ‵ ftrue) ∷ ‵ Own ∷ []) ∵
       suffices ! _ (ends-at 𝓤 H A step.ended stayed (step.clauses 𝓤 H A mem run) W (((κ, tt), (q, tt), tt, (d, (n, tt)), at), tt) (LL.val D L (d′ r)) (d′ r) (tt, (tt, tt)) (tt, (tt, tt))) $ says ! (refl, e) $
@@ -167,7 +168,7 @@ module _ {M : Type 1} (𝓤 : URA M) (H : Heap 𝓤) (A : Atoms 𝓤) (W : Given
         move ! (14 ∷ []) $ use1 W (raw (Advance 𝓤 H A mem run .pre to) ⊛ ‵ Own) apart $ split ! $
         calls-at ! fm (Advance 𝓤 H A mem run) known to (and-then ! (load ! (from ! (stop !)) (look ! 6 refl)) (and-then ! (load ! (from ! (stop !)) (look ! 4 refl)) (and-then ! (load ! (from ! (stop !)) (look ! 10 refl)) (no-more !)))) (λ u.
         use1 W (later (some (λ (r : Cursor). ((‵ (flft κ q) ⊛ ‵ ftrue) ⊛ ‵ (K.the-row .own r (u ∷ []))) ⊛ raw (ensured 𝓤 H A advance.ended (advance.clauses 𝓤 H A mem run) (κ, tt) (d .bytes, (d .cursor, (n, tt))) tt r)))) (id⊢ 𝓤 _) $ await ! tt $ pick ! (λ r.
-        split ! $ move ! (1 ∷ []) $ use1 W (raw (fact 𝓤 (r ≡ found))) (said r) $ heard ! (r ≡ found) (λ e. split ! $ move ! (1 ∷ []) $
+        split ! $ move ! (1 ∷ []) $ use1 W (raw (fact 𝓤 (Found r))) (said r) $ heard ! (Found r) (λ e. split ! $ move ! (1 ∷ []) $
         -- [the cursor; the token; what the reader owns; _6; …; _5; …; _4; …; _3; …; _2; …; _1; …; room for _0; …]
         peeks ! K.the-row (Is K.the-row) (shows 𝓤 H A K.the-row) r (u ∷ []) (λ is.
         land ! (from ! (stop !)) (init ! 9 refl (LL.lawful K.the-type K′.the-laws 𝓤 H A W .typed r _ is .0)) $ rewrite ! 9 (λ (x : Val). ‵ (fat fullShare K′.mir l₃ 0 x)) (ap only (LL.tells K.the-type K′.the-laws r (u ∷ []) is)) refl $
