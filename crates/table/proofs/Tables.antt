@@ -24,12 +24,13 @@ use Rattle.table.specs.declared.Header.the-variants.{Whole, Bad}
 use Rattle.table.specs.declared.Step.{Step}
 use Rattle.table.specs.declared.Step.the-variants.{Next, Done, Refused}
 use Rattle.table.specs.declared.Stepped.{Stepped}
+use Rattle.table.specs.declared.Cursor.{Cursor}
 use Rattle.table.specs.declared.Answer.{Answer}
 use Rattle.table.specs.declared.Answer.the-variants.{Accepted, Refused as AnswerRefused}
 use Rattle.table.specs.declared.Reading.{Reading}
 use Rattle.table.specs.declared.Written.{Written}
 use Rattle.table.specs.declared.Written.the-variants.{Bytes, Refused as WriteRefused}
-use Rattle.table.specs.Table.{badField, pastStore, overlapping, isKind, lengthOk, headerOf, headerAt, noDrive, overlapsAny, refusal, more, stepped, driveStep, endStep, driveRecord, stepOf, stepAt, reading, goOn, readFrom, placeRecords, recordsOf, endRecord, bytesOf, drivesOf, tableOf, writeAnswer, writeOut, firstDrives}
+use Rattle.table.specs.Table.{emptyTable, badField, pastStore, overlapping, isKind, lengthOk, headerOf, headerAt, noDrive, overlapsAny, refusal, more, stepped, driveStep, endStep, driveRecord, stepOf, stepAt, placeAfter, advanced, Advances, begun, reading, goOn, stepNumbers, answerNumbers, writtenNumbers, wholeNumbers, recordNumbers, onward, numbersFrom, tableNumbers, writeNumbers, readTable, Reads, readFrom, placeRecords, recordsOf, endRecord, bytesOf, drivesOf, tableOf, writeAnswer, writeOut, firstDrives}
 
 -- ---- the header
 
@@ -174,6 +175,47 @@ stepAt-cases P t at b store refuse finish next = by-header (headerAt t at) refl
     by-header (Bad n) h = rw (← stepAt-bad t at n b store h) (refuse n at)
     by-header (Whole k n) h = by-kind k n h (eqb k 0) refl
 
+-- ---- a step in numbers
+
+-- a whole record, by its kind
+whole-numbers : (t : List ℕ) (at : ℕ) (b : Table) (store kind size : ℕ) (e f z : Bool) → eqb kind 0 ≡ e → ltb (at + 4) (length t) ≡ f → eqb (refusal b (driveOf (part size t at)) store) 0 ≡ z
+    → stepNumbers (stepOf (Whole kind size) t at b store .step) ≡ wholeNumbers t at b store kind size
+unfolding stepNumbers stepOf endStep driveStep
+whole-numbers t at b store kind size true true z p q r = rw (p, q)
+whole-numbers t at b store kind size true false z p q r = rw (p, q)
+whole-numbers t at b store kind size false f true p q r = rw (p, r)
+whole-numbers t at b store kind size false f false p q r = rw (p, r)
+
+pub step-numbers : (t : List ℕ) (at : ℕ) (b : Table) (store : ℕ) → stepNumbers (stepAt t at b store .step) ≡ recordNumbers t at b store
+unfolding stepAt headerAt headerOf recordNumbers stepNumbers stepOf
+step-numbers t at b store = by-tests (ltb (length t - at) 4) (isKind (le 2 t (at + 2))) (lengthOk (le 2 t (at + 2)) (le 2 t at)) (ltb (length t - at) (le 2 t at))
+  where
+    by-tests : (a k l c : Bool)
+        → stepNumbers (stepOf (pick a (Bad 1) (pick (not k) (Bad 3) (pick (not l) (Bad 2) (pick c (Bad 1) (Whole (le 2 t (at + 2)) (le 2 t at)))))) t at b store .step)
+        ≡ pick a (1 ∷ at ∷ []) (pick (not k) (3 ∷ at ∷ []) (pick (not l) (2 ∷ at ∷ []) (pick c (1 ∷ at ∷ []) (wholeNumbers t at b store (le 2 t (at + 2)) (le 2 t at)))))
+    by-tests true k l c = refl
+    by-tests false false l c = refl
+    by-tests false true false c = refl
+    by-tests false true true true = refl
+    by-tests false true true false = whole-numbers t at b store (le 2 t (at + 2)) (le 2 t at) (eqb (le 2 t (at + 2)) 0) (ltb (at + 4) (length t)) (eqb (refusal b (driveOf (part (le 2 t at) t at)) store) 0) refl refl refl
+
+-- ---- where the reading stands
+
+pub advanced-is : {r : Stepped} {p : ℕ} (t : List ℕ) (c : Cursor) (store : ℕ) → r ≡ stepAt t (c .at) (c .table) store → p ≡ placeAfter (r .step) (c .at)
+    → Advances t c store record { at = p; step = r .step; table = r .table }
+unfolding advanced
+advanced-is {r} t c store e q = record { cursor = rw (q, e); numbers = rw e (step-numbers t (c .at) (c .table) store) }
+
+pub begun-is : {b : Table} → b ≡ emptyTable → _≡_ {A = Cursor} record { at = 0; step = Next 0; table = b } begun
+begun-is e = rw e
+
+-- the place after a record that was read
+pub advanced-at : {d : Cursor} {n : ℕ} (t : List ℕ) (c : Cursor) (store : ℕ) → d ≡ advanced t c store → d .step ≡ Next n → d .at ≡ n
+unfolding advanced
+advanced-at {d} t c store e q =
+    let p : d .at ≡ placeAfter (d .step) (c .at) = rw e in
+    p ∙ ap (λ (s : Step). placeAfter s (c .at)) q
+
 -- ---- the reading
 
 pub readFrom-on : (left : ℕ) (t : List ℕ) (store at : ℕ) (b : Table) → 0 < left
@@ -182,15 +224,51 @@ unfolding readFrom
 readFrom-on zero t store at b l = absurd (omega arith)
 readFrom-on (suc k) t store at b l = rw sub-one
 
--- the reading goes on from a step's answer
-pub readFrom-step : {r : Stepped} {s : Step} (left : ℕ) (t : List ℕ) (store at : ℕ) (b : Table) → 0 < left → r ≡ stepAt t at b store → r .step ≡ s
-    → goOn s (r .table) (readFrom (left - 1) t store) ≡ readFrom left t store at b
-readFrom-step {r} left t store at b l e q =
-    rw (← q, e) (readFrom-on left t store at b l)
+-- the reading goes on from what a step found
+pub readFrom-advance : {d : Cursor} {s : Step} (left : ℕ) (t : List ℕ) (store : ℕ) (c : Cursor) → 0 < left → d ≡ advanced t c store → d .step ≡ s
+    → goOn s (d .table) (readFrom (left - 1) t store) ≡ readFrom left t store (c .at) (c .table)
+unfolding advanced
+readFrom-advance {d} {s} left t store c l e q = rw (← q, e) (readFrom-on left t store (c .at) (c .table) l)
+
+-- and from a record that was read, at the next place
+pub readFrom-next : {d : Cursor} {n : ℕ} (left : ℕ) (t : List ℕ) (store : ℕ) (c : Cursor) → 0 < left → d ≡ advanced t c store → d .step ≡ Next n
+    → readFrom (left - 1) t store (d .at) (d .table) ≡ readFrom left t store (c .at) (c .table)
+readFrom-next {d} left t store c l e q =
+    ap (λ (x : ℕ). readFrom (left - 1) t store x (d .table)) (advanced-at t c store e q) ∙ readFrom-advance left t store c l e q
 
 pub readFrom-zero : (k : ℕ) (t : List ℕ) (store at : ℕ) (b : Table) → k ≡ 0 → reading (AnswerRefused 4 at) b ≡ readFrom k t store at b
 unfolding readFrom
 readFrom-zero k t store at b e = rw e
+
+-- ---- the reading in numbers
+
+go-numbers : (s : Step) (b : Table) (f : ℕ → Table → Reading) → answerNumbers (goOn s b f .answer) ≡ onward (stepNumbers s) (λ (at : ℕ). answerNumbers (f at b .answer))
+unfolding answerNumbers stepNumbers
+go-numbers (Next at) b f = refl
+go-numbers Done b f = refl
+go-numbers (Refused n at) b f = refl
+
+from-numbers : (k : ℕ) (t : List ℕ) (store at : ℕ) (b : Table) → answerNumbers (readFrom k t store at b .answer) ≡ numbersFrom k t store at b
+unfolding readFrom numbersFrom answerNumbers
+from-numbers zero t store at b = refl
+from-numbers (suc k) t store at b =
+    go-numbers (stepAt t at b store .step) (stepAt t at b store .table) (readFrom k t store)
+    ∙ ap (λ (l : List ℕ). onward l (λ (x : ℕ). answerNumbers (readFrom k t store x (stepAt t at b store .table) .answer))) (step-numbers t at b store)
+    ∙ (λ i. onward (recordNumbers t at b store) (λ (x : ℕ). from-numbers k t store x (stepAt t at b store .table) i))
+
+-- a reading promises its numbers too
+pub reads-is : {r : Reading} (t : List ℕ) (store : ℕ) → r ≡ readTable t store → Reads t store r
+unfolding readTable tableNumbers
+reads-is t store e = record { reading = e; numbers = ap (λ (x : Reading). answerNumbers (x .answer)) e ∙ from-numbers 9 t store 0 emptyTable }
+
+-- and a write
+pub write-numbers : {r : Written} (b : Table) (room : ℕ) → r ≡ writeAnswer b room → writtenNumbers r ≡ writeNumbers b room
+unfolding writeAnswer writtenNumbers writeNumbers
+write-numbers {r} b room e = ap writtenNumbers e ∙ by-test (ltb room (length (tableOf b)))
+  where
+    by-test : (t : Bool) → writtenNumbers (pick t (WriteRefused 19) (Bytes (length (tableOf b)))) ≡ pick t (19 ∷ []) (0 ∷ length (tableOf b) ∷ [])
+    by-test true = refl
+    by-test false = refl
 
 -- ---- the bytes written
 

@@ -16,6 +16,7 @@ use Rattle.table.specs.declared.Header.the-variants.{Whole, Bad}
 use Rattle.table.specs.declared.Step.{Step}
 use Rattle.table.specs.declared.Step.the-variants.{Next, Done, Refused}
 use Rattle.table.specs.declared.Stepped.{Stepped}
+use Rattle.table.specs.declared.Cursor.{Cursor}
 use Rattle.table.specs.declared.Answer.{Answer}
 use Rattle.table.specs.declared.Answer.the-variants.{Accepted, Refused as AnswerRefused}
 use Rattle.table.specs.declared.Reading.{Reading}
@@ -142,6 +143,17 @@ stepOf (Whole kind size) t at b store = pick (eqb kind endKind) (endStep t at b)
 unfoldable pub stepAt : List ℕ → ℕ → Table → ℕ → Stepped
 stepAt t at b store = stepOf (headerAt t at) t at b store
 
+-- the place after a record that began at `at`: behind it, or where it was, at the end of the table and at a refusal
+abbrev pub placeAfter : Step → ℕ → ℕ
+placeAfter (Next next) at = next
+placeAfter Done at = at
+placeAfter (Refused n place) at = at
+
+-- a step from where the reading stands: what the record was, the drives after it, and the next place, which the reader remembers
+unfoldable pub advanced : List ℕ → Cursor → ℕ → Cursor
+advanced t c store =
+    record { at = placeAfter (stepAt t (c .at) (c .table) store .step) (c .at); step = stepAt t (c .at) (c .table) store .step; table = stepAt t (c .at) (c .table) store .table }
+
 -- ---- the whole table
 
 -- a place that no drive was read into
@@ -152,6 +164,11 @@ zeroDrive = record { cylinders = 0; heads = 0; sectors = 0; blocks = 0; first = 
 abbrev pub emptyTable : Table
 emptyTable = record { drives = replicate mostDrives zeroDrive; count = 0 }
 
+-- before the first record
+abbrev pub begun : Cursor
+begun = record { at = 0; step = Next 0; table = emptyTable }
+
+-- what a table was, and the drives that were taken
 abbrev pub reading : Answer → Table → Reading
 reading a b = record { answer = a; table = b }
 
@@ -221,10 +238,11 @@ writeAnswer b room = pick (ltb room (length (tableOf b))) (WriteRefused shortBuf
 unfoldable pub writeOut : Table → List ℕ → List ℕ
 writeOut b out = pick (ltb (length out) (length (tableOf b))) out (tableOf b ++ drop (length (tableOf b)) out)
 
--- ---- the answers as numbers: 0 and the values, or the refusal's number and its place
+-- ---- the answers as numbers: 0 and the values, or the refusal's number and its place; no two answers have the same
 
+-- 0, a drive's kind and the next place; 0 alone at the end; or the number and the place
 unfoldable pub stepNumbers : Step → List ℕ
-stepNumbers (Next at) = 0 ∷ at ∷ []
+stepNumbers (Next at) = 0 ∷ 1 ∷ at ∷ []
 stepNumbers Done = 0 ∷ []
 stepNumbers (Refused n at) = n ∷ at ∷ []
 
@@ -235,6 +253,50 @@ answerNumbers (AnswerRefused n at) = n ∷ at ∷ []
 unfoldable pub writtenNumbers : Written → List ℕ
 writtenNumbers (Bytes n) = 0 ∷ n ∷ []
 writtenNumbers (WriteRefused n) = n ∷ []
+
+-- the numbers of a whole record of a kind and a length: the end record's, or a drive's with its refusal
+abbrev pub wholeNumbers : List ℕ → ℕ → Table → ℕ → ℕ → ℕ → List ℕ
+wholeNumbers t at b store kind size =
+    pick (eqb kind 0) (pick (ltb (at + 4) (length t)) (8 ∷ (at + 4) ∷ []) (0 ∷ []))
+    (pick (eqb (refusal b (driveOf (part size t at)) store) 0) (0 ∷ 1 ∷ (at + 68) ∷ []) (refusal b (driveOf (part size t at)) store ∷ at ∷ []))
+
+-- the numbers of a record at a place, straight from its length word, its kind and its bytes: the checks in the paper's order
+unfoldable pub recordNumbers : List ℕ → ℕ → Table → ℕ → List ℕ
+recordNumbers t at b store =
+    pick (ltb (length t - at) 4) (1 ∷ at ∷ [])
+    (pick (not (isKind (le 2 t (at + 2)))) (3 ∷ at ∷ [])
+    (pick (not (lengthOk (le 2 t (at + 2)) (le 2 t at))) (2 ∷ at ∷ [])
+    (pick (ltb (length t - at) (le 2 t at)) (1 ∷ at ∷ [])
+    (wholeNumbers t at b store (le 2 t (at + 2)) (le 2 t at)))))
+
+-- on from a record's numbers, where they name a next place
+abbrev pub onward : List ℕ → (ℕ → List ℕ) → List ℕ
+onward [] f = []
+onward (n ∷ []) f = n ∷ []
+onward (n ∷ at ∷ []) f = n ∷ at ∷ []
+onward (n ∷ kind ∷ next ∷ l) f = f next
+
+-- the numbers of a table's bytes: those of its first record that does not name a next one
+unfoldable pub numbersFrom : ℕ → List ℕ → ℕ → ℕ → Table → List ℕ
+numbersFrom zero t store at b = 4 ∷ at ∷ []
+numbersFrom (suc k) t store at b = onward (recordNumbers t at b store) (λ next. numbersFrom k t store next (stepAt t at b store .table))
+
+unfoldable pub tableNumbers : List ℕ → ℕ → List ℕ
+tableNumbers t store = numbersFrom mostRecords t store 0 emptyTable
+
+-- the numbers of a write into room for so many bytes
+unfoldable pub writeNumbers : Table → ℕ → List ℕ
+writeNumbers b room = pick (ltb room (length (tableOf b))) (19 ∷ []) (0 ∷ length (tableOf b) ∷ [])
+
+-- ---- what the calls promise, the answer and its numbers
+
+pub record Advances (t : List ℕ) (c : Cursor) (store : ℕ) (r : Cursor) : Type 0 where
+  pub cursor : r ≡ advanced t c store
+  pub numbers : stepNumbers (r .step) ≡ recordNumbers t (c .at) (c .table) store
+
+pub record Reads (t : List ℕ) (store : ℕ) (r : Reading) : Type 0 where
+  pub reading : r ≡ readTable t store
+  pub numbers : answerNumbers (r .answer) ≡ tableNumbers t store
 
 -- ---- a table that obeys the rules, as a desk holds it
 

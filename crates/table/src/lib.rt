@@ -6,7 +6,7 @@ ghost use lib.ListN.{length};
 ghost use lib.Seq.{sets};
 ghost use Rattle.drive.specs.Drive.{fieldsOk, inStore};
 ghost use Rattle.logic.specs.Logic.{both};
-ghost use Rattle.table.specs.Table.{isKind, lengthOk, headerAt, overlapsAny, refusal, more, endStep, driveRecord, stepAt, zeroDrive, emptyTable, readTable, recordsOf, drivesOf, tableOf, writeAnswer, writeOut, soundTo, blankTo, isSound};
+ghost use Rattle.table.specs.Table.{isKind, lengthOk, headerAt, overlapsAny, refusal, more, endStep, driveRecord, stepAt, placeAfter, Advances, begun, zeroDrive, emptyTable, Reads, recordsOf, drivesOf, tableOf, writeAnswer, writeOut, writtenNumbers, writeNumbers, soundTo, blankTo, isSound};
 
 // Document 01's refusals of a table, in the order of the checks.
 const CUT_OFF: u8 = 1;
@@ -62,6 +62,14 @@ pub enum Step {
 }
 
 pub struct Stepped {
+    pub step: Step,
+    pub table: Table,
+}
+
+// Where a reading stands: the place of the next record, what the record before it was, and the drives so far. At the end of the table
+// and at a refusal the place stays.
+pub struct Cursor {
+    pub at: usize,
     pub step: Step,
     pub table: Table,
 }
@@ -218,7 +226,7 @@ fn drive_step(r: &[u8], at: usize, b: Table, store: u64) -> Stepped
 }
 
 // The record at a place, given the drives before it and the store's number of blocks.
-pub fn step_at(t: &[u8], at: usize, b: Table, store: u64) -> Stepped
+fn step_at(t: &[u8], at: usize, b: Table, store: u64) -> Stepped
     ensures { λ r. ⌜ r ≡ stepAt (now (t .entry)) at b store ⌝ }
 {
     let h = header_at(t, at);
@@ -237,45 +245,66 @@ pub fn step_at(t: &[u8], at: usize, b: Table, store: u64) -> Stepped
     }
 }
 
+// The place after a record that began at `at`.
+fn place_after(s: Step, at: usize) -> usize
+    ensures { λ r. ⌜ r ≡ placeAfter s at ⌝ }
+{
+    match s {
+        Step::Next(next) => next,
+        Step::Done => at,
+        Step::Refused(_, _) => at,
+    }
+}
+
+// The record at the cursor's place, and on to the next.
+pub fn advance(t: &[u8], c: Cursor, store: u64) -> Cursor
+    ensures { λ r. ⌜ Advances (now (t .entry)) c store r ⌝ }
+{
+    let at = c.at;
+    let b = c.table;
+    let r = step_at(t, at, b, store);
+    let s = r.step;
+    let next = r.table;
+    Cursor {
+        at: place_after(s, at),
+        step: s,
+        table: next,
+    }
+}
+
 // ---- the reader that holds its bytes
 
-// The bytes of a table and the place of its next record.
+// The bytes of a table, and where their reading stands.
 pub struct Reader<'a> {
     pub bytes: &'a [u8],
-    pub at: usize,
+    pub cursor: Cursor,
 }
 
 impl<'a> Reader<'a> {
-    // The reader at the first record.
-    pub fn new(bytes: &'a [u8]) -> Self
-        ensures { λ r. ⌜ (r .bytes ≡ bytes .entry) × (r .at ≡ 0) ⌝ }
+    // The reader of those bytes at a cursor.
+    pub fn new(bytes: &'a [u8], cursor: Cursor) -> Self
+        ensures { λ r. ⌜ (r .bytes ≡ bytes .entry) × (r .cursor ≡ cursor) ⌝ }
     {
-        Reader { bytes, at: 0 }
+        Reader { bytes, cursor }
     }
 
-    // The record at the reader's place.
-    pub fn step(self, b: Table, store: u64) -> Stepped
-        ensures { λ r. ⌜ r ≡ stepAt (now (self .entry .bytes)) (self .entry .at) b store ⌝ }
+    // The reader, handed back at the next place with what it found.
+    pub fn step(self, store: u64) -> Self
+        ensures { λ q. ⌜ (q .bytes ≡ self .entry .bytes) × Advances (now (self .entry .bytes)) (self .entry .cursor) store (q .cursor) ⌝ }
     {
-        step_at(self.bytes, self.at, b, store)
-    }
-
-    // The reader, handed back at the next place.
-    pub fn moved(self, at: usize) -> Self
-        ensures { λ q. ⌜ (q .bytes ≡ self .entry .bytes) × (q .at ≡ at) ⌝ }
-    {
+        let cursor = advance(self.bytes, self.cursor, store);
         Reader {
             bytes: self.bytes,
-            at,
+            cursor,
         }
     }
 }
 
-// The record at a place, by a reader.
-pub fn record_at(t: &[u8], at: usize, b: Table, store: u64) -> Stepped
-    ensures { λ r. ⌜ r ≡ stepAt (now (t .entry)) at b store ⌝ }
+// One record on, by a reader.
+pub fn record_at(t: &[u8], c: Cursor, store: u64) -> Cursor
+    ensures { λ r. ⌜ Advances (now (t .entry)) c store r ⌝ }
 {
-    Reader::new(t).moved(at).step(b, store)
+    Reader::new(t, c).step(store).cursor
 }
 
 // ---- the whole table
@@ -312,20 +341,30 @@ pub fn empty_table() -> Table
     }
 }
 
+// Before the first record.
+fn start() -> Cursor
+    ensures { λ r. ⌜ r ≡ begun ⌝ }
+{
+    Cursor {
+        at: 0,
+        step: Step::Next(0),
+        table: empty_table(),
+    }
+}
+
 // All drives of a table, for a store of that many blocks.
 pub fn read_table(t: &[u8], store: u64) -> Reading
-    ensures { λ r. ⌜ r ≡ readTable (now (t .entry)) store ⌝ }
+    ensures { λ r. ⌜ Reads (now (t .entry)) store r ⌝ }
 {
-    let mut at = 0;
-    let mut b = empty_table();
+    let mut c = start();
     let mut left: usize = MOST_RECORDS;
     while 0 < left {
-        let r = record_at(t, at, b, store);
-        b = r.table;
-        let s = r.step;
+        c = record_at(t, c, store);
+        let s = c.step;
+        let b = c.table;
         match s {
-            Step::Next(n) => {
-                at = n;
+            Step::Next(_) => {
+                left -= 1;
             }
             Step::Done => {
                 return Reading {
@@ -340,10 +379,10 @@ pub fn read_table(t: &[u8], store: u64) -> Reading
                 };
             }
         }
-        left -= 1;
     }
+    let b = c.table;
     Reading {
-        answer: Answer::Refused(NINTH_DRIVE, at),
+        answer: Answer::Refused(NINTH_DRIVE, c.at),
         table: b,
     }
 }
@@ -394,7 +433,7 @@ fn put_records(b: Table, n: usize, out: &mut [u8])
 
 // Lays the table's drives out as a table again.
 pub fn write_table(b: Table, out: &mut [u8]) -> Written
-    ensures { λ r. ⌜ (r ≡ writeAnswer b (length (now (out .entry)))) × (now (out .exit) ≡ writeOut b (now (out .entry))) ⌝ }
+    ensures { λ r. ⌜ (r ≡ writeAnswer b (length (now (out .entry)))) × (now (out .exit) ≡ writeOut b (now (out .entry))) × (writtenNumbers r ≡ writeNumbers b (length (now (out .entry)))) ⌝ }
 {
     let n = held(b.count);
     let end = records_length(b, n);

@@ -1,26 +1,26 @@
 use borrow.Author.Needs.{needs}
 use native.Mathlib.Omega.{arith}
-use Prim.Native.Nat.{ℕ, _≤_, _-_}
-use mathlib.Core.Path.{_≡_, refl, ap, sym, _∙_}
+use Prim.Native.Nat.{ℕ, _-_}
+use mathlib.Core.Path.{_≡_, refl, ap, _∙_}
 use denote.Ref.{now}
-use Rattle.table.specs.declared.Table.{Table}
-use Rattle.table.specs.Table.{readFrom, readTable}
-use Rattle.table.proofs.Tables.{readFrom-step, readFrom-zero}
+use Rattle.table.specs.declared.Cursor.{Cursor}
+use Rattle.table.specs.Table.{mostRecords, readFrom, readTable}
+use Rattle.table.proofs.Tables.{readFrom-advance, readFrom-next, readFrom-zero, reads-is}
 use Rattle.table.proofs.read_table.Statement.{statement}
 use Rattle.table.proofs.read_table.Tie as tie
 use Rattle.table.proofs.read_table.Reads as reads
 use Rattle.table.proofs.read_table.Lts as lts
-use Rattle.table.proofs.empty_table.Reads as empty-table-reads
 use Rattle.table.proofs.record_at.Reads as record-at-reads
+use Rattle.table.proofs.start.Reads as start-reads
 
 abbrev Inv-loop : tie.InvT-loop
-Inv-loop t store at₀ b₀ left₀ at b left = readFrom left t store at b ≡ readFrom left₀ t store at₀ b₀
+Inv-loop t store c₀ left₀ c left = readFrom left t store (c .at) (c .table) ≡ readFrom left₀ t store (c₀ .at) (c₀ .table)
 
 abbrev μ-loop : tie.MeasureT-loop
-μ-loop t store at₀ b₀ left₀ at b left = left
+μ-loop t store c₀ left₀ c left = left
 
-empty-table-requires : tie.Need-empty-table-requires Inv-loop μ-loop
-empty-table-requires c κs = search needs
+start-requires : tie.Need-start-requires Inv-loop μ-loop
+start-requires c κs = search needs
 
 loop-holds : tie.Need-loop-holds Inv-loop μ-loop
 loop-holds c = refl
@@ -28,30 +28,8 @@ loop-holds c = refl
 record-at-requires : tie.Need-record-at-requires Inv-loop μ-loop
 record-at-requires c κs = search needs
 
-enum-known-s : tie.Need-enum-known-s Inv-loop μ-loop
-enum-known-s c = search needs
-
 enum-told : tie.Need-enum-told Inv-loop μ-loop
 enum-told c = search needs
-
-returns : tie.Need-returns Inv-loop μ-loop
-unfolding readTable
-returns c =
-    let l = c .before .before .before .before .before in
-    let a = c .before .before .before .before .before .before .before .before .args in
-    readFrom-step (l .loop .left) (now (a .t)) (a .store) (l .loop .at) (l .loop .b) (c .before .before .before .before .loop-test .taken) (c .before .before .before .record-at .ensures) (c .enum-told .given .1)
-    ∙ l .loop .inv ∙ ap (readFrom 9 (now (a .t)) (a .store) 0) (c .before .before .before .before .before .before .empty-table .ensures)
-
-enum-known-s-2 : tie.Need-enum-known-s-2 Inv-loop μ-loop
-enum-known-s-2 c = search needs
-
-returns-2 : tie.Need-returns-2 Inv-loop μ-loop
-unfolding readTable
-returns-2 c =
-    let l = c .before .before .before .before .before .before in
-    let a = c .before .before .before .before .before .before .before .before .before .args in
-    readFrom-step (l .loop .left) (now (a .t)) (a .store) (l .loop .at) (l .loop .b) (c .before .before .before .before .before .loop-test .taken) (c .before .before .before .before .record-at .ensures) (c .before .s2 .given .1)
-    ∙ l .loop .inv ∙ ap (readFrom 9 (now (a .t)) (a .store) 0) (c .before .before .before .before .before .before .before .empty-table .ensures)
 
 sub-left : tie.Need-sub-left Inv-loop μ-loop
 sub-left c = search needs
@@ -61,16 +39,42 @@ loop-less c = search needs
 
 loop-again : tie.Need-loop-again Inv-loop μ-loop
 loop-again c =
-    let l = c .before .before .before .before .before .before in
+    let l = c .before .before .before .before .before .loop in
+    let a = c .before .before .before .before .before .before .before .before .args in
+    readFrom-next (l .left) (now (a .t)) (a .store) (l .c) (c .before .before .before .before .loop-test .taken) (c .before .before .before .record-at .ensures .cursor) (c .enum-told .given .1) ∙ l .inv
+
+enum-told-2 : tie.Need-enum-told-2 Inv-loop μ-loop
+enum-told-2 c = search needs
+
+returns : tie.Need-returns Inv-loop μ-loop
+unfolding readTable
+returns c =
+    let l = c .before .before .before .before .before .loop in
+    let a = c .before .before .before .before .before .before .before .before .args in
+    reads-is (now (a .t)) (a .store)
+    (readFrom-advance (l .left) (now (a .t)) (a .store) (l .c) (c .before .before .before .before .loop-test .taken) (c .before .before .before .record-at .ensures .cursor) (c .enum-told2 .given .1)
+    ∙ l .inv ∙ ap (λ (x : Cursor). readFrom mostRecords (now (a .t)) (a .store) (x .at) (x .table)) (c .before .before .before .before .before .before .start .ensures))
+
+enum-known-s : tie.Need-enum-known-s Inv-loop μ-loop
+enum-known-s c = search needs
+
+returns-2 : tie.Need-returns-2 Inv-loop μ-loop
+unfolding readTable
+returns-2 c =
+    let l = c .before .before .before .before .before .before .loop in
     let a = c .before .before .before .before .before .before .before .before .before .args in
-    readFrom-step (l .loop .left) (now (a .t)) (a .store) (l .loop .at) (l .loop .b) (c .before .before .before .before .before .loop-test .taken) (c .before .before .before .before .record-at .ensures) (c .before .s .given .1) ∙ l .loop .inv
+    reads-is (now (a .t)) (a .store)
+    (readFrom-advance (l .left) (now (a .t)) (a .store) (l .c) (c .before .before .before .before .before .loop-test .taken) (c .before .before .before .before .record-at .ensures .cursor) (c .before .s .given .1)
+    ∙ l .inv ∙ ap (λ (x : Cursor). readFrom mostRecords (now (a .t)) (a .store) (x .at) (x .table)) (c .before .before .before .before .before .before .before .start .ensures))
 
 returns-3 : tie.Need-returns-3 Inv-loop μ-loop
 unfolding readTable
 returns-3 c =
-    let l = c .before in
-    let a = c .before .before .before .before .args in
-    readFrom-zero (l .loop .left) (now (a .t)) (a .store) (l .loop .at) (l .loop .b) (omega arith) ∙ l .loop .inv ∙ ap (readFrom 9 (now (a .t)) (a .store) 0) (c .before .before .empty-table .ensures)
+    let l = c .before .before .loop in
+    let a = c .before .before .before .before .before .args in
+    reads-is (now (a .t)) (a .store)
+    (readFrom-zero (l .left) (now (a .t)) (a .store) (l .c .at) (l .c .table) (omega arith)
+    ∙ l .inv ∙ ap (λ (x : Cursor). readFrom mostRecords (now (a .t)) (a .store) (x .at) (x .table)) (c .before .before .before .start .ensures))
 
 pub read-table-spec : {M : Type 1} → statement M
 read-table-spec =
@@ -78,15 +82,15 @@ read-table-spec =
     (tie.spec
     Inv-loop
     μ-loop
-    empty-table-requires
+    start-requires
     loop-holds
     record-at-requires
-    enum-known-s
     enum-told
-    returns
-    enum-known-s-2
-    returns-2
     sub-left
     loop-less
     loop-again
+    enum-told-2
+    returns
+    enum-known-s
+    returns-2
     returns-3)

@@ -1,7 +1,7 @@
 use denote.Ref.{now}
 use mathlib.Core.Path.{_≡_}
 use lib.ListN.{length, length-map}
-use Rattle.table.proofs.Tables.{write-short, write-done}
+use Rattle.table.proofs.Tables.{write-short, write-done, write-numbers}
 use borrow.Author.Needs.{needs}
 use Rattle.table.proofs.write_table.Statement.{statement}
 use Rattle.table.proofs.write_table.Tie as tie
@@ -29,7 +29,8 @@ returns c =
     let s = c .before .before .before .before in
     let a = s .args in
     let l : length (a .b .drives) ≡ 8 = simp length-map at (s .good .0 .1 .1 .0 .1 .0 .1) in
-    write-short (a .b) (now (a .out)) (c .before .before .held .result) (c .before .records-length .result) l (c .before .before .held .ensures) (c .before .records-length .ensures .0) (c .if1 .taken)
+    let w = write-short (a .b) (now (a .out)) (c .before .before .held .result) (c .before .records-length .result) l (c .before .before .held .ensures) (c .before .records-length .ensures .0) (c .if1 .taken) in
+    (w .0, w .1, write-numbers (a .b) (length (now (a .out))) (w .0))
 
 put-records-requires : tie.Need-put-records-requires
 put-records-requires c κs = search needs
@@ -53,8 +54,9 @@ returns-2 c =
     let l : length (a .b .drives) ≡ 8 = simp length-map at (s .good .0 .1 .1 .0 .1 .0 .1) in
     let held = c .before .before .before .before .before .before .before .before .before .before .before .before .before .before .held in
     let records = c .before .before .before .before .before .before .before .before .before .before .before .before .before .records-length in
-    write-done (a .b) (now (a .out)) (held .result) (records .result) l (held .ensures) (records .ensures .0) (c .before .before .before .before .before .before .before .before .before .before .before .before .if1 .left)
-    (c .before .before .before .before .before .before .before .before .before .before .put-records .ensures) (c .before .before .before .before .before .before .store16 .ensures) (c .before .before .store162 .ensures)
+    let w = write-done (a .b) (now (a .out)) (held .result) (records .result) l (held .ensures) (records .ensures .0) (c .before .before .before .before .before .before .before .before .before .before .before .before .if1 .left)
+    (c .before .before .before .before .before .before .before .before .before .before .put-records .ensures) (c .before .before .before .before .before .before .store16 .ensures) (c .before .before .store162 .ensures) in
+    (w .0, w .1, write-numbers (a .b) (length (now (a .out))) (w .0))
 
 pub write-table-spec : {M : Type 1} → statement M
 write-table-spec =

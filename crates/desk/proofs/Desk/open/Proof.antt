@@ -36,12 +36,12 @@ vacant-requires-2 c κs = search needs
 -- src/lib.rt:409:5
 returns : tie.Need-returns
 unfolding openOf
-returns c = rw (c .vacant .ensures, ← c .before .before .before .before .read-table .ensures, c .before .before .enum-told .given .1)
+returns c = rw (c .vacant .ensures, ← c .before .before .before .before .read-table .ensures .reading, c .before .before .enum-told .given .1)
 
 -- src/lib.rt:409:5
 returns-2 : tie.Need-returns-2
 unfolding openOf
-returns-2 c = rw (c .vacant2 .ensures, c .before .empty-table .ensures, ← c .before .before .before .before .before .read-table .ensures, c .before .before .before .answer .given .1)
+returns-2 c = rw (c .vacant2 .ensures, c .before .empty-table .ensures, ← c .before .before .before .before .before .read-table .ensures .reading, c .before .before .before .answer .given .1)
 
 pub open-spec : {M : Type 1} → statement M
 open-spec =
