@@ -16,7 +16,7 @@ ghost use Rattle.logic.specs.Logic.{pick, both};
 ghost use Rattle.chs.specs.Chs.{size};
 ghost use Rattle.drive.specs.Drive.{geometryOf};
 ghost use Rattle.desk.specs.Parts.{isWaiting, withPointer};
-ghost use Rattle.desk.specs.Acceptable.{packetOk, movedOk, jobOk, stageOk, rowsOk, accept, InRange};
+ghost use Rattle.desk.specs.Acceptable.{packetOk, movedOk, jobRules, requestOk, stageOk, rowsOk, accept, InRange};
 ghost use mathlib.Core.List.{List, []};
 ghost use Rattle.layout.specs.Packet.{packetLength};
 ghost use Rattle.memory.specs.Window.{guests, windowLength, spanLength, windowOf, withWindow};
@@ -194,14 +194,9 @@ fn moved_ok(moved: u64, count: u64) -> bool
     logic::and(moved % PART == 0, moved < count)
 }
 
-fn job_ok(b: Table, m: u64, j: Job) -> bool
-    ensures { λ r. ⌜ r ≡ jobOk b m j ⌝ }
+fn job_ok(d: Drive, m: u64, j: Job) -> bool
+    ensures { λ r. ⌜ r ≡ jobRules d m j ⌝ }
 {
-    let n = j.drive;
-    if !int13::is_drive(b, n) {
-        return false;
-    }
-    let d = int13::drive_at(b, n);
     let f = int13::function_of(j.registers);
     let sectors = int13::is_sectors(f);
     let transfer = logic::or(sectors, logic::or(f == 0x42, f == 0x43));
@@ -214,13 +209,25 @@ fn job_ok(b: Table, m: u64, j: Job) -> bool
     logic::and(transfer, logic::and(count_ok(sectors, j.count), blocks))
 }
 
+// What is asked of a waiting request on its drive, in windows of m bytes.
+pub fn request_ok(d: Drive, m: u64, q: Request) -> bool
+    ensures { λ r. ⌜ r ≡ requestOk d m q ⌝ }
+{
+    logic::and(job_ok(d, m, q.job), moved_ok(q.moved, q.job.count))
+}
+
 fn stage_ok(b: Table, m: u64, stage: Stage) -> bool
     ensures { λ r. ⌜ r ≡ stageOk b m stage ⌝ }
 {
     let Stage::Waiting(q) = stage else {
         return true;
     };
-    logic::and(job_ok(b, m, q.job), moved_ok(q.moved, q.job.count))
+    let n = q.job.drive;
+    if !int13::is_drive(b, n) {
+        return false;
+    }
+    let d = int13::drive_at(b, n);
+    request_ok(d, m, q)
 }
 
 fn rows_ok(rows: [Row; 8], b: Table, m: u64) -> bool
