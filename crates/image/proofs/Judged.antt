@@ -81,16 +81,16 @@ all-add : (m n : ℕ) (f : ℕ → Bool) → allBelow (m + n) f ≡ both (allBel
 all-add m zero f = rw add-zero (sym (both-itself (allBelow m f)))
 all-add m (suc n) f =
     rw add-suc (
-      ap (λ (t : Bool). both (f (m + n)) t) (all-add m n f)
-      ∙ both-left (f (m + n)) (allBelow m f) (allBelow n (λ k. f (m + k))))
+    ap (λ (t : Bool). both (f (m + n)) t) (all-add m n f)
+    ∙ both-left (f (m + n)) (allBelow m f) (allBelow n (λ k. f (m + k))))
 
 all-both : (n : ℕ) (f g : ℕ → Bool) → both (allBelow n f) (allBelow n g) ≡ allBelow n (λ i. both (f i) (g i))
 all-both zero f g = refl
 all-both (suc n) f g =
     rw (← all-both n f g) (
-      both-assoc (f n) (allBelow n f) (both (g n) (allBelow n g))
-      ∙ ap (λ (t : Bool). both (f n) t) (both-left (allBelow n f) (g n) (allBelow n g))
-      ∙ sym (both-assoc (f n) (g n) (both (allBelow n f) (allBelow n g))))
+    both-assoc (f n) (allBelow n f) (both (g n) (allBelow n g))
+    ∙ ap (λ (t : Bool). both (f n) t) (both-left (allBelow n f) (g n) (allBelow n g))
+    ∙ sym (both-assoc (f n) (g n) (both (allBelow n f) (allBelow n g))))
 
 -- those below c, and the others
 all-split : (n c : ℕ) (f : ℕ → Bool) → c ≤ n → allBelow n f ≡ both (allBelow c f) (allBelow n (λ i. either (ltb i c) (f i)))
@@ -220,12 +220,12 @@ module _ (b : List ℕ) where
   unfolding matches
   matches-append xs ys i =
       rw length-append (
-        all-add (length xs) (length ys) (λ j. same (part 8 b (i + 8 * j)) (leBytes 8 (getD (xs ++ ys) j 0)))
-        ∙ ap (λ (t : Bool). both t (allBelow (length ys) (λ k. same (part 8 b (i + 8 * (length xs + k))) (leBytes 8 (getD (xs ++ ys) (length xs + k) 0)))))
-          (all-ext (length xs) _ (λ j. same (part 8 b (i + 8 * j)) (leBytes 8 (getD xs j 0))) (λ j q. rw (List·getD-append xs ys 0 j q)))
-        ∙ ap (λ (t : Bool). both (allBelow (length xs) (λ j. same (part 8 b (i + 8 * j)) (leBytes 8 (getD xs j 0)))) t)
-          (all-ext (length ys) _ (λ k. same (part 8 b (i + 8 * length xs + 8 * k)) (leBytes 8 (getD ys k 0)))
-          (λ k q. let z : i + 8 * (length xs + k) ≡ i + 8 * length xs + 8 * k = omega arith in rw (z, getD-append-add xs ys k 0))))
+      all-add (length xs) (length ys) (λ j. same (part 8 b (i + 8 * j)) (leBytes 8 (getD (xs ++ ys) j 0)))
+      ∙ ap (λ (t : Bool). both t (allBelow (length ys) (λ k. same (part 8 b (i + 8 * (length xs + k))) (leBytes 8 (getD (xs ++ ys) (length xs + k) 0)))))
+      (all-ext (length xs) _ (λ j. same (part 8 b (i + 8 * j)) (leBytes 8 (getD xs j 0))) (λ j q. rw (List·getD-append xs ys 0 j q)))
+      ∙ ap (λ (t : Bool). both (allBelow (length xs) (λ j. same (part 8 b (i + 8 * j)) (leBytes 8 (getD xs j 0)))) t)
+      (all-ext (length ys) _ (λ k. same (part 8 b (i + 8 * length xs + 8 * k)) (leBytes 8 (getD ys k 0)))
+      (λ k q. let z : i + 8 * (length xs + k) ≡ i + 8 * length xs + 8 * k = omega arith in rw (z, getD-append-add xs ys k 0))))
 
   matches-none : (at : ℕ) → matches b at [] ≡ true
   unfolding matches
@@ -243,9 +243,9 @@ module _ (b : List ℕ) where
   matches-each f w wide g (suc n) k at =
       matches-append (f (g k)) (each f (listed g (suc k) n)) at
       ∙ rw (wide (g k)) (
-        ap (λ (t : Bool). both (matches b at (f (g k))) t) (matches-each f w wide g n (suc k) (at + 8 * w) ∙ all-ext n _ (λ j. matches b (at + 8 * (w * suc j)) (f (g (k + suc j)))) (λ j q. moved j))
-        ∙ ap (λ (t : Bool). both t (allBelow n (λ j. matches b (at + 8 * (w * suc j)) (f (g (k + suc j)))))) first
-        ∙ sym (all-front n (λ j. matches b (at + 8 * (w * j)) (f (g (k + j))))))
+      ap (λ (t : Bool). both (matches b at (f (g k))) t) (matches-each f w wide g n (suc k) (at + 8 * w) ∙ all-ext n _ (λ j. matches b (at + 8 * (w * suc j)) (f (g (k + suc j)))) (λ j q. moved j))
+      ∙ ap (λ (t : Bool). both t (allBelow n (λ j. matches b (at + 8 * (w * suc j)) (f (g (k + suc j)))))) first
+      ∙ sym (all-front n (λ j. matches b (at + 8 * (w * j)) (f (g (k + j))))))
     where
       moved : (j : ℕ) → matches b (at + 8 * w + 8 * (w * j)) (f (g (suc k + j))) ≡ matches b (at + 8 * (w * suc j)) (f (g (k + suc j)))
       moved j =
@@ -347,8 +347,8 @@ module _ (b : List ℕ) (h : Bytes b) where
       let z : requestPlace i + 8 * 14 ≡ finishedPlace i = omega arith in
       head-is 1 (requestWords (requestAt b (requestPlace i)) ++ replicate 8 0) i (omega arith) (omega arith)
       ∙ ap (λ (t : Bool). both (eqb (le 8 b i) 1) t) (
-        matches-append b (requestWords (requestAt b (requestPlace i))) (replicate 8 0) (requestPlace i)
-        ∙ rw (request-is (requestPlace i) (omega arith), z, zeros-is 8 (finishedPlace i) (omega arith)))
+      matches-append b (requestWords (requestAt b (requestPlace i))) (replicate 8 0) (requestPlace i)
+      ∙ rw (request-is (requestPlace i) (omega arith), z, zeros-is 8 (finishedPlace i) (omega arith)))
 
   finished-is : (i : ℕ) → i + rowSize ≤ length b
       → matches b i (stageWords (Finished (registersAt b (finishedPlace i)))) ≡ both (eqb (le 8 b i) 2) (finishedGood b i)
@@ -357,8 +357,8 @@ module _ (b : List ℕ) (h : Bytes b) where
       let z : requestPlace i + 8 * 14 ≡ finishedPlace i = omega arith in
       head-is 2 (replicate 14 0 ++ registerNumbers (registersAt b (finishedPlace i))) i (omega arith) (omega arith)
       ∙ ap (λ (t : Bool). both (eqb (le 8 b i) 2) t) (
-        matches-append b (replicate 14 0) (registerNumbers (registersAt b (finishedPlace i))) (requestPlace i)
-        ∙ rw (zeros-is 14 (requestPlace i) (omega arith), z, registers-is (finishedPlace i) (omega arith)))
+      matches-append b (replicate 14 0) (registerNumbers (registersAt b (finishedPlace i))) (requestPlace i)
+      ∙ rw (zeros-is 14 (requestPlace i) (omega arith), z, registers-is (finishedPlace i) (omega arith)))
 
   row-is : (M i : ℕ) → i + rowSize ≤ length b → both (matches b i (rowWords (readRow b i))) (stageOk (readDesk b .table) M (readStage b i)) ≡ rowGood b M i
   unfolding readStage rowGood waitingGood
@@ -370,7 +370,7 @@ module _ (b : List ℕ) (h : Bytes b) where
           ≡ rowGood b M i
       go true q e f =
           let x : getD b i 0 ≡ 1 = eqb-true (getD b i 0) 1 e in
-          rw (waiting-is i l, both-assoc, ne-eqb (le 8 b i) 0 (λ y. omega (arith, low-byte b h i)), ne-eqb (le 8 b i) 2 (λ y. omega (arith, low-byte b h i)))
+          rw (waiting-is i l, both-assoc (eqb (le 8 b i) 1), ne-eqb (le 8 b i) 0 (λ y. omega (arith, low-byte b h i)), ne-eqb (le 8 b i) 2 (λ y. omega (arith, low-byte b h i)))
           (sym (pick-both (eqb (le 8 b i) 1) _))
       go false true e f =
           let x : getD b i 0 ≡ 2 = eqb-true (getD b i 0) 2 f in
@@ -567,7 +567,7 @@ module _ (b : List ℕ) where
   ends-before n e zero j l q = absurd (omega arith)
   ends-before n e (suc i) j l q =
       let p = both-true (ltb (firstIn b i) (firstIn b (i + 1))) (leb (firstIn b i + blocksIn b i) (firstIn b (i + 1)))
-              (all-at (n - 1) i (λ i. both (ltb (firstIn b i) (firstIn b (i + 1))) (leb (firstIn b i + blocksIn b i) (firstIn b (i + 1)))) e (omega arith)) in
+      (all-at (n - 1) i (λ i. both (ltb (firstIn b i) (firstIn b (i + 1))) (leb (firstIn b i + blocksIn b i) (firstIn b (i + 1)))) e (omega arith)) in
       let x : firstIn b i < firstIn b (suc i) = rw add-one at (ltb-true (firstIn b i) (firstIn b (i + 1)) (p .0)) in
       let y : firstIn b i + blocksIn b i ≤ firstIn b (suc i) = rw add-one at (leb-true (firstIn b i + blocksIn b i) (firstIn b (i + 1)) (p .1)) in
       ⊎-elim
@@ -606,8 +606,8 @@ module _ (b : List ℕ) (h : Bytes b) (l : length b ≡ blockSize) where
   places-is =
       matches-each b driveWords 14 length-drive (λ i. readDrive b (placeAt i)) 8 0 (placeAt 0)
       ∙ all-ext 8 (λ i. matches b (placeAt 0 + 8 * (14 * i)) (driveWords (readDrive b (placeAt (0 + i))))) (λ i. isPlace b (placeAt i)) (λ i q.
-        let z : placeAt 0 + 8 * (14 * i) ≡ placeAt i = omega arith in
-        rw (z, zero-add) (place-is b h (placeAt i) (omega arith)))
+      let z : placeAt 0 + 8 * (14 * i) ≡ placeAt i = omega arith in
+      rw (z, zero-add) (place-is b h (placeAt i) (omega arith)))
 
   table-is : (store : ℕ) → count ≤ 8
       → both (matches b (placeAt 0) (placesWords (readPlaces b))) (both (soundTo count (drives b) store) (blankTo 8 (drives b) count))

@@ -355,7 +355,10 @@ fn is_alone(b: &[u8], i: usize) -> bool
     let mut good = true;
     let mut j = 0;
     while j < i {
-        good = logic::and(are_apart(first, blocks, first_in(b, j), blocks_in(b, j)), good);
+        good = logic::and(
+            are_apart(first, blocks, first_in(b, j), blocks_in(b, j)),
+            good,
+        );
         j += 1;
     }
     good
