@@ -29,6 +29,7 @@ use Rattle.desk.specs.Numbers.{registerNumbers}
 use Rattle.desk.specs.Acceptable.{accept}
 use Rattle.desk.specs.Calls.{closed}
 use Rattle.desk.proofs.Acceptances.{closed-refused}
+use Rattle.memory.proofs.Sets.{length-part}
 use Rattle.image.specs.Image.{each, flat, requestWords, stageWords, rowWords, rowsWords, driveWords, placesWords, tailWords, deskWords, image, placeSize, rowAt, placeAt, tailAt, blockSize, countAt, pointerAt, arenaAt, storeAt, requestPlace, finishedPlace, registersAt, requestAt, readStage, readRow, readDrive, readRows, readPlaces, readDesk, isImage, deskOf, accepted, FitsRegisters, FitsRequest, FitsStage, FitsDrive, FitsTable, FitsDesk, ImageOf, Exact}
 use Rattle.image.proofs.Fill.{length-each, length-flat, length-row, length-drive}
 use Rattle.image.proofs.Fields.{listed-is, row-of, place-of}
@@ -313,9 +314,6 @@ module _ (b : List ℕ) (h : Bytes b) where
       go false true = registers-fit (finishedPlace i)
       go false false = tt
 
-  part-length : (k i : ℕ) → i + k ≤ length b → length (part k b i) ≡ k
-  part-length k i l = length-take-le k (drop i b) (simp length-drop (omega arith))
-
   drive-fits : (i : ℕ) → i + placeSize ≤ length b → FitsDrive (readDrive b i)
   unfolding readDrive
   drive-fits i l =
@@ -330,10 +328,10 @@ module _ (b : List ℕ) (h : Bytes b) where
               flags = le-lt 2 b (i + 40) h;
               c = le-lt 2 b (i + 48) h;
               h = le-lt 2 b (i + 56) h;
-              bus = part-length 4 (i + 80) (omega arith);
-              interface = part-length 8 (i + 88) (omega arith);
-              path = part-length 8 (i + 96) (omega arith);
-              device = part-length 8 (i + 104) (omega arith);
+              bus = length-part 4 b (i + 80) (omega arith);
+              interface = length-part 8 b (i + 88) (omega arith);
+              path = length-part 8 b (i + 96) (omega arith);
+              device = length-part 8 b (i + 104) (omega arith);
             };
         s = h (i + 64);
         protection = h (i + 72);

@@ -16,7 +16,7 @@ use Rattle.desk.specs.declared.Stage.the-variants.{Waiting}
 use Rattle.desk.specs.Acceptable.{stageOk}
 use Rattle.image.specs.Image.{rowAt, placeAt, blockSize, countAt, pointerAt, arenaAt, storeAt, requestPlace, finishedPlace, requestAt, readDrive, readDesk}
 
--- ---- "Calls the host makes", words within the width of their fields
+-- ---- "Calls the host makes", the desk block: words within the width of their fields
 
 -- n words from a place are below end; below 1 they are zero
 unfoldable pub below : ℕ → ℕ → List ℕ → ℕ → Bool
@@ -50,10 +50,11 @@ drivesGood n b store = allBelow n (λ i. driveGood b store (placeAt i))
 unfoldable pub restZero : ℕ → ℕ → List ℕ → Bool
 restZero n count b = allBelow n (λ i. either (ltb i count) (below 14 1 b (placeAt i)))
 
--- where the drive of a place begins in the store, and its blocks
+-- where the drive of a place begins in the store
 abbrev pub firstIn : List ℕ → ℕ → ℕ
 firstIn b i = le 8 b (placeAt i + 32)
 
+-- the blocks of the drive of a place
 abbrev pub blocksIn : List ℕ → ℕ → ℕ
 blocksIn b i = le 8 b (placeAt i + 24)
 
@@ -96,10 +97,11 @@ rowGood b M i =
     (pick (eqb (le 8 b i) 2) (finishedGood b i)
     false))
 
+-- the first n rows are good
 unfoldable pub rowsGood : ℕ → List ℕ → ℕ → Bool
 rowsGood n b M = allBelow n (λ g. rowGood b M (rowAt g))
 
--- ---- "Calls the host makes", which desk blocks are accepted
+-- ---- "Calls the host makes", the desk block: which are accepted
 
 -- at most eight drives that obey the rules, zeros past them, no two with a common block
 unfoldable pub tableGood : List ℕ → Bool

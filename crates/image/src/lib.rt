@@ -1,5 +1,5 @@
-// The desk block: a desk laid out in bytes that the host owns, and read from them. A block is read by fields, laid out again and
-// compared, so that no padding byte and no width is tested by hand.
+// The desk block: a desk laid out in bytes that the host owns. A call judges the block on its words, reads the row or the drive that it
+// needs, and writes the words that it changed; no desk is made of it.
 use desk::Desk;
 use desk::Next;
 use desk::Request;
