@@ -20,7 +20,7 @@ use Rattle.int13.specs.declared.Registers.{Registers}
 use Rattle.int13.specs.declared.Outcome.{Outcome}
 use Rattle.int13.specs.declared.Outcome.the-variants.{Answered, Waits as OutcomeWaits}
 use Rattle.int13.specs.Answers.{ah}
-use Rattle.int13.specs.Steps.{Checked, isDrive, driveAt, check}
+use Rattle.int13.specs.Steps.{Checked, isDrive, driveAt, fed, begin}
 use Rattle.int13.specs.Alone.{Memory, storeBlock, moves}
 use Rattle.desk.proofs.Stage as stage
 use Rattle.desk.specs.declared.Request.{Request}
@@ -164,11 +164,11 @@ module _ (d : Desk) (g : ℕ) (arena store : List ℕ) (p : Passed (accept d) (i
   post-other r k = post-stage (stageAt d g) d g r arena store k ∙ post-row r
 
   pub post-vacant : {desk : Desk} {answer : PostAnswer} {outcome : Outcome} {w : List ℕ} (r : Registers) → stageAt d g ≡ Vacant
-      → outcome ≡ check (d .table) r (ownWindow arena g) .outcome → w ≡ check (d .table) r (ownWindow arena g) .window
+      → outcome ≡ begin (fed (d .table)) r (ownWindow arena g) .outcome → w ≡ begin (fed (d .table)) r (ownWindow arena g) .window
       → desk ≡ postChecked d g [] [] outcome [] .desk → answer ≡ postChecked d g [] [] outcome [] .answer
       → done desk answer (withOwn arena g w) store ≡ postOf d g r arena store
   post-vacant r v eo ew e₁ e₂ =
-      let asked : ℕ → Checked = λ n. check (d .table) r (windowOf arena g n) in
+      let asked : ℕ → Checked = λ n. begin (fed (d .table)) r (windowOf arena g n) in
       rw (e₁, e₂, eo, ew)
       (ap (λ (n : ℕ). done (postChecked d g [] [] (asked n .outcome) [] .desk) (postChecked d g [] [] (asked n .outcome) [] .answer) (withWindow arena g n (asked n .window)) store) own-length
       ∙ post-parts d g arena store (asked (windowSize d) .outcome) (asked (windowSize d) .window)

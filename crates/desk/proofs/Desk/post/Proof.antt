@@ -8,7 +8,7 @@ use borrow.Author.Tests.{ltb-true}
 use denote.Ref.{now}
 use Rattle.memory.specs.Window.{windowLength, spanLength, windowOf}
 use Rattle.memory.proofs.Windows.{with-window-lent, length-window}
-use Rattle.int13.specs.Steps.{Checked, check}
+use Rattle.int13.specs.Steps.{Checked, fed, begin}
 use Rattle.desk.specs.declared.Desk.{Desk}
 use Rattle.desk.specs.declared.PostAnswer.the-variants.{Refused as PostRefused}
 use Rattle.desk.specs.Parts.{stageAt}
@@ -24,7 +24,7 @@ use Rattle.desk.proofs.Desk.accept.Reads as accept-reads
 use Rattle.desk.proofs.Desk.is_lent.Reads as is-lent-reads
 use Rattle.desk.proofs.Desk.posted.Reads as posted-reads
 use Rattle.desk.proofs.house_number.Reads as house-number-reads
-use Rattle.int13.proofs.check.Reads as check-reads
+use Rattle.int13.proofs.begin.Reads as begin-reads
 use Rattle.memory.proofs.span_of.Reads as span-of-reads
 use Rattle.memory.proofs.window_length.Reads as window-length-reads
 
@@ -84,17 +84,17 @@ window-length-requires c κs = search needs
 span-of-requires : tie.Need-span-of-requires
 span-of-requires c κs = search needs
 
-sub-check : tie.Need-sub-check
-sub-check c = search needs
+sub-begin : tie.Need-sub-begin
+sub-begin c = search needs
 
-part-check-start : tie.Need-part-check-start
-part-check-start c = search needs
+part-begin-start : tie.Need-part-begin-start
+part-begin-start c = search needs
 
-part-check-end : tie.Need-part-check-end
-part-check-end c = search needs
+part-begin-end : tie.Need-part-begin-end
+part-begin-end c = search needs
 
-check-requires : tie.Need-check-requires
-check-requires c κs = search needs
+begin-requires : tie.Need-begin-requires
+begin-requires c κs = search needs
 
 posted-requires : tie.Need-posted-requires
 posted-requires c κs = below (c .before .before .before .before .before .before .before .before .before .before)
@@ -111,12 +111,12 @@ returns-3 c =
     let m = c .before .before .before .before .before .before .before .window-length .ensures in
     let e : o .result .end - o .result .start ≡ spanLength (length (arena h)) (guest h) (c .before .before .before .before .before .before .before .window-length .result) = omega arith in
     let part : take (o .result .end - o .result .start) (drop (o .result .start) (arena h)) ≡ windowOf (arena h) (guest h) own = rw (e, o .ensures .0, m) in
-    let k = c .before .before .before .check in
+    let k = c .before .before .before .begin in
     let n : length (k .last .1 .1 .0) ≡ spanLength (length (arena h)) (guest h) own = k .kept .1 .1 .0 ∙ ap length part ∙ length-window (arena h) (guest h) own in
     rw (e, o .ensures .0, m)
     (ap (λ (x : List ℕ). done (c .posted .result .desk) (c .posted .result .answer) x (store h)) (with-window-lent (arena h) (guest h) own (k .last .1 .1 .0) n)
     ∙ post-vacant (desk h) (guest h) (arena h) (store h) (passed (c .before .before .before .before .before .before .before .before .before .before .before)) r (c .before .before .before .before .before .before .before .before .enum-told .given .1)
-    (k .ensures .0 ∙ ap (λ (x : List ℕ). check (desk h .table) r x .outcome) part) (k .ensures .1 ∙ ap (λ (x : List ℕ). check (desk h .table) r x .window) part)
+    (k .ensures .0 ∙ ap (λ (x : List ℕ). begin (fed (desk h .table)) r x .outcome) part) (k .ensures .1 ∙ ap (λ (x : List ℕ). begin (fed (desk h .table)) r x .window) part)
     (c .posted .ensures .0) (c .posted .ensures .1))
 
 pub post-spec : {M : Type 1} → statement M
@@ -133,10 +133,10 @@ post-spec =
     returns-2
     window-length-requires
     span-of-requires
-    sub-check
-    part-check-start
-    part-check-end
-    check-requires
+    sub-begin
+    part-begin-start
+    part-begin-end
+    begin-requires
     posted-requires
     same-length
     returns-3)

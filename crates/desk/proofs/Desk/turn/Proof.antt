@@ -100,7 +100,7 @@ returns-3 c =
     turn-other (desk h) (arena h) (store h) (passed (c .before .before .before .before .before .before .before)) (guest (c .before .before)) (found (c .before .before)) (c .match2 .keys2)
 
 drive-at-requires : tie.Need-drive-at-requires
-drive-at-requires c κs = facts (c .before) .job .drive
+drive-at-requires c κs = search needs
 
 service-of-requires : tie.Need-service-of-requires
 service-of-requires c κs = search needs
@@ -111,7 +111,7 @@ transfer-requires c κs =
     let w = c .before .before .before .before .before .before .before .before .before in
     let s = c .before .before .before .before .before .before .stage in
     let r = in-range (desk h) (arena h) (store h) (guest w) (s .given .0 .0) (passed (c .before .before .before .before .before .before .before .before .before .before .before .before .before .before)) (below w) (s .given .1) (omega (arith, c .before .before .before .before .before .before .before .before .before .before .before .before .before .before .before .before .before .before .before .before .good .1 .0 .0)) (omega (arith, c .before .before .before .before .before .before .before .before .before .before .before .before .before .before .before .before .before .before .before .before .good .1 .1 .0 .0)) (c .before .before .service-of .ensures) in
-    rw (c .before .before .before .drive-at .ensures) r
+    rw (c .before .before .before .drive-at .ensures .1 (facts (c .before .before .before .before .before) .job .drive)) r
 
 served-requires : tie.Need-served-requires
 served-requires c κs = below (c .before .before .before .before .before .before .before .before .before .before .before .before .before .before)
@@ -127,7 +127,7 @@ returns-4 c =
     let h = c .before .before .before .before .before .before .before .before .before .before .before .before .before .before .before .before .before .before .before .before .before in
     let w = c .before .before .before .before .before .before .before .before .before .before .before .before .before .before .before in
     let s = c .before .before .before .before .before .before .before .before .before .before .before .before .stage in
-    let t : Transferred (driveAt (desk h .table) (s .given .0 .0 .job .drive) .first) (s .given .0 .0) (c .before .before .before .before .before .before .before .before .service-of .result .moved) (guest w) (arena h) (store h) _ _ = rw (c .before .before .before .before .before .before .before .before .before .drive-at .ensures) at (c .before .before .before .before .before .transfer .ensures) in
+    let t : Transferred (driveAt (desk h .table) (s .given .0 .0 .job .drive) .first) (s .given .0 .0) (c .before .before .before .before .before .before .before .before .service-of .result .moved) (guest w) (arena h) (store h) _ _ = rw (c .before .before .before .before .before .before .before .before .before .drive-at .ensures .1 (facts (c .before .before .before .before .before .before .before .before .before .before .before) .job .drive)) at (c .before .before .before .before .before .transfer .ensures) in
     turn-served (desk h) (arena h) (store h) (passed (c .before .before .before .before .before .before .before .before .before .before .before .before .before .before .before .before .before .before .before .before)) (guest w) (s .given .0 .0) (found w) (s .given .1) (c .before .before .before .before .before .before .before .before .service-of .ensures) (c .served .ensures .0) (c .served .ensures .1) t
 
 pub turn-spec : {M : Type 1} → statement M
