@@ -403,7 +403,7 @@ module _ (b : List ℕ) (h : Bytes b) where
 
 -- ---- accepted exactly when it is the image of an acceptable desk
 
-not-closed : accept (closed 0 0) ≡ true → ⊥
+pub not-closed : accept (closed 0 0) ≡ true → ⊥
 not-closed e = absurd (let z : _≡_ {A = Bool} true false = sym e ∙ closed-refused 0 0 in apart z)
   where
     apart : _≡_ {A = Bool} true false → ⊥

@@ -6,6 +6,7 @@ use mathlib.Core.Path.{_≡_}
 use mathlib.Core.Bool.{Bool, true, false}
 use mathlib.Core.List.{List, [], _∷_, _++_}
 use lib.ListN.{length, getD, replicate}
+use lib.Seq.{sets}
 use lib.Dec.{eqb}
 use Rattle.logic.specs.Logic.{pick, both}
 use Rattle.words.specs.Words.{Bytes, le, leBytes, part}
@@ -36,6 +37,11 @@ each f (x ∷ xs) = f x ++ each f xs
 abbrev pub flat : List ℕ → List ℕ
 flat words = each (leBytes 8) words
 
+-- what f gives for n numbers from i on
+abbrev pub listed : {A : Type 0} → (ℕ → A) → ℕ → ℕ → List A
+listed f i zero = []
+listed f i (suc n) = f i ∷ listed f (suc i) n
+
 -- ---- the words of a desk
 
 -- what the job asks, and the blocks moved
@@ -53,18 +59,27 @@ stageWords (Finished r) = 2 ∷ (replicate 14 0 ++ registerNumbers r)
 abbrev pub rowWords : Row → List ℕ
 rowWords r = stageWords (r .stage)
 
+-- the section of the rows
+abbrev pub rowsWords : List Row → List ℕ
+rowsWords rows = each rowWords rows
+
 -- 14 words; of a name its bytes in their order
 abbrev pub driveWords : Drive → List ℕ
 driveWords d =
     d .cylinders ∷ d .heads ∷ d .sectors ∷ d .blocks ∷ d .first ∷ d .flags ∷ d .c ∷ d .h ∷ d .s ∷ d .protection
     ∷ le 4 (d .bus) 0 ∷ le 8 (d .interface) 0 ∷ le 8 (d .path) 0 ∷ le 8 (d .device) 0 ∷ []
 
--- the number of drives, the turn pointer, the lengths of the opening
+-- the section of the places of the table
+abbrev pub placesWords : List Drive → List ℕ
+placesWords drives = each driveWords drives
+
+-- the section of the last words: the number of drives, the turn pointer, the lengths of the opening
 abbrev pub tailWords : Desk → List ℕ
 tailWords d = d .table .count ∷ d .pointer ∷ d .arena ∷ d .store ∷ []
 
+-- the sections one after the other; one that is added later goes behind them, so that none of these moves
 unfoldable pub deskWords : Desk → List ℕ
-deskWords d = each rowWords (d .rows) ++ (each driveWords (d .table .drives) ++ tailWords d)
+deskWords d = rowsWords (d .rows) ++ (placesWords (d .table .drives) ++ tailWords d)
 
 -- the image of a desk
 unfoldable pub image : Desk → List ℕ
@@ -90,6 +105,26 @@ tailAt j = placeAt 8 + 8 * j
 -- 2400
 abbrev pub blockSize : ℕ
 blockSize = tailAt 4
+
+-- the last words by name
+abbrev pub countAt : ℕ
+countAt = tailAt 0
+
+abbrev pub pointerAt : ℕ
+pointerAt = tailAt 1
+
+abbrev pub arenaAt : ℕ
+arenaAt = tailAt 2
+
+abbrev pub storeAt : ℕ
+storeAt = tailAt 3
+
+-- in a row that begins at i, where the words of a request and those of the finished registers stand
+abbrev pub requestPlace : ℕ → ℕ
+requestPlace i = i + 8
+
+abbrev pub finishedPlace : ℕ → ℕ
+finishedPlace i = i + 8 * 15
 
 -- ---- the desk that bytes say, each field by its own width, whatever the rest of its word is
 
@@ -120,7 +155,8 @@ requestAt b i = record {
 
 -- by the number of the stage; any but 1 and 2 says vacant
 unfoldable pub readStage : List ℕ → ℕ → Stage
-readStage b i = pick (eqb (getD b i 0) 1) (Waiting (requestAt b (i + 8))) (pick (eqb (getD b i 0) 2) (Finished (registersAt b (i + 120))) Vacant)
+readStage b i =
+    pick (eqb (getD b i 0) 1) (Waiting (requestAt b (requestPlace i))) (pick (eqb (getD b i 0) 2) (Finished (registersAt b (finishedPlace i))) Vacant)
 
 abbrev pub readRow : List ℕ → ℕ → Row
 readRow b i = record { stage = readStage b i }
@@ -143,21 +179,18 @@ readDrive b i = record {
   device = part 8 b (i + 104);
 }
 
+-- the section of the rows, of the places
 abbrev pub readRows : List ℕ → List Row
-readRows b =
-    readRow b (rowAt 0) ∷ readRow b (rowAt 1) ∷ readRow b (rowAt 2) ∷ readRow b (rowAt 3)
-    ∷ readRow b (rowAt 4) ∷ readRow b (rowAt 5) ∷ readRow b (rowAt 6) ∷ readRow b (rowAt 7) ∷ []
+readRows b = listed (λ g. readRow b (rowAt g)) 0 8
+
+abbrev pub readPlaces : List ℕ → List Drive
+readPlaces b = listed (λ i. readDrive b (placeAt i)) 0 8
 
 abbrev pub blockTable : List ℕ → Table
-blockTable b = record {
-  drives =
-      readDrive b (placeAt 0) ∷ readDrive b (placeAt 1) ∷ readDrive b (placeAt 2) ∷ readDrive b (placeAt 3)
-      ∷ readDrive b (placeAt 4) ∷ readDrive b (placeAt 5) ∷ readDrive b (placeAt 6) ∷ readDrive b (placeAt 7) ∷ [];
-  count = le 8 b (tailAt 0);
-}
+blockTable b = record { drives = readPlaces b; count = le 8 b countAt }
 
 unfoldable pub readDesk : List ℕ → Desk
-readDesk b = record { rows = readRows b; pointer = le 8 b (tailAt 1); table = blockTable b; arena = le 8 b (tailAt 2); store = le 8 b (tailAt 3) }
+readDesk b = record { rows = readRows b; pointer = le 8 b pointerAt; table = blockTable b; arena = le 8 b arenaAt; store = le 8 b storeAt }
 
 -- ---- the desk of a block
 
@@ -176,6 +209,14 @@ accepted b = accept (deskOf b)
 -- a desk laid out in a block; a block of another size stays
 unfoldable pub laid : List ℕ → Desk → List ℕ
 laid b d = pick (eqb (length b) blockSize) (image d) b
+
+-- ---- what a call changes in a block: the words of one row, the pointer's word
+
+unfoldable pub putStage : List ℕ → ℕ → Stage → List ℕ
+putStage b g s = sets b (rowAt g) (flat (stageWords s))
+
+unfoldable pub putPointer : List ℕ → ℕ → List ℕ
+putPointer b pointer = sets b pointerAt (leBytes 8 pointer)
 
 -- ---- what the types of its fields say of a desk: each number fits its width, each array has its length
 

@@ -1,6 +1,7 @@
 // The desk block: a desk laid out in bytes that the host owns, and read from them. A block is read by fields, laid out again and
 // compared, so that no padding byte and no width is tested by hand.
 use desk::Desk;
+use desk::Next;
 use desk::Request;
 use desk::Row;
 use desk::Stage;
@@ -10,7 +11,7 @@ use int13::Registers;
 use table::Table;
 ghost use mathlib.Core.Path.{_≡_};
 ghost use mathlib.Core.List.{List, _++_};
-ghost use Prim.Native.Nat.{_+_, _*_, _≤_};
+ghost use Prim.Native.Nat.{_+_, _*_, _≤_, _<_};
 ghost use lib.ListN.{length, take, drop};
 ghost use lib.Seq.{sets};
 ghost use lib.Dec.{eqb};
@@ -18,20 +19,35 @@ ghost use Rattle.logic.specs.Logic.{pick, both};
 ghost use Rattle.drive.specs.Drive.{same};
 ghost use Rattle.desk.specs.Numbers.{registerNumbers};
 ghost use Rattle.desk.specs.declared.Stage.the-variants.{Waiting, Finished};
-ghost use Rattle.desk.specs.Calls.{closed};
-ghost use Rattle.image.specs.Image.{rowSize, placeSize, placeAt, blockSize, each, flat, stageWords, rowWords, driveWords, image, registersAt, requestAt, readStage, readRow, readDrive, readRows, blockTable, readDesk, deskOf, laid};
+ghost use Rattle.desk.specs.Parts.{stageAt};
+ghost use Rattle.desk.specs.Calls.{closed, seek};
+ghost use Rattle.memory.specs.Window.{guests};
+ghost use Rattle.int13.specs.Steps.{firstDrive, driveCount, isDrive, driveAt};
+ghost use Rattle.image.specs.Image.{rowSize, placeSize, placeAt, blockSize, each, flat, stageWords, rowWords, driveWords, image, registersAt, requestAt, readStage, readRow, readDrive, readRows, readDesk, deskOf, laid, putStage, putPointer};
+
+// Bytes of a row, of 23 words, and of a place of the table, of 14; where the places and the last words stand.
+const ROW: usize = 8 * 23;
+
+const PLACE: usize = 8 * 14;
+
+const PLACES: usize = ROW * 8;
+
+const TAIL: usize = PLACES + PLACE * 8;
+
+// The last words: the number of drives, the turn pointer, the lengths of the opening.
+const COUNT: usize = TAIL;
+
+const POINTER: usize = TAIL + 8;
+
+const ARENA: usize = TAIL + 16;
+
+const STORE: usize = TAIL + 24;
 
 // Bytes of a block.
-pub const SIZE: usize = 2400;
+pub const SIZE: usize = TAIL + 32;
 
-// Bytes of a row and of a place of the table; where the places and the last words stand.
-const ROW: usize = 184;
-
-const PLACE: usize = 112;
-
-const PLACES: usize = 1472;
-
-const TAIL: usize = 2368;
+// The BIOS number of the first drive.
+const FIRST_DRIVE: u8 = 128;
 
 // ---- the desk that bytes say. Every place is inside a block of the right size, which `decode` has tested.
 
@@ -136,9 +152,9 @@ fn rows_of(b: &[u8]) -> [Row; 8]
     ]
 }
 
-fn table_of(b: &[u8]) -> Table
+pub fn table_of(b: &[u8]) -> Table
     requires { ⌜ length (now b) ≡ blockSize ⌝ }
-    ensures { λ r. ⌜ r ≡ blockTable (now (b .entry)) ⌝ }
+    ensures { λ r. ⌜ r ≡ readDesk (now (b .entry)) .table ⌝ }
 {
     let drives = [
         drive_at(b, PLACES),
@@ -152,7 +168,7 @@ fn table_of(b: &[u8]) -> Table
     ];
     Table {
         drives,
-        count: words::get64(b, TAIL) as usize,
+        count: words::get64(b, COUNT) as usize,
     }
 }
 
@@ -162,11 +178,69 @@ fn read(b: &[u8]) -> Desk
 {
     Desk {
         rows: rows_of(b),
-        pointer: words::get64(b, TAIL + 8) as usize,
+        pointer: words::get64(b, POINTER) as usize,
         table: table_of(b),
-        arena: words::get64(b, TAIL + 16),
-        store: words::get64(b, TAIL + 24),
+        arena: words::get64(b, ARENA),
+        store: words::get64(b, STORE),
     }
+}
+
+// ---- fields of a block that has been found acceptable, of which a call reads those that it needs
+
+// Arena and store have the lengths of the opening.
+pub fn is_lent(b: &[u8], arena: usize, store: usize) -> bool
+    requires { ⌜ length (now b) ≡ blockSize ⌝ }
+    ensures { λ r. ⌜ r ≡ both (eqb arena (readDesk (now (b .entry)) .arena)) (eqb store (readDesk (now (b .entry)) .store)) ⌝ }
+{
+    let same = arena as u64 == words::get64(b, ARENA);
+    logic::and(same, store as u64 == words::get64(b, STORE))
+}
+
+// What a guest's row holds.
+pub fn stage_of(b: &[u8], guest: usize) -> Stage
+    requires { ⌜ (length (now b) ≡ blockSize) × (guest < guests) ⌝ }
+    ensures { λ r. ⌜ r ≡ stageAt (readDesk (now (b .entry))) guest ⌝ }
+{
+    stage_at(b, ROW * guest)
+}
+
+// The first waiting row at or after the pointer, by the numbers of the stages.
+pub fn next_of(b: &[u8]) -> Next
+    requires { ⌜ (length (now b) ≡ blockSize) × (readDesk (now b) .pointer < guests) ⌝ }
+    ensures { λ r. ⌜ r ≡ seek (readDesk (now (b .entry)) .rows) guests (readDesk (now (b .entry)) .pointer) ⌝ }
+{
+    let mut guest = words::get64(b, POINTER) as usize;
+    let mut left: usize = 8;
+    while 0 < left {
+        if b[ROW * guest] == 1 {
+            return Next::Guest(guest);
+        }
+        guest = (guest + 1) % 8;
+        left -= 1;
+    }
+    Next::Nobody
+}
+
+// How many drives the table holds, at most eight.
+pub fn count_of(b: &[u8]) -> u8
+    requires { ⌜ length (now b) ≡ blockSize ⌝ }
+    ensures { λ r. ⌜ (r ≡ driveCount (readDesk (now (b .entry)) .table)) × (r ≤ 8) ⌝ }
+{
+    let count = words::get64(b, COUNT);
+    if count < 8 { count as u8 } else { 8 }
+}
+
+// The drive of a BIOS number, or the first where the number is not known: a caller that has not tested the number asks nothing of it.
+pub fn drive_named(b: &[u8], n: u8) -> Drive
+    requires { ⌜ length (now b) ≡ blockSize ⌝ }
+    ensures { λ d. ⌜ d ≡ driveAt (readDesk (now (b .entry)) .table) (pick (isDrive (readDesk (now (b .entry)) .table) n) n firstDrive) ⌝ }
+{
+    let end = FIRST_DRIVE + count_of(b);
+    if logic::and(FIRST_DRIVE <= n, n < end) {
+        let place = (n - FIRST_DRIVE) as usize;
+        return drive_at(b, PLACES + PLACE * place);
+    }
+    drive_at(b, PLACES)
 }
 
 // ---- the words of a desk, laid out
@@ -311,6 +385,23 @@ fn put_drives(out: &mut [u8], drives: [Drive; 8])
         put_words(out, PLACES + PLACE * k, &w);
         k += 1;
     }
+}
+
+// What a guest's row holds from now on: only the row's words are written.
+pub fn put_stage(b: &mut [u8], guest: usize, stage: Stage)
+    requires { ⌜ (length (now b) ≡ blockSize) × (guest < guests) ⌝ }
+    ensures { λ _. ⌜ now (b .exit) ≡ putStage (now (b .entry)) guest stage ⌝ }
+{
+    let w = stage_words(stage);
+    put_words(b, ROW * guest, &w);
+}
+
+// Where the next search begins: only the pointer's word is written.
+pub fn put_pointer(b: &mut [u8], pointer: usize)
+    requires { ⌜ length (now b) ≡ blockSize ⌝ }
+    ensures { λ _. ⌜ now (b .exit) ≡ putPointer (now (b .entry)) pointer ⌝ }
+{
+    words::store64(b, POINTER, pointer as u64);
 }
 
 // Lays a desk out in a block of its size, which both callers have made sure of.
