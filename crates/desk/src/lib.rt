@@ -122,11 +122,11 @@ pub enum Next {
 // Document 01's house numbers.
 const NO_GUEST: u8 = 20;
 
-const NOT_VACANT: u8 = 21;
+pub const NOT_VACANT: u8 = 21;
 
-const NOT_FINISHED: u8 = 22;
+pub const NOT_FINISHED: u8 = 22;
 
-const NOT_WAITING: u8 = 23;
+pub const NOT_WAITING: u8 = 23;
 
 const OTHER_LENGTH: u8 = 24;
 

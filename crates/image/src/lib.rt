@@ -23,7 +23,7 @@ ghost use Rattle.desk.specs.Parts.{stageAt};
 ghost use Rattle.desk.specs.Calls.{closed, seek};
 ghost use Rattle.memory.specs.Window.{guests};
 ghost use Rattle.int13.specs.Steps.{firstDrive, driveCount, isDrive, driveAt};
-ghost use Rattle.image.specs.Image.{rowSize, placeSize, placeAt, blockSize, each, flat, stageWords, rowWords, driveWords, image, registersAt, requestAt, readStage, readRow, readDrive, readRows, readDesk, deskOf, laid, putStage, putPointer};
+ghost use Rattle.image.specs.Image.{rowSize, placeSize, placeAt, blockSize, each, flat, stageWords, rowWords, driveWords, image, registersAt, requestAt, readStage, readRow, readDrive, readRows, readDesk, deskOf, accepted, laid, putStage, putPointer};
 
 // Bytes of a row, of 23 words, and of a place of the table, of 14; where the places and the last words stand.
 const ROW: usize = 8 * 23;
@@ -475,4 +475,12 @@ pub fn decode(block: &[u8]) -> Desk
         return d;
     }
     no_desk()
+}
+
+// Whether a block is the image of an acceptable desk.
+pub fn acceptable(b: &[u8]) -> bool
+    ensures { λ r. ⌜ r ≡ accepted (now (b .entry)) ⌝ }
+{
+    let d = decode(b);
+    d.accept()
 }
