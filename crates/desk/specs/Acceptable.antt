@@ -16,7 +16,6 @@ use Rattle.memory.specs.Window.{guests, windowLength}
 use Rattle.memory.specs.Blocks.{blockLength}
 use Rattle.int13.specs.declared.Job.{Job}
 use Rattle.int13.specs.Answers.{ah, isSectors, isWrite}
-use Rattle.int13.specs.Alone.{storeBlock}
 use Rattle.int13.specs.Steps.{isDrive, driveAt, mostBlocks, mostRun}
 use Rattle.desk.specs.declared.Request.{Request}
 use Rattle.desk.specs.declared.Stage.{Stage}
@@ -82,12 +81,11 @@ rowsOk (suc n) rows b M = both (stageOk b M (stageIn rows n)) (rowsOk n rows b M
 unfoldable pub accept : Desk → Bool
 accept d = both (isSound (d .table) (storeBlocks d)) (both (ltb (d .pointer) guests) (rowsOk guests (d .rows) (d .table) (windowSize d)))
 
--- what acceptance says of the row that a turn serves, for an arena of a bytes and a store of s
-pub record InRange (b : Table) (q : Request) (g a s : ℕ) : Type 0 where
+-- what acceptance says of the row that a turn serves, for k blocks of it, its drive's first store block, an arena of a bytes and a store of s
+pub record InRange (first : ℕ) (q : Request) (k g a s : ℕ) : Type 0 where
   pub guest : g < guests
-  pub drive : isDrive b (q .job .drive) ≡ true
-  pub moved : q .moved < q .job .count
+  pub part : q .moved + k ≤ q .job .count
   pub buffer : q .job .buffer + blockLength * q .job .count ≤ windowLength a
-  pub blocks : blockLength * (storeBlock b (q .job) + q .job .count) ≤ s
+  pub blocks : blockLength * (first + q .job .start + q .job .count) ≤ s
   pub arena : a < 2 ^ 64
   pub store : s < 2 ^ 64

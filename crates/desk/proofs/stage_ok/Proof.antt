@@ -23,15 +23,15 @@ returns-2 : tie.Need-returns-2
 returns-2 c = rw (c .before .before .before .stage .given .1, sym (c .before .is-drive .ensures) ∙ not-true _ (c .if1 .taken))
 
 drive-at-requires : tie.Need-drive-at-requires
-drive-at-requires c κs = sym (c .before .is-drive .ensures) ∙ not-false _ (c .if1 .left)
+drive-at-requires c κs = search needs
 
 request-ok-requires : tie.Need-request-ok-requires
 request-ok-requires c κs = search needs
 
 returns-3 : tie.Need-returns-3
 returns-3 c =
-    rw
-    (c .before .before .before .before .before .stage .given .1, c .request-ok .ensures, c .before .drive-at .ensures, sym (c .before .before .before .is-drive .ensures) ∙ not-false _ (c .before .before .if1 .left))
+    let known = sym (c .before .before .before .is-drive .ensures) ∙ not-false _ (c .before .before .if1 .left) in
+    rw (c .before .before .before .before .before .stage .given .1, c .request-ok .ensures, c .before .drive-at .ensures .1 known, known)
 
 pub stage-ok-spec : {M : Type 1} → statement M
 stage-ok-spec =
