@@ -393,13 +393,11 @@ rows-all (suc n) rows t M = ap (λ (x : Bool). both (stageOk t M (stageIn rows n
 -- the tests of the table, as tests of every place
 sound-all : (n : ℕ) (l : List Drive) (store : ℕ) → soundTo n l store ≡ allBelow n (λ i. eqb (refusal (firstDrives l i) (getD l i noDrive) store) 0)
 unfolding soundTo
-sound-all zero l store = refl
-sound-all (suc n) l store = ap (λ (x : Bool). both (eqb (refusal (firstDrives l n) (getD l n noDrive) store) 0) x) (sound-all n l store)
+sound-all n l store = refl
 
 blank-all : (n : ℕ) (l : List Drive) (count : ℕ) → blankTo n l count ≡ allBelow n (λ i. either (ltb i count) (isBlank (getD l i noDrive)))
 unfolding blankTo
-blank-all zero l count = refl
-blank-all (suc n) l count = ap (λ (x : Bool). both (either (ltb n count) (isBlank (getD l n noDrive))) x) (blank-all n l count)
+blank-all n l count = refl
 
 not-either : (a c : Bool) → not (either a c) ≡ both (not a) (not c)
 not-either true c = refl
