@@ -46,13 +46,13 @@ module _ {A : Type 0} (f : A → List ℕ) (n : ℕ) (wide : (x : A) → length 
   set-each [] t k x h = absurd (omega arith)
   set-each (y ∷ xs) t zero x h =
       rw (mul-zero, append-assoc, append-assoc) (
-        sets-front (f y ++ (each f xs ++ t)) (f x) (rw (length-append, wide x, wide y) (omega arith))
-        ∙ ap (λ (l : List ℕ). f x ++ l) (drop-at (f y) (each f xs ++ t) (length (f x)) (wide y ∙ sym (wide x))))
+      sets-front (f y ++ (each f xs ++ t)) (f x) (rw (length-append, wide x, wide y) (omega arith))
+      ∙ ap (λ (l : List ℕ). f x ++ l) (drop-at (f y) (each f xs ++ t) (length (f x)) (wide y ∙ sym (wide x))))
   set-each (y ∷ xs) t (suc k) x h =
       let z : n * suc k ≡ n + n * k = rw (mul-suc n k) (omega arith) in
       rw (z, append-assoc, append-assoc) (
-        sets-behind (f y) (each f xs ++ t) n (n * k) (f x) (wide y)
-        ∙ ap (λ (l : List ℕ). f y ++ l) (set-each xs t k x (omega arith)))
+      sets-behind (f y) (each f xs ++ t) n (n * k) (f x) (wide y)
+      ∙ ap (λ (l : List ℕ). f y ++ l) (set-each xs t k x (omega arith)))
 
 -- the bytes of members' words, member by member
 flat-each : {A : Type 0} (f : A → List ℕ) (xs : List A) → flat (each f xs) ≡ each (λ x. flat (f x)) xs
@@ -106,9 +106,9 @@ image-pointer d p r t =
     ap (λ (b : List ℕ). sets b pointerAt (leBytes 8 p)) (image-front d)
     ∙ sets-behind (front d) (flat (tailWords d)) (rowAt 8 + 8 * (14 * 8)) (8 * 1) (leBytes 8 p) l
     ∙ ap (λ (b : List ℕ). front d ++ b)
-      (ap (λ (b : List ℕ). sets b (8 * 1) (leBytes 8 p)) (sym (append-nil (flat (tailWords d))))
-      ∙ set-each (leBytes 8) 8 (length-leBytes 8) (tailWords d) [] 1 p (omega arith)
-      ∙ append-nil _)
+    (ap (λ (b : List ℕ). sets b (8 * 1) (leBytes 8 p)) (sym (append-nil (flat (tailWords d))))
+    ∙ set-each (leBytes 8) 8 (length-leBytes 8) (tailWords d) [] 1 p (omega arith)
+    ∙ append-nil _)
     ∙ sym (image-front (withPointer d p))
 
 -- ---- an accepted block
