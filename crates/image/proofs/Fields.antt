@@ -7,6 +7,7 @@ use mathlib.Core.Path.{_≡_, refl, sym, _∙_, ap}
 use mathlib.Core.Bool.{Bool, true, false}
 use mathlib.Core.List.{List}
 use lib.ListN.{length, getD, length-take}
+use lib.Seq.{ext-getD}
 use lib.Dec.{leb, ltb, eqb}
 use borrow.Author.Tests.{leb-true, ltb-true}
 use Rattle.logic.specs.Logic.{pick, both}
@@ -25,6 +26,17 @@ listed-at f i (suc n) zero e h = rw add-zero
 listed-at f i (suc n) (suc k) e h =
     let z : suc i + k ≡ i + suc k = omega arith in
     listed-at f (suc i) n k e (omega arith) ∙ ap f z
+
+length-listed : {A : Type 0} (f : ℕ → A) (i n : ℕ) → length (listed f i n) ≡ n
+length-listed f i zero = refl
+length-listed f i (suc n) = ap suc (length-listed f (suc i) n)
+
+-- a list that is read member by member
+pub listed-is : {A : Type 0} (f : ℕ → A) (l : List A) (n : ℕ) (e : A) → length l ≡ n → ((k : ℕ) → k < n → f k ≡ getD l k e) → listed f 0 n ≡ l
+listed-is f l n e m h =
+    ext-getD e (listed f 0 n) l (length-listed f 0 n ∙ sym m) (λ k q.
+    let r : k < n = omega (arith, length-listed f 0 n) in
+    listed-at f 0 n k e r ∙ ap f (zero-add k) ∙ h k r)
 
 -- a guest's row
 pub row-of : (b : List ℕ) (g : ℕ) → g < 8 → stageAt (readDesk b) g ≡ readStage b (rowAt g)

@@ -45,12 +45,12 @@ module _ {A : Type 0} (f : A → List ℕ) (n : ℕ) (wide : (x : A) → length 
   unfolding each
   set-each [] t k x h = absurd (omega arith)
   set-each (y ∷ xs) t zero x h =
-      rw (mul-zero, append-assoc, append-assoc) (
+      rw (mul-zero, append-assoc (f y) (each f xs) t, append-assoc (f x) (each f xs) t) (
       sets-front (f y ++ (each f xs ++ t)) (f x) (rw (length-append, wide x, wide y) (omega arith))
       ∙ ap (λ (l : List ℕ). f x ++ l) (drop-at (f y) (each f xs ++ t) (length (f x)) (wide y ∙ sym (wide x))))
   set-each (y ∷ xs) t (suc k) x h =
       let z : n * suc k ≡ n + n * k = rw (mul-suc n k) (omega arith) in
-      rw (z, append-assoc, append-assoc) (
+      rw (z, append-assoc (f y) (each f xs) t, append-assoc (f y) (each f (set xs k x)) t) (
       sets-behind (f y) (each f xs ++ t) n (n * k) (f x) (wide y)
       ∙ ap (λ (l : List ℕ). f y ++ l) (set-each xs t k x (omega arith)))
 
