@@ -1,4 +1,4 @@
-use Rattle.image.specs.Image.{image, readDesk, isImage, deskOf}
+use Rattle.image.specs.Image.{image, blockSize, readDesk, isImage, deskOf}
 use Rattle.drive.specs.Drive.{same}
 use Rattle.logic.specs.Logic.{both}
 use borrow.Author.Tests.{eq-eqb, ne-eqb}
@@ -19,7 +19,7 @@ no-desk-requires c κs = search needs
 
 returns : tie.Need-returns
 unfolding deskOf isImage
-returns c = rw (c .no-desk .ensures, ne-eqb _ 2400 (c .before .if1 .taken))
+returns c = rw (c .no-desk .ensures, ne-eqb _ blockSize (c .before .if1 .taken))
 
 read-requires : tie.Need-read-requires
 read-requires c κs = search needs
@@ -42,7 +42,7 @@ returns-2 c =
     let b = c .before .before .before .before .before .before .before .before .before .args .block .now in
     let e : same b (image (readDesk b)) ≡ true =
     rw (← c .before .before .before .before .before .before .read .ensures, ← c .before .before .before .before .lay .ensures) (sym (c .before .same .ensures) ∙ c .if2 .taken) in
-    rw (c .before .before .before .before .before .before .read .ensures, eq-eqb _ 2400 (c .before .before .before .before .before .before .before .if1 .left), e)
+    rw (c .before .before .before .before .before .before .read .ensures, eq-eqb _ blockSize (c .before .before .before .before .before .before .before .if1 .left), e)
 
 no-desk-requires-2 : tie.Need-no-desk-requires-2
 no-desk-requires-2 c κs = search needs
@@ -53,7 +53,7 @@ returns-3 c =
     let b = c .before .before .before .before .before .before .before .before .before .before .args .block .now in
     let e : same b (image (readDesk b)) ≡ false =
     rw (← c .before .before .before .before .before .before .before .read .ensures, ← c .before .before .before .before .before .lay .ensures) (sym (c .before .before .same .ensures) ∙ c .before .if2 .left) in
-    rw (c .no-desk2 .ensures, eq-eqb _ 2400 (c .before .before .before .before .before .before .before .before .if1 .left), e)
+    rw (c .no-desk2 .ensures, eq-eqb _ blockSize (c .before .before .before .before .before .before .before .before .if1 .left), e)
 
 pub decode-spec : {M : Type 1} → statement M
 decode-spec =

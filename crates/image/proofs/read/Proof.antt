@@ -11,23 +11,14 @@ use Rattle.words.proofs.get64.Reads as get64-reads
 rows-of-requires : tie.Need-rows-of-requires
 rows-of-requires c κs = search needs
 
-add-get64 : tie.Need-add-get64
-add-get64 c = search needs
-
 get64-requires : tie.Need-get64-requires
 get64-requires c κs = search needs
 
 table-of-requires : tie.Need-table-of-requires
 table-of-requires c κs = search needs
 
-add-get64-2 : tie.Need-add-get64-2
-add-get64-2 c = search needs
-
 get64-requires-2 : tie.Need-get64-requires-2
 get64-requires-2 c κs = search needs
-
-add-get64-3 : tie.Need-add-get64-3
-add-get64-3 c = search needs
 
 get64-requires-3 : tie.Need-get64-requires-3
 get64-requires-3 c κs = search needs
@@ -41,11 +32,8 @@ read-spec =
     tie.close
     (tie.spec
     rows-of-requires
-    add-get64
     get64-requires
     table-of-requires
-    add-get64-2
     get64-requires-2
-    add-get64-3
     get64-requires-3
     returns)
