@@ -11,6 +11,7 @@ use Rattle.drive.specs.Drive.{Fits, recordOf}
 
 -- ---- "The drive table", the record of kind 1 by offset
 
+-- what the bytes r say at each offset is what the drive d has
 pub record ByOffset (d : Drive) (r : List ℕ) : Type 0 where
   -- 0 word: length, 68; and so many bytes there are
   pub length-word : le 2 r 0 ≡ 68

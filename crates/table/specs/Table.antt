@@ -23,31 +23,37 @@ use Rattle.table.specs.declared.Reading.{Reading}
 use Rattle.table.specs.declared.Written.{Written}
 use Rattle.table.specs.declared.Written.the-variants.{Bytes, Refused as WriteRefused}
 
--- ---- the numbers of the refusals, in the order of the checks
+-- ---- "The drive table", the numbers of the refusals, in the order of the checks
 
 -- 1 fewer than 4 bytes left, or the record is cut off
 abbrev pub cutOff : ℕ
 cutOff = 1
 
+-- 3 unknown kind
 abbrev pub unknownKind : ℕ
 unknownKind = 3
 
+-- 2 wrong length for the kind
 abbrev pub wrongLength : ℕ
 wrongLength = 2
 
+-- 4 ninth drive
 abbrev pub ninthDrive : ℕ
 ninthDrive = 4
 
+-- 5 a field breaks its rule
 abbrev pub badField : ℕ
 badField = 5
 
+-- 6 first + blocks is above the store
 abbrev pub pastStore : ℕ
 pastStore = 6
 
+-- 7 it overlaps an earlier drive
 abbrev pub overlapping : ℕ
 overlapping = 7
 
--- a byte follows the end record
+-- 8 a byte follows the end record
 abbrev pub byteFollows : ℕ
 byteFollows = 8
 
@@ -55,12 +61,13 @@ byteFollows = 8
 abbrev pub shortBuffer : ℕ
 shortBuffer = 19
 
--- ---- a record: length first (word, whole record), then a two-byte kind
+-- ---- "The drive table", a record: length first (word, whole record), then a two-byte kind
 
--- kind 0, length 4, ends the table
+-- kind 0 ends the table
 abbrev pub endKind : ℕ
 endKind = 0
 
+-- and its record is 4 bytes
 abbrev pub endLength : ℕ
 endLength = 4
 
@@ -89,7 +96,7 @@ headerOf left size kind =
 unfoldable pub headerAt : List ℕ → ℕ → Header
 headerAt t at = headerOf (length t - at) (le 2 t at) (le 2 t (at + 2))
 
--- ---- a drive, among those before it: checks 4, 5, 6, 7
+-- ---- "The drive table", a drive among those before it: checks 4, 5, 6, 7
 
 -- "Drives: 0 to 8"
 abbrev pub mostDrives : ℕ
@@ -116,7 +123,7 @@ refusal b d store =
 abbrev pub more : Table → Drive → Table
 more b d = record { drives = set (b .drives) (b .count) d; count = b .count + 1 }
 
--- ---- one step of the reader; a refusal names the record's start
+-- ---- "The drive table", one step of the reader; a refusal names the record's start
 
 -- what a record was, and the drives after it
 abbrev pub stepped : Step → Table → Stepped
@@ -149,12 +156,15 @@ placeAfter (Next next) at = next
 placeAfter Done at = at
 placeAfter (Refused n place) at = at
 
+-- where the reading stands after a record that began at `at`
+abbrev pub cursorAfter : ℕ → Stepped → Cursor
+cursorAfter at r = record { at = placeAfter (r .step) at; step = r .step; table = r .table }
+
 -- a step from where the reading stands: what the record was, the drives after it, and the next place, which the reader remembers
 unfoldable pub advanced : List ℕ → Cursor → ℕ → Cursor
-advanced t c store =
-    record { at = placeAfter (stepAt t (c .at) (c .table) store .step) (c .at); step = stepAt t (c .at) (c .table) store .step; table = stepAt t (c .at) (c .table) store .table }
+advanced t c store = cursorAfter (c .at) (stepAt t (c .at) (c .table) store)
 
--- ---- the whole table
+-- ---- "The drive table", the whole table
 
 -- a place that no drive was read into
 abbrev pub zeroDrive : Drive
@@ -191,7 +201,7 @@ mostRecords = 9
 unfoldable pub readTable : List ℕ → ℕ → Reading
 readTable t store = readFrom mostRecords t store 0 emptyTable
 
--- ---- a list of drives that obeys the rules
+-- ---- "The drive table", a list of drives that obeys the rules
 
 -- the drives so far with a list of more
 abbrev pub pushAll : Table → List Drive → Table
@@ -203,7 +213,7 @@ pub data Taken (store : ℕ) : Table → List Drive → Type 0 where
   none : {b : Table} → Taken store b []
   one : {b : Table} {d : Drive} {ds : List Drive} → Fits d → refusal b d store ≡ 0 → Taken store (more b d) ds → Taken store b (d ∷ ds)
 
--- ---- the table written back
+-- ---- "Calls the host makes", write: the table written back
 
 -- the end record
 abbrev pub endRecord : List ℕ
@@ -238,7 +248,7 @@ writeAnswer b room = pick (ltb room (length (tableOf b))) (WriteRefused shortBuf
 unfoldable pub writeOut : Table → List ℕ → List ℕ
 writeOut b out = pick (ltb (length out) (length (tableOf b))) out (tableOf b ++ drop (length (tableOf b)) out)
 
--- ---- the answers as numbers: 0 and the values, or the refusal's number and its place; no two answers have the same
+-- ---- "The drive table", the answers as numbers: 0 and the values, or the refusal's number and its place; no two answers have the same
 
 -- 0, a drive's kind and the next place; 0 alone at the end; or the number and the place
 unfoldable pub stepNumbers : Step → List ℕ
@@ -246,10 +256,12 @@ stepNumbers (Next at) = 0 ∷ 1 ∷ at ∷ []
 stepNumbers Done = 0 ∷ []
 stepNumbers (Refused n at) = n ∷ at ∷ []
 
+-- 0, or the number and the place
 unfoldable pub answerNumbers : Answer → List ℕ
 answerNumbers Accepted = 0 ∷ []
 answerNumbers (AnswerRefused n at) = n ∷ at ∷ []
 
+-- 0 and how many bytes, or the house number
 unfoldable pub writtenNumbers : Written → List ℕ
 writtenNumbers (Bytes n) = 0 ∷ n ∷ []
 writtenNumbers (WriteRefused n) = n ∷ []
@@ -281,6 +293,7 @@ unfoldable pub numbersFrom : ℕ → List ℕ → ℕ → ℕ → Table → List
 numbersFrom zero t store at b = 4 ∷ at ∷ []
 numbersFrom (suc k) t store at b = onward (recordNumbers t at b store) (λ next. numbersFrom k t store next (stepAt t at b store .table))
 
+-- from the first record on
 unfoldable pub tableNumbers : List ℕ → ℕ → List ℕ
 tableNumbers t store = numbersFrom mostRecords t store 0 emptyTable
 
@@ -288,17 +301,19 @@ tableNumbers t store = numbersFrom mostRecords t store 0 emptyTable
 unfoldable pub writeNumbers : Table → ℕ → List ℕ
 writeNumbers b room = pick (ltb room (length (tableOf b))) (19 ∷ []) (0 ∷ length (tableOf b) ∷ [])
 
--- ---- what the calls promise, the answer and its numbers
+-- ---- "The drive table", what the calls promise: the answer, and its numbers
 
+-- one record on
 pub record Advances (t : List ℕ) (c : Cursor) (store : ℕ) (r : Cursor) : Type 0 where
   pub cursor : r ≡ advanced t c store
   pub numbers : stepNumbers (r .step) ≡ recordNumbers t (c .at) (c .table) store
 
+-- the whole table
 pub record Reads (t : List ℕ) (store : ℕ) (r : Reading) : Type 0 where
   pub reading : r ≡ readTable t store
   pub numbers : answerNumbers (r .answer) ≡ tableNumbers t store
 
--- ---- a table that obeys the rules, as a desk holds it
+-- ---- "The drive table", a table that obeys the rules, as a desk holds it
 
 -- the table of the first n drives
 abbrev pub firstDrives : List Drive → ℕ → Table
