@@ -438,13 +438,17 @@ fn nine_turns(desk: Desk, arena: &mut [u8], store: &mut [u8]) {
 
 // P10: the first turn leaves pointer 1 and all eight waiting, and eight follow.
 fn eight_guests(arena: &mut [u8], store: &mut [u8]) {
-    fill(store, 101);
     let t = table_bytes(64, 1, 1, 0);
     let opening = Desk::open(&t, arena.len() as u64, store.len() as u64);
     let desk = opening.desk;
     let half = lower_wait(desk, arena, &store[..]);
     let all = upper_wait(half, arena, &store[..]);
     nine_turns(all, arena, store);
+}
+
+fn filled_eight(arena: &mut [u8], store: &mut [u8]) {
+    fill(store, 101);
+    eight_guests(arena, store);
 }
 
 fn zero_arena() -> [u8; 163840]
@@ -469,8 +473,8 @@ fn main() {
     let mut arena = zero_arena();
     let mut store = zero_store();
     turns(&mut arena, &mut store);
-    eight_guests(&mut arena, &mut store);
+    filled_eight(&mut arena, &mut store);
     sources::functions(&mut window);
     sources::tables(&mut window);
-    sources::withdrawal(&mut arena, &mut store);
+    sources::filled_withdrawal(&mut arena, &mut store);
 }

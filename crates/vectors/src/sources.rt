@@ -280,8 +280,7 @@ pub(crate) fn tables(window: &mut [u8]) {
 // ---- the desk
 
 // Guest 0 withdraws after 16 of 40 blocks have been laid over its packet.
-pub(crate) fn withdrawal(arena: &mut [u8], store: &mut [u8]) {
-    fill(store, 201);
+fn withdrawal(arena: &mut [u8], store: &mut [u8]) {
     let t = table_bytes(64, 1, 1, 0);
     let opening = Desk::open(&t, arena.len() as u64, store.len() as u64);
     let desk = opening.desk;
@@ -297,4 +296,9 @@ pub(crate) fn withdrawal(arena: &mut [u8], store: &mut [u8]) {
         WithdrawAnswer::Refused(_) => say(b"withdrawal refused\n"),
     }
     say_count(&arena[..]);
+}
+
+pub(crate) fn filled_withdrawal(arena: &mut [u8], store: &mut [u8]) {
+    fill(store, 201);
+    withdrawal(arena, store);
 }
