@@ -9,12 +9,11 @@ use mathlib.Core.List.{List}
 use lib.ListN.{length, getD, length-take}
 use lib.Seq.{ext-getD}
 use lib.Dec.{leb, ltb, eqb}
-use borrow.Author.Tests.{leb-true, ltb-true}
 use Rattle.logic.specs.Logic.{pick, both}
-use Rattle.logic.proofs.Logic.{both-true}
 use Rattle.words.specs.Words.{le}
 use Rattle.table.specs.Table.{noDrive}
 use Rattle.int13.specs.Steps.{firstDrive, driveCount, isDrive}
+use Rattle.int13.proofs.StepLaws.{isDrive-true}
 use Rattle.desk.specs.declared.Stage.the-variants.{Vacant, Waiting, Finished}
 use Rattle.desk.specs.declared.Row.{Row}
 use Rattle.desk.specs.Parts.{vacantRow, stageIn, stageAt, isWaiting}
@@ -71,5 +70,6 @@ pub known : (b : List ℕ) (n c : ℕ) (t : Bool) → c ≡ driveCount (readDesk
 unfolding isDrive
 known b n c t e f = rw (← e) f
 
-pub between : (n c : ℕ) (t : Bool) → t ≡ both (leb firstDrive n) (ltb n (firstDrive + c)) → t ≡ true → (firstDrive ≤ n) × (n < firstDrive + c)
-between n c t e f = let p = both-true _ _ (sym e ∙ f) in (leb-true firstDrive n (p .0), ltb-true n (firstDrive + c) (p .1))
+-- a known drive's number is that of one of the eight places
+pub place-known : (b : List ℕ) (n : ℕ) → isDrive (readDesk b .table) n ≡ true → (firstDrive ≤ n) × (n < firstDrive + 8)
+place-known b n e = let p = isDrive-true (readDesk b .table) n e in (p .0, omega (arith, p .1, count-of b))

@@ -5,15 +5,11 @@ use native.Mathlib.Nat.{add-assoc, zero-add, mul-zero}
 use native.Mathlib.Numerals.{add-one}
 use native.Mathlib.Omega.{arith}
 use mathlib.Core.Path.{_≡_, refl, sym, _∙_, ap, subst}
-use mathlib.Core.Bool.{Bool, true, false}
 use mathlib.Core.List.{List, [], _∷_, _++_, append-assoc, append-nil}
-use lib.ListN.{length, take, drop, getD, length-append}
-use lib.Seq.{sets, take-suc, length-take-le, drop-cons}
-use lib.Dec.{eqb}
-use Rattle.logic.specs.Logic.{both}
+use lib.ListN.{length, take, getD, length-append}
+use lib.Seq.{sets, take-suc, length-take-le}
 use Rattle.words.specs.Words.{leBytes}
 use Rattle.words.proofs.Words.{length-leBytes, sets-append, sets-whole}
-use Rattle.drive.specs.Drive.{same}
 use Rattle.drive.specs.declared.Drive.{Drive}
 use Rattle.desk.specs.declared.Stage.{Stage}
 use Rattle.desk.specs.declared.Stage.the-variants.{Vacant, Waiting, Finished}
@@ -69,12 +65,6 @@ module _ {A : Type 0} (f : A → List ℕ) (n : ℕ) (wide : (x : A) → length 
   part-more s at place xs k e h p =
       rw (p, each-take f xs k e h, each-append (leBytes 8))
       (sets-next s at (8 * (n * k)) (flat (each f (take k xs))) (flat (f (getD xs k e))) (length-members xs k (omega arith)))
-
--- two lists compared from the left
-pub same-step : (a b : List ℕ) (i : ℕ) → i < length a → i < length b
-    → same (drop i a) (drop i b) ≡ both (eqb (getD a i 0) (getD b i 0)) (same (drop (i + 1) a) (drop (i + 1) b))
-unfolding same
-same-step a b i ha hb = rw (add-one, drop-cons a i 0, drop-cons b i 0)
 
 -- the words of a row and of a drive
 pub length-row : (r : Row) → length (rowWords r) ≡ 23

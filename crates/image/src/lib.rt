@@ -10,21 +10,18 @@ use int13::Job;
 use int13::Registers;
 use table::Table;
 ghost use mathlib.Core.Path.{_≡_};
-ghost use mathlib.Core.List.{List, _++_};
 ghost use Prim.Native.Nat.{_+_, _*_, _≤_, _<_};
-ghost use lib.ListN.{length, take, drop};
+ghost use lib.ListN.{length};
 ghost use lib.Seq.{sets};
 ghost use lib.Dec.{eqb};
 ghost use Rattle.logic.specs.Logic.{pick, both};
-ghost use Rattle.drive.specs.Drive.{same};
 ghost use Rattle.table.specs.Table.{mostDrives};
-ghost use Rattle.desk.specs.Numbers.{registerNumbers};
 ghost use Rattle.desk.specs.declared.Stage.the-variants.{Waiting, Finished};
 ghost use Rattle.desk.specs.Parts.{stageAt};
-ghost use Rattle.desk.specs.Calls.{closed, seek};
+ghost use Rattle.desk.specs.Calls.{seek};
 ghost use Rattle.memory.specs.Window.{guests};
 ghost use Rattle.int13.specs.Steps.{firstDrive, driveCount, isDrive, driveAt};
-ghost use Rattle.image.specs.Image.{rowSize, placeSize, placeAt, blockSize, each, flat, stageWords, rowWords, driveWords, image, registersAt, requestAt, readStage, readRow, readDrive, readRows, readDesk, deskOf, accepted, laid, putStage, putPointer};
+ghost use Rattle.image.specs.Image.{rowSize, placeSize, placeAt, blockSize, each, flat, stageWords, rowWords, driveWords, image, registersAt, requestAt, readStage, readDrive, readDesk, accepted, laid, putStage, putPointer};
 ghost use Rattle.image.specs.Judged.{below, areRegisters, isRequest, isPlace, driveGood, drivesGood, restZero, firstIn, blocksIn, apart, aloneTo, drivesApart, follows, ascending, waitingGood, finishedGood, rowGood, rowsGood, tableGood};
 
 // Bytes of a row, of 23 words, and of a place of the table, of 14; where the places and the last words stand.
@@ -53,7 +50,7 @@ const FIRST_DRIVE: u8 = 128;
 
 const BLOCK_LENGTH: u64 = 512;
 
-// ---- the desk that bytes say. Every place is inside a block of the right size, which `decode` has tested.
+// ---- what bytes say. Every place is inside a block of the right size, which `acceptable` has tested.
 
 fn registers_at(b: &[u8], i: usize) -> Registers
     requires { ⌜ i + 8 * 8 ≤ length (now b) ⌝ }
@@ -109,15 +106,6 @@ fn stage_at(b: &[u8], i: usize) -> Stage
     Stage::Vacant
 }
 
-fn row_at(b: &[u8], i: usize) -> Row
-    requires { ⌜ i + rowSize ≤ length (now b) ⌝ }
-    ensures { λ r. ⌜ r ≡ readRow (now (b .entry)) i ⌝ }
-{
-    Row {
-        stage: stage_at(b, i),
-    }
-}
-
 fn drive_at(b: &[u8], i: usize) -> Drive
     requires { ⌜ i + placeSize ≤ length (now b) ⌝ }
     ensures { λ r. ⌜ r ≡ readDrive (now (b .entry)) i ⌝ }
@@ -140,22 +128,6 @@ fn drive_at(b: &[u8], i: usize) -> Drive
     }
 }
 
-fn rows_of(b: &[u8]) -> [Row; 8]
-    requires { ⌜ length (now b) ≡ blockSize ⌝ }
-    ensures { λ r. ⌜ r ≡ readRows (now (b .entry)) ⌝ }
-{
-    [
-        row_at(b, 0),
-        row_at(b, ROW),
-        row_at(b, 2 * ROW),
-        row_at(b, 3 * ROW),
-        row_at(b, 4 * ROW),
-        row_at(b, 5 * ROW),
-        row_at(b, 6 * ROW),
-        row_at(b, 7 * ROW),
-    ]
-}
-
 pub fn table_of(b: &[u8]) -> Table
     requires { ⌜ length (now b) ≡ blockSize ⌝ }
     ensures { λ r. ⌜ r ≡ readDesk (now (b .entry)) .table ⌝ }
@@ -173,19 +145,6 @@ pub fn table_of(b: &[u8]) -> Table
     Table {
         drives,
         count: words::get64(b, COUNT) as usize,
-    }
-}
-
-fn read(b: &[u8]) -> Desk
-    requires { ⌜ length (now b) ≡ blockSize ⌝ }
-    ensures { λ r. ⌜ r ≡ readDesk (now (b .entry)) ⌝ }
-{
-    Desk {
-        rows: rows_of(b),
-        pointer: words::get64(b, POINTER) as usize,
-        table: table_of(b),
-        arena: words::get64(b, ARENA),
-        store: words::get64(b, STORE),
     }
 }
 
@@ -234,13 +193,21 @@ pub fn count_of(b: &[u8]) -> u8
     if count < 8 { count as u8 } else { 8 }
 }
 
+// Whether the table has a drive of that BIOS number.
+pub fn is_drive(b: &[u8], n: u8) -> bool
+    requires { ⌜ length (now b) ≡ blockSize ⌝ }
+    ensures { λ r. ⌜ r ≡ isDrive (readDesk (now (b .entry)) .table) n ⌝ }
+{
+    let end = FIRST_DRIVE + count_of(b);
+    logic::and(FIRST_DRIVE <= n, n < end)
+}
+
 // The drive of a BIOS number, or the first where the number is not known: a caller that has not tested the number asks nothing of it.
 pub fn drive_named(b: &[u8], n: u8) -> Drive
     requires { ⌜ length (now b) ≡ blockSize ⌝ }
     ensures { λ d. ⌜ d ≡ driveAt (readDesk (now (b .entry)) .table) (pick (isDrive (readDesk (now (b .entry)) .table) n) n firstDrive) ⌝ }
 {
-    let end = FIRST_DRIVE + count_of(b);
-    if logic::and(FIRST_DRIVE <= n, n < end) {
+    if is_drive(b, n) {
         let place = (n - FIRST_DRIVE) as usize;
         return drive_at(b, PLACES + PLACE * place);
     }
@@ -418,21 +385,13 @@ fn table_good(b: &[u8]) -> bool
     logic::and(rest_zero(b, n), drives_apart(b, n))
 }
 
-fn is_known(b: &[u8], n: u8) -> bool
-    requires { ⌜ length (now b) ≡ blockSize ⌝ }
-    ensures { λ r. ⌜ r ≡ isDrive (readDesk (now (b .entry)) .table) n ⌝ }
-{
-    let end = FIRST_DRIVE + count_of(b);
-    logic::and(FIRST_DRIVE <= n, n < end)
-}
-
 fn waiting_good(b: &[u8], i: usize, m: u64) -> bool
     requires { ⌜ (length (now b) ≡ blockSize) × (i + rowSize ≤ blockSize) ⌝ }
     ensures { λ r. ⌜ r ≡ waitingGood (now (b .entry)) m i ⌝ }
 {
     let q = request_at(b, i + 8);
     let n = q.job.drive;
-    if !is_known(b, n) {
+    if !is_drive(b, n) {
         return false;
     }
     let fits = logic::and(is_request(b, i + 8), below(b, i + 120, 8, 1));
@@ -651,7 +610,7 @@ pub fn put_pointer(b: &mut [u8], pointer: usize)
     words::store64(b, POINTER, pointer as u64);
 }
 
-// Lays a desk out in a block of its size, which both callers have made sure of.
+// Lays a desk out in a block of its size.
 fn lay(d: Desk, out: &mut [u8])
     requires { ⌜ length (now out) ≡ blockSize ⌝ }
     ensures { λ _. ⌜ now (out .exit) ≡ image d ⌝ }
@@ -672,54 +631,4 @@ pub fn encode(d: Desk, block: &mut [u8])
     if block.len() == SIZE {
         lay(d, block);
     }
-}
-
-// ---- a block read
-
-// Whether two slices of one length hold the same bytes. No early exit, so that it runs many bytes at a time.
-fn same(a: &[u8], b: &[u8]) -> bool
-    requires { ⌜ length (now a) ≡ length (now b) ⌝ }
-    ensures { λ r. ⌜ r ≡ same (now (a .entry)) (now (b .entry)) ⌝ }
-{
-    let mut bad: u8 = 0;
-    let mut i = 0;
-    while i < a.len() {
-        if a[i] != b[i] {
-            bad = 1;
-        }
-        i += 1;
-    }
-    bad == 0
-}
-
-// A desk at which every call is 25.
-fn no_desk() -> Desk
-    ensures { λ d. ⌜ d ≡ closed 0 0 ⌝ }
-{
-    let row = Row {
-        stage: Stage::Vacant,
-    };
-    Desk {
-        rows: [row; 8],
-        pointer: 8,
-        table: table::empty_table(),
-        arena: 0,
-        store: 0,
-    }
-}
-
-// The desk whose image a block is, or one at which every call is 25.
-pub fn decode(block: &[u8]) -> Desk
-    ensures { λ d. ⌜ d ≡ deskOf (now (block .entry)) ⌝ }
-{
-    if block.len() != SIZE {
-        return no_desk();
-    }
-    let d = read(block);
-    let mut again = [0u8; SIZE];
-    lay(d, &mut again);
-    if same(block, &again) {
-        return d;
-    }
-    no_desk()
 }

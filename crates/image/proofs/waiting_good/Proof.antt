@@ -9,7 +9,7 @@ use Rattle.image.proofs.waiting_good.Lts as lts
 use Rattle.desk.proofs.request_ok.Reads as request-ok-reads
 use Rattle.image.proofs.below.Reads as below-reads
 use Rattle.image.proofs.drive_named.Reads as drive-named-reads
-use Rattle.image.proofs.is_known.Reads as is-known-reads
+use Rattle.image.proofs.is_drive.Reads as is-drive-reads
 use Rattle.image.proofs.is_request.Reads as is-request-reads
 use Rattle.image.proofs.request_at.Reads as request-at-reads
 use Rattle.logic.proofs.and.Reads as and-reads
@@ -20,13 +20,13 @@ add-request-at c = search needs
 request-at-requires : tie.Need-request-at-requires
 request-at-requires c κs = search needs
 
-is-known-requires : tie.Need-is-known-requires
-is-known-requires c κs = search needs
+is-drive-requires : tie.Need-is-drive-requires
+is-drive-requires c κs = search needs
 
 returns : tie.Need-returns
 returns c =
     let s = c .before .before .before .before .args in
-    waiting-unknown (s .b .now) (s .m) (s .i) _ (c .before .before .request-at .ensures) (sym (c .before .is-known .ensures) ∙ not-true _ (c .if1 .taken))
+    waiting-unknown (s .b .now) (s .m) (s .i) _ (c .before .before .request-at .ensures) (sym (c .before .is-drive .ensures) ∙ not-true _ (c .if1 .taken))
 
 add-is-request : tie.Need-add-is-request
 add-is-request c = search needs
@@ -56,7 +56,7 @@ returns-2 : tie.Need-returns-2
 returns-2 c =
     let s = c .before .before .before .before .before .before .before .before .before .before .args in
     let k = c .before .before .before .before .before .before .before in
-    waiting-tests (s .b .now) (s .m) (s .i) _ (k .before .request-at .ensures) (sym (k .is-known .ensures) ∙ not-false _ (c .before .before .before .before .before .before .if1 .left))
+    waiting-tests (s .b .now) (s .m) (s .i) _ (k .before .request-at .ensures) (sym (k .is-drive .ensures) ∙ not-false _ (c .before .before .before .before .before .before .if1 .left))
     (c .before .before .drive-named .ensures) (c .before .request-ok .ensures) (c .before .before .before .before .before .is-request .ensures)
     (c .before .before .before .before .below .ensures) (c .before .before .before .and .ensures) (c .and2 .ensures)
 
@@ -66,7 +66,7 @@ waiting-good-spec =
     (tie.spec
     add-request-at
     request-at-requires
-    is-known-requires
+    is-drive-requires
     returns
     add-is-request
     is-request-requires

@@ -1,9 +1,9 @@
 use Rattle.image.proofs.Fields.{known}
 use borrow.Author.Needs.{needs}
-use Rattle.image.proofs.is_known.Statement.{statement}
-use Rattle.image.proofs.is_known.Tie as tie
-use Rattle.image.proofs.is_known.Reads as reads
-use Rattle.image.proofs.is_known.Lts as lts
+use Rattle.image.proofs.is_drive.Statement.{statement}
+use Rattle.image.proofs.is_drive.Tie as tie
+use Rattle.image.proofs.is_drive.Reads as reads
+use Rattle.image.proofs.is_drive.Lts as lts
 use Rattle.image.proofs.count_of.Reads as count-of-reads
 use Rattle.logic.proofs.and.Reads as and-reads
 
@@ -19,5 +19,5 @@ and-requires c κs = search needs
 returns : tie.Need-returns
 returns c = let s = c .before .before .before in known (s .args .b .now) (s .args .n) _ _ (c .before .count-of .ensures .0) (c .and .ensures)
 
-pub is-known-spec : {M : Type 1} → statement M
-is-known-spec = tie.close (tie.spec count-of-requires add-end and-requires returns)
+pub is-drive-spec : {M : Type 1} → statement M
+is-drive-spec = tie.close (tie.spec count-of-requires add-end and-requires returns)
