@@ -20,8 +20,7 @@ ghost use lib.Dec.{ltb, eqb};
 ghost use lib.ListN.{length};
 ghost use Rattle.logic.specs.Logic.{pick, both};
 ghost use Rattle.memory.specs.Window.{guests};
-ghost use Rattle.int13.specs.Answers.{dl};
-ghost use Rattle.int13.specs.Steps.{isDrive, fed, begin};
+ghost use Rattle.int13.specs.Steps.{fed, begin};
 ghost use Rattle.desk.specs.Parts.{ownWindow, withOwn, next};
 ghost use Rattle.desk.specs.Acceptable.{accept};
 ghost use Rattle.desk.specs.Calls.{houseNumber};
@@ -41,9 +40,6 @@ const NOT_VACANT: u32 = desk::NOT_VACANT as u32;
 const NOT_FINISHED: u32 = desk::NOT_FINISHED as u32;
 
 const NOT_WAITING: u32 = desk::NOT_WAITING as u32;
-
-// The BIOS number of the first drive.
-const FIRST_DRIVE: u8 = 0x80;
 
 // The version of the interface and of the block's form: 1 is the base, and each change request adds 1.
 const VERSION: u32 = 1;
@@ -118,22 +114,13 @@ fn number_at(desk: &[u8], arena: usize, store: usize, guest: u64) -> u8
     desk::house_number(true, image::is_lent(desk, arena, store), guest < 8)
 }
 
-// Whether a block's table has a drive of that number.
-fn is_drive(desk: &[u8], n: u8) -> bool
-    requires { ⌜ length (now desk) ≡ blockSize ⌝ }
-    ensures { λ r. ⌜ r ≡ isDrive (readDesk (now (desk .entry)) .table) n ⌝ }
-{
-    let end = FIRST_DRIVE + image::count_of(desk);
-    logic::and(FIRST_DRIVE <= n, n < end)
-}
-
 // The steps of a post over the one drive that DL names.
 fn steps_at(desk: &[u8], r: Registers, window: &mut [u8]) -> Outcome
     requires { ⌜ length (now desk) ≡ blockSize ⌝ }
     ensures { λ o. ⌜ (o ≡ begin (fed (readDesk (now (desk .entry)) .table)) r (now (window .entry)) .outcome) × (now (window .exit) ≡ begin (fed (readDesk (now (desk .entry)) .table)) r (now (window .entry)) .window) ⌝ }
 {
     let n = int13::dl(r);
-    let known = is_drive(desk, n);
+    let known = image::is_drive(desk, n);
     let count = image::count_of(desk);
     let d = image::drive_named(desk, n);
     int13::steps(known, count, d, r, window)

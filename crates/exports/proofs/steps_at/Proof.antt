@@ -13,7 +13,7 @@ use Rattle.exports.proofs.steps_at.Statement.{statement}
 use Rattle.exports.proofs.steps_at.Tie as tie
 use Rattle.exports.proofs.steps_at.Reads as reads
 use Rattle.exports.proofs.steps_at.Lts as lts
-use Rattle.exports.proofs.is_drive.Reads as is-drive-reads
+use Rattle.image.proofs.is_drive.Reads as is-drive-reads
 use Rattle.image.proofs.count_of.Reads as count-of-reads
 use Rattle.image.proofs.drive_named.Reads as drive-named-reads
 use Rattle.int13.proofs.dl.Reads as dl-reads
