@@ -47,21 +47,27 @@ use Rattle.desk.specs.Acceptable.{part, accept}
 
 -- ---- "Numbers given back": the house numbers, and the tests that come before the row's in every call
 
+-- house number 25: desk block not acceptable
 abbrev pub notAcceptable : ℕ
 notAcceptable = 25
 
+-- house number 24: arena or store length differs from the opening
 abbrev pub otherLength : ℕ
 otherLength = 24
 
+-- house number 20: guest is 8 or more
 abbrev pub noGuest : ℕ
 noGuest = 20
 
+-- house number 21: post to a row that is not vacant
 abbrev pub notVacant : ℕ
 notVacant = 21
 
+-- house number 22: collect, row not finished
 abbrev pub notFinished : ℕ
 notFinished = 22
 
+-- house number 23: withdraw, row not waiting
 abbrev pub notWaiting : ℕ
 notWaiting = 23
 
@@ -102,14 +108,17 @@ opened b arena store = record { rows = replicate guests vacantRow; pointer = 0; 
 abbrev pub closed : ℕ → ℕ → Desk
 closed arena store = record { rows = replicate guests vacantRow; pointer = guests; table = emptyTable; arena = arena; store = store }
 
+-- a table that is accepted gives an opened desk; a refused one gives a desk that is of no use
 abbrev pub openDesk : Answer → Table → ℕ → ℕ → Desk
 openDesk Accepted b arena store = opened b arena store
 openDesk (TableRefused n place) b arena store = closed arena store
 
+-- opened, or the table's number with the place of the record
 abbrev pub openAnswer : Answer → OpenAnswer
 openAnswer Accepted = Opened
 openAnswer (TableRefused n place) = OpenRefused n place
 
+-- open takes table bytes, arena length and store length; the table is read for a store of floor(length / 512) blocks
 unfoldable pub openOf : List ℕ → ℕ → ℕ → Opening
 openOf t arena store =
     record {
@@ -119,9 +128,11 @@ openOf t arena store =
 
 -- ---- write
 
+-- write: 25, then the table's own answer, which is its length or 19
 unfoldable pub writtenOf : Desk → ℕ → Written
 writtenOf d room = houseTests (accept d) true true (λ n. WriteRefused n) (writeAnswer (d .table) room)
 
+-- the buffer after a write; a refusal leaves it as it was
 unfoldable pub writtenOut : Desk → List ℕ → List ℕ
 writtenOut d out = houseTests (accept d) true true (λ n. out) (writeOut (d .table) out)
 
@@ -133,15 +144,18 @@ postChecked d g arena store (Answered r) w = record { desk = d; answer = PostAns
 postChecked d g arena store (Waits j) w =
     record { desk = withStage d g (Waiting (record { job = j; moved = 0 })); answer = PostWaits; arena = withWindow arena g (windowSize d) w; store = store }
 
+-- a post to a vacant row goes through the steps, on the table and the guest's own window
 abbrev pub postVacant : Desk → ℕ → Registers → List ℕ → List ℕ → Done PostAnswer
 postVacant d g r arena store =
     postChecked d g arena store (begin (fed (d .table)) r (windowOf arena g (windowSize d)) .outcome) (begin (fed (d .table)) r (windowOf arena g (windowSize d)) .window)
 
+-- 21 for a row that is not vacant, whatever the function
 abbrev pub postRow : Desk → ℕ → Registers → List ℕ → List ℕ → Stage → Done PostAnswer
 postRow d g r arena store Vacant = postVacant d g r arena store
 postRow d g r arena store (Waiting q) = done d (PostRefused notVacant) arena store
 postRow d g r arena store (Finished x) = done d (PostRefused notVacant) arena store
 
+-- post, in the order of the house numbers: 25, 24, 20, then the row
 unfoldable pub postOf : Desk → ℕ → Registers → List ℕ → List ℕ → Done PostAnswer
 postOf d g r arena store =
     houseTests (accept d) (isLent d arena store) (ltb g guests) (λ n. done d (PostRefused n) arena store)
@@ -160,6 +174,7 @@ seek rows (suc k) g = pick (isWaiting (stageIn rows g)) (Guest g) (seek rows k (
 abbrev pub quota : Request → ℕ
 quota q = min part (q .job .count - q .moved)
 
+-- the request with k more blocks moved
 abbrev pub later : Request → ℕ → Request
 later q k = record { job = q .job; moved = q .moved + k }
 
@@ -175,9 +190,11 @@ serviceOf q = record { moved = quota q; stage = stageAfter q }
 abbrev pub beside : Request → List ℕ → List ℕ
 beside q w = w
 
+-- what a turn works on: the served guest's window and the store
 abbrev pub memoryOf : Desk → ℕ → List ℕ → List ℕ → Memory
 memoryOf d g arena store = record { window = windowOf arena g (windowSize d); store = store }
 
+-- window and store after the turn has moved its blocks
 abbrev pub movedBy : Desk → ℕ → Request → List ℕ → List ℕ → Memory
 movedBy d g q arena store = moves (q .job) (storeBlock (d .table) (q .job)) (q .moved) (serviceOf q .moved) (memoryOf d g arena store)
 
@@ -191,10 +208,12 @@ Copied write g at place k arena store arena′ store′ =
 abbrev pub movedFrom : ℕ → Request → ℕ → ℕ → List ℕ → List ℕ → Memory
 movedFrom first q k g arena store = moves (q .job) (first + q .job .start) (q .moved) k (record { window = ownWindow arena g; store = store })
 
+-- what a transfer leaves: the guest's window in the arena, and the store, after k blocks have moved
 abbrev pub Transferred : ℕ → Request → ℕ → ℕ → List ℕ → List ℕ → List ℕ → List ℕ → Type 0
 Transferred first q k g arena store arena′ store′ =
     (arena′ ≡ withOwn arena g (movedFrom first q k g arena store .window)) × (store′ ≡ movedFrom first q k g arena store .store)
 
+-- a turn that serves guest g: it moves the next blocks, answers the guest and their number, and the pointer becomes g plus 1, modulo 8
 abbrev pub serve : Desk → ℕ → Request → List ℕ → List ℕ → Done TurnAnswer
 serve d g q arena store =
     record {
@@ -204,15 +223,18 @@ serve d g q arena store =
       store = movedBy d g q arena store .store;
     }
 
+-- only a waiting row is served; the search finds no other, so the other two clauses are never met
 abbrev pub serveStage : Desk → ℕ → Stage → List ℕ → List ℕ → Done TurnAnswer
 serveStage d g Vacant arena store = done d Idle arena store
 serveStage d g (Waiting q) arena store = serve d g q arena store
 serveStage d g (Finished r) arena store = done d Idle arena store
 
+-- with no row waiting a turn answers idle, and nothing changes
 abbrev pub turnNext : Desk → Next → List ℕ → List ℕ → Done TurnAnswer
 turnNext d Nobody arena store = done d Idle arena store
 turnNext d (Guest g) arena store = serveStage d g (stageAt d g) arena store
 
+-- turn: 25, 24, then the first waiting row at or after the pointer
 unfoldable pub turnOf : Desk → List ℕ → List ℕ → Done TurnAnswer
 turnOf d arena store =
     houseTests (accept d) (isLent d arena store) true (λ n. done d (TurnRefused n) arena store)
@@ -220,6 +242,7 @@ turnOf d arena store =
 
 -- ---- collect
 
+-- a finished row hands out its registers and becomes vacant; any other row is 22
 abbrev pub collectStage : Desk → ℕ → Stage → List ℕ → List ℕ → Done CollectAnswer
 collectStage d g Vacant arena store = done d (CollectRefused notFinished) arena store
 collectStage d g (Waiting q) arena store = done d (CollectRefused notFinished) arena store
@@ -237,6 +260,7 @@ collectOf d g arena store =
 abbrev pub withdrawnWindow : Request → List ℕ → List ℕ
 withdrawnWindow q w = pick (isSectors (ah (q .job .registers))) w (withCount w (q .job .packet) (q .moved))
 
+-- a waiting request ends with carry set and AH = 80h, and its row becomes vacant; any other row is 23
 abbrev pub withdrawStage : Desk → ℕ → Stage → List ℕ → List ℕ → Done WithdrawAnswer
 withdrawStage d g Vacant arena store = done d (WithdrawRefused notWaiting) arena store
 withdrawStage d g (Waiting q) arena store =
@@ -248,6 +272,7 @@ withdrawStage d g (Waiting q) arena store =
     }
 withdrawStage d g (Finished r) arena store = done d (WithdrawRefused notWaiting) arena store
 
+-- withdraw: 25, 24, 20, then the row
 unfoldable pub withdrawOf : Desk → ℕ → List ℕ → List ℕ → Done WithdrawAnswer
 withdrawOf d g arena store =
     houseTests (accept d) (isLent d arena store) (ltb g guests) (λ n. done d (WithdrawRefused n) arena store)

@@ -21,6 +21,7 @@ windowSize d = windowLength (d .arena)
 abbrev pub ownWindow : List ℕ → ℕ → List ℕ
 ownWindow arena g = windowOf arena g (windowLength (length arena))
 
+-- the arena with other bytes in guest g's window
 abbrev pub withOwn : List ℕ → ℕ → List ℕ → List ℕ
 withOwn arena g w = withWindow arena g (windowLength (length arena)) w
 
@@ -30,18 +31,23 @@ storeBlocks d = d .store / blockLength
 
 -- ---- rows
 
+-- a row without a request
 abbrev pub vacantRow : Row
 vacantRow = record { stage = Vacant }
 
+-- the stage of guest g's row; past the rows there is nobody
 abbrev pub stageIn : List Row → ℕ → Stage
 stageIn rows g = getD rows g vacantRow .stage
 
+-- the stage of guest g's row at a desk
 abbrev pub stageAt : Desk → ℕ → Stage
 stageAt d g = stageIn (d .rows) g
 
+-- the desk with another stage in guest g's row
 abbrev pub withStage : Desk → ℕ → Stage → Desk
 withStage d g s = record { rows = set (d .rows) g (record { stage = s }); pointer = d .pointer; table = d .table; arena = d .arena; store = d .store }
 
+-- the row waits with its request
 abbrev pub isWaiting : Stage → Bool
 isWaiting Vacant = false
 isWaiting (Waiting q) = true
@@ -49,8 +55,10 @@ isWaiting (Finished r) = false
 
 -- ---- the turn pointer, which counts cyclically
 
+-- the guest after g: g plus 1, modulo 8
 abbrev pub next : ℕ → ℕ
 next g = (g + 1) % guests
 
+-- the desk with another turn pointer
 abbrev pub withPointer : Desk → ℕ → Desk
 withPointer d p = record { rows = d .rows; pointer = p; table = d .table; arena = d .arena; store = d .store }
