@@ -13,7 +13,7 @@ use Rattle.drive.specs.declared.Drive.{Drive}
 use Rattle.drive.specs.Drive.{driveOf, recordOf, geometryBytes, sizeBytes, nameBytes, isBlank, blankNumbers, blankNames, same, busOk, interfaceOk, geometryFits, fieldsOk, inStore, overlap, isa, pci, ata, scsi}
 use Rattle.table.specs.Table.{zeroDrive, headerOf, headerAt, overlapsAny, refusal, driveStep, endStep, stepOf, stepAt, readFrom, readTable, recordsOf, bytesOf, tableOf, writeAnswer, writeOut, writtenNumbers, soundTo, blankTo, isSound}
 use Rattle.memory.specs.Window.{spanLength, windowOf, withWindow}
-use Rattle.memory.proofs.Windows.{length-window}
+use Rattle.memory.proofs.WindowLaws.{length-window}
 use Rattle.memory.specs.Blocks.{blocks}
 use Rattle.int13.specs.declared.Registers.{Registers}
 use Rattle.int13.specs.declared.Job.{Job}
@@ -35,7 +35,7 @@ use Rattle.desk.specs.declared.WithdrawAnswer.{WithdrawAnswer}
 use Rattle.desk.specs.declared.WithdrawAnswer.the-variants.{Given as WithdrawGiven}
 use Rattle.desk.specs.Parts.{vacantRow}
 use Rattle.desk.specs.Acceptable.{jobOk, rowsOk, accept}
-use Rattle.desk.specs.Calls.{done, openOf, writtenOf, writtenOut, postOf, seek, stageAfter, turnOf, collectOf, withdrawOf}
+use Rattle.desk.specs.Calls.{done, openOf, writtenOf, writtenOut, postOf, firstWaiting, stageAfter, turnOf, collectOf, withdrawOf}
 
 -- ---- the table: two drives, of 4000 blocks from store block 5 and of 300 from 4010; C x H x S 459 and 280; the second is protected
 
@@ -282,7 +282,7 @@ module _ (arena store : List ℕ) (la : length arena ≡ 560005) (ls : length st
   -- the turn at the pointer, and the number of blocks; the pointer goes to the guest after, from 7 to 0; all moved, the row is finished
   pub turns : map (λ (p : ℕ). turnOf (good p) arena store .answer) (0 ∷ 1 ∷ 2 ∷ 3 ∷ 4 ∷ 5 ∷ 6 ∷ 7 ∷ [])
       ≡ Served 0 16 ∷ Served 1 1 ∷ Served 2 16 ∷ Served 3 1 ∷ Served 6 2 ∷ Served 6 2 ∷ Served 6 2 ∷ Served 7 3 ∷ []
-  unfolding turnOf seek accept rowsOk jobOk isDrive isSound soundTo blankTo refusal overlapsAny overlap inStore fieldsOk geometryFits inLimits busOk interfaceOk isBlank blankNumbers blankNames same
+  unfolding turnOf firstWaiting accept rowsOk jobOk isDrive isSound soundTo blankTo refusal overlapsAny overlap inStore fieldsOk geometryFits inLimits busOk interfaceOk isBlank blankNumbers blankNames same
   turns = rw (la, ls)
 
   pub turn-desks : map (λ (p : ℕ). turnOf (good p) arena store .desk) (0 ∷ 1 ∷ 2 ∷ 3 ∷ 4 ∷ 7 ∷ [])
@@ -293,7 +293,7 @@ module _ (arena store : List ℕ) (la : length arena ≡ 560005) (ls : length st
       ∷ after 7 6 (Finished (success 0x000A))
       ∷ after 0 7 (Finished (success 0x000B))
       ∷ []
-  unfolding turnOf seek stageAfter accept rowsOk jobOk isDrive isSound soundTo blankTo refusal overlapsAny overlap inStore fieldsOk geometryFits inLimits busOk interfaceOk isBlank blankNumbers blankNames same
+  unfolding turnOf firstWaiting stageAfter accept rowsOk jobOk isDrive isSound soundTo blankTo refusal overlapsAny overlap inStore fieldsOk geometryFits inLimits busOk interfaceOk isBlank blankNumbers blankNames same
   turn-desks = rw (la, ls)
 
   -- reads: to buffer + 512 x moved, from 512 x (first + start + moved)
@@ -303,7 +303,7 @@ module _ (arena store : List ℕ) (la : length arena ≡ 560005) (ls : length st
       ∷ withWindow arena 6 70000 (blocks (windowOf arena 6 70000) 68976 store 2074112 2)
       ∷ withWindow arena 7 70000 (blocks (windowOf arena 7 70000) 68464 store 5120 3)
       ∷ []
-  unfolding turnOf seek moves accept rowsOk jobOk isDrive isSound soundTo blankTo refusal overlapsAny overlap inStore fieldsOk geometryFits inLimits busOk interfaceOk isBlank blankNumbers blankNames same
+  unfolding turnOf firstWaiting moves accept rowsOk jobOk isDrive isSound soundTo blankTo refusal overlapsAny overlap inStore fieldsOk geometryFits inLimits busOk interfaceOk isBlank blankNumbers blankNames same
   reads = rw (la, ls)
 
   -- writes: to 512 x (first + start + moved), from buffer + 512 x moved
@@ -312,7 +312,7 @@ module _ (arena store : List ℕ) (la : length arena ≡ 560005) (ls : length st
       ∷ blocks store 2050048 (windowOf arena 3 70000) 16393 1
       ∷ store
       ∷ []
-  unfolding turnOf seek moves accept rowsOk jobOk isDrive isSound soundTo blankTo refusal overlapsAny overlap inStore fieldsOk geometryFits inLimits busOk interfaceOk isBlank blankNumbers blankNames same
+  unfolding turnOf firstWaiting moves accept rowsOk jobOk isDrive isSound soundTo blankTo refusal overlapsAny overlap inStore fieldsOk geometryFits inLimits busOk interfaceOk isBlank blankNumbers blankNames same
   writes = rw (la, ls)
 
   -- withdrawals: AH 80h and carry set; 02h and 03h have the blocks moved in AL, 42h and 43h in the word at packet + 2

@@ -1,6 +1,6 @@
 pub mod Searches
-pub mod Acceptances
-pub mod Callings
+pub mod AcceptableLaws
+pub mod CallsLaws
 pub mod Transfers
 pub mod Vectors
 pub mod AcceptVectors

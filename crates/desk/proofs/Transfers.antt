@@ -10,7 +10,7 @@ use lib.ListN.{length}
 use Rattle.logic.specs.Logic.{pick}
 use Rattle.memory.specs.Window.{windowLength, spanLength, windowOf, withWindow}
 use Rattle.memory.specs.Blocks.{blocks}
-use Rattle.memory.proofs.Windows.{span-in, with-window-same}
+use Rattle.memory.proofs.WindowLaws.{span-in, with-window-same}
 use lib.Dec.{leb}
 use borrow.Author.Tests.{leb-true}
 use Rattle.int13.specs.Answers.{ah, isSectors, isWrite}

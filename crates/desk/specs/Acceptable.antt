@@ -25,8 +25,8 @@ use Rattle.desk.specs.declared.Desk.{Desk}
 use Rattle.desk.specs.Parts.{windowSize, storeBlocks, stageIn}
 
 -- the blocks that a turn moves at most
-abbrev pub part : ℕ
-part = 16
+abbrev pub turnBlocks : ℕ
+turnBlocks = 16
 
 -- the functions that wait
 abbrev pub isTransfer : ℕ → Bool
@@ -60,7 +60,7 @@ jobOk b M j = both (isDrive b (j .drive)) (jobRules (driveAt b (j .drive)) M j)
 
 -- a moved number that is a multiple of 16 below the count
 abbrev pub movedOk : ℕ → ℕ → Bool
-movedOk moved count = both (eqb (moved % part) 0) (ltb moved count)
+movedOk moved count = both (eqb (moved % turnBlocks) 0) (ltb moved count)
 
 -- all that is asked of a waiting request on its drive, in windows of M bytes
 unfoldable pub requestOk : Drive → ℕ → Request → Bool

@@ -43,7 +43,7 @@ use Rattle.desk.specs.declared.CollectAnswer.the-variants.{Given as Coll
 use Rattle.desk.specs.declared.WithdrawAnswer.{WithdrawAnswer}
 use Rattle.desk.specs.declared.WithdrawAnswer.the-variants.{Given as WithdrawGiven, Refused as WithdrawRefused}
 use Rattle.desk.specs.Parts.{windowSize, ownWindow, withOwn, vacantRow, stageIn, stageAt, withStage, isWaiting, next, withPointer}
-use Rattle.desk.specs.Acceptable.{part, accept}
+use Rattle.desk.specs.Acceptable.{turnBlocks, accept}
 
 -- ---- "Numbers given back": the house numbers, and the tests that come before the row's in every call
 
@@ -164,15 +164,15 @@ postOf d g r arena store =
 -- ---- turn
 
 -- the first waiting row among k, from guest g on
-unfoldable pub seek : List Row → ℕ → ℕ → Next
-seek rows zero g = Nobody
-seek rows (suc k) g = pick (isWaiting (stageIn rows g)) (Guest g) (seek rows k (next g))
+unfoldable pub firstWaiting : List Row → ℕ → ℕ → Next
+firstWaiting rows zero g = Nobody
+firstWaiting rows (suc k) g = pick (isWaiting (stageIn rows g)) (Guest g) (firstWaiting rows k (next g))
 
 -- ---- what a turn does to a request
 
 -- the next 16 blocks, or what remains if fewer
 abbrev pub quota : Request → ℕ
-quota q = min part (q .job .count - q .moved)
+quota q = min turnBlocks (q .job .count - q .moved)
 
 -- the request with k more blocks moved
 abbrev pub later : Request → ℕ → Request
@@ -238,7 +238,7 @@ turnNext d (Guest g) arena store = serveStage d g (stageAt d g) arena store
 unfoldable pub turnOf : Desk → List ℕ → List ℕ → Done TurnAnswer
 turnOf d arena store =
     houseTests (accept d) (isLent d arena store) true (λ n. done d (TurnRefused n) arena store)
-    (turnNext d (seek (d .rows) guests (d .pointer)) arena store)
+    (turnNext d (firstWaiting (d .rows) guests (d .pointer)) arena store)
 
 -- ---- collect
 

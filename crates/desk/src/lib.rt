@@ -25,7 +25,7 @@ ghost use Rattle.int13.specs.Answers.{ah, withdraw};
 ghost use Rattle.int13.specs.Steps.{mostBlocks, mostRun};
 ghost use Rattle.desk.specs.declared.Stage.the-variants.{Waiting};
 ghost use Rattle.desk.specs.declared.TurnAnswer.the-variants.{Served};
-ghost use Rattle.desk.specs.Calls.{houseNumber, done, opened, openOf, writtenOf, writtenOut, postChecked, postOf, seek, quota, serviceOf, Copied, Transferred, turnOf, collectOf, withdrawnWindow, withdrawStage, withdrawOf};
+ghost use Rattle.desk.specs.Calls.{houseNumber, done, opened, openOf, writtenOf, writtenOut, postChecked, postOf, firstWaiting, quota, serviceOf, Copied, Transferred, turnOf, collectOf, withdrawnWindow, withdrawStage, withdrawOf};
 
 // A request with the number of blocks that have moved.
 pub struct Request {
@@ -296,7 +296,7 @@ fn waits(stage: Stage) -> bool
 // The first waiting row at or after the pointer, which `accept` has found below 8.
 fn next_waiting(rows: [Row; 8], pointer: usize) -> Next
     requires { ⌜ pointer < guests ⌝ }
-    ensures { λ r. ⌜ r ≡ seek rows guests pointer ⌝ }
+    ensures { λ r. ⌜ r ≡ firstWaiting rows guests pointer ⌝ }
 {
     let mut guest = pointer;
     let mut left: usize = 8;

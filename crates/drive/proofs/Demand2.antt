@@ -6,7 +6,7 @@ use Rattle.words.specs.Words.{le, leBytes}
 use Rattle.drive.specs.declared.Drive.{Drive}
 use Rattle.drive.specs.Drive.{driveOf, recordOf, geometryBytes}
 use Rattle.drive.specs.Demand2.{Demand2}
-use Rattle.drive.proofs.Drives.{drive-record, length-record}
+use Rattle.drive.proofs.DriveLaws.{drive-record, length-record}
 
 -- length and kind
 header-words : (d : Drive) → (le 2 (recordOf d) 0 ≡ 68) × (le 2 (recordOf d) 2 ≡ 1)

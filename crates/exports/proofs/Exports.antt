@@ -15,8 +15,8 @@ use Rattle.desk.specs.declared.Desk.{Desk}
 use Rattle.desk.specs.declared.Next.{Next}
 use Rattle.desk.specs.Parts.{stageAt, withStage, next, withPointer}
 use Rattle.desk.specs.Acceptable.{accept}
-use Rattle.desk.specs.Calls.{houseNumber, seek}
-use Rattle.desk.proofs.Acceptances.{accept-true}
+use Rattle.desk.specs.Calls.{houseNumber, firstWaiting}
+use Rattle.desk.proofs.AcceptableLaws.{accept-true}
 use Rattle.image.specs.Image.{readDesk, deskOf, accepted, laid, putStage, putPointer}
 use Rattle.image.proofs.Puts.{AcceptedBlock, accepted-read, put-stage, put-both}
 
@@ -38,8 +38,8 @@ module _ (b : List ℕ) (a : accept (deskOf b) ≡ true) where
   pub pointer-read : readDesk b .pointer < 8
   pointer-read = accept-true (readDesk b) (block b a .accept) .pointer
 
-  pub next-read : {n : Next} → n ≡ seek (readDesk b .rows) 8 (readDesk b .pointer) → n ≡ seek (deskOf b .rows) 8 (deskOf b .pointer)
-  next-read e = e ∙ ap (λ (d : Desk). seek (d .rows) 8 (d .pointer)) (sym (block b a .desk))
+  pub next-read : {n : Next} → n ≡ firstWaiting (readDesk b .rows) 8 (readDesk b .pointer) → n ≡ firstWaiting (deskOf b .rows) 8 (deskOf b .pointer)
+  next-read e = e ∙ ap (λ (d : Desk). firstWaiting (d .rows) 8 (d .pointer)) (sym (block b a .desk))
 
   pub stage-read : {s : Stage} (g : ℕ) → s ≡ stageAt (readDesk b) g → s ≡ stageAt (deskOf b) g
   stage-read g e = e ∙ ap (λ (d : Desk). stageAt d g) (sym (block b a .desk))

@@ -28,7 +28,7 @@ use Rattle.desk.specs.declared.WithdrawAnswer.{WithdrawAnswer}
 use Rattle.desk.specs.declared.WithdrawAnswer.the-variants.{Given as WithdrawGiven, Refused as WithdrawRefused}
 use Rattle.desk.specs.Calls.{Done, notAcceptable, openOf, writtenOf, writtenOut, postOf, turnOf, collectOf, withdrawOf}
 use Rattle.desk.specs.Numbers.{openNumbers, postNumbers, turnNumbers, collectNumbers, withdrawNumbers}
-use Rattle.image.specs.Image.{blockSize, deskOf, laid}
+use Rattle.image.specs.Image.{deskSize, deskOf, laid}
 
 -- ---- the version, ours and in no paper: a block is for the library of its version, since a change request may give it another form
 
@@ -62,7 +62,7 @@ openBlock b d (OpenRefused n place) = b
 -- open: 25 for a block of another size, before the table is looked at; the place is written only where the table is refused
 unfoldable pub openCall : List ℕ → List ℕ → ℕ → ℕ → ℕ → Effect
 openCall b t arena store place =
-    pick (eqb (length b) blockSize)
+    pick (eqb (length b) deskSize)
     (effect
     (over (openNumbers (openOf t arena store .answer)) (0 ∷ place ∷ []))
     (openBlock b (openOf t arena store .desk) (openOf t arena store .answer) ∷ []))

@@ -25,7 +25,7 @@ ghost use Rattle.desk.specs.Parts.{ownWindow, withOwn, next};
 ghost use Rattle.desk.specs.Acceptable.{accept};
 ghost use Rattle.desk.specs.Calls.{houseNumber};
 ghost use Rattle.desk.specs.Numbers.{registerNumbers};
-ghost use Rattle.image.specs.Image.{blockSize, readDesk, deskOf, putStage, putPointer};
+ghost use Rattle.image.specs.Image.{deskSize, readDesk, deskOf, putStage, putPointer};
 ghost use Rattle.exports.specs.Exports.{version, effect, openCall, writeCall, postCall, turnCall, collectCall, withdrawCall, windowCall, blockCall, addressCall};
 
 // There is nothing to hand out yet.
@@ -53,7 +53,7 @@ pub extern "C" fn edd_version() -> u32
 
 #[no_mangle]
 pub extern "C" fn edd_desk_size() -> u64
-    ensures { λ r. ⌜ r ≡ blockSize ⌝ }
+    ensures { λ r. ⌜ r ≡ deskSize ⌝ }
 {
     image::SIZE as u64
 }
@@ -116,7 +116,7 @@ fn number_at(desk: &[u8], arena: usize, store: usize, guest: u64) -> u8
 
 // The steps of a post over the one drive that DL names.
 fn steps_at(desk: &[u8], r: Registers, window: &mut [u8]) -> Outcome
-    requires { ⌜ length (now desk) ≡ blockSize ⌝ }
+    requires { ⌜ length (now desk) ≡ deskSize ⌝ }
     ensures { λ o. ⌜ (o ≡ begin (fed (readDesk (now (desk .entry)) .table)) r (now (window .entry)) .outcome) × (now (window .exit) ≡ begin (fed (readDesk (now (desk .entry)) .table)) r (now (window .entry)) .window) ⌝ }
 {
     let n = int13::dl(r);
@@ -128,7 +128,7 @@ fn steps_at(desk: &[u8], r: Registers, window: &mut [u8]) -> Outcome
 
 // The same in the guest's window of the arena.
 fn begun(desk: &[u8], guest: usize, r: Registers, arena: &mut [u8]) -> Outcome
-    requires { ⌜ length (now desk) ≡ blockSize ⌝ }
+    requires { ⌜ length (now desk) ≡ deskSize ⌝ }
     ensures { λ o. ⌜ (o ≡ begin (fed (readDesk (now (desk .entry)) .table)) r (ownWindow (now (arena .entry)) guest) .outcome) × (now (arena .exit) ≡ withOwn (now (arena .entry)) guest (begin (fed (readDesk (now (desk .entry)) .table)) r (ownWindow (now (arena .entry)) guest) .window)) ⌝ }
 {
     let m = memory::window_length(arena.len());
@@ -199,7 +199,7 @@ pub extern "C" fn edd_post(
 
 // The served row and the pointer behind it.
 fn put_served(desk: &mut [u8], guest: usize, stage: Stage)
-    requires { ⌜ (length (now desk) ≡ blockSize) × (guest < guests) ⌝ }
+    requires { ⌜ (length (now desk) ≡ deskSize) × (guest < guests) ⌝ }
     ensures { λ _. ⌜ now (desk .exit) ≡ putPointer (putStage (now (desk .entry)) guest stage) (next guest) ⌝ }
 {
     image::put_stage(desk, guest, stage);

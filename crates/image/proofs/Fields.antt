@@ -13,7 +13,7 @@ use Rattle.logic.specs.Logic.{pick, both}
 use Rattle.words.specs.Words.{le}
 use Rattle.table.specs.Table.{noDrive}
 use Rattle.int13.specs.Steps.{firstDrive, driveCount, isDrive}
-use Rattle.int13.proofs.StepLaws.{isDrive-true}
+use Rattle.int13.proofs.StepsLaws.{isDrive-true}
 use Rattle.desk.specs.declared.Stage.the-variants.{Vacant, Waiting, Finished}
 use Rattle.desk.specs.declared.Row.{Row}
 use Rattle.desk.specs.Parts.{vacantRow, stageIn, stageAt, isWaiting}

@@ -9,13 +9,13 @@ use mathlib.Core.List.{List, [], _∷_, _++_, append-assoc, append-nil}
 use lib.ListN.{length, take, getD, length-append}
 use lib.Seq.{sets, take-suc, length-take-le}
 use Rattle.words.specs.Words.{leBytes}
-use Rattle.words.proofs.Words.{length-leBytes, sets-append, sets-whole}
+use Rattle.words.proofs.WordsLaws.{length-leBytes, sets-append, sets-whole}
 use Rattle.drive.specs.declared.Drive.{Drive}
 use Rattle.desk.specs.declared.Stage.{Stage}
 use Rattle.desk.specs.declared.Stage.the-variants.{Vacant, Waiting, Finished}
 use Rattle.desk.specs.declared.Row.{Row}
 use Rattle.desk.specs.declared.Desk.{Desk}
-use Rattle.image.specs.Image.{each, flat, stageWords, rowWords, rowsWords, driveWords, placesWords, tailWords, deskWords, image, rowAt, placeAt, tailAt, blockSize}
+use Rattle.image.specs.Image.{each, flat, stageWords, rowWords, rowsWords, driveWords, placesWords, tailWords, deskWords, image, rowAt, placeAt, tailAt, deskSize}
 
 module _ {A : Type 0} (f : A → List ℕ) where
   pub each-append : (xs ys : List A) → each f (xs ++ ys) ≡ each f xs ++ each f ys
@@ -87,7 +87,7 @@ module _ (rows : List Row) (drives : List Drive) (r : length rows ≡ 8) (t : le
   length-places = length-flat (placesWords drives) ∙ ap (λ (m : ℕ). 8 * m) (length-each driveWords 14 length-drive drives ∙ ap (λ (m : ℕ). 14 * m) t)
 
 -- the sections, laid one after the other
-pub laid-out : (s : List ℕ) (d : Desk) → length s ≡ blockSize → length (d .rows) ≡ 8 → length (d .table .drives) ≡ 8
+pub laid-out : (s : List ℕ) (d : Desk) → length s ≡ deskSize → length (d .rows) ≡ 8 → length (d .table .drives) ≡ 8
     → sets (sets (sets s (rowAt 0) (flat (rowsWords (d .rows)))) (placeAt 0) (flat (placesWords (d .table .drives)))) (tailAt 0) (flat (tailWords d)) ≡ image d
 unfolding image deskWords
 laid-out s d n r t =

@@ -13,15 +13,15 @@ use lib.Seq.{length-take-le, drop-drop, getD-append-add, getD-take, getD-drop}
 use lib.Dec.{leb, ltb, eqb}
 use borrow.Author.Tests.{eq-eqb, ne-eqb, eqb-true, eqb-false, lt-ltb, le-ltb, ltb-true, ltb-false, le-leb, lt-leb, leb-true, leb-false}
 use Rattle.logic.specs.Logic.{pick, both, either, allBelow, someBelow}
-use Rattle.logic.proofs.Logic.{impossible, both-true, both-intro, true≢false, lt-or-le, all-more, all-intro, all-at, all-ext}
+use Rattle.logic.proofs.LogicLaws.{impossible, both-true, both-intro, true≢false, lt-or-le, all-more, all-intro, all-at, all-ext}
 use Rattle.words.specs.Words.{Bytes, le, leBytes, part}
-use Rattle.words.proofs.Words.{le-split, le-lt, le-ext, read-write, write-read, length-leBytes}
+use Rattle.words.proofs.WordsLaws.{le-split, le-lt, le-ext, read-write, write-read, length-leBytes}
 use Rattle.drive.specs.declared.Drive.{Drive}
 use Rattle.drive.specs.Drive.{same, fieldsOk, inStore, overlap, isBlank, blankNumbers, blankNames}
-use Rattle.drive.proofs.Drives.{same-refl, same-true}
+use Rattle.drive.proofs.DriveLaws.{same-refl, same-true}
 use Rattle.table.specs.declared.Table.{Table}
 use Rattle.table.specs.Table.{noDrive, zeroDrive, firstDrives, refusal, overlapsAny, soundTo, blankTo, isSound}
-use Rattle.table.proofs.Tables.{taken-is}
+use Rattle.table.proofs.TableLaws.{taken-is}
 use Rattle.memory.specs.Window.{windowLength}
 use Rattle.int13.specs.Steps.{firstDrive, isDrive, driveAt}
 use Rattle.desk.specs.declared.Request.{Request}
@@ -33,11 +33,11 @@ use Rattle.desk.specs.Parts.{windowSize, stageIn, stageAt}
 use Rattle.desk.specs.Numbers.{registerNumbers}
 use Rattle.desk.specs.Acceptable.{requestOk, stageOk, rowsOk, accept}
 use Rattle.desk.specs.Calls.{closed}
-use Rattle.desk.proofs.Acceptances.{closed-refused}
-use Rattle.image.specs.Image.{each, flat, listed, requestWords, stageWords, rowWords, rowsWords, driveWords, placesWords, tailWords, deskWords, image, rowSize, placeSize, rowAt, placeAt, tailAt, blockSize, countAt, pointerAt, arenaAt, storeAt, requestPlace, finishedPlace, registersAt, requestAt, readStage, readRow, readDrive, readRows, readPlaces, readDesk, isImage, deskOf, accepted, FitsDrive}
+use Rattle.desk.proofs.AcceptableLaws.{closed-refused}
+use Rattle.image.specs.Image.{each, flat, listed, requestWords, stageWords, rowWords, rowsWords, driveWords, placesWords, tailWords, deskWords, image, rowSize, placeSize, rowAt, placeAt, tailAt, deskSize, countAt, pointerAt, arenaAt, storeAt, requestPlace, finishedPlace, registersAt, requestAt, readStage, readRow, readDrive, readRows, readPlaces, readDesk, isImage, deskOf, accepted, FitsDrive}
 use Rattle.image.specs.Judged.{below, areRegisters, isRequest, isPlace, driveGood, drivesGood, restZero, firstIn, blocksIn, apart, aloneTo, drivesApart, follows, ascending, waitingGood, finishedGood, rowGood, rowsGood, tableGood, judged}
 use Rattle.image.proofs.Fill.{length-each, length-flat, length-row, length-drive}
-use Rattle.image.proofs.Laws.{Says, drive-read}
+use Rattle.image.proofs.ImageLaws.{Says, drive-read}
 use Rattle.image.proofs.Fields.{row-of, place-of}
 
 -- ---- tests
@@ -582,7 +582,7 @@ module _ (b : List ℕ) where
 
 -- ---- the whole block
 
-module _ (b : List ℕ) (h : Bytes b) (l : length b ≡ blockSize) where
+module _ (b : List ℕ) (h : Bytes b) (l : length b ≡ deskSize) where
   count : ℕ
   count = le 8 b countAt
 
@@ -690,9 +690,9 @@ accepted-both b = go (isImage b)
 
 pub judged-is : (b : List ℕ) → Bytes b → judged b ≡ accepted b
 unfolding judged isImage
-judged-is b h = go (eqb (length b) blockSize) (eqb-true (length b) blockSize) ∙ sym (accepted-both b)
+judged-is b h = go (eqb (length b) deskSize) (eqb-true (length b) deskSize) ∙ sym (accepted-both b)
   where
-    go : (t : Bool) → (t ≡ true → length b ≡ blockSize)
+    go : (t : Bool) → (t ≡ true → length b ≡ deskSize)
         → both t (both (tableGood b) (both (ltb (le 8 b pointerAt) 8) (rowsGood 8 b (windowLength (le 8 b arenaAt)))))
         ≡ both (both t (same b (image (readDesk b)))) (accept (readDesk b))
     go true l = sized b h (l refl)
@@ -739,15 +739,15 @@ module _ (b : List ℕ) {n : ℕ} (en : n ≡ le 8 b countAt) where
   table-tests l es e f ex ey er = rw (er, ex, ey, ← en, ← es, le-leb n 8 l, sym e ∙ f)
 
 module _ (b : List ℕ) (h : Bytes b) where
-  pub judged-size : (length b ≡ blockSize → ⊥) → false ≡ accepted b
+  pub judged-size : (length b ≡ deskSize → ⊥) → false ≡ accepted b
   unfolding judged
-  judged-size n = rw (← judged-is b h, ne-eqb (length b) blockSize n)
+  judged-size n = rw (← judged-is b h, ne-eqb (length b) deskSize n)
 
-  pub judged-table : {t : Bool} → length b ≡ blockSize → t ≡ tableGood b → t ≡ false → false ≡ accepted b
+  pub judged-table : {t : Bool} → length b ≡ deskSize → t ≡ tableGood b → t ≡ false → false ≡ accepted b
   unfolding judged
-  judged-table l e f = rw (← judged-is b h, eq-eqb (length b) blockSize l, sym e ∙ f)
+  judged-table l e f = rw (← judged-is b h, eq-eqb (length b) deskSize l, sym e ∙ f)
 
-  pub judged-tests : {p a : ℕ} {t x r : Bool} → length b ≡ blockSize → t ≡ tableGood b → t ≡ true → p ≡ le 8 b pointerAt → a ≡ le 8 b arenaAt
+  pub judged-tests : {p a : ℕ} {t x r : Bool} → length b ≡ deskSize → t ≡ tableGood b → t ≡ true → p ≡ le 8 b pointerAt → a ≡ le 8 b arenaAt
       → x ≡ rowsGood 8 b (a / 8) → r ≡ both (ltb p 8) x → r ≡ accepted b
   unfolding judged
-  judged-tests l e f ep ea ex er = rw (← judged-is b h, er, ex, ep, ea, eq-eqb (length b) blockSize l, sym e ∙ f)
+  judged-tests l e f ep ea ex er = rw (← judged-is b h, er, ex, ep, ea, eq-eqb (length b) deskSize l, sym e ∙ f)

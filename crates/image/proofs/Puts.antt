@@ -12,18 +12,18 @@ use lib.Dec.{eqb}
 use borrow.Author.Tests.{eq-eqb, eqb-true}
 use Rattle.logic.specs.Logic.{pick, both}
 use Rattle.words.specs.Words.{leBytes}
-use Rattle.words.proofs.Words.{length-leBytes, sets-front}
+use Rattle.words.proofs.WordsLaws.{length-leBytes, sets-front}
 use Rattle.drive.specs.Drive.{same}
-use Rattle.drive.proofs.Drives.{same-true}
+use Rattle.drive.proofs.DriveLaws.{same-true}
 use Rattle.desk.specs.declared.Stage.{Stage}
 use Rattle.desk.specs.declared.Row.{Row}
 use Rattle.desk.specs.declared.Desk.{Desk}
 use Rattle.desk.specs.Parts.{withStage, withPointer}
 use Rattle.desk.specs.Acceptable.{accept}
 use Rattle.desk.specs.Calls.{closed}
-use Rattle.image.specs.Image.{each, flat, stageWords, rowWords, rowsWords, driveWords, placesWords, tailWords, deskWords, image, rowAt, pointerAt, blockSize, readDesk, isImage, deskOf, accepted, laid, putStage, putPointer}
+use Rattle.image.specs.Image.{each, flat, stageWords, rowWords, rowsWords, driveWords, placesWords, tailWords, deskWords, image, rowAt, pointerAt, deskSize, readDesk, isImage, deskOf, accepted, laid, putStage, putPointer}
 use Rattle.image.proofs.Fill.{each-append, length-each, length-flat, length-row, length-drive}
-use Rattle.image.proofs.Laws.{not-closed}
+use Rattle.image.proofs.ImageLaws.{not-closed}
 
 -- ---- stores behind the first of two lists
 
@@ -114,19 +114,19 @@ image-pointer d p r t =
 -- ---- an accepted block
 
 pub record AcceptedBlock (b : List ℕ) : Type 0 where
-  pub size : length b ≡ blockSize
+  pub size : length b ≡ deskSize
   pub desk : deskOf b ≡ readDesk b
   pub accept : accept (readDesk b) ≡ true
   pub image : image (readDesk b) ≡ b
 
 pub accepted-read : (b : List ℕ) → accepted b ≡ true → AcceptedBlock b
 unfolding accepted deskOf isImage
-accepted-read b = go (eqb (length b) blockSize) (same b (image (readDesk b))) refl refl
+accepted-read b = go (eqb (length b) deskSize) (same b (image (readDesk b))) refl refl
   where
-    go : (p q : Bool) → eqb (length b) blockSize ≡ p → same b (image (readDesk b)) ≡ q → accept (pick (both p q) (readDesk b) (closed 0 0)) ≡ true → AcceptedBlock b
+    go : (p q : Bool) → eqb (length b) deskSize ≡ p → same b (image (readDesk b)) ≡ q → accept (pick (both p q) (readDesk b) (closed 0 0)) ≡ true → AcceptedBlock b
     go true true e f k =
         record {
-          size = eqb-true (length b) blockSize e;
+          size = eqb-true (length b) deskSize e;
           desk = rw (e, f);
           accept = k;
           image = sym (same-true b (image (readDesk b)) f);
@@ -146,7 +146,7 @@ places-eight b = refl
 module _ (b : List ℕ) (a : accepted b ≡ true) where
   laid-accepted : (d : Desk) → laid b d ≡ image d
   unfolding laid
-  laid-accepted d = rw (eq-eqb (length b) blockSize (accepted-read b a .size))
+  laid-accepted d = rw (eq-eqb (length b) deskSize (accepted-read b a .size))
 
   pub put-stage : (g : ℕ) (s : Stage) → g < 8 → putStage b g s ≡ laid b (withStage (deskOf b) g s)
   put-stage g s h =

@@ -109,8 +109,8 @@ abbrev pub tailAt : ℕ → ℕ
 tailAt j = placeAt 8 + 8 * j
 
 -- the whole block, 2400 bytes
-abbrev pub blockSize : ℕ
-blockSize = tailAt 4
+abbrev pub deskSize : ℕ
+deskSize = tailAt 4
 
 -- the number of drives
 abbrev pub countAt : ℕ
@@ -213,7 +213,7 @@ readDesk b = record { rows = readRows b; pointer = le 8 b pointerAt; table = blo
 
 -- it has the size, and what it says makes the same bytes again: so no byte of it says anything else
 unfoldable pub isImage : List ℕ → Bool
-isImage b = both (eqb (length b) blockSize) (same b (image (readDesk b)))
+isImage b = both (eqb (length b) deskSize) (same b (image (readDesk b)))
 
 -- the desk whose image it is; of any other block a desk at which every call is 25
 unfoldable pub deskOf : List ℕ → Desk
@@ -225,7 +225,7 @@ accepted b = accept (deskOf b)
 
 -- a desk laid out in a block; a block of another size stays
 unfoldable pub laid : List ℕ → Desk → List ℕ
-laid b d = pick (eqb (length b) blockSize) (image d) b
+laid b d = pick (eqb (length b) deskSize) (image d) b
 
 -- ---- "Calls the host makes", the desk block: what a call changes in it
 

@@ -14,7 +14,7 @@ use Rattle.memory.specs.Blocks.{blockLength}
 use Rattle.table.specs.Table.{mostDrives}
 use Rattle.desk.specs.declared.Stage.the-variants.{Waiting}
 use Rattle.desk.specs.Acceptable.{stageOk}
-use Rattle.image.specs.Image.{rowAt, placeAt, blockSize, countAt, pointerAt, arenaAt, storeAt, requestPlace, finishedPlace, requestAt, readDrive, readDesk}
+use Rattle.image.specs.Image.{rowAt, placeAt, deskSize, countAt, pointerAt, arenaAt, storeAt, requestPlace, finishedPlace, requestAt, readDrive, readDesk}
 
 -- ---- "Calls the host makes", the desk block: words within the width of their fields
 
@@ -114,7 +114,7 @@ tableGood b =
 -- a block of the size whose table, pointer and rows are good
 unfoldable pub judged : List ℕ → Bool
 judged b =
-    both (eqb (length b) blockSize)
+    both (eqb (length b) deskSize)
     (both (tableGood b)
     (both (ltb (le 8 b pointerAt) guests)
     (rowsGood guests b (windowLength (le 8 b arenaAt)))))

@@ -18,10 +18,10 @@ ghost use Rattle.logic.specs.Logic.{pick, both};
 ghost use Rattle.table.specs.Table.{mostDrives};
 ghost use Rattle.desk.specs.declared.Stage.the-variants.{Waiting, Finished};
 ghost use Rattle.desk.specs.Parts.{stageAt};
-ghost use Rattle.desk.specs.Calls.{seek};
+ghost use Rattle.desk.specs.Calls.{firstWaiting};
 ghost use Rattle.memory.specs.Window.{guests};
 ghost use Rattle.int13.specs.Steps.{firstDrive, driveCount, isDrive, driveAt};
-ghost use Rattle.image.specs.Image.{rowSize, placeSize, placeAt, blockSize, each, flat, stageWords, rowWords, driveWords, image, registersAt, requestAt, readStage, readDrive, readDesk, accepted, laid, putStage, putPointer};
+ghost use Rattle.image.specs.Image.{rowSize, placeSize, placeAt, deskSize, each, flat, stageWords, rowWords, driveWords, image, registersAt, requestAt, readStage, readDrive, readDesk, accepted, laid, putStage, putPointer};
 ghost use Rattle.image.specs.Judged.{below, areRegisters, isRequest, isPlace, driveGood, drivesGood, restZero, firstIn, blocksIn, apart, aloneTo, drivesApart, follows, ascending, waitingGood, finishedGood, rowGood, rowsGood, tableGood};
 
 // Bytes of a row, of 23 words, and of a place of the table, of 14; where the places and the last words stand.
@@ -129,7 +129,7 @@ fn drive_at(b: &[u8], i: usize) -> Drive
 }
 
 pub fn table_of(b: &[u8]) -> Table
-    requires { ⌜ length (now b) ≡ blockSize ⌝ }
+    requires { ⌜ length (now b) ≡ deskSize ⌝ }
     ensures { λ r. ⌜ r ≡ readDesk (now (b .entry)) .table ⌝ }
 {
     let drives = [
@@ -152,7 +152,7 @@ pub fn table_of(b: &[u8]) -> Table
 
 // Arena and store have the lengths of the opening.
 pub fn is_lent(b: &[u8], arena: usize, store: usize) -> bool
-    requires { ⌜ length (now b) ≡ blockSize ⌝ }
+    requires { ⌜ length (now b) ≡ deskSize ⌝ }
     ensures { λ r. ⌜ r ≡ both (eqb arena (readDesk (now (b .entry)) .arena)) (eqb store (readDesk (now (b .entry)) .store)) ⌝ }
 {
     let same = arena as u64 == words::get64(b, ARENA);
@@ -161,7 +161,7 @@ pub fn is_lent(b: &[u8], arena: usize, store: usize) -> bool
 
 // What a guest's row holds.
 pub fn stage_of(b: &[u8], guest: usize) -> Stage
-    requires { ⌜ (length (now b) ≡ blockSize) × (guest < guests) ⌝ }
+    requires { ⌜ (length (now b) ≡ deskSize) × (guest < guests) ⌝ }
     ensures { λ r. ⌜ r ≡ stageAt (readDesk (now (b .entry))) guest ⌝ }
 {
     stage_at(b, ROW * guest)
@@ -169,8 +169,8 @@ pub fn stage_of(b: &[u8], guest: usize) -> Stage
 
 // The first waiting row at or after the pointer, by the numbers of the stages.
 pub fn next_of(b: &[u8]) -> Next
-    requires { ⌜ (length (now b) ≡ blockSize) × (readDesk (now b) .pointer < guests) ⌝ }
-    ensures { λ r. ⌜ r ≡ seek (readDesk (now (b .entry)) .rows) guests (readDesk (now (b .entry)) .pointer) ⌝ }
+    requires { ⌜ (length (now b) ≡ deskSize) × (readDesk (now b) .pointer < guests) ⌝ }
+    ensures { λ r. ⌜ r ≡ firstWaiting (readDesk (now (b .entry)) .rows) guests (readDesk (now (b .entry)) .pointer) ⌝ }
 {
     let mut guest = words::get64(b, POINTER) as usize;
     let mut left: usize = 8;
@@ -186,7 +186,7 @@ pub fn next_of(b: &[u8]) -> Next
 
 // How many drives the table holds, at most eight.
 pub fn count_of(b: &[u8]) -> u8
-    requires { ⌜ length (now b) ≡ blockSize ⌝ }
+    requires { ⌜ length (now b) ≡ deskSize ⌝ }
     ensures { λ r. ⌜ (r ≡ driveCount (readDesk (now (b .entry)) .table)) × (r ≤ 8) ⌝ }
 {
     let count = words::get64(b, COUNT);
@@ -195,7 +195,7 @@ pub fn count_of(b: &[u8]) -> u8
 
 // Whether the table has a drive of that BIOS number.
 pub fn is_drive(b: &[u8], n: u8) -> bool
-    requires { ⌜ length (now b) ≡ blockSize ⌝ }
+    requires { ⌜ length (now b) ≡ deskSize ⌝ }
     ensures { λ r. ⌜ r ≡ isDrive (readDesk (now (b .entry)) .table) n ⌝ }
 {
     let end = FIRST_DRIVE + count_of(b);
@@ -204,7 +204,7 @@ pub fn is_drive(b: &[u8], n: u8) -> bool
 
 // The drive of a BIOS number, or the first where the number is not known: a caller that has not tested the number asks nothing of it.
 pub fn drive_named(b: &[u8], n: u8) -> Drive
-    requires { ⌜ length (now b) ≡ blockSize ⌝ }
+    requires { ⌜ length (now b) ≡ deskSize ⌝ }
     ensures { λ d. ⌜ d ≡ driveAt (readDesk (now (b .entry)) .table) (pick (isDrive (readDesk (now (b .entry)) .table) n) n firstDrive) ⌝ }
 {
     if is_drive(b, n) {
@@ -263,7 +263,7 @@ fn drive_good(b: &[u8], i: usize, store: u64) -> bool
 
 // Every caller has found at most eight drives.
 fn drives_good(b: &[u8], n: usize, store: u64) -> bool
-    requires { ⌜ (length (now b) ≡ blockSize) × (n ≤ mostDrives) ⌝ }
+    requires { ⌜ (length (now b) ≡ deskSize) × (n ≤ mostDrives) ⌝ }
     ensures { λ r. ⌜ r ≡ drivesGood n (now (b .entry)) store ⌝ }
 {
     let mut good = true;
@@ -276,7 +276,7 @@ fn drives_good(b: &[u8], n: usize, store: u64) -> bool
 }
 
 fn rest_zero(b: &[u8], n: usize) -> bool
-    requires { ⌜ (length (now b) ≡ blockSize) × (n ≤ mostDrives) ⌝ }
+    requires { ⌜ (length (now b) ≡ deskSize) × (n ≤ mostDrives) ⌝ }
     ensures { λ r. ⌜ r ≡ restZero mostDrives n (now (b .entry)) ⌝ }
 {
     let mut good = true;
@@ -299,14 +299,14 @@ fn are_apart(first: u64, blocks: u64, other: u64, others: u64) -> bool
 }
 
 fn first_in(b: &[u8], i: usize) -> u64
-    requires { ⌜ (length (now b) ≡ blockSize) × (i < mostDrives) ⌝ }
+    requires { ⌜ (length (now b) ≡ deskSize) × (i < mostDrives) ⌝ }
     ensures { λ r. ⌜ r ≡ firstIn (now (b .entry)) i ⌝ }
 {
     words::get64(b, PLACES + PLACE * i + 32)
 }
 
 fn blocks_in(b: &[u8], i: usize) -> u64
-    requires { ⌜ (length (now b) ≡ blockSize) × (i < mostDrives) ⌝ }
+    requires { ⌜ (length (now b) ≡ deskSize) × (i < mostDrives) ⌝ }
     ensures { λ r. ⌜ r ≡ blocksIn (now (b .entry)) i ⌝ }
 {
     words::get64(b, PLACES + PLACE * i + 24)
@@ -314,7 +314,7 @@ fn blocks_in(b: &[u8], i: usize) -> u64
 
 // The drive of a place shares no block with one before it.
 fn is_alone(b: &[u8], i: usize) -> bool
-    requires { ⌜ (length (now b) ≡ blockSize) × (i < mostDrives) ⌝ }
+    requires { ⌜ (length (now b) ≡ deskSize) × (i < mostDrives) ⌝ }
     ensures { λ r. ⌜ r ≡ aloneTo i (now (b .entry)) i ⌝ }
 {
     let first = first_in(b, i);
@@ -332,7 +332,7 @@ fn is_alone(b: &[u8], i: usize) -> bool
 }
 
 fn next_follows(b: &[u8], i: usize) -> bool
-    requires { ⌜ (length (now b) ≡ blockSize) × (i + 1 < mostDrives) ⌝ }
+    requires { ⌜ (length (now b) ≡ deskSize) × (i + 1 < mostDrives) ⌝ }
     ensures { λ r. ⌜ r ≡ follows (now (b .entry)) i ⌝ }
 {
     let first = first_in(b, i);
@@ -341,7 +341,7 @@ fn next_follows(b: &[u8], i: usize) -> bool
 }
 
 fn is_ascending(b: &[u8], n: usize) -> bool
-    requires { ⌜ (length (now b) ≡ blockSize) × (n ≤ mostDrives) ⌝ }
+    requires { ⌜ (length (now b) ≡ deskSize) × (n ≤ mostDrives) ⌝ }
     ensures { λ r. ⌜ r ≡ ascending n (now (b .entry)) ⌝ }
 {
     let mut good = true;
@@ -355,7 +355,7 @@ fn is_ascending(b: &[u8], n: usize) -> bool
 
 // No two of the first n drives share a block. A table in the order of the store, as most are, needs no pairs.
 fn drives_apart(b: &[u8], n: usize) -> bool
-    requires { ⌜ (length (now b) ≡ blockSize) × (n ≤ mostDrives) ⌝ }
+    requires { ⌜ (length (now b) ≡ deskSize) × (n ≤ mostDrives) ⌝ }
     ensures { λ r. ⌜ r ≡ drivesApart n (now (b .entry)) ⌝ }
 {
     if is_ascending(b, n) {
@@ -371,7 +371,7 @@ fn drives_apart(b: &[u8], n: usize) -> bool
 }
 
 fn table_good(b: &[u8]) -> bool
-    requires { ⌜ length (now b) ≡ blockSize ⌝ }
+    requires { ⌜ length (now b) ≡ deskSize ⌝ }
     ensures { λ r. ⌜ r ≡ tableGood (now (b .entry)) ⌝ }
 {
     let count = words::get64(b, COUNT);
@@ -386,7 +386,7 @@ fn table_good(b: &[u8]) -> bool
 }
 
 fn waiting_good(b: &[u8], i: usize, m: u64) -> bool
-    requires { ⌜ (length (now b) ≡ blockSize) × (i + rowSize ≤ blockSize) ⌝ }
+    requires { ⌜ (length (now b) ≡ deskSize) × (i + rowSize ≤ deskSize) ⌝ }
     ensures { λ r. ⌜ r ≡ waitingGood (now (b .entry)) m i ⌝ }
 {
     let q = request_at(b, i + 8);
@@ -406,7 +406,7 @@ fn finished_good(b: &[u8], i: usize) -> bool
 }
 
 fn row_good(b: &[u8], i: usize, m: u64) -> bool
-    requires { ⌜ (length (now b) ≡ blockSize) × (i + rowSize ≤ blockSize) ⌝ }
+    requires { ⌜ (length (now b) ≡ deskSize) × (i + rowSize ≤ deskSize) ⌝ }
     ensures { λ r. ⌜ r ≡ rowGood (now (b .entry)) m i ⌝ }
 {
     let stage = words::get64(b, i);
@@ -423,7 +423,7 @@ fn row_good(b: &[u8], i: usize, m: u64) -> bool
 }
 
 fn rows_good(b: &[u8], m: u64) -> bool
-    requires { ⌜ length (now b) ≡ blockSize ⌝ }
+    requires { ⌜ length (now b) ≡ deskSize ⌝ }
     ensures { λ r. ⌜ r ≡ rowsGood guests (now (b .entry)) m ⌝ }
 {
     let mut good = true;
@@ -567,7 +567,7 @@ fn put_words(out: &mut [u8], at: usize, w: &[u64])
 }
 
 fn put_rows(out: &mut [u8], rows: [Row; 8])
-    requires { ⌜ length (now out) ≡ blockSize ⌝ }
+    requires { ⌜ length (now out) ≡ deskSize ⌝ }
     ensures { λ _. ⌜ now (out .exit) ≡ sets (now (out .entry)) 0 (flat (each rowWords rows)) ⌝ }
 {
     let mut k = 0;
@@ -581,7 +581,7 @@ fn put_rows(out: &mut [u8], rows: [Row; 8])
 }
 
 fn put_drives(out: &mut [u8], drives: [Drive; 8])
-    requires { ⌜ length (now out) ≡ blockSize ⌝ }
+    requires { ⌜ length (now out) ≡ deskSize ⌝ }
     ensures { λ _. ⌜ now (out .exit) ≡ sets (now (out .entry)) (placeAt 0) (flat (each driveWords drives)) ⌝ }
 {
     let mut k = 0;
@@ -595,7 +595,7 @@ fn put_drives(out: &mut [u8], drives: [Drive; 8])
 
 // What a guest's row holds from now on: only the row's words are written.
 pub fn put_stage(b: &mut [u8], guest: usize, stage: Stage)
-    requires { ⌜ (length (now b) ≡ blockSize) × (guest < guests) ⌝ }
+    requires { ⌜ (length (now b) ≡ deskSize) × (guest < guests) ⌝ }
     ensures { λ _. ⌜ now (b .exit) ≡ putStage (now (b .entry)) guest stage ⌝ }
 {
     let w = stage_words(stage);
@@ -604,7 +604,7 @@ pub fn put_stage(b: &mut [u8], guest: usize, stage: Stage)
 
 // Where the next search begins: only the pointer's word is written.
 pub fn put_pointer(b: &mut [u8], pointer: usize)
-    requires { ⌜ length (now b) ≡ blockSize ⌝ }
+    requires { ⌜ length (now b) ≡ deskSize ⌝ }
     ensures { λ _. ⌜ now (b .exit) ≡ putPointer (now (b .entry)) pointer ⌝ }
 {
     words::store64(b, POINTER, pointer as u64);
@@ -612,7 +612,7 @@ pub fn put_pointer(b: &mut [u8], pointer: usize)
 
 // Lays a desk out in a block of its size.
 fn lay(d: Desk, out: &mut [u8])
-    requires { ⌜ length (now out) ≡ blockSize ⌝ }
+    requires { ⌜ length (now out) ≡ deskSize ⌝ }
     ensures { λ _. ⌜ now (out .exit) ≡ image d ⌝ }
 {
     let rows = d.rows;

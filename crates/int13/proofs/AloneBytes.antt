@@ -11,13 +11,13 @@ use lib.Seq.{getD-take, getD-drop}
 use lib.Dec.{leb, ltb, eqb}
 use borrow.Author.Tests.{ltb-false, eqb-true, eqb-false, not-false}
 use Rattle.logic.specs.Logic.{pick, both, either}
-use Rattle.logic.proofs.Logic.{pick-cases}
+use Rattle.logic.proofs.LogicLaws.{pick-cases}
 use Rattle.words.specs.Words.{le, part}
 use Rattle.chs.specs.declared.ToBlock.{ToBlock}
 use Rattle.chs.specs.declared.ToBlock.the-variants.{Block, Refused as NoBlock}
 use Rattle.chs.specs.Chs.{size, blockOf, addressIn}
 use Rattle.drive.specs.Drive.{geometryOf, isProtected}
-use Rattle.drive.proofs.Drives.{geometry-inside}
+use Rattle.drive.proofs.DriveLaws.{geometry-inside}
 use Rattle.table.specs.declared.Table.{Table}
 use Rattle.table.specs.Table.{drivesOf, readTable}
 use Rattle.table.proofs.Sound.{Obeys, Good, good-obeys, accepted-good}
@@ -29,17 +29,17 @@ use Rattle.layout.specs.declared.ResultAnswer.the-variants.{Written, Refused as
 use Rattle.layout.specs.Packet.{packetAt, readPacket}
 use Rattle.layout.specs.ResultBuffer.{resultAnswer}
 use Rattle.memory.specs.Blocks.{blocks}
-use Rattle.memory.proofs.Blocks.{blocks-length, getD-blocks-outside, part-blocks-same}
+use Rattle.memory.proofs.BlocksLaws.{blocks-length, getD-blocks-outside, part-blocks-same}
 use Rattle.int13.specs.declared.Registers.{Registers}
 use Rattle.int13.specs.declared.Job.{Job}
 use Rattle.int13.specs.declared.Outcome.{Outcome}
 use Rattle.int13.specs.declared.Outcome.the-variants.{Answered, Waits}
 use Rattle.int13.specs.declared.Plan.{Plan}
 use Rattle.int13.specs.Answers.{ah, al, dl, isSectors, isWrite, posted, succeed}
-use Rattle.int13.specs.Steps.{Checked, fed, isDrive, driveCount, driveOf, packetPlace, verifyOk, packetTests, packetRead, packetPlan, packetJob, carryOut, extended, seekRead, seek, sectorBuffer, sectorJob, sectorRun, sectors, parameters, extensions, resultGiven, result, steps, begin}
+use Rattle.int13.specs.Steps.{Checked, fed, isDrive, driveCount, driveNamed, packetPlace, verifyOk, packetTests, packetRead, packetPlan, packetJob, carryOut, extended, seekRead, seek, sectorBuffer, sectorJob, sectorRun, sectors, parameters, extensions, resultGiven, result, steps, begin}
 use Rattle.int13.specs.Alone.{Memory, Served, asked, namedFrom, storeBlock, moves, finish, alone}
 use Rattle.int13.specs.AloneBytes.{askedBuffer, ReadBytes, WrittenBytes, PostedWell, AloneBytes, AloneMoves}
-use Rattle.int13.proofs.StepLaws.{isDrive-true}
+use Rattle.int13.proofs.StepsLaws.{isDrive-true}
 
 -- ---- what a request that waits asks
 
@@ -65,9 +65,9 @@ module _ (b : Table) (r : Registers) (w : List ℕ) where
     pub count : j .count ≡ asked r w
     pub buffer : j .buffer ≡ askedBuffer r w
     pub first : storeBlock b j ≡ namedFrom b r w
-    pub named : storeBlock b j ≡ driveOf b r .first + j .start
+    pub named : storeBlock b j ≡ driveNamed b r .first + j .start
     pub room : j .buffer + 512 * j .count ≤ length w
-    pub range : (j .start + j .count ≤ driveOf b r .blocks) ⊎ (j .start + j .count ≤ size (geometryOf (driveOf b r)))
+    pub range : (j .start + j .count ≤ driveNamed b r .blocks) ⊎ (j .start + j .count ≤ size (geometryOf (driveNamed b r)))
 
   -- an answer at once asks nothing more
   abbrev Tells : Outcome → Type 0
@@ -81,8 +81,8 @@ module _ (b : Table) (r : Registers) (w : List ℕ) where
   known = isDrive b (dl r)
 
   sectors-asks : (n : ℕ) → isSectors (ah r) ≡ true → known ≡ true → eqb (al r) 0 ≡ false
-      → blockOf (geometryOf (driveOf b r)) (addressIn (r .cx) (r .dx)) ≡ Block n
-      → ltb (size (geometryOf (driveOf b r))) (n + al r) ≡ false → ltb (length w) (sectorBuffer r + 512 * al r) ≡ false → Asks (sectorJob r n)
+      → blockOf (geometryOf (driveNamed b r)) (addressIn (r .cx) (r .dx)) ≡ Block n
+      → ltb (size (geometryOf (driveNamed b r))) (n + al r) ≡ false → ltb (length w) (sectorBuffer r + 512 * al r) ≡ false → Asks (sectorJob r n)
   sectors-asks n s d z e i f =
       let ne : al r ≡ 0 → ⊥ = eqb-false (al r) 0 z in
       record {
@@ -95,23 +95,23 @@ module _ (b : Table) (r : Registers) (w : List ℕ) where
         first = rw (s, e);
         named = refl;
         room = ltb-false (length w) (sectorBuffer r + 512 * al r) f;
-        range = inr (ltb-false (size (geometryOf (driveOf b r))) (n + al r) i);
+        range = inr (ltb-false (size (geometryOf (driveNamed b r))) (n + al r) i);
       }
 
-  sectors-tell : isSectors (ah r) ≡ true → Tells (sectors known (driveOf b r) r (length w))
+  sectors-tell : isSectors (ah r) ≡ true → Tells (sectors known (driveNamed b r) r (length w))
   unfolding sectors
   sectors-tell s =
       pick-cases Tells (not known) _ _ (λ e. tt) (λ e₁.
       pick-cases Tells (eqb (al r) 0) _ _ (λ e. tt) (λ e₂.
       pick-cases Tells (ltb 128 (al r)) _ _ (λ e. tt) (λ e₃.
-      pick-cases Tells (both (isWrite (ah r)) (isProtected (driveOf b r))) _ _ (λ e. tt) (λ e₄.
-      run e₁ e₂ (blockOf (geometryOf (driveOf b r)) (addressIn (r .cx) (r .dx))) refl))))
+      pick-cases Tells (both (isWrite (ah r)) (isProtected (driveNamed b r))) _ _ (λ e. tt) (λ e₄.
+      run e₁ e₂ (blockOf (geometryOf (driveNamed b r)) (addressIn (r .cx) (r .dx))) refl))))
     where
-      run : not known ≡ false → eqb (al r) 0 ≡ false → (x : ToBlock) → blockOf (geometryOf (driveOf b r)) (addressIn (r .cx) (r .dx)) ≡ x
-          → Tells (sectorRun (driveOf b r) r (length w) x)
+      run : not known ≡ false → eqb (al r) 0 ≡ false → (x : ToBlock) → blockOf (geometryOf (driveNamed b r)) (addressIn (r .cx) (r .dx)) ≡ x
+          → Tells (sectorRun (driveNamed b r) r (length w) x)
       run e₁ e₂ (NoBlock code) e = tt
       run e₁ e₂ (Block n) e =
-          pick-cases Tells (ltb (size (geometryOf (driveOf b r))) (n + al r)) _ _ (λ e. tt) (λ e₅.
+          pick-cases Tells (ltb (size (geometryOf (driveNamed b r))) (n + al r)) _ _ (λ e. tt) (λ e₅.
           pick-cases Tells (ltb (length w) (sectorBuffer r + 512 * al r)) _ _ (λ e. tt) (λ e₆.
           sectors-asks n s (not-false _ e₁) e₂ e e₅ e₆))
 
@@ -124,7 +124,7 @@ module _ (b : Table) (r : Registers) (w : List ℕ) where
   abbrev Plans : Plan → Type 0
   Plans p = TellsAll (carryOut p r w)
 
-  packet-asks : isSectors (ah r) ≡ false → Extended ≡ true → known ≡ true → ltb (driveOf b r .blocks) (packet .start + packet .count) ≡ false
+  packet-asks : isSectors (ah r) ≡ false → Extended ≡ true → known ≡ true → ltb (driveNamed b r .blocks) (packet .start + packet .count) ≡ false
       → eqb (ah r) 0x44 ≡ false → ltb (length w) (packet .buffer + 512 * packet .count) ≡ false → eqb (packet .count) 0 ≡ false → Asks (packetJob r packet)
   unfolding packetAt
   packet-asks s x d q f u z =
@@ -139,51 +139,51 @@ module _ (b : Table) (r : Registers) (w : List ℕ) where
         first = rw s;
         named = refl;
         room = ltb-false (length w) (packet .buffer + 512 * packet .count) u;
-        range = inl (ltb-false (driveOf b r .blocks) (packet .start + packet .count) q);
+        range = inl (ltb-false (driveNamed b r .blocks) (packet .start + packet .count) q);
       }
 
-  packet-tell : isSectors (ah r) ≡ false → Extended ≡ true → known ≡ true → Plans (packetTests (driveOf b r) r (length w) packet)
+  packet-tell : isSectors (ah r) ≡ false → Extended ≡ true → known ≡ true → Plans (packetTests (driveNamed b r) r (length w) packet)
   unfolding packetTests
   packet-tell s x d =
       pick-cases Plans (ltb 127 (packet .count)) _ _ (λ e. tt) (λ e₁.
-      pick-cases Plans (both (isWrite (ah r)) (isProtected (driveOf b r))) _ _ (λ e. tt) (λ e₂.
-      pick-cases Plans (ltb (driveOf b r .blocks) (packet .start + packet .count)) _ _ (λ e. tt) (λ e₃.
+      pick-cases Plans (both (isWrite (ah r)) (isProtected (driveNamed b r))) _ _ (λ e. tt) (λ e₂.
+      pick-cases Plans (ltb (driveNamed b r .blocks) (packet .start + packet .count)) _ _ (λ e. tt) (λ e₃.
       pick-cases Plans (eqb (ah r) 0x44) _ _ (λ e. tt) (λ e₄.
       pick-cases Plans (ltb (length w) (packet .buffer + 512 * packet .count)) _ _ (λ e. tt) (λ e₅.
       pick-cases Plans (eqb (packet .count) 0) _ _ (λ e. tt) (λ e₆.
       packet-asks s x d e₃ e₄ e₅ e₆))))))
 
-  extended-tell : isSectors (ah r) ≡ false → Extended ≡ true → TellsAll (extended known (driveOf b r) r w)
+  extended-tell : isSectors (ah r) ≡ false → Extended ≡ true → TellsAll (extended known (driveNamed b r) r w)
   unfolding packetPlan readPacket
   extended-tell s x =
       pick-cases Plans (not known) _ _ (λ e. tt) (λ e₁.
-      pick-cases Plans (both (isWrite (ah r)) (not (verifyOk (al r) (driveOf b r .flags)))) _ _ (λ e. tt) (λ e₂.
-      pick-cases (λ (p : PacketRead). Plans (packetRead (driveOf b r) r (length w) p)) (leb (packetPlace r + 16) (length w)) _ _
+      pick-cases Plans (both (isWrite (ah r)) (not (verifyOk (al r) (driveNamed b r .flags)))) _ _ (λ e. tt) (λ e₂.
+      pick-cases (λ (p : PacketRead). Plans (packetRead (driveNamed b r) r (length w) p)) (leb (packetPlace r + 16) (length w)) _ _
       (λ e₃. pick-cases Plans (ltb (packet .size) 16) _ _ (λ e. tt) (λ e₄. packet-tell s x (not-false _ e₁)))
       (λ e₃. tt)))
 
   -- the others never wait
 
-  seek-tell : Tells (seek known (driveOf b r) r w)
+  seek-tell : Tells (seek known (driveNamed b r) r w)
   unfolding seek
   seek-tell = pick-cases Tells (not known) _ _ (λ e. tt) (λ e. by-packet (readPacket w (packetPlace r)))
     where
-      by-packet : (p : PacketRead) → Tells (seekRead (driveOf b r) r p)
+      by-packet : (p : PacketRead) → Tells (seekRead (driveNamed b r) r p)
       by-packet (NoPacket code) = tt
-      by-packet (Whole p) = pick-cases Tells (ltb (p .size) 16) _ _ (λ e. tt) (λ e. pick-cases Tells (leb (driveOf b r .blocks) (p .start)) _ _ (λ e. tt) (λ e. tt))
+      by-packet (Whole p) = pick-cases Tells (ltb (p .size) 16) _ _ (λ e. tt) (λ e. pick-cases Tells (leb (driveNamed b r .blocks) (p .start)) _ _ (λ e. tt) (λ e. tt))
 
-  result-tell : TellsAll (result known (driveOf b r) r w)
+  result-tell : TellsAll (result known (driveNamed b r) r w)
   unfolding result
   result-tell =
       pick-cases TellsAll (not known) _ _ (λ e. tt) (λ e.
       pick-cases TellsAll (ltb (length w) (packetPlace r + 2)) _ _ (λ e. tt) (λ e.
-      by-answer (resultAnswer (driveOf b r) (le 2 w (packetPlace r)) (length (drop (packetPlace r) w)))))
+      by-answer (resultAnswer (driveNamed b r) (le 2 w (packetPlace r)) (length (drop (packetPlace r) w)))))
     where
       by-answer : (x : ResultAnswer) → Tells (resultGiven x r)
       by-answer (NoResult code) = tt
       by-answer (Written n) = tt
 
-  parameters-tell : Tells (parameters known (driveCount b) (driveOf b r) r)
+  parameters-tell : Tells (parameters known (driveCount b) (driveNamed b r) r)
   unfolding parameters
   parameters-tell = pick-cases Tells known _ _ (λ e. tt) (λ e. tt)
 
@@ -210,8 +210,8 @@ module _ (b : Table) (r : Registers) (w : List ℕ) where
   unfolding isDrive
   waits-inside j store g a =
       let t = isDrive-true b (dl r) (a .known) in
-      let o : Obeys (driveOf b r) store = good-obeys b store (dl r - 128) (g .sound) (omega (arith, length-take (b .count) (b .drives))) in
-      let h : j .start + j .count ≤ driveOf b r .blocks = ⊎-elim (λ x. x) (λ x. omega (arith, x, geometry-inside (driveOf b r) (o .fields))) (a .range) in
+      let o : Obeys (driveNamed b r) store = good-obeys b store (dl r - 128) (g .sound) (omega (arith, length-take (b .count) (b .drives))) in
+      let h : j .start + j .count ≤ driveNamed b r .blocks = ⊎-elim (λ x. x) (λ x. omega (arith, x, geometry-inside (driveNamed b r) (o .fields))) (a .range) in
       omega (arith, a .named, h, o .inside)
 
 -- ---- the bytes that a move lays down

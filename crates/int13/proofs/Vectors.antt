@@ -21,7 +21,7 @@ use Rattle.int13.specs.declared.Outcome.the-variants.{Answered, Waits}
 use Rattle.int13.specs.declared.Plan.{Plan}
 use Rattle.int13.specs.declared.Plan.the-variants.{Refuse, Clear, Finish, Wait}
 use Rattle.int13.specs.Answers.{dl, succeed, withdraw, posted, outcomeNumbers}
-use Rattle.int13.specs.Steps.{Checked, fed, isDrive, driveAt, driveIn, driveOf, verifyOk, packetTests, packetPlan, seek, sectors, parameters, extensions, result, steps, begin}
+use Rattle.int13.specs.Steps.{Checked, fed, isDrive, driveAt, driveIn, driveNamed, verifyOk, packetTests, packetPlan, seek, sectors, parameters, extensions, result, steps, begin}
 use Rattle.int13.specs.Alone.{asked, namedFrom, storeBlock}
 use Rattle.int13.specs.AloneBytes.{askedBuffer}
 
@@ -119,7 +119,7 @@ result4 = record { ax = 0x4800; bx = 0; cx = 0; dx = 0x80; ds = 0; si = 4; es = 
 
 -- 02h and 03h at a table, in a window of that many bytes
 abbrev sectorsOf : Table → Registers → ℕ → Outcome
-sectorsOf b r M = sectors (isDrive b (dl r)) (driveOf b r) r M
+sectorsOf b r M = sectors (isDrive b (dl r)) (driveNamed b r) r M
 
 -- size byte, count, offset and segment of the buffer, start; byte 1 is A5h, which nobody reads
 abbrev packet : ℕ → ℕ → ℕ → ℕ → ℕ → List ℕ

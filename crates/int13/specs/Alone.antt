@@ -18,7 +18,7 @@ use Rattle.int13.specs.declared.Job.{Job}
 use Rattle.int13.specs.declared.Outcome.{Outcome}
 use Rattle.int13.specs.declared.Outcome.the-variants.{Answered, Waits}
 use Rattle.int13.specs.Answers.{ah, al, isSectors, isWrite, succeed}
-use Rattle.int13.specs.Steps.{Checked, Feeds, fed, driveAt, driveOf, packetPlace, begin}
+use Rattle.int13.specs.Steps.{Checked, Feeds, fed, driveAt, driveNamed, packetPlace, begin}
 
 -- ---- "The words of demand 3", a request from outside: the registers and the window that the post found
 
@@ -34,11 +34,11 @@ blockNumber (NoBlock code) = 0
 -- the first of its blocks, of the drive: from start, for 02h and 03h from its address's block
 abbrev pub askedStart : Table → Registers → List ℕ → ℕ
 askedStart b r w =
-    pick (isSectors (ah r)) (blockNumber (blockOf (geometryOf (driveOf b r)) (addressIn (r .cx) (r .dx)))) (le 8 w (packetPlace r + 8))
+    pick (isSectors (ah r)) (blockNumber (blockOf (geometryOf (driveNamed b r)) (addressIn (r .cx) (r .dx)))) (le 8 w (packetPlace r + 8))
 
 -- the store block that it names first
 abbrev pub namedFrom : Table → Registers → List ℕ → ℕ
-namedFrom b r w = driveOf b r .first + askedStart b r w
+namedFrom b r w = driveNamed b r .first + askedStart b r w
 
 -- ---- "The words of demand 3", Served alone: the blocks of a request move between the window and the store
 

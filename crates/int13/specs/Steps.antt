@@ -75,8 +75,8 @@ abbrev pub driveIn : Table → ℕ → Drive
 driveIn b n = getD (b .drives) (n % mostDrives) noDrive
 
 -- the drive that DL names
-abbrev pub driveOf : Table → Registers → Drive
-driveOf b r = driveAt b (dl r)
+abbrev pub driveNamed : Table → Registers → Drive
+driveNamed b r = driveAt b (dl r)
 
 -- ---- "Steps of each function", 42h, 43h, 44h
 
@@ -238,4 +238,4 @@ steps known count d r w =
 
 -- a call begun, with all that it is fed: answered at once with what that writes, or made a request that waits
 unfoldable pub begin : Feeds Table → Registers → List ℕ → Checked
-begin f r w = steps (isDrive (f .table) (dl r)) (driveCount (f .table)) (driveOf (f .table) r) r w
+begin f r w = steps (isDrive (f .table) (dl r)) (driveCount (f .table)) (driveNamed (f .table) r) r w

@@ -10,7 +10,7 @@ use native.Mathlib.Decide.{ℕ-discrete}
 use lib.ListN.{length, getD}
 use Rattle.memory.specs.Window.{guests, windowOf, withWindow}
 use Rattle.memory.specs.Blocks.{blockLength}
-use Rattle.memory.proofs.Windows.{window-with-same, window-with-other}
+use Rattle.memory.proofs.WindowLaws.{window-with-same, window-with-other}
 use Rattle.int13.specs.declared.Job.{Job}
 use Rattle.int13.specs.declared.Outcome.the-variants.{Answered, Waits}
 use Rattle.int13.specs.Answers.{succeed}

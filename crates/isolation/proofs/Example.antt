@@ -16,12 +16,12 @@ use Rattle.drive.specs.Drive.{driveOf, same, busOk, interfaceOk, geometryFits, 
 use Rattle.table.specs.declared.Table.{Table}
 use Rattle.table.specs.Table.{zeroDrive, headerOf, headerAt, overlapsAny, refusal, driveStep, endStep, stepOf as tableStepOf, stepAt, readFrom, readTable, soundTo, blankTo, isSound}
 use Rattle.memory.specs.Window.{guests, windowOf}
-use Rattle.memory.proofs.Windows.{length-with-window}
+use Rattle.memory.proofs.WindowLaws.{length-with-window}
 use Rattle.int13.specs.declared.Registers.{Registers}
 use Rattle.int13.specs.declared.Job.{Job}
 use Rattle.int13.specs.declared.Outcome.{Outcome}
 use Rattle.int13.specs.declared.Outcome.the-variants.{Waits}
-use Rattle.int13.specs.Steps.{isDrive, fed, driveOf as driveNamed, sectors, steps, begin}
+use Rattle.int13.specs.Steps.{isDrive, fed, driveNamed, sectors, steps, begin}
 use Rattle.int13.specs.Alone.{storeBlock, alone}
 use Rattle.desk.specs.declared.Request.{Request}
 use Rattle.desk.specs.declared.Stage.{Stage}
@@ -37,12 +37,12 @@ use Rattle.desk.specs.declared.TurnAnswer.{TurnAnswer}
 use Rattle.desk.specs.declared.TurnAnswer.the-variants.{Refused as TurnRefused}
 use Rattle.desk.specs.Parts.{windowSize, stageAt, withStage, withPointer}
 use Rattle.desk.specs.Acceptable.{requestOk, rowsOk, accept}
-use Rattle.desk.specs.Calls.{Done, isLent, opened, openOf, postChecked, postRow, postOf, seek, stageAfter, memoryOf, movedBy, serve, serveStage, turnNext, turnOf}
+use Rattle.desk.specs.Calls.{Done, isLent, opened, openOf, postChecked, postRow, postOf, firstWaiting, stageAfter, memoryOf, movedBy, serve, serveStage, turnNext, turnOf}
 use Rattle.isolation.specs.Lists.{Op, post, turn, Call, posted, turned, Out, outOf, step, Event, run, after}
 use Rattle.isolation.specs.Words.{serves, NoneOpens, Accepted, Waits as WaitsOn, Finishes, moved, Named, Writes, Unwritten, Left}
 use Rattle.isolation.specs.Demand.{foundBy, firstBy, Same, Claim}
 use Rattle.isolation.proofs.Moves.{moves-size}
-use Rattle.logic.proofs.Logic.{both-intro}
+use Rattle.logic.proofs.LogicLaws.{both-intro}
 use Rattle.isolation.proofs.View.{window-length}
 use Rattle.isolation.proofs.Fate.{same-request}
 use Rattle.isolation.proofs.Theorem.{demand}
@@ -156,12 +156,12 @@ post-accepted d g r arena store j a l b s o w =
     refuse : ℕ → Done PostAnswer
     refuse n = record { desk = d; answer = PostRefused n; arena = arena; store = store }
 
-turn-serves : (d : Desk) (g : ℕ) (q : Request) (arena store : List ℕ) → accept d ≡ true → isLent d arena store ≡ true → seek (d .rows) guests (d .pointer) ≡ Guest g
+turn-serves : (d : Desk) (g : ℕ) (q : Request) (arena store : List ℕ) → accept d ≡ true → isLent d arena store ≡ true → firstWaiting (d .rows) guests (d .pointer) ≡ Guest g
     → stageAt d g ≡ Waiting q → turnOf d arena store ≡ serve d g q arena store
 unfolding turnOf
 turn-serves d g q arena store a l n s =
-    ap (λ (t : Bool). pick (not t) (refuse 25) (pick (not (isLent d arena store)) (refuse 24) (turnNext d (seek (d .rows) guests (d .pointer)) arena store))) a
-    ∙ ap (λ (t : Bool). pick (not t) (refuse 24) (turnNext d (seek (d .rows) guests (d .pointer)) arena store)) l
+    ap (λ (t : Bool). pick (not t) (refuse 25) (pick (not (isLent d arena store)) (refuse 24) (turnNext d (firstWaiting (d .rows) guests (d .pointer)) arena store))) a
+    ∙ ap (λ (t : Bool). pick (not t) (refuse 24) (turnNext d (firstWaiting (d .rows) guests (d .pointer)) arena store)) l
     ∙ ap (λ (x : Next). turnNext d x arena store) n
     ∙ ap (λ (x : Stage). serveStage d g x arena store) s
   where
@@ -250,15 +250,15 @@ module _ (a s : List ℕ) where
         ap (outOf (posted 5)) (post-accepted d₁ 5 wrote (o₁ .arena) s writeJob ok₁ (lent d₁ (o₁ .arena) s a₁ ls) refl refl (k .0) (k .1))
 
     e₃ : step d₂ c₃ ≡ o₃
-    unfolding step seek
+    unfolding step firstWaiting
     e₃ = ap (outOf turned) (turn-serves d₂ 2 (record { job = readJob; moved = 0 }) (o₂ .arena) s ok₂ (lent d₂ (o₂ .arena) s a₂ ls) refl refl)
 
     e₄ : step d₃ c₄ ≡ o₄
-    unfolding step seek stageAfter
+    unfolding step firstWaiting stageAfter
     e₄ = ap (outOf turned) (turn-serves d₃ 5 (record { job = writeJob; moved = 0 }) (o₃ .arena) (o₃ .store) ok₃ (lent d₃ (o₃ .arena) (o₃ .store) a₃ s₃) refl refl)
 
     e₅ : step d₄ c₅ ≡ o₅
-    unfolding step seek stageAfter
+    unfolding step firstWaiting stageAfter
     e₅ = ap (outOf turned) (turn-serves d₄ 2 (record { job = readJob; moved = 16 }) (o₄ .arena) (o₄ .store) ok₄ (lent d₄ (o₄ .arena) (o₄ .store) a₄ s₄) refl refl)
 
     abbrev entry : Desk → Call → Out → Event

@@ -18,7 +18,7 @@ use Rattle.desk.specs.Calls.{quota, later, stageAfter}
 use Rattle.isolation.specs.Lists.{Call, Out, step}
 use Rattle.isolation.specs.Words.{Kind, withdraws, opens, kindOf, turnIn, withdrawalIn, movedIn, serviceIn, ifSame}
 use Rattle.isolation.proofs.Turn.{dist, dist-less, vacant≢waiting, finished≢waiting}
-use Rattle.logic.proofs.Logic.{pick-cases}
+use Rattle.logic.proofs.LogicLaws.{pick-cases}
 use Rattle.isolation.proofs.Accept.{Inv, ready}
 use Rattle.isolation.proofs.View.{Did, same, idle, answer, accepting, serving, giving, withdrawing, view, servedOut, withdrawnOut, quiet-turn, quiet-withdrawal, quiet-moved, quiet-service}
 use Rattle.isolation.proofs.Keep.{stage-same, stage-other, waiting-below, same-guest}

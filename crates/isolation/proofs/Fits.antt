@@ -11,16 +11,16 @@ use lib.Seq.{getD-set-same, getD-set-other, length-take-le}
 use lib.Dec.{leb, ltb, eqb}
 use borrow.Author.Tests.{leb-true, ltb-true, eqb-true}
 use Rattle.logic.specs.Logic.{pick}
-use Rattle.logic.proofs.Logic.{both-true, pick-cases}
+use Rattle.logic.proofs.LogicLaws.{both-true, pick-cases}
 use Rattle.words.specs.Words.{Bytes, part}
-use Rattle.words.proofs.Words.{bytes-part}
+use Rattle.words.proofs.WordsLaws.{bytes-part}
 use Rattle.drive.specs.declared.Drive.{Drive}
 use Rattle.drive.specs.Drive.{driveOf}
-use Rattle.drive.proofs.Drives.{fits-drive}
+use Rattle.drive.proofs.DriveLaws.{fits-drive}
 use Rattle.table.specs.declared.Table.{Table}
 use Rattle.table.specs.declared.Stepped.{Stepped}
 use Rattle.table.specs.Table.{noDrive, zeroDrive, emptyTable, more, goOn, readFrom, readTable, drivesOf}
-use Rattle.table.proofs.Tables.{stepAt-cases, whole-at, refusal-room}
+use Rattle.table.proofs.TableLaws.{stepAt-cases, whole-at, refusal-room}
 use Rattle.memory.specs.Window.{guests}
 use Rattle.memory.specs.Blocks.{blockLength}
 use Rattle.int13.specs.declared.Registers.{Registers}
@@ -40,7 +40,7 @@ use Rattle.table.specs.declared.Written.the-variants.{Bytes as WrittenBytes, Re
 use Rattle.desk.specs.Parts.{windowSize, stageAt, withStage, withPointer, next}
 use Rattle.desk.specs.Acceptable.{packetOk, stageOk}
 use Rattle.desk.specs.Calls.{openOf, quota, later, stageAfter}
-use Rattle.desk.proofs.Acceptances.{waits-facts}
+use Rattle.desk.proofs.AcceptableLaws.{waits-facts}
 use Rattle.image.specs.Image.{FitsRegisters, FitsRequest, FitsStage, FitsDrive, FitsTable, FitsDesk}
 use Rattle.isolation.specs.Lists.{Op, openTable, post, turn, collect, withdraw, write, Call, Answer, opening, posted as postedTo, turned, collected, withdrawn, written, Out, openedDesk, stepOf, step}
 use Rattle.isolation.specs.Words.{opens, kindOf}

@@ -13,7 +13,7 @@ use lib.ListN.{length, length-set, List·getD-eq-default}
 use lib.Seq.{getD-set-same, getD-set-other, length-sets}
 use Rattle.words.specs.Words.{leBytes}
 use Rattle.memory.specs.Window.{guests, windowOf, spanLength}
-use Rattle.memory.proofs.Windows.{window-with-other}
+use Rattle.memory.proofs.WindowLaws.{window-with-other}
 use Rattle.table.specs.declared.Table.{Table}
 use Rattle.int13.specs.declared.Registers.{Registers}
 use Rattle.int13.specs.Answers.{ah, isSectors}
@@ -28,10 +28,10 @@ use Rattle.desk.specs.Acceptable.{jobOk, stageOk}
 use Rattle.desk.specs.Calls.{quota, later, stageAfter, memoryOf, movedBy, withdrawnWindow}
 use Rattle.isolation.specs.Lists.{post, turn, collect, withdraw, Call, Out, step, run, after}
 use Rattle.isolation.specs.Words.{opens, kindOf, NoneOpens, serviceIn, ifSame}
-use Rattle.desk.proofs.Acceptances.{waiting-ok}
+use Rattle.desk.proofs.AcceptableLaws.{waiting-ok}
 use Rattle.isolation.proofs.Turn.{next-lt, vacant≢waiting}
 use Rattle.isolation.proofs.Moves.{moves-size}
-use Rattle.logic.proofs.Logic.{pick-cases, both-intro, lt-or-le}
+use Rattle.logic.proofs.LogicLaws.{pick-cases, both-intro, lt-or-le}
 use Rattle.isolation.proofs.Check.{Fresh}
 use Rattle.isolation.proofs.Accept.{Inv, Ready, ready, waiting-job}
 use Rattle.isolation.proofs.View.{Lent, Did, same, idle, answer, accepting, serving, giving, withdrawing, view, windowIn, window-length, span-lent}

@@ -6,7 +6,7 @@ use mathlib.Core.List.{List}
 use native.Mathlib.Omega.{arith}
 use Rattle.memory.specs.Window.{guests}
 use Rattle.memory.specs.Blocks.{blockLength}
-use Rattle.memory.proofs.Windows.{window-with-same, with-window-same}
+use Rattle.memory.proofs.WindowLaws.{window-with-same, with-window-same}
 use Rattle.table.specs.declared.Table.{Table}
 use Rattle.table.specs.Table.{readTable}
 use Rattle.int13.specs.declared.Registers.{Registers}

@@ -6,7 +6,7 @@ use mathlib.Core.List.{List}
 use native.Mathlib.Omega.{arith}
 use lib.Dec.{leb, ltb, eqb}
 use lib.ListN.{length}
-use Rattle.logic.proofs.Logic.{pick-cases}
+use Rattle.logic.proofs.LogicLaws.{pick-cases}
 use Rattle.words.specs.Words.{le, part}
 use Rattle.drive.specs.declared.Drive.{Drive}
 use Rattle.drive.specs.Drive.{driveOf, fieldsOk, inStore}

@@ -6,7 +6,7 @@ use mathlib.Core.Logic.{⊎-elim}
 use mathlib.Core.List.{List, [], _∷_, _++_}
 use native.Mathlib.Omega.{arith}
 use lib.ListN.{length}
-use Rattle.logic.proofs.Logic.{lt-or-le}
+use Rattle.logic.proofs.LogicLaws.{lt-or-le}
 use Rattle.words.specs.Words.{part}
 use Rattle.memory.specs.Window.{guests, windowLength, windowOf}
 use Rattle.memory.specs.Blocks.{blockLength}

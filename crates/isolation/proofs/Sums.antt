@@ -20,7 +20,7 @@ use Rattle.desk.specs.declared.Stage.the-variants.{Waiting}
 use Rattle.desk.specs.declared.Desk.{Desk}
 use Rattle.desk.specs.declared.TurnAnswer.{TurnAnswer}
 use Rattle.desk.specs.Parts.{vacantRow}
-use Rattle.desk.specs.Calls.{Done, seek, turnNext, stageAfter}
+use Rattle.desk.specs.Calls.{Done, firstWaiting, turnNext, stageAfter}
 use Rattle.desk.specs.Numbers.{turnNumbers}
 
 -- 42h from drive 80h, 40 blocks
@@ -43,7 +43,7 @@ p10 = desk (replicate guests row) 1
 
 -- one turn, on an arena and a store without bytes
 abbrev pub oneTurn : Desk → Done TurnAnswer
-oneTurn d = turnNext d (seek (d .rows) guests (d .pointer)) [] []
+oneTurn d = turnNext d (firstWaiting (d .rows) guests (d .pointer)) [] []
 
 abbrev pub flat : List (List ℕ) → List ℕ
 flat [] = []
@@ -110,5 +110,5 @@ pub sums :
     ∷ (0 ∷ 2 ∷ 16 ∷ 0 ∷ 5 ∷ 16 ∷ 0 ∷ 2 ∷ 16 ∷ 0 ∷ 5 ∷ 16 ∷ 0 ∷ 2 ∷ 8 ∷ 0 ∷ 5 ∷ 8 ∷ [])
     ∷ (0 ∷ 1 ∷ 16 ∷ 0 ∷ 2 ∷ 16 ∷ 0 ∷ 3 ∷ 16 ∷ 0 ∷ 4 ∷ 16 ∷ 0 ∷ 5 ∷ 16 ∷ 0 ∷ 6 ∷ 16 ∷ 0 ∷ 7 ∷ 16 ∷ 0 ∷ 0 ∷ 16 ∷ [])
     ∷ []
-unfolding seek stageAfter turnNumbers blockNumbers blockOf inLimits isValid le leBytes driveOf same busOk interfaceOk geometryFits fieldsOk inStore overlap headerOf headerAt overlapsAny refusal driveStep endStep stepOf stepAt readFrom readTable resultNumbers resultAnswer returnedSize resultBytes wholeResult parameterBytes blockBytes interfaceBytes pathBytes sum
+unfolding firstWaiting stageAfter turnNumbers blockNumbers blockOf inLimits isValid le leBytes driveOf same busOk interfaceOk geometryFits fieldsOk inStore overlap headerOf headerAt overlapsAny refusal driveStep endStep stepOf stepAt readFrom readTable resultNumbers resultAnswer returnedSize resultBytes wholeResult parameterBytes blockBytes interfaceBytes pathBytes sum
 sums = refl

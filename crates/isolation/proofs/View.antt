@@ -8,9 +8,9 @@ use native.Mathlib.Omega.{arith}
 use lib.Dec.{ltb, eqb}
 use borrow.Author.Tests.{ltb-true, eqb-true, not-true, not-false}
 use lib.ListN.{length}
-use Rattle.logic.proofs.Logic.{both-true, pick-cases, true≢false}
+use Rattle.logic.proofs.LogicLaws.{both-true, pick-cases, true≢false}
 use Rattle.memory.specs.Window.{guests, windowLength, spanLength, windowOf}
-use Rattle.memory.proofs.Windows.{span-in, length-window}
+use Rattle.memory.proofs.WindowLaws.{span-in, length-window}
 use Rattle.table.specs.declared.Written.{Written}
 use Rattle.table.specs.declared.Written.the-variants.{Bytes, Refused as WriteRefused}
 use Rattle.table.specs.Table.{writeAnswer, tableOf}
@@ -37,7 +37,7 @@ use Rattle.desk.specs.declared.WithdrawAnswer.{WithdrawAnswer}
 use Rattle.desk.specs.declared.WithdrawAnswer.the-variants.{Refused as WithdrawRefused}
 use Rattle.desk.specs.Parts.{windowSize, stageAt}
 use Rattle.desk.specs.Acceptable.{accept}
-use Rattle.desk.specs.Calls.{isLent, Done, openOf, writtenOf, writtenOut, postChecked, postRow, postOf, seek, serve, serveStage, turnNext, turnOf, collectStage, collectOf, withdrawStage, withdrawOf}
+use Rattle.desk.specs.Calls.{isLent, Done, openOf, writtenOf, writtenOut, postChecked, postRow, postOf, firstWaiting, serve, serveStage, turnNext, turnOf, collectStage, collectOf, withdrawStage, withdrawOf}
 use Rattle.isolation.specs.Lists.{Op, openTable, post, turn, collect, withdraw, write, Call, Answer, opening, posted, turned, collected, withdrawn, written, Out, openedDesk, outOf, stepOf, step}
 use Rattle.isolation.specs.Words.{Kind, refused, plain, opens, kindOf, houseNumber, turnIn, serviceIn, movedIn, withdrawalIn, collectIn, touchIn}
 use Rattle.isolation.proofs.Turn.{dist, dist-lt, Found, seek-guest, seek-nobody, vacant≢waiting, finished≢waiting}
@@ -174,7 +174,7 @@ module _ (d : Desk) (inv : Inv d) (c : Call) where
   view-serve g e l f (Waiting q) v = serving g q e (f .below) l v (f .nearest)
   view-serve g e l f (Finished x) v = absurd (finished≢waiting (sym v ∙ f .here))
 
-  view-next : c .op ≡ turn → Lent d c → (n : Next) → seek (d .rows) guests (d .pointer) ≡ n → Turns (turnNext d n (c .arena) (c .store))
+  view-next : c .op ≡ turn → Lent d c → (n : Next) → firstWaiting (d .rows) guests (d .pointer) ≡ n → Turns (turnNext d n (c .arena) (c .store))
   view-next e l Nobody s = idle e (λ h q b x. seek-nobody (d .rows) guests (d .pointer) (inv .pointer) s h q b (dist-lt (d .pointer) h) x)
   view-next e l (Guest g) s = view-serve g e l (seek-guest (d .rows) guests (d .pointer) g (inv .pointer) s) (stageAt d g) refl
 
@@ -183,7 +183,7 @@ module _ (d : Desk) (inv : Inv d) (c : Call) where
   view-turn o =
       pick-cases Turns (not (accept d)) _ _ (λ e. accepted e) (λ e.
       pick-cases Turns (not (isLent d (c .arena) (c .store))) _ _ (λ e. same (turned (TurnRefused 24)) refusing (λ e. absurd (omega arith))) (λ e₁.
-      view-next o (lent-facts d c (not-false _ e₁)) (seek (d .rows) guests (d .pointer)) refl))
+      view-next o (lent-facts d c (not-false _ e₁)) (firstWaiting (d .rows) guests (d .pointer)) refl))
 
   -- ---- collect
 

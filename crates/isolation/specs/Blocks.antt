@@ -17,7 +17,7 @@ use Rattle.desk.specs.declared.TurnAnswer.the-variants.{Refused as TurnRefused}
 use Rattle.desk.specs.declared.CollectAnswer.the-variants.{Refused as CollectRefused}
 use Rattle.desk.specs.declared.WithdrawAnswer.the-variants.{Refused as WithdrawRefused}
 use Rattle.desk.specs.Calls.{notAcceptable, openOf}
-use Rattle.image.specs.Image.{image, blockSize, deskOf, accepted, laid, FitsRegisters}
+use Rattle.image.specs.Image.{image, deskSize, deskOf, accepted, laid, FitsRegisters}
 use Rattle.isolation.specs.Lists.{Op, openTable, post, turn, collect, withdraw, write, Call, Answer, opening, posted, turned, collected, withdrawn, written, Out, stepOf, Event, run}
 use Rattle.isolation.specs.Words.{Kind, refused, plain, opens, answers, accepts, serves, idles, hands, withdraws, kindOf, houseNumber}
 use Rattle.isolation.specs.Demand.{Claim}
@@ -84,7 +84,7 @@ left25 b o arena store = record { block = b; answer = answer25 o; arena = arena;
 -- the call at the desk that the block is the image of: of a block that is none, a desk at which every call is 25. An opening needs no desk,
 -- and looks at the size alone
 abbrev pub stepBlockOf : List ℕ → Op → List ℕ → List ℕ → OutBlock
-stepBlockOf b (openTable t a s) arena store = pick (eqb (length b) blockSize) (outBlock b (stepOf (deskOf b) (openTable t a s) arena store)) (left25 b (openTable t a s) arena store)
+stepBlockOf b (openTable t a s) arena store = pick (eqb (length b) deskSize) (outBlock b (stepOf (deskOf b) (openTable t a s) arena store)) (left25 b (openTable t a s) arena store)
 stepBlockOf b (post g r) arena store = outBlock b (stepOf (deskOf b) (post g r) arena store)
 stepBlockOf b turn arena store = outBlock b (stepOf (deskOf b) turn arena store)
 stepBlockOf b (collect g) arena store = outBlock b (stepOf (deskOf b) (collect g) arena store)
@@ -156,6 +156,6 @@ DemandBlock = (b t : List ℕ) (arena store : ℕ) (first : Call) (calls : List 
 pub record AtBlocks : Type 0 where
   pub notAccepted : (b : List ℕ) (c : Call) → accepted b ≡ false → ((t : List ℕ) (a s : ℕ) → c .op ≡ openTable t a s → ⊥)
       → stepBlock b c ≡ left25 b (c .op) (c .arena) (c .store)
-  pub otherSize : (b : List ℕ) (c : Call) → (length b ≡ blockSize → ⊥) → stepBlock b c ≡ left25 b (c .op) (c .arena) (c .store)
+  pub otherSize : (b : List ℕ) (c : Call) → (length b ≡ deskSize → ⊥) → stepBlock b c ≡ left25 b (c .op) (c .arena) (c .store)
   pub never : (b : List ℕ) (c : Call) → Bytes b → accepted b ≡ true → numberOf (stepBlock b c .answer) ≡ notAcceptable → ⊥
   pub kept : (b : List ℕ) (c : Call) → Bytes b → FitsOp (c .op) → accepted b ≡ true → accepted (stepBlock b c .block) ≡ true

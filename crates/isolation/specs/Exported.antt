@@ -9,7 +9,7 @@ use Rattle.table.specs.Table.{writtenNumbers}
 use Rattle.int13.specs.declared.Registers.{Registers}
 use Rattle.desk.specs.Calls.{notAcceptable}
 use Rattle.desk.specs.Numbers.{openNumbers, postNumbers, turnNumbers, collectNumbers, withdrawNumbers}
-use Rattle.image.specs.Image.{blockSize}
+use Rattle.image.specs.Image.{deskSize}
 use Rattle.exports.specs.Exports.{effect, over, openCall, writeCall, given, changed, postCall, turnCall, collectCall, withdrawCall}
 use Rattle.isolation.specs.Lists.{Op, openTable, post, turn, collect, withdraw, write, Call, Answer, opening, posted, turned, collected, withdrawn, written}
 use Rattle.isolation.specs.Blocks.{OutBlock, stepBlock}
@@ -38,10 +38,10 @@ module _ (b arena store : List ℕ) where
   does o = stepBlock b (record { op = o; arena = arena; store = store })
 
   pub record Exported : Type 0 where
-    pub openAt : (t : List ℕ) (a s place : ℕ) → length b ≡ blockSize
+    pub openAt : (t : List ℕ) (a s place : ℕ) → length b ≡ deskSize
         → openCall b t a s place ≡ effect (over (numbersOf (does (openTable t a s) .answer)) (0 ∷ place ∷ [])) (does (openTable t a s) .block ∷ [])
     -- there is no place in a table that was not read
-    pub openOther : (t : List ℕ) (a s place : ℕ) → (length b ≡ blockSize → ⊥)
+    pub openOther : (t : List ℕ) (a s place : ℕ) → (length b ≡ deskSize → ⊥)
         → openCall b t a s place ≡ effect (notAcceptable ∷ place ∷ []) (does (openTable t a s) .block ∷ [])
     pub writeAt : (out : List ℕ) (n : ℕ) → writeCall b out n ≡ effect (over (numbersOf (does (write out) .answer)) (0 ∷ n ∷ [])) (bufferOf (does (write out) .answer) ∷ [])
     pub postAt : (g ax bx cx dx ds si es carry : ℕ)

@@ -21,7 +21,7 @@ use Rattle.desk.specs.declared.TurnAnswer.the-variants.{Served, Idle, Refused a
 use Rattle.desk.specs.declared.CollectAnswer.the-variants.{Given as CollectGiven, Refused as CollectRefused}
 use Rattle.desk.specs.declared.WithdrawAnswer.the-variants.{Given as WithdrawGiven, Refused as WithdrawRefused}
 use Rattle.desk.specs.Parts.{stageAt}
-use Rattle.desk.specs.Acceptable.{part as partLength}
+use Rattle.desk.specs.Acceptable.{turnBlocks as partLength}
 use Rattle.isolation.specs.Lists.{post, Call, Answer, opening, posted, turned, collected, withdrawn, written, step, Event, run, after}
 
 -- ---- the answers, in the words of the demand; each later word is a clause for each of these

@@ -10,19 +10,19 @@ use lib.Seq.{take-all, take-at, drop-at, drop-drop, getD-drop}
 use lib.Dec.{leb, ltb}
 use borrow.Author.Tests.{leb-true, ltb-true, ltb-false}
 use Rattle.logic.specs.Logic.{pick, both}
-use Rattle.logic.proofs.Logic.{both-true}
+use Rattle.logic.proofs.LogicLaws.{both-true}
 use Rattle.words.specs.Words.{le, leBytes, part}
-use Rattle.words.proofs.Words.{read-write}
+use Rattle.words.proofs.WordsLaws.{read-write}
 use Rattle.memory.specs.Blocks.{blockLength}
 use Rattle.drive.specs.declared.Drive.{Drive}
 use Rattle.drive.specs.Drive.{Fits}
-use Rattle.drive.proofs.Drives.{Arrays}
+use Rattle.drive.proofs.DriveLaws.{Arrays}
 use Rattle.layout.specs.declared.Pointer.{Pointer}
 use Rattle.layout.specs.declared.ResultAnswer.the-variants.{Written, Refused}
 use Rattle.layout.specs.Packet.{badParameter}
 use Rattle.layout.specs.ResultBuffer.{leastSize, pointerSize, pathSize, returnedSize, parameterBytes, blockBytes, interfaceBytes, pathBytes, summedBytes, sum, checksum, wholeResult, resultBytes, resultAnswer, resultOut}
 use Rattle.layout.specs.Demand2.{Parameters, Pointing, Paths, Result, FitsPointer, Demand2}
-use Rattle.layout.proofs.ResultBuffers.{sum-checksum, length-summed, length-whole, length-result}
+use Rattle.layout.proofs.ResultBufferLaws.{sum-checksum, length-summed, length-whole, length-result}
 
 -- ---- the runs, each before any bytes
 

@@ -1,4 +1,4 @@
-pub mod Tables
+pub mod TableLaws
 pub mod Nine
 pub mod WriteRead
 pub mod Sound

@@ -10,9 +10,9 @@ use lib.ListN.{length, take, drop, getD, length-take}
 use lib.Seq.{take-take, getD-take, take-nil, drop-nil}
 use lib.Dec.{ltb}
 use Rattle.logic.specs.Logic.{pick}
-use Rattle.logic.proofs.Logic.{leb-iff}
+use Rattle.logic.proofs.LogicLaws.{leb-iff}
 use Rattle.words.specs.Words.{le, part}
-use Rattle.words.proofs.Words.{le-ext}
+use Rattle.words.proofs.WordsLaws.{le-ext}
 use Rattle.drive.specs.Drive.{driveOf}
 use Rattle.table.specs.declared.Table.{Table}
 use Rattle.table.specs.declared.Header.{Header}
@@ -22,7 +22,7 @@ use Rattle.table.specs.declared.Step.the-variants.{Next, Done, Refused}
 use Rattle.table.specs.declared.Stepped.{Stepped}
 use Rattle.table.specs.declared.Reading.{Reading}
 use Rattle.table.specs.Table.{isKind, lengthOk, headerAt, headerOf, more, goOn, endStep, stepOf, stepAt, readFrom, readTable, emptyTable}
-use Rattle.table.proofs.Tables.{stepAt-cases, whole-at, lengthOk-most}
+use Rattle.table.proofs.TableLaws.{stepAt-cases, whole-at, lengthOk-most}
 
 -- a part of the first n + m bytes
 drop-take : (n m : ℕ) (l : List ℕ) → drop n (take (n + m) l) ≡ take m (drop n l)

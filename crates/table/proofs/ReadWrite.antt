@@ -14,12 +14,12 @@ use lib.ListN.{length, take, drop, getD, set, replicate, length-drop, length-set
 use lib.Seq.{take-at, drop-at, take-suc-set, drop-drop, getD-drop, length-take-le, getD-set-same, getD-set-other, ext-getD}
 use lib.Dec.{ltb, eqb}
 use borrow.Author.Tests.{le-ltb, eqb-true}
-use Rattle.logic.proofs.Logic.{impossible, both-true, lt-or-le}
+use Rattle.logic.proofs.LogicLaws.{impossible, both-true, lt-or-le}
 use Rattle.words.specs.Words.{Bytes, le, leBytes, part}
-use Rattle.words.proofs.Words.{le-ext, le-lt, length-leBytes, bytes-part}
+use Rattle.words.proofs.WordsLaws.{le-ext, le-lt, length-leBytes, bytes-part}
 use Rattle.drive.specs.declared.Drive.{Drive}
 use Rattle.drive.specs.Drive.{Fits, driveOf, recordOf, geometryBytes, isBlank, blankNumbers, blankNames}
-use Rattle.drive.proofs.Drives.{Arrays, length-record, drive-record, fits-drive, same-true}
+use Rattle.drive.proofs.DriveLaws.{Arrays, length-record, drive-record, fits-drive, same-true}
 use Rattle.table.specs.declared.Table.{Table}
 use Rattle.table.specs.declared.Stepped.{Stepped}
 use Rattle.table.specs.declared.Step.the-variants.{Next, Done}
@@ -27,7 +27,7 @@ use Rattle.table.specs.declared.Header.the-variants.{Whole}
 use Rattle.table.specs.declared.Answer.the-variants.{Accepted}
 use Rattle.table.specs.Table.{mostDrives, noDrive, zeroDrive, headerAt, headerOf, refusal, more, stepped, goOn, driveStep, stepAt, reading, readFrom, readTable, emptyTable, placeRecords, recordsOf, endRecord, bytesOf, drivesOf, tableOf, firstDrives, isSound, pushAll, Taken, none, one}
 use Rattle.table.specs.Demand2.{Widths}
-use Rattle.table.proofs.Tables.{stepAt-cases, stepAt-end, stepAt-drive, endStep-done, driveStep-next, whole-at, refusal-room, length-drives}
+use Rattle.table.proofs.TableLaws.{stepAt-cases, stepAt-end, stepAt-drive, endStep-done, driveStep-next, whole-at, refusal-room, length-drives}
 use Rattle.table.proofs.Sound.{Good, Rules, sound-rules, refusal-ext, each-more, So, so-empty, so-more, so-good}
 
 pub arrays : (d : Drive) → Fits d → Arrays d

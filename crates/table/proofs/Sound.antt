@@ -13,16 +13,16 @@ use lib.Seq.{getD-set-same, getD-set-other, length-take-le}
 use lib.Dec.{leb, ltb, eqb}
 use borrow.Author.Tests.{leb-true, lt-ltb, le-ltb, le-leb, eqb-true, eq-eqb}
 use Rattle.logic.specs.Logic.{both, either, allBelow, someBelow}
-use Rattle.logic.proofs.Logic.{impossible, both-true, both-intro, either-left, either-right, lt-or-le, all-at, all-intro, all-ext, some-ext}
+use Rattle.logic.proofs.LogicLaws.{impossible, both-true, both-intro, either-left, either-right, lt-or-le, all-at, all-intro, all-ext, some-ext}
 use Rattle.words.specs.Words.{part}
 use Rattle.drive.specs.declared.Drive.{Drive}
 use Rattle.drive.specs.Drive.{driveOf, fieldsOk, inStore, overlap, same, isBlank, blankNumbers, blankNames}
-use Rattle.drive.proofs.Drives.{Arrays, arrays-drive}
+use Rattle.drive.proofs.DriveLaws.{Arrays, arrays-drive}
 use Rattle.table.specs.declared.Table.{Table}
 use Rattle.table.specs.declared.Stepped.{Stepped}
 use Rattle.table.specs.declared.Answer.the-variants.{Accepted}
 use Rattle.table.specs.Table.{noDrive, zeroDrive, emptyTable, overlapsAny, refusal, more, goOn, readFrom, readTable, firstDrives, takenAt, soundTo, blankAt, blankTo, isSound}
-use Rattle.table.proofs.Tables.{stepAt-cases, whole-at, refusal-room, refusal-taken}
+use Rattle.table.proofs.TableLaws.{stepAt-cases, whole-at, refusal-room, refusal-taken}
 
 -- ---- a drive that is taken
 

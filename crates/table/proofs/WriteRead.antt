@@ -7,18 +7,18 @@ use native.Mathlib.Nat.{zero-add}
 use native.Mathlib.Omega.{arith}
 use lib.ListN.{length, take, drop, getD, set, length-drop, length-set, take-append-drop}
 use lib.Seq.{take-all, take-add, length-take-le, getD-take, getD-drop, getD-set-same, getD-set-other, drop-drop}
-use Rattle.logic.proofs.Logic.{impossible}
+use Rattle.logic.proofs.LogicLaws.{impossible}
 use Rattle.words.specs.Words.{Bytes, le, leBytes, part}
-use Rattle.words.proofs.Words.{le-ext, write-read, bytes-part}
+use Rattle.words.proofs.WordsLaws.{le-ext, write-read, bytes-part}
 use Rattle.drive.specs.declared.Drive.{Drive}
 use Rattle.drive.specs.Drive.{driveOf, recordOf}
-use Rattle.drive.proofs.Drives.{record-drive}
+use Rattle.drive.proofs.DriveLaws.{record-drive}
 use Rattle.table.specs.declared.Table.{Table}
 use Rattle.table.specs.declared.Stepped.{Stepped}
 use Rattle.table.specs.declared.Header.the-variants.{Whole}
 use Rattle.table.specs.declared.Answer.the-variants.{Accepted}
 use Rattle.table.specs.Table.{noDrive, headerAt, more, goOn, stepAt, readFrom, readTable, emptyTable, recordsOf, endRecord, bytesOf, drivesOf, tableOf}
-use Rattle.table.proofs.Tables.{stepAt-cases, whole-at, refusal-room, recordsOf-more, recordsOf-ext, length-drives}
+use Rattle.table.proofs.TableLaws.{stepAt-cases, whole-at, refusal-room, recordsOf-more, recordsOf-ext, length-drives}
 
 -- the drives so far are the bytes so far
 record Read (t : List ℕ) (at : ℕ) (b : Table) : Type 0 where

@@ -1,7 +1,7 @@
 use mathlib.Core.Path.{sym, ap, _∙_}
 use borrow.Author.Tests.{not-true, not-false, lt-ltb, le-ltb}
 use Rattle.chs.specs.declared.ToAddress.the-variants.{At}
-use Rattle.chs.proofs.Chs.{addressOf-limits, addressOf-above, addressOf-below, address-answered}
+use Rattle.chs.proofs.ChsLaws.{addressOf-limits, addressOf-above, addressOf-below, address-answered}
 use borrow.Author.Needs.{needs}
 use Rattle.chs.proofs.address_of.Statement.{statement}
 use Rattle.chs.proofs.address_of.Tie as tie

@@ -1,7 +1,7 @@
 use mathlib.Core.Path.{sym, ap, _∙_}
 use borrow.Author.Tests.{not-true, not-false}
 use Rattle.chs.specs.declared.ToBlock.the-variants.{Block}
-use Rattle.chs.proofs.Chs.{blockOf-limits, blockOf-invalid, blockOf-valid, block-answered}
+use Rattle.chs.proofs.ChsLaws.{blockOf-limits, blockOf-invalid, blockOf-valid, block-answered}
 use borrow.Author.Needs.{needs}
 use Rattle.chs.proofs.block_of.Statement.{statement}
 use Rattle.chs.proofs.block_of.Tie as tie

@@ -1,4 +1,4 @@
-use Rattle.desk.proofs.Acceptances.{job-tests}
+use Rattle.desk.proofs.AcceptableLaws.{job-tests}
 use borrow.Author.Needs.{needs}
 use Rattle.desk.proofs.job_ok.Statement.{statement}
 use Rattle.desk.proofs.job_ok.Tie as tie

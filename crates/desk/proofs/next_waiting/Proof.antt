@@ -2,7 +2,7 @@ use borrow.Author.Needs.{needs}
 use native.Mathlib.Omega.{arith}
 use Prim.Native.Nat.{ℕ, _≤_, _<_, _-_}
 use mathlib.Core.Path.{_≡_, refl, ap, sym, _∙_}
-use Rattle.desk.specs.Calls.{seek}
+use Rattle.desk.specs.Calls.{firstWaiting}
 use Rattle.desk.proofs.Searches.{seek-here, seek-on, seek-none}
 use Rattle.desk.proofs.next_waiting.Statement.{statement}
 use Rattle.desk.proofs.next_waiting.Tie as tie
@@ -11,7 +11,7 @@ use Rattle.desk.proofs.next_waiting.Lts as lts
 use Rattle.desk.proofs.waits.Reads as waits-reads
 
 abbrev Inv-loop : tie.InvT-loop
-Inv-loop pointer rows guest₀ left₀ guest left = (guest < 8) × (seek rows left guest ≡ seek rows left₀ guest₀)
+Inv-loop pointer rows guest₀ left₀ guest left = (guest < 8) × (firstWaiting rows left guest ≡ firstWaiting rows left₀ guest₀)
 
 abbrev μ-loop : tie.MeasureT-loop
 μ-loop pointer rows guest₀ left₀ guest left = left

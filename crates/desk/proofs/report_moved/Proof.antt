@@ -5,7 +5,7 @@ use native.Mathlib.Omega.{arith}
 use denote.Ref.{now}
 use lib.ListN.{length}
 use Rattle.memory.specs.Window.{windowLength, spanLength}
-use Rattle.memory.proofs.Windows.{span-in, with-window-same}
+use Rattle.memory.proofs.WindowLaws.{span-in, with-window-same}
 use Rattle.int13.specs.Answers.{ah, isSectors}
 use Rattle.desk.proofs.Transfers.{packet-inside}
 use borrow.Author.Needs.{needs}

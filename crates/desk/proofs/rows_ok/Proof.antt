@@ -3,7 +3,7 @@ use native.Mathlib.Omega.{arith}
 use Prim.Native.Nat.{ℕ, _≤_, _<_, _-_}
 use mathlib.Core.Path.{_≡_, refl, ap, sym, _∙_}
 use Rattle.desk.specs.Acceptable.{rowsOk}
-use Rattle.desk.proofs.Acceptances.{rowsOk-more}
+use Rattle.desk.proofs.AcceptableLaws.{rowsOk-more}
 use Rattle.desk.proofs.rows_ok.Statement.{statement}
 use Rattle.desk.proofs.rows_ok.Tie as tie
 use Rattle.desk.proofs.rows_ok.Reads as reads

@@ -1,6 +1,6 @@
 use mathlib.Core.Path.{_≡_, sym, _∙_}
 use borrow.Author.Tests.{not-true, not-false}
-use Rattle.desk.proofs.Acceptances.{stageOk-other}
+use Rattle.desk.proofs.AcceptableLaws.{stageOk-other}
 use borrow.Author.Needs.{needs}
 use Rattle.desk.proofs.stage_ok.Statement.{statement}
 use Rattle.desk.proofs.stage_ok.Tie as tie

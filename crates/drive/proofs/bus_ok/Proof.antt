@@ -7,7 +7,7 @@ use lib.Dec.{eqb}
 use Rattle.words.specs.Words.{le}
 use Rattle.logic.specs.Logic.{either}
 use Rattle.drive.specs.Drive.{busOk, isa, pci}
-use Rattle.drive.proofs.Drives.{named}
+use Rattle.drive.proofs.DriveLaws.{named}
 use borrow.Author.Needs.{needs}
 use Rattle.drive.proofs.bus_ok.Statement.{statement}
 use Rattle.drive.proofs.bus_ok.Tie as tie

@@ -2,7 +2,7 @@ use Prim.Native.Nat.{ℕ}
 use mathlib.Core.Path.{refl}
 use lib.ListN.{replicate}
 use borrow.Author.Needs.{length-unmapped}
-use Rattle.drive.proofs.Drives.{record-stores}
+use Rattle.drive.proofs.DriveLaws.{record-stores}
 use borrow.Author.Needs.{needs}
 use Rattle.drive.proofs.encode.Statement.{statement}
 use Rattle.drive.proofs.encode.Tie as tie

@@ -8,7 +8,7 @@ use lib.ListN.{getD, length}
 use lib.Dec.{eqb}
 use Rattle.words.specs.Words.{le}
 use Rattle.drive.specs.Drive.{interfaceOk, same, ata, atapi, scsi, usb, ieee1394, fibre}
-use Rattle.drive.proofs.Drives.{named, allBytes}
+use Rattle.drive.proofs.DriveLaws.{named, allBytes}
 use borrow.Author.Needs.{needs}
 use Rattle.drive.proofs.interface_ok.Statement.{statement}
 use Rattle.drive.proofs.interface_ok.Tie as tie

@@ -1,4 +1,4 @@
-use Rattle.drive.proofs.Drives.{overlap-before, overlap-after}
+use Rattle.drive.proofs.DriveLaws.{overlap-before, overlap-after}
 use borrow.Author.Needs.{needs}
 use Rattle.drive.proofs.overlaps.Statement.{statement}
 use Rattle.drive.proofs.overlaps.Tie as tie

@@ -1,5 +1,5 @@
 use denote.Ref.{now}
-use Rattle.drive.proofs.Drives.{geometry-stores}
+use Rattle.drive.proofs.DriveLaws.{geometry-stores}
 use borrow.Author.Needs.{needs}
 use Rattle.drive.proofs.put_geometry.Statement.{statement}
 use Rattle.drive.proofs.put_geometry.Tie as tie

@@ -1,7 +1,7 @@
 use Prim.Native.Nat.{ℕ}
 use denote.Ref.{now}
 use borrow.Author.Needs.{length-unmapped}
-use Rattle.drive.proofs.Drives.{name-chain}
+use Rattle.drive.proofs.DriveLaws.{name-chain}
 use borrow.Author.Needs.{needs}
 use Rattle.drive.proofs.put_names.Statement.{statement}
 use Rattle.drive.proofs.put_names.Tie as tie

@@ -1,5 +1,5 @@
 use denote.Ref.{now}
-use Rattle.drive.proofs.Drives.{size-stores}
+use Rattle.drive.proofs.DriveLaws.{size-stores}
 use borrow.Author.Needs.{needs}
 use Rattle.drive.proofs.put_sizes.Statement.{statement}
 use Rattle.drive.proofs.put_sizes.Tie as tie

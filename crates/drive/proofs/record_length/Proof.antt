@@ -1,7 +1,7 @@
 use mathlib.Core.Path.{_≡_, refl, sym}
 use Prim.Native.Nat.{ℕ}
 use borrow.Author.Needs.{length-unmapped}
-use Rattle.drive.proofs.Drives.{length-record}
+use Rattle.drive.proofs.DriveLaws.{length-record}
 use borrow.Author.Needs.{needs}
 use Rattle.drive.proofs.record_length.Statement.{statement}
 use Rattle.drive.proofs.record_length.Tie as tie

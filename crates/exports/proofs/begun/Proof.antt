@@ -5,7 +5,7 @@ use native.Mathlib.Omega.{arith}
 use lib.ListN.{length, take, drop}
 use denote.Ref.{now}
 use Rattle.memory.specs.Window.{windowLength, spanLength}
-use Rattle.memory.proofs.Windows.{with-window-lent, length-window}
+use Rattle.memory.proofs.WindowLaws.{with-window-lent, length-window}
 use Rattle.table.specs.declared.Table.{Table}
 use Rattle.int13.specs.Steps.{fed, begin}
 use Rattle.desk.specs.Parts.{ownWindow, withOwn}

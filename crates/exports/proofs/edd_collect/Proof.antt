@@ -16,7 +16,7 @@ use Rattle.desk.specs.Acceptable.{accept}
 use Rattle.desk.specs.declared.CollectAnswer.the-variants.{Refused as CollectRefused}
 use Rattle.desk.specs.Calls.{houseNumber, done, collectStage, collectOf}
 use Rattle.desk.specs.Numbers.{collectNumbers}
-use Rattle.desk.proofs.Callings.{house-tests, house-refused, Passed, house-passed, collect-other, collect-finished}
+use Rattle.desk.proofs.CallsLaws.{house-tests, house-refused, Passed, house-passed, collect-other, collect-finished}
 use Rattle.image.specs.Image.{deskOf, accepted}
 use Rattle.exports.specs.Exports.{effect, over, collectCall}
 use Rattle.exports.proofs.Exports.{block, stage-read, put-row}

@@ -23,7 +23,7 @@ use Rattle.desk.specs.declared.PostAnswer.the-variants.{Refused as PostRefused}
 use Rattle.desk.specs.Parts.{ownWindow, withOwn}
 use Rattle.desk.specs.Calls.{isLent, done, postChecked, postRow, postOf}
 use Rattle.desk.specs.Numbers.{postNumbers}
-use Rattle.desk.proofs.Callings.{house-refused, Passed, house-passed, post-other, post-vacant}
+use Rattle.desk.proofs.CallsLaws.{house-refused, Passed, house-passed, post-other, post-vacant}
 use Rattle.image.specs.Image.{readDesk, deskOf}
 use Rattle.exports.specs.Exports.{effect, given, postCall}
 use Rattle.exports.proofs.Exports.{block, stage-read, put-row}

@@ -15,10 +15,10 @@ use Rattle.desk.specs.declared.Next.the-variants.{Guest}
 use Rattle.desk.specs.declared.TurnAnswer.the-variants.{Refused as TurnRefused}
 use Rattle.desk.specs.Parts.{windowSize, stageAt}
 use Rattle.desk.specs.Acceptable.{accept}
-use Rattle.desk.specs.Calls.{isLent, done, seek, Transferred, turnNext, turnOf}
+use Rattle.desk.specs.Calls.{isLent, done, firstWaiting, Transferred, turnNext, turnOf}
 use Rattle.desk.specs.Numbers.{turnNumbers}
-use Rattle.desk.proofs.Acceptances.{accept-true, Waits}
-use Rattle.desk.proofs.Callings.{house-refused, Passed, house-passed, turn-nobody, turn-other, turn-served, seek-below, waiting-facts, in-range}
+use Rattle.desk.proofs.AcceptableLaws.{accept-true, Waits}
+use Rattle.desk.proofs.CallsLaws.{house-refused, Passed, house-passed, turn-nobody, turn-other, turn-served, seek-below, waiting-facts, in-range}
 use Rattle.image.specs.Image.{deskOf}
 use Rattle.exports.specs.Exports.{effect, over, turnCall}
 use Rattle.exports.proofs.Exports.{block, pointer-read, next-read, stage-read, drive-read, put-turn}
@@ -54,13 +54,13 @@ refused : (c : tie.Then1) → done (desk (c .before)) (TurnRefused (c .before .n
 unfolding turnOf
 refused c =
     let h = c .before in
-    house-refused _ _ _ (λ n. done (desk h) (TurnRefused n) (arena h) (store h)) (turnNext (desk h) (seek (desk h .rows) 8 (desk h .pointer)) (arena h) (store h)) (h .number-at .ensures) (c .if1 .taken)
+    house-refused _ _ _ (λ n. done (desk h) (TurnRefused n) (arena h) (store h)) (turnNext (desk h) (firstWaiting (desk h .rows) 8 (desk h .pointer)) (arena h) (store h)) (h .number-at .ensures) (c .if1 .taken)
 
 -- the guest that the search found
 abbrev guest : tie.After-known-told → ℕ
 guest c = c .before .found .given .0 .0
 
-found : (c : tie.After-known-told) → seek (desk (c .before .before .before .before .before .before) .rows) 8 (desk (c .before .before .before .before .before .before) .pointer) ≡ Guest (guest c)
+found : (c : tie.After-known-told) → firstWaiting (desk (c .before .before .before .before .before .before) .rows) 8 (desk (c .before .before .before .before .before .before) .pointer) ≡ Guest (guest c)
 found c = sym (next-read (bytes (c .before .before .before .before .before .before)) (passed (c .before .before .before .before .before) .acceptable) (c .before .before .before .next-of .ensures)) ∙ c .before .found .given .1
 
 below : (c : tie.After-known-told) → guest c < 8

@@ -16,7 +16,7 @@ use Rattle.desk.specs.Acceptable.{accept}
 use Rattle.desk.specs.declared.WithdrawAnswer.the-variants.{Refused as WithdrawRefused}
 use Rattle.desk.specs.Calls.{isLent, done, withdrawStage, withdrawOf}
 use Rattle.desk.specs.Numbers.{withdrawNumbers}
-use Rattle.desk.proofs.Callings.{house-refused, Passed, house-passed, withdraw-other, withdraw-waiting, Report, report-facts}
+use Rattle.desk.proofs.CallsLaws.{house-refused, Passed, house-passed, withdraw-other, withdraw-waiting, Report, report-facts}
 use Rattle.image.specs.Image.{deskOf}
 use Rattle.exports.specs.Exports.{effect, over, withdrawCall}
 use Rattle.exports.proofs.Exports.{block, stage-read, put-row}

@@ -10,7 +10,7 @@ use Rattle.table.specs.declared.Written.the-variants.{Refused as WriteRefused}
 use Rattle.table.specs.Table.{writeAnswer, writeOut, writtenNumbers}
 use Rattle.desk.specs.Acceptable.{accept}
 use Rattle.desk.specs.Calls.{houseNumber, writtenOf, writtenOut}
-use Rattle.desk.proofs.Callings.{house-tests, house-refused, Passed, house-passed, write-table}
+use Rattle.desk.proofs.CallsLaws.{house-tests, house-refused, Passed, house-passed, write-table}
 use Rattle.image.specs.Image.{deskOf, accepted}
 use Rattle.exports.specs.Exports.{effect, over, writeCall}
 use Rattle.exports.proofs.Exports.{block, table-read}

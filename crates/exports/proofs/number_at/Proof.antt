@@ -3,7 +3,7 @@ use mathlib.Core.Bool.{true, false}
 use borrow.Author.Tests.{not-true, not-false}
 use denote.Ref.{now}
 use Rattle.desk.specs.Acceptable.{accept}
-use Rattle.desk.proofs.Callings.{house-tests}
+use Rattle.desk.proofs.CallsLaws.{house-tests}
 use Rattle.image.specs.Image.{deskOf, accepted}
 use Rattle.exports.proofs.Exports.{block, no-desk, lent-read}
 use borrow.Author.Needs.{needs}

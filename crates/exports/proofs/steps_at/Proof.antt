@@ -6,7 +6,7 @@ use Rattle.logic.specs.Logic.{pick}
 use Rattle.table.specs.declared.Table.{Table}
 use Rattle.int13.specs.Answers.{dl}
 use Rattle.int13.specs.Steps.{Checked, firstDrive, isDrive, driveAt}
-use Rattle.int13.proofs.StepLaws.{begin-steps}
+use Rattle.int13.proofs.StepsLaws.{begin-steps}
 use Rattle.image.specs.Image.{readDesk}
 use borrow.Author.Needs.{needs}
 use Rattle.exports.proofs.steps_at.Statement.{statement}

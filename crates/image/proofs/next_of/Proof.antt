@@ -1,6 +1,6 @@
 use Rattle.image.proofs.Fields.{waiting-of}
 use Rattle.image.specs.Image.{readDesk}
-use Rattle.desk.specs.Calls.{seek}
+use Rattle.desk.specs.Calls.{firstWaiting}
 use Rattle.desk.proofs.Searches.{seek-here, seek-on, seek-none}
 use borrow.Author.Needs.{needs}
 use borrow.Author.Tests.{eq-eqb, ne-eqb}
@@ -14,7 +14,7 @@ use Rattle.image.proofs.next_of.Lts as lts
 use Rattle.words.proofs.get64.Reads as get64-reads
 
 abbrev Inv-loop : tie.InvT-loop
-Inv-loop b guest₀ left₀ guest left = (guest < 8) × (seek (readDesk b .rows) left guest ≡ seek (readDesk b .rows) left₀ guest₀)
+Inv-loop b guest₀ left₀ guest left = (guest < 8) × (firstWaiting (readDesk b .rows) left guest ≡ firstWaiting (readDesk b .rows) left₀ guest₀)
 
 abbrev μ-loop : tie.MeasureT-loop
 μ-loop b guest₀ left₀ guest left = left
@@ -39,7 +39,7 @@ returns c =
     let b = l .before .before .before .args .b .now in
     seek-here (readDesk b .rows) (l .loop .left) (l .loop .guest) (c .before .before .loop-test .taken) (waiting-of b (l .loop .guest) (l .loop .inv .0) ∙ eq-eqb _ 1 (c .if1 .taken))
     ∙ l .loop .inv .1
-    ∙ ap (λ (p : ℕ). seek (readDesk b .rows) 8 p) (l .before .get64 .ensures)
+    ∙ ap (λ (p : ℕ). firstWaiting (readDesk b .rows) 8 p) (l .before .get64 .ensures)
 
 add-guest : tie.Need-add-guest Inv-loop μ-loop
 add-guest c = omega arith
@@ -66,7 +66,7 @@ returns-2 c =
     let b = l .before .before .before .args .b .now in
     seek-none (readDesk b .rows) (l .loop .left) (l .loop .guest) (omega arith)
     ∙ l .loop .inv .1
-    ∙ ap (λ (p : ℕ). seek (readDesk b .rows) 8 p) (l .before .get64 .ensures)
+    ∙ ap (λ (p : ℕ). firstWaiting (readDesk b .rows) 8 p) (l .before .get64 .ensures)
 
 pub next-of-spec : {M : Type 1} → statement M
 next-of-spec =

@@ -1,5 +1,5 @@
 use Rattle.image.proofs.Fill.{part-more, length-drive}
-use Rattle.image.specs.Image.{each, flat, driveWords, placeAt, blockSize}
+use Rattle.image.specs.Image.{each, flat, driveWords, placeAt, deskSize}
 use denote.Ref.{now}
 use borrow.Author.Needs.{needs}
 use native.Mathlib.Omega.{arith}
@@ -15,7 +15,7 @@ use Rattle.image.proofs.drive_words.Reads as drive-words-reads
 use Rattle.image.proofs.put_words.Reads as put-words-reads
 
 abbrev Inv-loop : tie.InvT-loop
-Inv-loop out₀ drives k₀ out k = (k ≤ 8) × (length out ≡ blockSize) × (out ≡ sets out₀ (placeAt 0) (flat (each driveWords (take k drives))))
+Inv-loop out₀ drives k₀ out k = (k ≤ 8) × (length out ≡ deskSize) × (out ≡ sets out₀ (placeAt 0) (flat (each driveWords (take k drives))))
 
 abbrev μ-loop : tie.MeasureT-loop
 μ-loop out₀ drives k₀ out k = 8 - k

@@ -1,5 +1,5 @@
 use Rattle.image.proofs.Fill.{part-more, length-row}
-use Rattle.image.specs.Image.{each, flat, rowWords, rowAt, blockSize}
+use Rattle.image.specs.Image.{each, flat, rowWords, rowAt, deskSize}
 use denote.Ref.{now}
 use borrow.Author.Needs.{needs}
 use native.Mathlib.Omega.{arith}
@@ -15,7 +15,7 @@ use Rattle.image.proofs.put_words.Reads as put-words-reads
 use Rattle.image.proofs.stage_words.Reads as stage-words-reads
 
 abbrev Inv-loop : tie.InvT-loop
-Inv-loop out₀ rows k₀ out k = (k ≤ 8) × (length out ≡ blockSize) × (out ≡ sets out₀ (rowAt 0) (flat (each rowWords (take k rows))))
+Inv-loop out₀ rows k₀ out k = (k ≤ 8) × (length out ≡ deskSize) × (out ≡ sets out₀ (rowAt 0) (flat (each rowWords (take k rows))))
 
 abbrev μ-loop : tie.MeasureT-loop
 μ-loop out₀ rows k₀ out k = 8 - k

@@ -4,7 +4,7 @@ use Prim.Native.Nat.{ℕ, _+_, _*_, _-_, _≤_, _<_}
 use mathlib.Core.Path.{_≡_, refl, sym, ap, _∙_}
 use mathlib.Core.Bool.{Bool, true, false}
 use Rattle.logic.specs.Logic.{both, allBelow}
-use Rattle.logic.proofs.Logic.{all-more}
+use Rattle.logic.proofs.LogicLaws.{all-more}
 use Rattle.image.specs.Judged.{restZero}
 use Rattle.image.proofs.Judged.{rest-none, rest-more}
 use Rattle.image.proofs.rest_zero.Statement.{statement}

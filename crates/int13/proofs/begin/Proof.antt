@@ -2,8 +2,8 @@ use mathlib.Core.Path.{_≡_, sym, ap, _∙_}
 use mathlib.Core.Bool.{true}
 use denote.Ref.{now}
 use Rattle.int13.specs.Answers.{dl}
-use Rattle.int13.specs.Steps.{Checked, isDrive, driveOf, fed, steps, begin}
-use Rattle.int13.proofs.StepLaws.{begin-steps}
+use Rattle.int13.specs.Steps.{Checked, isDrive, driveNamed, fed, steps, begin}
+use Rattle.int13.proofs.StepsLaws.{begin-steps}
 use borrow.Author.Needs.{needs}
 use Rattle.int13.proofs.begin.Statement.{statement}
 use Rattle.int13.proofs.begin.Tie as tie
@@ -38,7 +38,7 @@ returns c =
     let a = c .before .before .before .before .before .before .before .before .before .args in
     let number = c .before .before .before .before .before .before .before .dl .ensures in
     let known = c .before .before .before .before .before .before .is-drive .ensures ∙ ap (isDrive (a .b)) number in
-    let named : isDrive (a .b) (dl (a .r)) ≡ true → c .before .before .before .before .drive-at .result ≡ driveOf (a .b) (a .r)
+    let named : isDrive (a .b) (dl (a .r)) ≡ true → c .before .before .before .before .drive-at .result ≡ driveNamed (a .b) (a .r)
     = λ e. rw number at (c .before .before .before .before .drive-at .ensures .1 (ap (isDrive (a .b)) number ∙ e)) in
     let same = begin-steps (a .b) (a .r) (now (a .window)) known (c .before .before .before .before .before .drive-count .ensures .0) named in
     (c .before .before .steps .ensures .0 ∙ ap (λ (k : Checked). k .outcome) same, c .before .before .steps .ensures .1 ∙ ap (λ (k : Checked). k .window) same)

@@ -1,7 +1,7 @@
 use mathlib.Core.Path.{_≡_, refl}
 use native.Mathlib.Omega.{arith}
 use lib.ListN.{length, length-map}
-use Rattle.int13.proofs.StepLaws.{drive-in}
+use Rattle.int13.proofs.StepsLaws.{drive-in}
 use borrow.Author.Needs.{needs}
 use Rattle.int13.proofs.drive_at.Statement.{statement}
 use Rattle.int13.proofs.drive_at.Tie as tie

@@ -3,7 +3,7 @@ use native.Mathlib.Omega.{arith}
 use denote.Ref.{now}
 use Rattle.int13.specs.declared.Plan.the-variants.{Refuse, Clear, Finish, Wait}
 use Rattle.int13.specs.Steps.{packetPlan}
-use Rattle.int13.proofs.StepLaws.{plan-clear}
+use Rattle.int13.proofs.StepsLaws.{plan-clear}
 use borrow.Author.Needs.{needs}
 use Rattle.int13.proofs.extended_42_43_44.Statement.{statement}
 use Rattle.int13.proofs.extended_42_43_44.Tie as tie

@@ -7,7 +7,7 @@ use lib.Dec.{ltb}
 use denote.Ref.{now}
 use borrow.Author.Tests.{not-true, not-false, lt-ltb, le-ltb}
 use Rattle.int13.specs.Steps.{packetPlace, result}
-use Rattle.int13.proofs.StepLaws.{lent-rest, put-rest}
+use Rattle.int13.proofs.StepsLaws.{lent-rest, put-rest}
 use borrow.Author.Needs.{needs}
 use Rattle.int13.proofs.result_48.Statement.{statement}
 use Rattle.int13.proofs.result_48.Tie as tie

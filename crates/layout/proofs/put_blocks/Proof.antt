@@ -1,5 +1,5 @@
 use denote.Ref.{now}
-use Rattle.layout.proofs.ResultBuffers.{block-stores}
+use Rattle.layout.proofs.ResultBufferLaws.{block-stores}
 use borrow.Author.Needs.{needs}
 use Rattle.layout.proofs.put_blocks.Statement.{statement}
 use Rattle.layout.proofs.put_blocks.Tie as tie

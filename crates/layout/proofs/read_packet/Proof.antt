@@ -1,7 +1,7 @@
 use native.Mathlib.Omega.{arith}
 use denote.Ref.{now}
 use Rattle.layout.specs.Packet.{packetAt}
-use Rattle.layout.proofs.Packets.{readPacket-outside, readPacket-inside, packet-answered}
+use Rattle.layout.proofs.PacketLaws.{readPacket-outside, readPacket-inside, packet-answered}
 use borrow.Author.Needs.{needs}
 use Rattle.layout.proofs.read_packet.Statement.{statement}
 use Rattle.layout.proofs.read_packet.Tie as tie

@@ -2,7 +2,7 @@ use Prim.Native.Nat.{ℕ}
 use mathlib.Core.Path.{refl}
 use lib.ListN.{replicate}
 use borrow.Author.Needs.{length-unmapped}
-use Rattle.layout.proofs.ResultBuffers.{whole-stores}
+use Rattle.layout.proofs.ResultBufferLaws.{whole-stores}
 use borrow.Author.Needs.{needs}
 use Rattle.layout.proofs.result_of.Statement.{statement}
 use Rattle.layout.proofs.result_of.Tie as tie

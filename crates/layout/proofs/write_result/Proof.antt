@@ -5,7 +5,7 @@ use lib.ListN.{length, take, length-take}
 use lib.Seq.{sets, length-take-le}
 use denote.Ref.{now}
 use native.Mathlib.Omega.{arith}
-use Rattle.layout.proofs.ResultBuffers.{returned-most, answer-small, answer-no-room, answer-written}
+use Rattle.layout.proofs.ResultBufferLaws.{returned-most, answer-small, answer-no-room, answer-written}
 use borrow.Author.Needs.{needs}
 use Rattle.layout.proofs.write_result.Statement.{statement}
 use Rattle.layout.proofs.write_result.Tie as tie

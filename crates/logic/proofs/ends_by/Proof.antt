@@ -1,4 +1,4 @@
-use Rattle.logic.proofs.Logic.{ends-past, ends-rest}
+use Rattle.logic.proofs.LogicLaws.{ends-past, ends-rest}
 use Rattle.logic.proofs.ends_by.Statement.{statement}
 use Rattle.logic.proofs.ends_by.Tie as tie
 use Rattle.logic.proofs.ends_by.Reads as reads

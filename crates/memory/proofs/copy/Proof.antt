@@ -3,7 +3,7 @@ use mathlib.Core.Path.{_≡_, sym}
 use Prim.Native.Nat.{_+_, _*_, _-_}
 use native.Mathlib.Omega.{arith}
 use Rattle.memory.specs.Blocks.{blockLength}
-use Rattle.memory.proofs.Blocks.{blocks-splice}
+use Rattle.memory.proofs.BlocksLaws.{blocks-splice}
 use Rattle.memory.proofs.copy.Statement.{statement}
 use Rattle.memory.proofs.copy.Tie as tie
 use Rattle.memory.proofs.copy.Reads as reads

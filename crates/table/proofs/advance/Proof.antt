@@ -1,5 +1,5 @@
 use denote.Ref.{now}
-use Rattle.table.proofs.Tables.{advanced-is}
+use Rattle.table.proofs.TableLaws.{advanced-is}
 use borrow.Author.Needs.{needs}
 use Rattle.table.proofs.advance.Statement.{statement}
 use Rattle.table.proofs.advance.Tie as tie

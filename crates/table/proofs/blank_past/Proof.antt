@@ -4,7 +4,7 @@ use Prim.Native.Nat.{ℕ, _≤_, _-_}
 use mathlib.Core.Path.{_≡_, refl, ap, sym, _∙_}
 use lib.Dec.{eqb, ltb}
 use Rattle.table.specs.Table.{blankTo}
-use Rattle.logic.proofs.Logic.{all-more}
+use Rattle.logic.proofs.LogicLaws.{all-more}
 use Rattle.table.proofs.blank_past.Statement.{statement}
 use Rattle.table.proofs.blank_past.Tie as tie
 use Rattle.table.proofs.blank_past.Reads as reads

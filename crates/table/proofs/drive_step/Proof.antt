@@ -1,6 +1,6 @@
 use mathlib.Core.Path.{_≡_, sym, _∙_}
 use denote.Ref.{now}
-use Rattle.table.proofs.Tables.{refusal-room, record-next, record-refused}
+use Rattle.table.proofs.TableLaws.{refusal-room, record-next, record-refused}
 use borrow.Author.Needs.{needs}
 use Rattle.table.proofs.drive_step.Statement.{statement}
 use Rattle.table.proofs.drive_step.Tie as tie

@@ -1,5 +1,5 @@
 use denote.Ref.{now}
-use Rattle.table.proofs.Tables.{endStep-byte, endStep-done}
+use Rattle.table.proofs.TableLaws.{endStep-byte, endStep-done}
 use borrow.Author.Needs.{needs}
 use Rattle.table.proofs.end_step.Statement.{statement}
 use Rattle.table.proofs.end_step.Tie as tie

@@ -3,7 +3,7 @@ use native.Mathlib.Omega.{arith}
 use Prim.Native.Nat.{_≤_, _-_}
 use mathlib.Core.Path.{_≡_}
 use Rattle.table.specs.Table.{overlapsAny}
-use Rattle.logic.proofs.Logic.{some-more}
+use Rattle.logic.proofs.LogicLaws.{some-more}
 use Rattle.table.proofs.overlaps_any.Statement.{statement}
 use Rattle.table.proofs.overlaps_any.Tie as tie
 use Rattle.table.proofs.overlaps_any.Reads as reads

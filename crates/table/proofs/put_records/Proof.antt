@@ -6,7 +6,7 @@ use lib.ListN.{length}
 use lib.Seq.{sets, length-sets}
 use denote.Ref.{now}
 use Rattle.table.specs.Table.{recordsOf}
-use Rattle.table.proofs.Tables.{length-more, sets-place}
+use Rattle.table.proofs.TableLaws.{length-more, sets-place}
 use Rattle.table.proofs.put_records.Statement.{statement}
 use Rattle.table.proofs.put_records.Tie as tie
 use Rattle.table.proofs.put_records.Reads as reads

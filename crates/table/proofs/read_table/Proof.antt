@@ -5,7 +5,7 @@ use mathlib.Core.Path.{_≡_, refl, ap, _∙_}
 use denote.Ref.{now}
 use Rattle.table.specs.declared.Cursor.{Cursor}
 use Rattle.table.specs.Table.{mostRecords, readFrom, readTable}
-use Rattle.table.proofs.Tables.{readFrom-advance, readFrom-next, readFrom-zero, reads-is}
+use Rattle.table.proofs.TableLaws.{readFrom-advance, readFrom-next, readFrom-zero, reads-is}
 use Rattle.table.proofs.read_table.Statement.{statement}
 use Rattle.table.proofs.read_table.Tie as tie
 use Rattle.table.proofs.read_table.Reads as reads

@@ -4,7 +4,7 @@ use Prim.Native.Nat.{_≤_, _-_, _*_, _+_}
 use mathlib.Core.Path.{_≡_, refl, ap, sym, _∙_}
 use lib.ListN.{length}
 use Rattle.table.specs.Table.{recordsOf}
-use Rattle.table.proofs.Tables.{length-more}
+use Rattle.table.proofs.TableLaws.{length-more}
 use Rattle.table.proofs.records_length.Statement.{statement}
 use Rattle.table.proofs.records_length.Tie as tie
 use Rattle.table.proofs.records_length.Reads as reads

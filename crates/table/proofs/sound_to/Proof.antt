@@ -1,5 +1,5 @@
-use Rattle.logic.proofs.Logic.{some-more, all-more}
-use Rattle.table.proofs.Tables.{taken-is}
+use Rattle.logic.proofs.LogicLaws.{some-more, all-more}
+use Rattle.table.proofs.TableLaws.{taken-is}
 use Rattle.table.specs.Table.{overlapsAny, soundTo}
 use mathlib.Core.Path.{_≡_, refl, ap, sym, _∙_}
 use Prim.Native.Nat.{ℕ, _≤_, _-_}

@@ -1,4 +1,4 @@
-use Rattle.table.proofs.Tables.{begun-is}
+use Rattle.table.proofs.TableLaws.{begun-is}
 use borrow.Author.Needs.{needs}
 use Rattle.table.proofs.start.Statement.{statement}
 use Rattle.table.proofs.start.Tie as tie

@@ -4,7 +4,7 @@ use mathlib.Core.Path.{_≡_, sym, ap, _∙_}
 use Prim.Native.Nat.{ℕ, _+_, _-_}
 use native.Mathlib.Omega.{arith}
 use denote.Ref.{now}
-use Rattle.table.proofs.Tables.{whole-at, lengthOk-drive, stepAt-bad, stepAt-end, stepAt-drive}
+use Rattle.table.proofs.TableLaws.{whole-at, lengthOk-drive, stepAt-bad, stepAt-end, stepAt-drive}
 use borrow.Author.Needs.{needs}
 use Rattle.table.proofs.step_at.Statement.{statement}
 use Rattle.table.proofs.step_at.Tie as tie

@@ -9,7 +9,7 @@ use Rattle.desk.specs.declared.CollectAnswer.the-variants.{Refused as Co
 use Rattle.desk.specs.Parts.{stageAt}
 use Rattle.desk.specs.Acceptable.{accept}
 use Rattle.desk.specs.Calls.{houseNumber, done, collectStage, collectOf}
-use Rattle.desk.proofs.Callings.{house-tests, house-refused, Passed, house-passed, collect-other, collect-finished}
+use Rattle.desk.proofs.CallsLaws.{house-tests, house-refused, Passed, house-passed, collect-other, collect-finished}
 use borrow.Author.Needs.{needs}
 use Rattle.desk.proofs.Desk.collect.Statement.{statement}
 use Rattle.desk.proofs.Desk.collect.Tie as tie

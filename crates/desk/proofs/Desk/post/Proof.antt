@@ -7,14 +7,14 @@ use lib.Dec.{ltb}
 use borrow.Author.Tests.{ltb-true}
 use denote.Ref.{now}
 use Rattle.memory.specs.Window.{windowLength, spanLength, windowOf}
-use Rattle.memory.proofs.Windows.{with-window-lent, length-window}
+use Rattle.memory.proofs.WindowLaws.{with-window-lent, length-window}
 use Rattle.int13.specs.Steps.{Checked, fed, begin}
 use Rattle.desk.specs.declared.Desk.{Desk}
 use Rattle.desk.specs.declared.PostAnswer.the-variants.{Refused as PostRefused}
 use Rattle.desk.specs.Parts.{stageAt}
 use Rattle.desk.specs.Acceptable.{accept}
 use Rattle.desk.specs.Calls.{houseNumber, isLent, done, postRow, postOf}
-use Rattle.desk.proofs.Callings.{house-tests, house-refused, Passed, house-passed, post-other, post-vacant}
+use Rattle.desk.proofs.CallsLaws.{house-tests, house-refused, Passed, house-passed, post-other, post-vacant}
 use borrow.Author.Needs.{needs}
 use Rattle.desk.proofs.Desk.post.Statement.{statement}
 use Rattle.desk.proofs.Desk.post.Tie as tie

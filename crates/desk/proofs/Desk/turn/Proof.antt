@@ -10,9 +10,9 @@ use Rattle.desk.specs.declared.Next.the-variants.{Guest}
 use Rattle.desk.specs.declared.TurnAnswer.the-variants.{Refused as TurnRefused}
 use Rattle.desk.specs.Parts.{windowSize}
 use Rattle.desk.specs.Acceptable.{accept}
-use Rattle.desk.specs.Calls.{houseNumber, isLent, done, seek, Transferred, turnNext, turnOf}
-use Rattle.desk.proofs.Acceptances.{accept-true, Waits}
-use Rattle.desk.proofs.Callings.{house-tests, house-refused, Passed, house-passed, turn-nobody, turn-other, turn-served, seek-below, waiting-facts, in-range}
+use Rattle.desk.specs.Calls.{houseNumber, isLent, done, firstWaiting, Transferred, turnNext, turnOf}
+use Rattle.desk.proofs.AcceptableLaws.{accept-true, Waits}
+use Rattle.desk.proofs.CallsLaws.{house-tests, house-refused, Passed, house-passed, turn-nobody, turn-other, turn-served, seek-below, waiting-facts, in-range}
 use borrow.Author.Needs.{needs}
 use Rattle.desk.proofs.Desk.turn.Statement.{statement}
 use Rattle.desk.proofs.Desk.turn.Tie as tie
@@ -46,7 +46,7 @@ passed c = house-passed _ _ _ (number (c .before)) (c .if1 .left)
 abbrev guest : tie.After-known-told → ℕ
 guest c = c .before .found .given .0 .0
 
-found : (c : tie.After-known-told) → seek (desk (c .before .before .before .before .before .before) .rows) 8 (desk (c .before .before .before .before .before .before) .pointer) ≡ Guest (guest c)
+found : (c : tie.After-known-told) → firstWaiting (desk (c .before .before .before .before .before .before) .rows) 8 (desk (c .before .before .before .before .before .before) .pointer) ≡ Guest (guest c)
 found c = sym (c .before .before .before .next-waiting .ensures) ∙ c .before .found .given .1
 
 below : (c : tie.After-known-told) → guest c < 8
@@ -69,7 +69,7 @@ returns : tie.Need-returns
 unfolding turnOf
 returns c =
     let h = c .before in
-    house-refused _ _ _ (λ n. done (desk h) (TurnRefused n) (arena h) (store h)) (turnNext (desk h) (seek (desk h .rows) 8 (desk h .pointer)) (arena h) (store h)) (number h) (c .if1 .taken)
+    house-refused _ _ _ (λ n. done (desk h) (TurnRefused n) (arena h) (store h)) (turnNext (desk h) (firstWaiting (desk h .rows) 8 (desk h .pointer)) (arena h) (store h)) (number h) (c .if1 .taken)
 
 next-waiting-requires : tie.Need-next-waiting-requires
 next-waiting-requires c κs = accept-true (desk (c .before .before)) (passed (c .before) .acceptable) .pointer

@@ -11,7 +11,7 @@ use Rattle.desk.specs.declared.WithdrawAnswer.the-variants.{Refused as W
 use Rattle.desk.specs.Parts.{stageAt}
 use Rattle.desk.specs.Acceptable.{accept}
 use Rattle.desk.specs.Calls.{houseNumber, isLent, done, withdrawStage, withdrawOf}
-use Rattle.desk.proofs.Callings.{house-tests, house-refused, Passed, house-passed, withdraw-other, withdraw-waiting, Report, report-facts}
+use Rattle.desk.proofs.CallsLaws.{house-tests, house-refused, Passed, house-passed, withdraw-other, withdraw-waiting, Report, report-facts}
 use borrow.Author.Needs.{needs}
 use Rattle.desk.proofs.Desk.withdraw.Statement.{statement}
 use Rattle.desk.proofs.Desk.withdraw.Tie as tie

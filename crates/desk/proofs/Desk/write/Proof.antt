@@ -7,7 +7,7 @@ use Rattle.table.specs.Table.{writeAnswer, writeOut}
 use Rattle.desk.specs.declared.Desk.{Desk}
 use Rattle.desk.specs.Acceptable.{accept}
 use Rattle.desk.specs.Calls.{houseNumber, writtenOf, writtenOut}
-use Rattle.desk.proofs.Callings.{house-tests, house-refused, house-passed, write-table}
+use Rattle.desk.proofs.CallsLaws.{house-tests, house-refused, house-passed, write-table}
 use borrow.Author.Needs.{needs}
 use Rattle.desk.proofs.Desk.write.Statement.{statement}
 use Rattle.desk.proofs.Desk.write.Tie as tie

@@ -12,10 +12,10 @@ use lib.Dec.{eqb}
 use borrow.Author.Tests.{eq-eqb, eqb-true}
 use Rattle.logic.specs.Logic.{pick, both}
 use Rattle.words.specs.Words.{Bytes, le, leBytes, part}
-use Rattle.words.proofs.Words.{le-lt, le-ext, read-write, write-read, leBytes-append, length-leBytes, bytes-leBytes, bytes-part}
+use Rattle.words.proofs.WordsLaws.{le-lt, le-ext, read-write, write-read, leBytes-append, length-leBytes, bytes-leBytes, bytes-part}
 use Rattle.drive.specs.declared.Drive.{Drive}
 use Rattle.drive.specs.Drive.{Fits, same}
-use Rattle.drive.proofs.Drives.{same-refl, same-true}
+use Rattle.drive.proofs.DriveLaws.{same-refl, same-true}
 use Rattle.table.specs.declared.Table.{Table}
 use Rattle.table.specs.Table.{noDrive}
 use Rattle.int13.specs.declared.Registers.{Registers}
@@ -28,9 +28,9 @@ use Rattle.desk.specs.Parts.{vacantRow, stageAt}
 use Rattle.desk.specs.Numbers.{registerNumbers}
 use Rattle.desk.specs.Acceptable.{accept}
 use Rattle.desk.specs.Calls.{closed}
-use Rattle.desk.proofs.Acceptances.{closed-refused}
+use Rattle.desk.proofs.AcceptableLaws.{closed-refused}
 use Rattle.memory.proofs.Sets.{length-part}
-use Rattle.image.specs.Image.{each, flat, requestWords, stageWords, rowWords, rowsWords, driveWords, placesWords, tailWords, deskWords, image, placeSize, rowAt, placeAt, tailAt, blockSize, countAt, pointerAt, arenaAt, storeAt, requestPlace, finishedPlace, registersAt, requestAt, readStage, readRow, readDrive, readRows, readPlaces, readDesk, isImage, deskOf, accepted, FitsRegisters, FitsRequest, FitsStage, FitsDrive, FitsTable, FitsDesk, ImageOf, Exact}
+use Rattle.image.specs.Image.{each, flat, requestWords, stageWords, rowWords, rowsWords, driveWords, placesWords, tailWords, deskWords, image, placeSize, rowAt, placeAt, tailAt, deskSize, countAt, pointerAt, arenaAt, storeAt, requestPlace, finishedPlace, registersAt, requestAt, readStage, readRow, readDrive, readRows, readPlaces, readDesk, isImage, deskOf, accepted, FitsRegisters, FitsRequest, FitsStage, FitsDrive, FitsTable, FitsDesk, ImageOf, Exact}
 use Rattle.image.proofs.Fill.{length-each, length-flat, length-row, length-drive}
 use Rattle.image.proofs.Fields.{listed-is, row-of, place-of}
 
@@ -217,7 +217,7 @@ module _ (d : Desk) (fit : FitsDesk d) where
   places-length : length (placesWords (d .table .drives)) ≡ 14 * 8
   places-length = length-each driveWords 14 length-drive (d .table .drives) ∙ ap (λ (m : ℕ). 14 * m) (fit .table .eight)
 
-  pub length-image : length (image d) ≡ blockSize
+  pub length-image : length (image d) ≡ deskSize
   unfolding image deskWords
   length-image =
       length-flat (deskWords d)
@@ -341,7 +341,7 @@ module _ (b : List ℕ) (h : Bytes b) where
         device = bytes-part 8 b (i + 104) h;
       }
 
-  table-fits : length b ≡ blockSize → FitsTable (readDesk b .table)
+  table-fits : length b ≡ deskSize → FitsTable (readDesk b .table)
   unfolding readDesk
   table-fits l =
       record {
@@ -350,7 +350,7 @@ module _ (b : List ℕ) (h : Bytes b) where
         count = le-lt 8 b countAt h;
       }
 
-  read-fits : length b ≡ blockSize → FitsDesk (readDesk b)
+  read-fits : length b ≡ deskSize → FitsDesk (readDesk b)
   unfolding readDesk
   read-fits l =
       record {
@@ -372,12 +372,12 @@ not-closed e = absurd (let z : _≡_ {A = Bool} true false = sym e ∙ closed-re
 
 only : (b : List ℕ) → Bytes b → accepted b ≡ true → ImageOf b (deskOf b)
 unfolding accepted deskOf isImage
-only b h = go (eqb (length b) blockSize) (same b (image (readDesk b))) refl refl
+only b h = go (eqb (length b) deskSize) (same b (image (readDesk b))) refl refl
   where
-    go : (p q : Bool) → eqb (length b) blockSize ≡ p → same b (image (readDesk b)) ≡ q → accept (pick (both p q) (readDesk b) (closed 0 0)) ≡ true
+    go : (p q : Bool) → eqb (length b) deskSize ≡ p → same b (image (readDesk b)) ≡ q → accept (pick (both p q) (readDesk b) (closed 0 0)) ≡ true
         → ImageOf b (pick (both p q) (readDesk b) (closed 0 0))
     go true true e f k =
-        record { fits = read-fits b h (eqb-true (length b) blockSize e); acceptable = k; image = sym (same-true b (image (readDesk b)) f) }
+        record { fits = read-fits b h (eqb-true (length b) deskSize e); acceptable = k; image = sym (same-true b (image (readDesk b)) f) }
     go true false e f k = absurd (not-closed k)
     go false q e f k = absurd (not-closed k)
 

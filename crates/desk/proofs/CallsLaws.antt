@@ -12,7 +12,7 @@ use lib.ListN.{length}
 use lib.Dec.{ltb, eqb}
 use borrow.Author.Tests.{ltb-true, eqb-true}
 use Rattle.logic.specs.Logic.{pick, both}
-use Rattle.logic.proofs.Logic.{both-true}
+use Rattle.logic.proofs.LogicLaws.{both-true}
 use Rattle.memory.specs.Window.{windowLength, windowOf, withWindow}
 use Rattle.table.specs.declared.Written.the-variants.{Refused as WriteRefused}
 use Rattle.table.specs.Table.{writeAnswer, writeOut}
@@ -40,8 +40,8 @@ use Rattle.desk.specs.declared.WithdrawAnswer.{WithdrawAnswer}
 use Rattle.desk.specs.declared.WithdrawAnswer.the-variants.{Given as WithdrawGiven, Refused as WithdrawRefused}
 use Rattle.desk.specs.Parts.{windowSize, ownWindow, withOwn, stageIn, stageAt, withStage, isWaiting, next, withPointer}
 use Rattle.desk.specs.Acceptable.{packetOk, InRange, accept}
-use Rattle.desk.specs.Calls.{houseTests, houseNumber, isLent, Done, done, writtenOf, writtenOut, postChecked, postRow, postOf, seek, quota, serviceOf, Transferred, serve, serveStage, turnNext, turnOf, collectStage, collectOf, withdrawnWindow, withdrawStage, withdrawOf}
-use Rattle.desk.proofs.Acceptances.{Accepted, accept-true, rowsOk-at, Waits, waits-facts, drive-obeys}
+use Rattle.desk.specs.Calls.{houseTests, houseNumber, isLent, Done, done, writtenOf, writtenOut, postChecked, postRow, postOf, firstWaiting, quota, serviceOf, Transferred, serve, serveStage, turnNext, turnOf, collectStage, collectOf, withdrawnWindow, withdrawStage, withdrawOf}
+use Rattle.desk.proofs.AcceptableLaws.{Accepted, accept-true, rowsOk-at, Waits, waits-facts, drive-obeys}
 
 -- ---- stages that a `let .. else` leaves
 
@@ -127,20 +127,20 @@ module _ (d : Desk) (g : ℕ) (arena store : List ℕ) (p : Passed (accept d) tr
   collect-finished r e = ap (λ (s : Stage). collectStage d g s arena store) (sym e) ∙ collect-row
 
 module _ (d : Desk) (arena store : List ℕ) (p : Passed (accept d) (isLent d arena store) true) where
-  turn-next : turnNext d (seek (d .rows) 8 (d .pointer)) arena store ≡ turnOf d arena store
+  turn-next : turnNext d (firstWaiting (d .rows) 8 (d .pointer)) arena store ≡ turnOf d arena store
   unfolding turnOf
   turn-next = house-on (λ n. done d (TurnRefused n) arena store) _ p
 
-  pub turn-nobody : seek (d .rows) 8 (d .pointer) ≡ Nobody → done d Idle arena store ≡ turnOf d arena store
+  pub turn-nobody : firstWaiting (d .rows) 8 (d .pointer) ≡ Nobody → done d Idle arena store ≡ turnOf d arena store
   turn-nobody e = ap (λ (n : Next). turnNext d n arena store) (sym e) ∙ turn-next
 
-  pub turn-guest : (g : ℕ) → seek (d .rows) 8 (d .pointer) ≡ Guest g → serveStage d g (stageAt d g) arena store ≡ turnOf d arena store
+  pub turn-guest : (g : ℕ) → firstWaiting (d .rows) 8 (d .pointer) ≡ Guest g → serveStage d g (stageAt d g) arena store ≡ turnOf d arena store
   turn-guest g e = ap (λ (n : Next). turnNext d n arena store) (sym e) ∙ turn-next
 
-  pub turn-other : (g : ℕ) → seek (d .rows) 8 (d .pointer) ≡ Guest g → OneOf (0 ∷ 2 ∷ []) (tagOf stage.the-type (stageAt d g)) → done d Idle arena store ≡ turnOf d arena store
+  pub turn-other : (g : ℕ) → firstWaiting (d .rows) 8 (d .pointer) ≡ Guest g → OneOf (0 ∷ 2 ∷ []) (tagOf stage.the-type (stageAt d g)) → done d Idle arena store ≡ turnOf d arena store
   turn-other g e k = serve-stage (stageAt d g) d g arena store k ∙ turn-guest g e
 
-  pub turn-served : {s : Service} {desk : Desk} {answer : TurnAnswer} {arena′ store′ : List ℕ} (g : ℕ) (q : Request) → seek (d .rows) 8 (d .pointer) ≡ Guest g → stageAt d g ≡ Waiting q
+  pub turn-served : {s : Service} {desk : Desk} {answer : TurnAnswer} {arena′ store′ : List ℕ} (g : ℕ) (q : Request) → firstWaiting (d .rows) 8 (d .pointer) ≡ Guest g → stageAt d g ≡ Waiting q
       → s ≡ serviceOf q → desk ≡ withPointer (withStage d g (s .stage)) (next g) → answer ≡ Served g (s .moved)
       → Transferred (driveAt (d .table) (q .job .drive) .first) q (s .moved) g arena store arena′ store′
       → done desk answer arena′ store′ ≡ turnOf d arena store
@@ -192,12 +192,12 @@ module _ (d : Desk) (g : ℕ) (arena store : List ℕ) (p : Passed (accept d) (i
 
 -- ---- the guest that a search finds
 
-pub seek-below : (rows : List Row) (k p g : ℕ) → p < 8 → seek rows k p ≡ Guest g → g < 8
-unfolding seek
+pub seek-below : (rows : List Row) (k p g : ℕ) → p < 8 → firstWaiting rows k p ≡ Guest g → g < 8
+unfolding firstWaiting
 seek-below rows zero p g h e = let z : _≡_ {A = ℕ} 0 1 = cc in absurd (omega arith)
 seek-below rows (suc k) p g h e = by-row (isWaiting (stageIn rows p)) e (λ q. seek-below rows k (next p) g (omega arith) q)
   where
-    by-row : (t : Bool) → pick t (Guest p) (seek rows k (next p)) ≡ Guest g → (seek rows k (next p) ≡ Guest g → g < 8) → g < 8
+    by-row : (t : Bool) → pick t (Guest p) (firstWaiting rows k (next p)) ≡ Guest g → (firstWaiting rows k (next p) ≡ Guest g → g < 8) → g < 8
     by-row true q f = let s : p ≡ g = cc in omega arith
     by-row false q f = f q
 

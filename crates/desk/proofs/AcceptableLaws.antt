@@ -15,7 +15,7 @@ use lib.ListN.{length, getD, take, length-take}
 use lib.Dec.{leb, ltb, eqb}
 use borrow.Author.Tests.{leb-true, ltb-true, eqb-true, not-true}
 use Rattle.logic.specs.Logic.{pick, both, either}
-use Rattle.logic.proofs.Logic.{both-true, both-intro}
+use Rattle.logic.proofs.LogicLaws.{both-true, both-intro}
 use Rattle.drive.specs.declared.Drive.{Drive}
 use Rattle.chs.specs.Chs.{size}
 use Rattle.drive.specs.Drive.{geometryOf, isProtected, same, blankNumbers, blankNames, isBlank}

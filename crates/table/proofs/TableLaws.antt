@@ -13,9 +13,9 @@ use lib.Seq.{sets}
 use lib.Dec.{ltb, leb, eqb}
 use borrow.Author.Tests.{leb-true, leb-false, lt-leb, ltb-true, ltb-false, lt-ltb, le-ltb, eq-eqb, ne-eqb, eqb-true, eqb-false, not-true, not-false}
 use Rattle.logic.specs.Logic.{pick, both, either, someBelow}
-use Rattle.logic.proofs.Logic.{impossible, both-true, either-true}
+use Rattle.logic.proofs.LogicLaws.{impossible, both-true, either-true}
 use Rattle.words.specs.Words.{le, leBytes, part}
-use Rattle.words.proofs.Words.{sets-append, sets-front, length-leBytes}
+use Rattle.words.proofs.WordsLaws.{sets-append, sets-front, length-leBytes}
 use Rattle.drive.specs.declared.Drive.{Drive}
 use Rattle.drive.specs.Drive.{driveOf, recordOf, fieldsOk, inStore, overlap, isBlank}
 use Rattle.table.specs.declared.Table.{Table}

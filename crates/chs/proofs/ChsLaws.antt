@@ -10,7 +10,7 @@ use borrow.Author.Tests.{ltb-true, lt-ltb, le-leb}
 use lib.Arith.{digits-lt}
 use lib.Dec.{ltb}
 use Rattle.logic.specs.Logic.{pick, both}
-use Rattle.logic.proofs.Logic.{both-true, inRange-true}
+use Rattle.logic.proofs.LogicLaws.{both-true, inRange-true}
 use Rattle.chs.specs.declared.Geometry.{Geometry}
 use Rattle.chs.specs.declared.Address.{Address}
 use Rattle.chs.specs.declared.ToBlock.{ToBlock}

@@ -9,10 +9,10 @@ use native.Mathlib.Omega.{arith}
 use lib.ListN.{length, getD, drop}
 use lib.Seq.{sets, length-sets, take-add, drop-drop, getD-take, getD-drop}
 use Rattle.words.specs.Words.{part}
-use Rattle.words.proofs.Words.{sets-append}
+use Rattle.words.proofs.WordsLaws.{sets-append}
 use Rattle.memory.specs.Blocks.{blockLength, blocks}
 use Rattle.memory.specs.Window.{spanLength, windowOf, withWindow}
-use Rattle.memory.proofs.Windows.{length-window, window-with-same, with-window-twice}
+use Rattle.memory.proofs.WindowLaws.{length-window, window-with-same, with-window-twice}
 use Rattle.memory.proofs.Sets.{length-part, length-part-le, part-sets-before, part-sets-after, part-sets-same}
 
 pub blocks-length : (d : List ℕ) (at : ℕ) (s : List ℕ) (from k : ℕ) → length (blocks d at s from k) ≡ length d

@@ -10,7 +10,7 @@ use lib.Seq.{take-all, length-sets}
 use lib.Dec.{leb, ltb, eqb}
 use borrow.Author.Tests.{leb-true, ltb-true, ltb-false, lt-ltb, le-ltb}
 use Rattle.logic.specs.Logic.{pick, both, either}
-use Rattle.logic.proofs.Logic.{both-true}
+use Rattle.logic.proofs.LogicLaws.{both-true}
 use Rattle.drive.specs.declared.Drive.{Drive}
 use Rattle.table.specs.declared.Table.{Table}
 use Rattle.table.specs.Table.{noDrive}
@@ -21,7 +21,7 @@ use Rattle.int13.specs.declared.Outcome.the-variants.{Answered}
 use Rattle.int13.specs.declared.Plan.{Plan}
 use Rattle.int13.specs.declared.Plan.the-variants.{Refuse, Clear, Finish, Wait}
 use Rattle.int13.specs.Answers.{badParameter, ah, al, dl, isSectors, isWrite, refuse}
-use Rattle.int13.specs.Steps.{Checked, unchanged, fed, firstDrive, driveCount, isDrive, driveAt, driveIn, driveOf, packetPlace, verifyOk, packetRead, packetPlan, carryOut, extended, seek, sectors, parameters, extensions, resultSteps, result, steps, begin}
+use Rattle.int13.specs.Steps.{Checked, unchanged, fed, firstDrive, driveCount, isDrive, driveAt, driveIn, driveNamed, packetPlace, verifyOk, packetRead, packetPlan, carryOut, extended, seek, sectors, parameters, extensions, resultSteps, result, steps, begin}
 
 -- ---- drives
 
@@ -84,6 +84,6 @@ steps-drive false count d e r w h = refl
 
 -- the steps over any drive that is the one which DL names, if it names one
 pub begin-steps : {known : Bool} {count : ℕ} {d : Drive} (b : Table) (r : Registers) (w : List ℕ) → known ≡ isDrive b (dl r) → count ≡ driveCount b
-    → (isDrive b (dl r) ≡ true → d ≡ driveOf b r) → steps known count d r w ≡ begin (fed b) r w
+    → (isDrive b (dl r) ≡ true → d ≡ driveNamed b r) → steps known count d r w ≡ begin (fed b) r w
 unfolding begin
-begin-steps {known} {count} {d} b r w k n h = steps-drive known count d (driveOf b r) r w (λ e. h (sym k ∙ e)) ∙ cc
+begin-steps {known} {count} {d} b r w k n h = steps-drive known count d (driveNamed b r) r w (λ e. h (sym k ∙ e)) ∙ cc

@@ -12,11 +12,11 @@ use lib.Seq.{sets, take-all, take-at, take-suc, drop-at, length-take-le}
 use lib.Dec.{leb, ltb}
 use borrow.Author.Tests.{le-leb, lt-leb, leb-true}
 use Rattle.logic.specs.Logic.{pick, both}
-use Rattle.logic.proofs.Logic.{both-true}
+use Rattle.logic.proofs.LogicLaws.{both-true}
 use Rattle.words.specs.Words.{leBytes, part}
-use Rattle.words.proofs.Words.{sets-append, sets-front, sets-whole, length-leBytes}
+use Rattle.words.proofs.WordsLaws.{sets-append, sets-front, sets-whole, length-leBytes}
 use Rattle.drive.specs.declared.Drive.{Drive}
-use Rattle.drive.proofs.Drives.{Arrays}
+use Rattle.drive.proofs.DriveLaws.{Arrays}
 use Rattle.layout.specs.declared.Pointer.{Pointer}
 use Rattle.layout.specs.declared.ResultAnswer.{ResultAnswer}
 use Rattle.layout.specs.declared.ResultAnswer.the-variants.{Written, Refused}
