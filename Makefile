@@ -26,6 +26,7 @@ help:
 	@echo 'To watch it:'
 	@echo 'make demo       eight guests on OpenMP threads over one desk; REQUESTS=$(REQUESTS) of each, SEED=$(SEED)'
 	@echo 'make example    three guests use the monitor to copy, host/example'
+	@echo 'make boot       GRUB, SYSLINUX and two boot sectors boot on the service; says which packages it needs (docs/BOOT.md)'
 	@echo 'To test and measure it:'
 	@echo 'make tsan       the demo under ThreadSanitizer: no report, and broken rules are reported; not part of the gate'
 	@echo 'make touch      which bytes of arena and store a call touches: only those of its guest'
@@ -52,6 +53,13 @@ demo: need-cc $(DEMO)
 
 example: need-cc $(EXAMPLE)
 	$(EXAMPLE)
+
+# what is missing is said before the proofs begin
+boot: boot-packages $(LIBRARY)
+	host/boot/run $(LIBRARY)
+
+boot-packages:
+	@host/boot/run
 
 tsan: $(LIBRARY)
 	host/demo/tsan $(LIBDIR)
@@ -117,4 +125,4 @@ target/bench/model.so: $(wildcard host/model/*.rs host/standin/*.rs)
 need-cc:
 	@command -v $(firstword $(CC)) >/dev/null || { echo 'no C compiler $(CC): install gcc, or set CC'; exit 1; }
 
-.PHONY: help library install uninstall demo example tsan touch bench test check clean need-cc
+.PHONY: boot boot-packages help library install uninstall demo example tsan touch bench test check clean need-cc
