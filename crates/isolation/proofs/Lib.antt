@@ -12,11 +12,14 @@ pub mod Finished
 pub mod Requests
 pub mod Theorem
 pub mod Sums
+pub mod Trace
 pub mod Example
 pub mod Written
 pub mod Fits
 pub mod Refusals
 pub mod Blocks
 pub mod ExampleBlock
+pub mod ExampleDesk
+pub mod ExampleWrite
 pub mod Exported
 pub mod Single
