@@ -31,14 +31,14 @@ use Rattle.desk.specs.declared.CollectAnswer.the-variants.{Given as CollectGive
 use Rattle.desk.specs.Parts.{windowSize, stageAt, withStage, withPointer}
 use Rattle.desk.specs.Calls.{openOf, seek, stageAfter}
 use Rattle.isolation.specs.Lists.{openTable, post, turn, collect, withdraw, Call, opening as opened, posted, collected, Out, step, Event, run, after}
-use Rattle.isolation.specs.Words.{refused, hands, kindOf, NoneOpens, Accepted, Waits as WaitsOn, Finishes, moved, collects, Unwritten, Left}
+use Rattle.isolation.specs.Words.{refused, hands, kindOf, NoneOpens, total, Accepted, Waits as WaitsOn, Finishes, moved, collects, Unwritten, Left}
 use Rattle.isolation.specs.Demand.{foundBy, firstBy, Same, SameAtOnce, Claim}
 use Rattle.isolation.proofs.Accept.{Inv}
 use Rattle.isolation.proofs.View.{Lent, window-length}
 use Rattle.isolation.proofs.Bound.{after-none}
 use Rattle.isolation.proofs.Equal.{request}
 use Rattle.isolation.proofs.Posts.{different}
-use Rattle.isolation.proofs.Trace.{call, lent, window-lent, collectedTo, waitsOut, answeredOut, servedTo, storeAfter, withdrawnTo, idleOut, turn24Out, post-waits, post-answered, turn-writes, turn-idle, turn-24, withdraw-sectors, collect-gives, length-store, entry, goes-on, one, none, goes, own-turn, other-turn}
+use Rattle.isolation.proofs.Trace.{call, lent, window-lent, collectedTo, waitsOut, answeredOut, servedTo, storeAfter, withdrawnTo, idleOut, turn24Out, post-waits, post-answered, turn-writes, turn-idle, turn-24, withdraw-sectors, collect-gives, length-store, entry, goes-on, one, none, goes, passesIn, none-opens, own-turn, other-turn}
 use Rattle.isolation.proofs.ExampleDesk.{tableBytes, arenaLength, M, storeLength, guarded, plain, table, d₀, inv₀, claimed, read-packet, windowWith, length-window-with, filled, length-filled, window-filled}
 
 -- ---- the requests
@@ -325,37 +325,7 @@ module _ (a s : List ℕ) where
 
     -- the conditions
     pub closed : NoneOpens (run d₀ calls)
-    closed = subst NoneOpens (sym whole) (
-      (λ e. different cc),
-      (
-        (λ e. different cc),
-        (
-          (λ e. different cc),
-          (
-            (λ e. different cc),
-            (
-              (λ e. different cc),
-              (
-                (λ e. different cc),
-                (
-                  (λ e. different cc),
-                  (
-                    (λ e. different cc),
-                    (
-                      (λ e. different cc),
-                      (
-                        (λ e. different cc),
-                        ((λ e. different cc), ((λ e. different cc), ((λ e. different cc), tt))),
-                      ),
-                    ),
-                  ),
-                ),
-              ),
-            ),
-          ),
-        ),
-      ),
-    )
+    closed = none-opens (run d₀ calls) (ap (total passesIn) whole)
 
     claim : Claim tableBytes d₀ M calls
     claim = claimed calls closed

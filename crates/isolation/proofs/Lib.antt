@@ -21,5 +21,6 @@ pub mod Blocks
 pub mod ExampleBlock
 pub mod ExampleDesk
 pub mod ExampleWrite
+pub mod ExampleEight
 pub mod Exported
 pub mod Single

@@ -30,7 +30,7 @@ use Rattle.desk.specs.declared.WithdrawAnswer.the-variants.{Given as WithdrawGi
 use Rattle.desk.specs.Parts.{windowSize, stageAt, withStage, next, withPointer}
 use Rattle.desk.specs.Calls.{otherLength, isLent, postChecked, postRow, postOf, seek, quota, stageAfter, memoryOf, movedBy, serve, serveStage, turnNext, turnOf, collectStage, collectOf, withdrawnWindow, withdrawStage, withdrawOf}
 use Rattle.isolation.specs.Lists.{Op, post, turn, collect, withdraw, Call, posted, turned, collected, withdrawn, Out, outOf, step, Event, run, after}
-use Rattle.isolation.specs.Words.{Kind, serves, opens, kindOf, Named, Writes}
+use Rattle.isolation.specs.Words.{Kind, refused, plain, opens, answers, accepts, serves, idles, hands, withdraws, kindOf, kindIn, NoneOpens, total, Named, Writes}
 use Rattle.isolation.proofs.Moves.{moves-size}
 use Rattle.isolation.proofs.Accept.{Inv, inv-accept}
 use Rattle.isolation.proofs.Keep.{inv-step}
@@ -209,3 +209,20 @@ other-turn g first n h k d q v off h′ k′ b q′ e ne v′ w m =
     let kk : k ≡ k′ = cc in
     let qq : q ≡ q′ = same-request (sym v ∙ subst (λ (x : ℕ). stageAt d x ≡ Waiting q′) (sym hh) v′) in
     off b (subst (λ (x : Request). Writes (d .table) x k b) (sym qq) (subst (λ (x : ℕ). Writes (d .table) q′ x b) (sym kk) w)) m
+
+-- ---- no opening passes, by number
+
+abbrev pub passesIn : Kind → ℕ
+passesIn refused = 0
+passesIn plain = 0
+passesIn opens = 1
+passesIn (answers h) = 0
+passesIn (accepts h) = 0
+passesIn (serves h k) = 0
+passesIn idles = 0
+passesIn (hands h r) = 0
+passesIn (withdraws h) = 0
+
+pub none-opens : (es : List Event) → total passesIn es ≡ 0 → NoneOpens es
+none-opens [] z = tt
+none-opens (e ∷ es) z = ((λ x. let y : passesIn (kindIn e) ≡ 1 = ap passesIn x in omega arith), none-opens es (omega arith))
