@@ -15,7 +15,6 @@ use Rattle.layout.specs.declared.PacketRead.the-variants.{Whole}
 use Rattle.layout.specs.Packet.{packetAt, readPacket}
 use Rattle.memory.specs.Window.{guests, windowOf}
 use Rattle.int13.specs.declared.Registers.{Registers}
-use Rattle.int13.specs.declared.Job.{Job}
 use Rattle.int13.specs.declared.Outcome.the-variants.{Waits}
 use Rattle.int13.specs.declared.Plan.{Plan}
 use Rattle.int13.specs.declared.Plan.the-variants.{Wait}
@@ -34,7 +33,7 @@ use Rattle.isolation.proofs.Accept.{Inv}
 use Rattle.isolation.proofs.Bound.{after-none}
 use Rattle.isolation.proofs.Equal.{request}
 use Rattle.isolation.proofs.Posts.{different}
-use Rattle.isolation.proofs.Trace.{call, lent, window-lent, waitsOut, servedTo, storeAfter, arenaAfter, idleOut, post-waits, turn-writes, turn-reads, turn-idle, length-store, length-arena, entry, goes-on, one, none, goes, passesIn, none-opens, own-turn, other-turn}
+use Rattle.isolation.proofs.Trace.{call, lent, window-lent, waitsOut, servedTo, storeAfter, arenaAfter, idleOut, post-waits, turn-writes, turn-reads, turn-idle, length-store, length-arena, entry, goes-on, one, none, goes, passesIn, none-opens, found, also, own-turn, other-turn}
 use Rattle.isolation.proofs.ExampleDesk.{tableBytes, arenaLength, M, storeLength, plain, table, d₀, inv₀, claimed, read-packet, windowWith, length-window-with, filled, length-filled, window-filled}
 
 -- ---- the requests: each guest's packet stands at 0001:0008 of its window, and names drive 81h
@@ -74,9 +73,6 @@ p₀ = record { size = 16; count = 5; buffer = 237; start = 0 }
 abbrev p₁ : Packet
 p₁ = record { size = 16; count = 11; buffer = 271; start = 50 }
 
-abbrev job : Registers → Packet → Job
-job r p = packetJob r p
-
 by-packet : (r : Registers) (p : Packet) (w : List ℕ) → length w ≡ M → packetAt w 24 ≡ p
     → check table r w ≡ carryOut (packetRead plain r (length w) (readPacket w 24)) r w → packetRead plain r M (Whole p) ≡ Wait (packetJob r p)
     → check table r w ≡ unchanged w (Waits (packetJob r p))
@@ -86,66 +82,66 @@ by-packet r p w l e f g =
     ∙ ap (λ (n : ℕ). carryOut (packetRead plain r n (Whole p)) r w) l
     ∙ ap (λ (x : Plan). carryOut x r w) g
 
-check₂ : (w : List ℕ) → length w ≡ M → packetAt w 24 ≡ p₂ → check table verifies w ≡ unchanged w (Waits (job verifies p₂))
+check₂ : (w : List ℕ) → length w ≡ M → packetAt w 24 ≡ p₂ → check table verifies w ≡ unchanged w (Waits (packetJob verifies p₂))
 unfolding check packetPlan verifyOk isDrive packetTests
 check₂ w l e = by-packet verifies p₂ w l e refl refl
 
-check₃ : (w : List ℕ) → length w ≡ M → packetAt w 24 ≡ p₃ → check table reads w ≡ unchanged w (Waits (job reads p₃))
+check₃ : (w : List ℕ) → length w ≡ M → packetAt w 24 ≡ p₃ → check table reads w ≡ unchanged w (Waits (packetJob reads p₃))
 unfolding check packetPlan verifyOk isDrive packetTests
 check₃ w l e = by-packet reads p₃ w l e refl refl
 
-check₄ : (w : List ℕ) → length w ≡ M → packetAt w 24 ≡ p₄ → check table reads w ≡ unchanged w (Waits (job reads p₄))
+check₄ : (w : List ℕ) → length w ≡ M → packetAt w 24 ≡ p₄ → check table reads w ≡ unchanged w (Waits (packetJob reads p₄))
 unfolding check packetPlan verifyOk isDrive packetTests
 check₄ w l e = by-packet reads p₄ w l e refl refl
 
-check₅ : (w : List ℕ) → length w ≡ M → packetAt w 24 ≡ p₅ → check table writes w ≡ unchanged w (Waits (job writes p₅))
+check₅ : (w : List ℕ) → length w ≡ M → packetAt w 24 ≡ p₅ → check table writes w ≡ unchanged w (Waits (packetJob writes p₅))
 unfolding check packetPlan verifyOk isDrive packetTests
 check₅ w l e = by-packet writes p₅ w l e refl refl
 
-check₆ : (w : List ℕ) → length w ≡ M → packetAt w 24 ≡ p₆ → check table reads w ≡ unchanged w (Waits (job reads p₆))
+check₆ : (w : List ℕ) → length w ≡ M → packetAt w 24 ≡ p₆ → check table reads w ≡ unchanged w (Waits (packetJob reads p₆))
 unfolding check packetPlan verifyOk isDrive packetTests
 check₆ w l e = by-packet reads p₆ w l e refl refl
 
-check₇ : (w : List ℕ) → length w ≡ M → packetAt w 24 ≡ p₇ → check table reads w ≡ unchanged w (Waits (job reads p₇))
+check₇ : (w : List ℕ) → length w ≡ M → packetAt w 24 ≡ p₇ → check table reads w ≡ unchanged w (Waits (packetJob reads p₇))
 unfolding check packetPlan verifyOk isDrive packetTests
 check₇ w l e = by-packet reads p₇ w l e refl refl
 
-check₀ : (w : List ℕ) → length w ≡ M → packetAt w 24 ≡ p₀ → check table writes w ≡ unchanged w (Waits (job writes p₀))
+check₀ : (w : List ℕ) → length w ≡ M → packetAt w 24 ≡ p₀ → check table writes w ≡ unchanged w (Waits (packetJob writes p₀))
 unfolding check packetPlan verifyOk isDrive packetTests
 check₀ w l e = by-packet writes p₀ w l e refl refl
 
-check₁ : (w : List ℕ) → length w ≡ M → packetAt w 24 ≡ p₁ → check table reads w ≡ unchanged w (Waits (job reads p₁))
+check₁ : (w : List ℕ) → length w ≡ M → packetAt w 24 ≡ p₁ → check table reads w ≡ unchanged w (Waits (packetJob reads p₁))
 unfolding check packetPlan verifyOk isDrive packetTests
 check₁ w l e = by-packet reads p₁ w l e refl refl
 
 -- ---- the requests as the rows hold them, and the desks
 
 abbrev q₂ : Request
-q₂ = request (job verifies p₂) 0
+q₂ = request (packetJob verifies p₂) 0
 
 abbrev q₂′ : Request
-q₂′ = request (job verifies p₂) 16
+q₂′ = request (packetJob verifies p₂) 16
 
 abbrev q₃ : Request
-q₃ = request (job reads p₃) 0
+q₃ = request (packetJob reads p₃) 0
 
 abbrev q₄ : Request
-q₄ = request (job reads p₄) 0
+q₄ = request (packetJob reads p₄) 0
 
 abbrev q₅ : Request
-q₅ = request (job writes p₅) 0
+q₅ = request (packetJob writes p₅) 0
 
 abbrev q₆ : Request
-q₆ = request (job reads p₆) 0
+q₆ = request (packetJob reads p₆) 0
 
 abbrev q₇ : Request
-q₇ = request (job reads p₇) 0
+q₇ = request (packetJob reads p₇) 0
 
 abbrev q₀ : Request
-q₀ = request (job writes p₀) 0
+q₀ = request (packetJob writes p₀) 0
 
 abbrev q₁ : Request
-q₁ = request (job reads p₁) 0
+q₁ = request (packetJob reads p₁) 0
 
 abbrev d₁ : Desk
 d₁ = withStage d₀ 2 (Waiting q₂)
@@ -214,7 +210,7 @@ module _ (a s : List ℕ) where
   s₂ = storeAfter d₁ a s 2 q₂
 
   abbrev o₁ : Out
-  o₁ = waitsOut d₀ a s 2 (job verifies p₂)
+  o₁ = waitsOut d₀ a s 2 (packetJob verifies p₂)
 
   abbrev o₂ : Out
   o₂ = servedTo d₁ a s 2 q₂ (Waiting q₂′) a s₂
@@ -223,43 +219,43 @@ module _ (a s : List ℕ) where
   c₃ = call (post 3 reads) a s₂
 
   abbrev o₃ : Out
-  o₃ = waitsOut d₂ a s₂ 3 (job reads p₃)
+  o₃ = waitsOut d₂ a s₂ 3 (packetJob reads p₃)
 
   abbrev pub c₄ : Call
   c₄ = call (post 4 reads) a s₂
 
   abbrev o₄ : Out
-  o₄ = waitsOut d₃ a s₂ 4 (job reads p₄)
+  o₄ = waitsOut d₃ a s₂ 4 (packetJob reads p₄)
 
   abbrev pub c₅ : Call
   c₅ = call (post 5 writes) a s₂
 
   abbrev o₅ : Out
-  o₅ = waitsOut d₄ a s₂ 5 (job writes p₅)
+  o₅ = waitsOut d₄ a s₂ 5 (packetJob writes p₅)
 
   abbrev pub c₆ : Call
   c₆ = call (post 6 reads) a s₂
 
   abbrev o₆ : Out
-  o₆ = waitsOut d₅ a s₂ 6 (job reads p₆)
+  o₆ = waitsOut d₅ a s₂ 6 (packetJob reads p₆)
 
   abbrev pub c₇ : Call
   c₇ = call (post 7 reads) a s₂
 
   abbrev o₇ : Out
-  o₇ = waitsOut d₆ a s₂ 7 (job reads p₇)
+  o₇ = waitsOut d₆ a s₂ 7 (packetJob reads p₇)
 
   abbrev pub c₈ : Call
   c₈ = call (post 0 writes) a s₂
 
   abbrev o₈ : Out
-  o₈ = waitsOut d₇ a s₂ 0 (job writes p₀)
+  o₈ = waitsOut d₇ a s₂ 0 (packetJob writes p₀)
 
   abbrev pub c₉ : Call
   c₉ = call (post 1 reads) a s₂
 
   abbrev o₉ : Out
-  o₉ = waitsOut d₈ a s₂ 1 (job reads p₁)
+  o₉ = waitsOut d₈ a s₂ 1 (packetJob reads p₁)
 
   abbrev pub c₁₀ : Call
   c₁₀ = call turn a s₂
@@ -351,8 +347,10 @@ module _ (a s : List ℕ) where
   calls = c₁ ∷ (posts ++ (stretch ++ c₁₇ ∷ idle))
 
   module _ (la : length a ≡ arenaLength) (ls : length s ≡ storeLength)
-      (h₀ : packetAt (windowOf a 0 M) 24 ≡ p₀) (h₁ : packetAt (windowOf a 1 M) 24 ≡ p₁) (h₂ : packetAt (windowOf a 2 M) 24 ≡ p₂) (h₃ : packetAt (windowOf a 3 M) 24 ≡ p₃)
-      (h₄ : packetAt (windowOf a 4 M) 24 ≡ p₄) (h₅ : packetAt (windowOf a 5 M) 24 ≡ p₅) (h₆ : packetAt (windowOf a 6 M) 24 ≡ p₆) (h₇ : packetAt (windowOf a 7 M) 24 ≡ p₇) where
+      (h₀ : packetAt (windowOf a 0 M) 24 ≡ p₀) (h₁ : packetAt (windowOf a 1 M) 24 ≡ p₁)
+      (h₂ : packetAt (windowOf a 2 M) 24 ≡ p₂) (h₃ : packetAt (windowOf a 3 M) 24 ≡ p₃)
+      (h₄ : packetAt (windowOf a 4 M) 24 ≡ p₄) (h₅ : packetAt (windowOf a 5 M) 24 ≡ p₅)
+      (h₆ : packetAt (windowOf a 6 M) 24 ≡ p₆) (h₇ : packetAt (windowOf a 7 M) 24 ≡ p₇) where
     ls₂ : length s₂ ≡ storeLength
     ls₂ = length-store d₁ a s 2 q₂ ∙ ls
 
@@ -382,7 +380,8 @@ module _ (a s : List ℕ) where
 
     -- each call by its result
     e₁ : step d₀ c₁ ≡ o₁
-    e₁ = post-waits d₀ inv₀ a s 2 verifies (job verifies p₂) (lent d₀ a s la ls) (omega arith) refl (check₂ (windowOf a 2 M) (window-lent d₀ a 2 la (omega arith)) h₂)
+    e₁ = post-waits d₀ inv₀ a s 2 verifies (packetJob verifies p₂) (lent d₀ a s la ls) (omega arith) refl
+        (check₂ (windowOf a 2 M) (window-lent d₀ a 2 la (omega arith)) h₂)
 
     i₁ : Inv d₁
     i₁ = goes-on d₀ c₁ o₁ inv₀ e₁ (λ e. different cc)
@@ -395,49 +394,49 @@ module _ (a s : List ℕ) where
     i₂ = goes-on d₁ c₂ o₂ i₁ e₂ (λ e. different cc)
 
     e₃ : step d₂ c₃ ≡ o₃
-    e₃ = post-waits d₂ i₂ a s₂ 3 reads (job reads p₃) (lent d₂ a s₂ la ls₂) (omega arith) refl
+    e₃ = post-waits d₂ i₂ a s₂ 3 reads (packetJob reads p₃) (lent d₂ a s₂ la ls₂) (omega arith) refl
         (check₃ (windowOf a 3 M) (window-lent d₂ a 3 la (omega arith)) h₃)
 
     i₃ : Inv d₃
     i₃ = goes-on d₂ c₃ o₃ i₂ e₃ (λ e. different cc)
 
     e₄ : step d₃ c₄ ≡ o₄
-    e₄ = post-waits d₃ i₃ a s₂ 4 reads (job reads p₄) (lent d₃ a s₂ la ls₂) (omega arith) refl
+    e₄ = post-waits d₃ i₃ a s₂ 4 reads (packetJob reads p₄) (lent d₃ a s₂ la ls₂) (omega arith) refl
         (check₄ (windowOf a 4 M) (window-lent d₃ a 4 la (omega arith)) h₄)
 
     i₄ : Inv d₄
     i₄ = goes-on d₃ c₄ o₄ i₃ e₄ (λ e. different cc)
 
     e₅ : step d₄ c₅ ≡ o₅
-    e₅ = post-waits d₄ i₄ a s₂ 5 writes (job writes p₅) (lent d₄ a s₂ la ls₂) (omega arith) refl
+    e₅ = post-waits d₄ i₄ a s₂ 5 writes (packetJob writes p₅) (lent d₄ a s₂ la ls₂) (omega arith) refl
         (check₅ (windowOf a 5 M) (window-lent d₄ a 5 la (omega arith)) h₅)
 
     i₅ : Inv d₅
     i₅ = goes-on d₄ c₅ o₅ i₄ e₅ (λ e. different cc)
 
     e₆ : step d₅ c₆ ≡ o₆
-    e₆ = post-waits d₅ i₅ a s₂ 6 reads (job reads p₆) (lent d₅ a s₂ la ls₂) (omega arith) refl
+    e₆ = post-waits d₅ i₅ a s₂ 6 reads (packetJob reads p₆) (lent d₅ a s₂ la ls₂) (omega arith) refl
         (check₆ (windowOf a 6 M) (window-lent d₅ a 6 la (omega arith)) h₆)
 
     i₆ : Inv d₆
     i₆ = goes-on d₅ c₆ o₆ i₅ e₆ (λ e. different cc)
 
     e₇ : step d₆ c₇ ≡ o₇
-    e₇ = post-waits d₆ i₆ a s₂ 7 reads (job reads p₇) (lent d₆ a s₂ la ls₂) (omega arith) refl
+    e₇ = post-waits d₆ i₆ a s₂ 7 reads (packetJob reads p₇) (lent d₆ a s₂ la ls₂) (omega arith) refl
         (check₇ (windowOf a 7 M) (window-lent d₆ a 7 la (omega arith)) h₇)
 
     i₇ : Inv d₇
     i₇ = goes-on d₆ c₇ o₇ i₆ e₇ (λ e. different cc)
 
     e₈ : step d₇ c₈ ≡ o₈
-    e₈ = post-waits d₇ i₇ a s₂ 0 writes (job writes p₀) (lent d₇ a s₂ la ls₂) (omega arith) refl
+    e₈ = post-waits d₇ i₇ a s₂ 0 writes (packetJob writes p₀) (lent d₇ a s₂ la ls₂) (omega arith) refl
         (check₀ (windowOf a 0 M) (window-lent d₇ a 0 la (omega arith)) h₀)
 
     i₈ : Inv d₈
     i₈ = goes-on d₇ c₈ o₈ i₇ e₈ (λ e. different cc)
 
     e₉ : step d₈ c₉ ≡ o₉
-    e₉ = post-waits d₈ i₈ a s₂ 1 reads (job reads p₁) (lent d₈ a s₂ la ls₂) (omega arith) refl
+    e₉ = post-waits d₈ i₈ a s₂ 1 reads (packetJob reads p₁) (lent d₈ a s₂ la ls₂) (omega arith) refl
         (check₁ (windowOf a 1 M) (window-lent d₈ a 1 la (omega arith)) h₁)
 
     i₉ : Inv d₉
@@ -505,19 +504,28 @@ module _ (a s : List ℕ) where
 
     -- the list
     abbrev first : List Event
-    first = entry d₁ c₂ o₂ ∷ entry d₂ c₃ o₃ ∷ entry d₃ c₄ o₄ ∷ entry d₄ c₅ o₅ ∷ entry d₅ c₆ o₆ ∷ entry d₆ c₇ o₇ ∷ entry d₇ c₈ o₈ ∷ entry d₈ c₉ o₉ ∷ []
+    first =
+        entry d₁ c₂ o₂ ∷ entry d₂ c₃ o₃ ∷ entry d₃ c₄ o₄ ∷ entry d₄ c₅ o₅
+        ∷ entry d₅ c₆ o₆ ∷ entry d₆ c₇ o₇ ∷ entry d₇ c₈ o₈ ∷ entry d₈ c₉ o₉
+        ∷ []
 
     abbrev then : List Event
-    then = entry d₉ c₁₀ o₁₀ ∷ entry d₁₀ c₁₁ o₁₁ ∷ entry d₁₁ c₁₂ o₁₂ ∷ entry d₁₂ c₁₃ o₁₃ ∷ entry d₁₃ c₁₄ o₁₄ ∷ entry d₁₄ c₁₅ o₁₅ ∷ entry d₁₅ c₁₆ o₁₆ ∷ []
+    then =
+        entry d₉ c₁₀ o₁₀ ∷ entry d₁₀ c₁₁ o₁₁ ∷ entry d₁₁ c₁₂ o₁₂ ∷ entry d₁₂ c₁₃ o₁₃
+        ∷ entry d₁₃ c₁₄ o₁₄ ∷ entry d₁₄ c₁₅ o₁₅ ∷ entry d₁₅ c₁₆ o₁₆ ∷ []
 
     abbrev rest : Event
     rest = entry d₁₇ c₁₈ (idleOut d₁₇ a₁₆ s₁₇)
 
     follow-posts : (cs : List Call) (es : List Event) → run d₉ cs ≡ es → run d₁ (posts ++ cs) ≡ first ++ es
-    follow-posts cs es f = one d₁ c₂ o₂ _ _ e₂ (one d₂ c₃ o₃ _ _ e₃ (one d₃ c₄ o₄ _ _ e₄ (one d₄ c₅ o₅ _ _ e₅ (one d₅ c₆ o₆ _ _ e₆ (one d₆ c₇ o₇ _ _ e₇ (one d₇ c₈ o₈ _ _ e₈ (one d₈ c₉ o₉ _ _ e₉ f)))))))
+    follow-posts cs es f =
+        one d₁ c₂ o₂ _ _ e₂ (one d₂ c₃ o₃ _ _ e₃ (one d₃ c₄ o₄ _ _ e₄ (one d₄ c₅ o₅ _ _ e₅
+        (one d₅ c₆ o₆ _ _ e₆ (one d₆ c₇ o₇ _ _ e₇ (one d₇ c₈ o₈ _ _ e₈ (one d₈ c₉ o₉ _ _ e₉ f)))))))
 
     follow-turns : (cs : List Call) (es : List Event) → run d₁₆ cs ≡ es → run d₉ (stretch ++ cs) ≡ then ++ es
-    follow-turns cs es f = one d₉ c₁₀ o₁₀ _ _ e₁₀ (one d₁₀ c₁₁ o₁₁ _ _ e₁₁ (one d₁₁ c₁₂ o₁₂ _ _ e₁₂ (one d₁₂ c₁₃ o₁₃ _ _ e₁₃ (one d₁₃ c₁₄ o₁₄ _ _ e₁₄ (one d₁₄ c₁₅ o₁₅ _ _ e₁₅ (one d₁₅ c₁₆ o₁₆ _ _ e₁₆ f))))))
+    follow-turns cs es f =
+        one d₉ c₁₀ o₁₀ _ _ e₁₀ (one d₁₀ c₁₁ o₁₁ _ _ e₁₁ (one d₁₁ c₁₂ o₁₂ _ _ e₁₂ (one d₁₂ c₁₃ o₁₃ _ _ e₁₃
+        (one d₁₃ c₁₄ o₁₄ _ _ e₁₄ (one d₁₄ c₁₅ o₁₅ _ _ e₁₅ (one d₁₅ c₁₆ o₁₆ _ _ e₁₆ f))))))
 
     last : (cs : List Call) (es : List Event) → run d₁₇ cs ≡ es → run d₁₆ (c₁₇ ∷ cs) ≡ entry d₁₆ c₁₇ o₁₇ ∷ es
     last cs es f = one d₁₆ c₁₇ o₁₇ _ _ e₁₇ f
@@ -549,10 +557,14 @@ module _ (a s : List ℕ) where
     accepted = record { posts = refl; waits = ap (λ (o : Out). o .answer) e₁ }
 
     goes-posts : (cs : List Call) (x : Desk) → after d₉ cs ≡ x → after d₁ (posts ++ cs) ≡ x
-    goes-posts cs x f = goes d₁ c₂ o₂ _ x e₂ (goes d₂ c₃ o₃ _ x e₃ (goes d₃ c₄ o₄ _ x e₄ (goes d₄ c₅ o₅ _ x e₅ (goes d₅ c₆ o₆ _ x e₆ (goes d₆ c₇ o₇ _ x e₇ (goes d₇ c₈ o₈ _ x e₈ (goes d₈ c₉ o₉ _ x e₉ f)))))))
+    goes-posts cs x f =
+        goes d₁ c₂ o₂ _ x e₂ (goes d₂ c₃ o₃ _ x e₃ (goes d₃ c₄ o₄ _ x e₄ (goes d₄ c₅ o₅ _ x e₅
+        (goes d₅ c₆ o₆ _ x e₆ (goes d₆ c₇ o₇ _ x e₇ (goes d₇ c₈ o₈ _ x e₈ (goes d₈ c₉ o₉ _ x e₉ f)))))))
 
     goes-turns : (cs : List Call) (x : Desk) → after d₁₆ cs ≡ x → after d₉ (stretch ++ cs) ≡ x
-    goes-turns cs x f = goes d₉ c₁₀ o₁₀ _ x e₁₀ (goes d₁₀ c₁₁ o₁₁ _ x e₁₁ (goes d₁₁ c₁₂ o₁₂ _ x e₁₂ (goes d₁₂ c₁₃ o₁₃ _ x e₁₃ (goes d₁₃ c₁₄ o₁₄ _ x e₁₄ (goes d₁₄ c₁₅ o₁₅ _ x e₁₅ (goes d₁₅ c₁₆ o₁₆ _ x e₁₆ f))))))
+    goes-turns cs x f =
+        goes d₉ c₁₀ o₁₀ _ x e₁₀ (goes d₁₀ c₁₁ o₁₁ _ x e₁₁ (goes d₁₁ c₁₂ o₁₂ _ x e₁₂ (goes d₁₂ c₁₃ o₁₃ _ x e₁₃
+        (goes d₁₃ c₁₄ o₁₄ _ x e₁₄ (goes d₁₄ c₁₅ o₁₅ _ x e₁₅ (goes d₁₅ c₁₆ o₁₆ _ x e₁₆ f))))))
 
     -- the desks after the posts, and before the eighth turn
     posts-done : after (step d₀ c₁ .desk) posts ≡ d₉
@@ -612,7 +624,7 @@ module _ (a s : List ℕ) where
     left : Left M 2 (windowOf (step d₀ c₁ .arena) 2 M) (step d₀ c₁ .store) (run (step d₀ c₁ .desk) ((posts ++ stretch) ++ c₁₇ ∷ []))
     left = subst (λ (o : Out). Left M 2 (windowOf (o .arena) 2 M) (o .store) (run (o .desk) ((posts ++ stretch) ++ c₁₇ ∷ []))) (sym e₁)
         (subst (Left M 2 (windowOf a 2 M) s) (sym upto)
-        (refl, refl, (refl, refl, (refl, refl, (refl, refl, (refl, refl, (refl, refl, (refl, refl, (refl, refl, (refl, refl, (refl, refl, (refl, refl, (refl, refl, (refl, refl, (refl, refl, (refl, refl, (refl, refl, tt)))))))))))))))))
+        (found (found (found (found (found (found (found (found (found (found (found (found (found (found (found (found tt)))))))))))))))))
 
     -- a read writes no block
     reads-no : {A : Type 0} → {B : Type 0} → (false ≡ true) × B → A
@@ -623,7 +635,17 @@ module _ (a s : List ℕ) where
     unwritten = subst₂ (λ (f n : ℕ). Unwritten 2 f n (run (step d₀ c₁ .desk) ((posts ++ stretch) ++ c₁₇ ∷ []))) (sym first-is) (sym asked-is)
         (subst (λ (o : Out). Unwritten 2 29 17 (run (o .desk) ((posts ++ stretch) ++ c₁₇ ∷ []))) (sym e₁)
         (subst (Unwritten 2 29 17) (sym upto)
-        (own-turn 2 29 17 16 d₁, ((λ h k b q e. different cc), ((λ h k b q e. different cc), ((λ h k b q e. different cc), ((λ h k b q e. different cc), ((λ h k b q e. different cc), ((λ h k b q e. different cc), ((λ h k b q e. different cc), (other-turn 2 29 17 3 16 d₉ q₃ refl (λ b w m. reads-no w), (other-turn 2 29 17 4 2 d₁₀ q₄ refl (λ b w m. reads-no w), (other-turn 2 29 17 5 1 d₁₁ q₅ refl (λ b w m. omega (arith, w .1 .0, w .1 .1, m .0, m .1)), (other-turn 2 29 17 6 3 d₁₂ q₆ refl (λ b w m. reads-no w), (other-turn 2 29 17 7 7 d₁₃ q₇ refl (λ b w m. reads-no w), (other-turn 2 29 17 0 5 d₁₄ q₀ refl (λ b w m. omega (arith, w .1 .0, w .1 .1, m .0, m .1)), (other-turn 2 29 17 1 11 d₁₅ q₁ refl (λ b w m. reads-no w), (own-turn 2 29 17 1 d₁₆, tt))))))))))))))))))
+        (also (own-turn 2 29 17 16 d₁)
+        (also (λ h k b q e. different cc) (also (λ h k b q e. different cc) (also (λ h k b q e. different cc)
+        (also (λ h k b q e. different cc) (also (λ h k b q e. different cc) (also (λ h k b q e. different cc) (also (λ h k b q e. different cc)
+        (also (other-turn 2 29 17 3 16 d₉ q₃ refl (λ b w m. reads-no w))
+        (also (other-turn 2 29 17 4 2 d₁₀ q₄ refl (λ b w m. reads-no w))
+        (also (other-turn 2 29 17 5 1 d₁₁ q₅ refl (λ b w m. omega (arith, w .1 .0, w .1 .1, m .0, m .1)))
+        (also (other-turn 2 29 17 6 3 d₁₂ q₆ refl (λ b w m. reads-no w))
+        (also (other-turn 2 29 17 7 7 d₁₃ q₇ refl (λ b w m. reads-no w))
+        (also (other-turn 2 29 17 0 5 d₁₄ q₀ refl (λ b w m. omega (arith, w .1 .0, w .1 .1, m .0, m .1)))
+        (also (other-turn 2 29 17 1 11 d₁₅ q₁ refl (λ b w m. reads-no w))
+        (also (own-turn 2 29 17 1 d₁₆) tt))))))))))))))))))
 
     pub example : Same M 2 (firstBy table M c₁ 2 verifies) (askedBy M c₁ 2 verifies) (step (after (step d₀ c₁ .desk) (posts ++ stretch)) c₁₇)
         (alone tableBytes verifies (foundBy M c₁ 2))
@@ -634,7 +656,11 @@ module _ (a s : List ℕ) where
 
 -- each guest's count, offset, segment and start
 abbrev bytesOf : ℕ → List ℕ
-bytesOf g = 16 ∷ 0 ∷ at (5 ∷ 11 ∷ 17 ∷ 16 ∷ 2 ∷ 1 ∷ 3 ∷ 7 ∷ []) ∷ 0 ∷ at (13 ∷ 15 ∷ 11 ∷ 1 ∷ 4 ∷ 6 ∷ 8 ∷ 10 ∷ []) ∷ 0 ∷ at (14 ∷ 16 ∷ 3 ∷ 2 ∷ 5 ∷ 7 ∷ 9 ∷ 12 ∷ []) ∷ 0 ∷ at (0 ∷ 50 ∷ 5 ∷ 5 ∷ 40 ∷ 22 ∷ 57 ∷ 9 ∷ []) ∷ replicate 7 0
+bytesOf g =
+    16 ∷ 0 ∷ at (5 ∷ 11 ∷ 17 ∷ 16 ∷ 2 ∷ 1 ∷ 3 ∷ 7 ∷ []) ∷ 0
+    ∷ at (13 ∷ 15 ∷ 11 ∷ 1 ∷ 4 ∷ 6 ∷ 8 ∷ 10 ∷ []) ∷ 0
+    ∷ at (14 ∷ 16 ∷ 3 ∷ 2 ∷ 5 ∷ 7 ∷ 9 ∷ 12 ∷ []) ∷ 0
+    ∷ at (0 ∷ 50 ∷ 5 ∷ 5 ∷ 40 ∷ 22 ∷ 57 ∷ 9 ∷ []) ∷ replicate 7 0
   where
     at : List ℕ → ℕ
     at l = getD l g 0
@@ -668,5 +694,7 @@ pub example-bytes : Same M 2 (firstBy table M (c₁ someArena someStore) 2 verif
     (alone tableBytes verifies (foundBy M (c₁ someArena someStore) 2))
 unfolding packetAt le
 example-bytes =
-    example someArena someStore long-arena long-store (held 0 p₀ (omega arith) refl) (held 1 p₁ (omega arith) refl) (held 2 p₂ (omega arith) refl) (held 3 p₃ (omega arith) refl)
-    (held 4 p₄ (omega arith) refl) (held 5 p₅ (omega arith) refl) (held 6 p₆ (omega arith) refl) (held 7 p₇ (omega arith) refl)
+    example someArena someStore long-arena long-store
+    (held 0 p₀ (omega arith) refl) (held 1 p₁ (omega arith) refl) (held 2 p₂ (omega arith) refl)
+    (held 3 p₃ (omega arith) refl) (held 4 p₄ (omega arith) refl) (held 5 p₅ (omega arith) refl)
+    (held 6 p₆ (omega arith) refl) (held 7 p₇ (omega arith) refl)

@@ -38,7 +38,7 @@ use Rattle.isolation.proofs.View.{Lent, window-length}
 use Rattle.isolation.proofs.Bound.{after-none}
 use Rattle.isolation.proofs.Equal.{request}
 use Rattle.isolation.proofs.Posts.{different}
-use Rattle.isolation.proofs.Trace.{call, lent, window-lent, collectedTo, waitsOut, answeredOut, servedTo, storeAfter, withdrawnTo, idleOut, turn24Out, post-waits, post-answered, turn-writes, turn-idle, turn-24, withdraw-sectors, collect-gives, length-store, entry, goes-on, one, none, goes, passesIn, none-opens, own-turn, other-turn}
+use Rattle.isolation.proofs.Trace.{call, lent, window-lent, collectedTo, waitsOut, answeredOut, servedTo, storeAfter, withdrawnTo, idleOut, turn24Out, post-waits, post-answered, turn-writes, turn-idle, turn-24, withdraw-sectors, collect-gives, length-store, entry, goes-on, one, none, goes, passesIn, none-opens, found, also, own-turn, other-turn}
 use Rattle.isolation.proofs.ExampleDesk.{tableBytes, arenaLength, M, storeLength, guarded, plain, table, d₀, inv₀, claimed, read-packet, windowWith, length-window-with, filled, length-filled, window-filled}
 
 -- ---- the requests
@@ -339,8 +339,7 @@ module _ (a s : List ℕ) where
 
     left : Left M 2 (windowOf (step d₀ c₁ .arena) 2 M) (step d₀ c₁ .store) (run (step d₀ c₁ .desk) (between ++ c₁₀ ∷ []))
     left = subst (λ (o : Out). Left M 2 (windowOf (o .arena) 2 M) (o .store) (run (o .desk) (between ++ c₁₀ ∷ []))) (sym e₁)
-        (subst (Left M 2 (windowOf a 2 M) s) (sym upto)
-        (refl, refl, (refl, refl, (refl, refl, (refl, refl, (refl, refl, (refl, refl, (refl, refl, tt))))))))
+        (subst (Left M 2 (windowOf a 2 M) s) (sym upto) (found (found (found (found (found (found (found tt))))))))
 
     first-is : firstBy table M c₁ 2 saved ≡ 56
     unfolding blockOf inLimits isValid
@@ -350,31 +349,13 @@ module _ (a s : List ℕ) where
     unwritten : Unwritten 2 (firstBy table M c₁ 2 saved) 17 (run (step d₀ c₁ .desk) (between ++ c₁₀ ∷ []))
     unwritten = subst (λ (n : ℕ). Unwritten 2 n 17 (run (step d₀ c₁ .desk) (between ++ c₁₀ ∷ []))) (sym first-is)
         (subst (λ (o : Out). Unwritten 2 56 17 (run (o .desk) (between ++ c₁₀ ∷ []))) (sym e₁)
-        (subst (Unwritten 2 56 17) (sym upto) (
-          (λ h k b q e. different cc),
-          (
-            own-turn 2 56 17 16 d₂,
-            (
-              (λ h k b q e. different cc),
-              (
-                (λ h k b q e. different cc),
-                (
-                  (λ h k b q e. different cc),
-                  (
-                    (λ h k b q e. different cc),
-                    (
-                      (λ h k b q e. different cc),
-                      (
-                        other-turn 2 56 17 5 1 d₈ (request writeJob 0) refl (λ b w n. omega (arith, w .1 .0, n .1)),
-                        (own-turn 2 56 17 1 d₉, tt),
-                      ),
-                    ),
-                  ),
-                ),
-              ),
-            ),
-          ),
-        )))
+        (subst (Unwritten 2 56 17) (sym upto)
+        (also (λ h k b q e. different cc)
+        (also (own-turn 2 56 17 16 d₂)
+        (also (λ h k b q e. different cc) (also (λ h k b q e. different cc) (also (λ h k b q e. different cc)
+        (also (λ h k b q e. different cc) (also (λ h k b q e. different cc)
+        (also (other-turn 2 56 17 5 1 d₈ (request writeJob 0) refl (λ b w n. omega (arith, w .1 .0, n .1)))
+        (also (own-turn 2 56 17 1 d₉) tt)))))))))))
 
     -- after its last part, guest 2's registers, window and store blocks 56 to 72 are those of its write served alone
     pub example : Same M 2 (firstBy table M c₁ 2 saved) 17 (step (after (step d₀ c₁ .desk) between) c₁₀) (alone tableBytes saved (foundBy M c₁ 2))

@@ -192,7 +192,16 @@ pub goes : (d : Desk) (c : Call) (o : Out) (cs : List Call) (x : Desk) → step 
 unfolding after
 goes d c o cs x e f = ap (λ (y : Out). after (y .desk) cs) e ∙ f
 
--- ---- no other guest writes a named block, by what one call answers
+-- ---- the conditions of `equal`, call by call
+
+-- the call finds the guest's window and the store as they were left
+pub found : {w s : List ℕ} {A : Type 0} → A → (w ≡ w) × (s ≡ s) × A
+found x = (refl, refl, x)
+
+pub also : {A B : Type 0} → A → B → A × B
+also x y = (x, y)
+
+-- no other guest writes a named block, by what one call answers
 
 abbrev pub Spares : ℕ → ℕ → ℕ → Desk → Kind → Type 0
 Spares g first n d kind = (h k b : ℕ) (q : Request) → kind ≡ serves h k → (h ≡ g → ⊥) → stageAt d h ≡ Waiting q → Writes (d .table) q k b → Named first n b → ⊥
