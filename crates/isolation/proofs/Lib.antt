@@ -18,9 +18,11 @@ pub mod Written
 pub mod Fits
 pub mod Refusals
 pub mod Blocks
+pub mod Strays
 pub mod ExampleBlock
 pub mod ExampleDesk
 pub mod ExampleWrite
 pub mod ExampleEight
+pub mod Carry
 pub mod Exported
 pub mod Single

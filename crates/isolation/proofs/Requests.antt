@@ -230,6 +230,10 @@ module _ (d : Desk) (inv : Inv d) (c : Call) (g : ℕ) (r : Registers) (acc : Ac
             ∙ ap (λ (x : Served). part blockLength (x .memory .store) (blockLength * b)) (sym al);
       }
 
+  pub finished′ : (t : List ℕ) → readTable t (d .store / blockLength) .table ≡ d .table → (mid : List Call) (last : Call) → NoneOpens (run d₁ (mid ++ last ∷ []))
+      → Finishes g n d₁ mid last → stageAt (step (after d₁ mid) last .desk) g ≡ Finished (alone t r found .registers)
+  finished′ t te mid last no-open f = finished mid last no-open f ∙ ap (λ (x : Served). Finished (x .registers)) (sym (alone-is t te))
+
   pub handed′ : (t : List ℕ) → readTable t (d .store / blockLength) .table ≡ d .table → (mid after₁ : List Call) (last x : Call)
       → NoneOpens (run d₁ (mid ++ last ∷ (after₁ ++ x ∷ [])))
       → Finishes g n d₁ mid last

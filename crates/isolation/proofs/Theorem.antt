@@ -9,6 +9,7 @@ use Rattle.table.specs.declared.Table.{Table}
 use Rattle.table.specs.Table.{readTable}
 use Rattle.int13.specs.declared.Registers.{Registers}
 use Rattle.int13.specs.Alone.{storeBlock, alone}
+use Rattle.desk.specs.declared.Stage.the-variants.{Finished}
 use Rattle.desk.specs.declared.Desk.{Desk}
 use Rattle.desk.specs.declared.OpenAnswer.the-variants.{Opened}
 use Rattle.desk.specs.declared.PostAnswer.the-variants.{Answered as PostAnswered}
@@ -23,7 +24,7 @@ use Rattle.isolation.proofs.View.{same, answer, view}
 use Rattle.isolation.proofs.Keep.{reached, turn-spares}
 use Rattle.isolation.proofs.Bound.{opens-front, opens-rest, opens-cons, opens-upto, after-at, after-none}
 use Rattle.isolation.proofs.Posts.{at-once, never}
-use Rattle.isolation.proofs.Requests.{accepted, bounded′, finishes′, within′, equal′, handed′}
+use Rattle.isolation.proofs.Requests.{accepted, bounded′, finishes′, within′, equal′, finished′, handed′}
 
 module _ (t : List ℕ) (arena store : ℕ) (calls : List Call) (passed : openOf t arena store .answer ≡ Opened)
     (closed : NoneOpens (run (openOf t arena store .desk) calls)) where
@@ -141,6 +142,18 @@ module _ (t : List ℕ) (arena store : ℕ) (calls : List Call) (passed : openOf
       → Unwritten g lo k es
       → Same (windowSize d) g lo k (step (after d₁ mid) last) (alone t r (foundBy (windowSize d) c g))) n f by-row)
 
+  finished″ : (pre mid rest : List Call) (c last : Call) (g : ℕ) (r : Registers) → calls ≡ pre ++ c ∷ (mid ++ last ∷ rest)
+      → Accepted (after d₀ pre) c g r
+      → Finishes g (askedBy m c g r) (step (after d₀ pre) c .desk) mid last
+      → stageAt (step (after (step (after d₀ pre) c .desk) mid) last .desk) g ≡ Finished (alone t r (foundBy m c g) .registers)
+  finished″ pre mid rest c last g r e acc f =
+      let d : Desk = after d₀ pre in
+      let d₁ : Desk = step d c .desk in
+      let a = at pre (mid ++ last ∷ rest) c e in
+      let n = asks d (a .inv) c g r acc (a .here) (a .size) in
+      subst (λ (k : ℕ). stageAt (step (after d₁ mid) last .desk) g ≡ Finished (alone t r (foundBy k c g) .registers)) (a .size)
+      (finished′ d (a .inv) c g r acc (a .here) t (a .table) mid last (opens-upto mid rest last d₁ (a .later)) (subst (λ (k : ℕ). Finishes g k d₁ mid last) (sym n) f))
+
   handed″ : (pre mid later rest : List Call) (c last x : Call) (g : ℕ) (r : Registers) → calls ≡ pre ++ c ∷ (mid ++ last ∷ (later ++ x ∷ rest))
       → Accepted (after d₀ pre) c g r
       → Finishes g (askedBy m c g r) (step (after d₀ pre) c .desk) mid last
@@ -184,6 +197,7 @@ module _ (t : List ℕ) (arena store : ℕ) (calls : List Call) (passed : openOf
         finishes = finishes″;
         spared = spared″;
         equal = equal″;
+        finished = finished″;
         handed = handed″;
         atOnce = atOnce″;
         acceptable = λ pre rest e.

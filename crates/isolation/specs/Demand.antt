@@ -107,6 +107,12 @@ pub record Claim (t : List ℕ) (d₀ : Desk) (m : ℕ) (calls : List Call) : Ty
       → Left m g (windowOf (outAt d₀ pre c .arena) g m) (outAt d₀ pre c .store) (since d₀ pre c (mid ++ last ∷ []))
       → Unwritten g (firstBy (d₀ .table) m c g r) (askedBy m c g r) (since d₀ pre c (mid ++ last ∷ []))
       → Same m g (firstBy (d₀ .table) m c g r) (askedBy m c g r) (outSince d₀ pre c mid last) (alone t r (foundBy m c g))
+  -- and of those, the registers need no condition: the finishing turn leaves the row finished with served alone's, whatever happened to the
+  -- arena and the store
+  pub finished : (pre mid rest : List Call) (c last : Call) (g : ℕ) (r : Registers) → calls ≡ pre ++ c ∷ (mid ++ last ∷ rest)
+      → Accepted (after d₀ pre) c g r
+      → Finishes g (askedBy m c g r) (outAt d₀ pre c .desk) mid last
+      → stageAt (outSince d₀ pre c mid last .desk) g ≡ Finished (alone t r (foundBy m c g) .registers)
   -- "the finished row's registers, which the guest's next collect not refused hands out", however much later; they need no condition
   pub handed : (pre mid more rest : List Call) (c last x : Call) (g : ℕ) (r : Registers) → calls ≡ pre ++ c ∷ (mid ++ last ∷ (more ++ x ∷ rest))
       → Accepted (after d₀ pre) c g r

@@ -7,6 +7,8 @@ use mathlib.Core.List.{List, [], _∷_}
 use lib.ListN.{length}
 use Rattle.table.specs.Table.{writtenNumbers}
 use Rattle.int13.specs.declared.Registers.{Registers}
+use Rattle.int13.specs.Answers.{posted as postedRegisters}
+use Rattle.int13.specs.Alone.{Memory, alone}
 use Rattle.desk.specs.Calls.{notAcceptable}
 use Rattle.desk.specs.Numbers.{openNumbers, postNumbers, turnNumbers, collectNumbers, withdrawNumbers}
 use Rattle.image.specs.Image.{blockSize}
@@ -31,6 +33,13 @@ bufferOf (turned x) = []
 bufferOf (collected g x) = []
 bufferOf (withdrawn g x) = []
 bufferOf (written x out) = out
+
+-- ---- "The words of demand 3", served alone, and the exported post
+
+-- The exported post hands on the guest's registers with carry clear; served alone is fed them as posted. It does not look at the posted carry,
+-- so that both speak of the same request.
+abbrev pub CarryUnread : Type 0
+CarryUnread = (t : List ℕ) (r : Registers) (m : Memory) → alone t r m ≡ alone t (postedRegisters r) m
 
 -- at a block, with an arena and a store
 module _ (b arena store : List ℕ) where
