@@ -2,7 +2,7 @@
 -- Assumes nothing.
 use Prim.Native.Nat.{ℕ, _+_, _/_}
 use mathlib.Core.Path.{_≡_, refl, ap, ap₂, _∙_}
-use mathlib.Core.Bool.{Bool, true, false, not}
+use mathlib.Core.Bool.{not}
 use mathlib.Core.List.{List}
 use lib.ListN.{length, drop}
 use lib.Dec.{ltb, eqb}
@@ -20,7 +20,7 @@ use Rattle.layout.specs.declared.PacketRead.the-variants.{Whole, Refused as NoP
 use Rattle.layout.specs.declared.ResultAnswer.{ResultAnswer}
 use Rattle.layout.specs.declared.ResultAnswer.the-variants.{Written, Refused as NoResult}
 use Rattle.layout.specs.Packet.{readPacket}
-use Rattle.layout.specs.ResultBuffer.{resultAnswer, resultOut}
+use Rattle.layout.specs.ResultBuffer.{resultAnswer}
 use Rattle.memory.specs.Blocks.{blockLength}
 use Rattle.int13.specs.declared.Registers.{Registers}
 use Rattle.int13.specs.declared.Outcome.{Outcome}
@@ -29,7 +29,7 @@ use Rattle.int13.specs.declared.Plan.{Plan}
 use Rattle.int13.specs.declared.Plan.the-variants.{Refuse, Clear, Finish, Wait}
 use Rattle.int13.specs.Answers.{badParameter, badBuffer, writeProtected, ah, al, dl, isWrite, refuse, posted}
 use Rattle.int13.specs.Steps.{Checked, unchanged, isDrive, driveOf, packetPlace, verifyOk, mostRun, packetTests, packetRead, packetPlan, carryOut, extended, seekRead, seek, sectorRun, sectors, parameters, extensions, resultGiven, resultSteps, result, check}
-use Rattle.int13.specs.Alone.{Memory, Served, finish, servedBy, alone}
+use Rattle.int13.specs.Alone.{finish, alone}
 use Rattle.isolation.specs.Exported.{CarryUnread}
 
 module _ (b : Table) (r : Registers) (w : List ℕ) where

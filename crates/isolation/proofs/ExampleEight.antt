@@ -13,18 +13,18 @@ use Rattle.layout.specs.declared.Packet.{Packet}
 use Rattle.layout.specs.declared.PacketRead.{PacketRead}
 use Rattle.layout.specs.declared.PacketRead.the-variants.{Whole}
 use Rattle.layout.specs.Packet.{packetAt, readPacket}
-use Rattle.memory.specs.Window.{guests, windowOf}
+use Rattle.memory.specs.Window.{windowOf}
 use Rattle.int13.specs.declared.Registers.{Registers}
 use Rattle.int13.specs.declared.Outcome.the-variants.{Waits}
 use Rattle.int13.specs.declared.Plan.{Plan}
 use Rattle.int13.specs.declared.Plan.the-variants.{Wait}
 use Rattle.int13.specs.Answers.{succeed}
-use Rattle.int13.specs.Steps.{Checked, unchanged, isDrive, verifyOk, packetJob, packetTests, packetRead, packetPlan, carryOut, check}
+use Rattle.int13.specs.Steps.{unchanged, isDrive, verifyOk, packetJob, packetTests, packetRead, packetPlan, carryOut, check}
 use Rattle.int13.specs.Alone.{alone}
 use Rattle.desk.specs.declared.Request.{Request}
 use Rattle.desk.specs.declared.Stage.the-variants.{Waiting, Finished}
 use Rattle.desk.specs.declared.Desk.{Desk}
-use Rattle.desk.specs.Parts.{windowSize, withStage, withPointer}
+use Rattle.desk.specs.Parts.{withStage, withPointer}
 use Rattle.desk.specs.Calls.{seek, stageAfter}
 use Rattle.isolation.specs.Lists.{post, turn, Call, Out, step, Event, run, after}
 use Rattle.isolation.specs.Words.{NoneOpens, total, Accepted, Waits as WaitsOn, Finishes, turns, services, moved, turnsFor, Unwritten, Left}

@@ -1,7 +1,7 @@
 -- Demand 3 at work: a write in two parts, with refused calls, a withdrawal, a refusal that writes another guest's packet and a late collect
 -- between. Every condition of `equal`, `handed` and `atOnce` is met.
 -- Assumes nothing.
-use Prim.Native.Nat.{ℕ, _+_, _<_}
+use Prim.Native.Nat.{ℕ}
 use mathlib.Core.Path.{_≡_, refl, sym, ap, subst, _∙_}
 use mathlib.Core.Bool.{true, false}
 use mathlib.Core.List.{List, [], _∷_, _++_}
@@ -12,34 +12,30 @@ use Rattle.chs.specs.Chs.{inLimits, isValid, blockOf}
 use Rattle.layout.specs.declared.Packet.{Packet}
 use Rattle.layout.specs.declared.PacketRead.{PacketRead}
 use Rattle.layout.specs.Packet.{packetAt}
-use Rattle.memory.specs.Window.{guests, windowOf, withWindow}
+use Rattle.memory.specs.Window.{windowOf, withWindow}
 use Rattle.memory.proofs.Windows.{length-with-window}
 use Rattle.table.specs.Table.{headerOf, headerAt, stepOf as tableStepOf, stepAt, readFrom, readTable}
 use Rattle.int13.specs.declared.Registers.{Registers}
 use Rattle.int13.specs.declared.Job.{Job}
-use Rattle.int13.specs.declared.Outcome.{Outcome}
 use Rattle.int13.specs.declared.Outcome.the-variants.{Answered, Waits}
-use Rattle.int13.specs.Answers.{writeProtected, succeed, refuse, posted as postedRegisters, withdraw as withdrawnRegisters}
-use Rattle.int13.specs.Steps.{Checked, unchanged, isDrive, verifyOk, packetTests, packetRead, packetPlan, withCount, carryOut, sectors, check}
+use Rattle.int13.specs.Answers.{writeProtected, succeed, refuse, posted as postedRegisters}
+use Rattle.int13.specs.Steps.{unchanged, isDrive, verifyOk, packetTests, packetRead, packetPlan, withCount, carryOut, sectors, check}
 use Rattle.int13.specs.Alone.{alone}
-use Rattle.desk.specs.declared.Request.{Request}
 use Rattle.desk.specs.declared.Stage.the-variants.{Vacant, Waiting, Finished}
 use Rattle.desk.specs.declared.Desk.{Desk}
 use Rattle.desk.specs.declared.OpenAnswer.the-variants.{Refused as OpenRefused}
-use Rattle.desk.specs.declared.PostAnswer.the-variants.{Answered as PostAnswered}
 use Rattle.desk.specs.declared.CollectAnswer.the-variants.{Given as CollectGiven}
-use Rattle.desk.specs.Parts.{windowSize, stageAt, withStage, withPointer}
+use Rattle.desk.specs.Parts.{withStage, withPointer}
 use Rattle.desk.specs.Calls.{openOf, seek, stageAfter}
-use Rattle.isolation.specs.Lists.{openTable, post, turn, collect, withdraw, Call, opening as opened, posted, collected, Out, step, Event, run, after}
+use Rattle.isolation.specs.Lists.{openTable, post, turn, collect, withdraw, Call, opening as opened, collected, Out, step, Event, run, after}
 use Rattle.isolation.specs.Words.{refused, hands, kindOf, NoneOpens, total, Accepted, Waits as WaitsOn, Finishes, moved, collects, Unwritten, Left}
 use Rattle.isolation.specs.Demand.{foundBy, firstBy, Same, SameAtOnce, Claim}
 use Rattle.isolation.proofs.Accept.{Inv}
-use Rattle.isolation.proofs.View.{Lent, window-length}
 use Rattle.isolation.proofs.Bound.{after-none}
 use Rattle.isolation.proofs.Equal.{request}
 use Rattle.isolation.proofs.Posts.{different}
 use Rattle.isolation.proofs.Trace.{call, lent, window-lent, collectedTo, waitsOut, answeredOut, servedTo, storeAfter, withdrawnTo, idleOut, turn24Out, post-waits, post-answered, turn-writes, turn-idle, turn-24, withdraw-sectors, collect-gives, length-store, entry, goes-on, one, none, goes, passesIn, none-opens, found, also, own-turn, other-turn}
-use Rattle.isolation.proofs.ExampleDesk.{tableBytes, arenaLength, M, storeLength, guarded, plain, table, d₀, inv₀, claimed, read-packet, windowWith, length-window-with, filled, length-filled, window-filled}
+use Rattle.isolation.proofs.ExampleDesk.{tableBytes, arenaLength, M, storeLength, guarded, table, d₀, inv₀, claimed, read-packet, windowWith, length-window-with, filled, length-filled, window-filled}
 
 -- ---- the requests
 

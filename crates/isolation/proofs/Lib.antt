@@ -11,8 +11,8 @@ pub mod Posts
 pub mod Finished
 pub mod Requests
 pub mod Theorem
-pub mod Sums
 pub mod Trace
+pub mod Sums
 pub mod Example
 pub mod Written
 pub mod Fits

@@ -1,10 +1,9 @@
 -- A call that is lent a slice of another length is 25, and may be struck from the list.
 -- Assumes nothing.
-use Prim.Native.Nat.{ℕ}
-use mathlib.Core.Path.{_≡_, refl, ap, ap₂}
+use mathlib.Core.Path.{refl, ap, ap₂}
 use mathlib.Core.List.{List, [], _∷_}
 use Rattle.isolation.specs.Blocks.{OutBlock, stepBlock, EventBlock, eventBlock, runBlock}
-use Rattle.isolation.specs.Strays.{Lends, own, other, runLent, struck, among, Strays}
+use Rattle.isolation.specs.Strays.{own, other, runLent, Strays}
 use Rattle.isolation.proofs.Blocks.{other-size}
 
 pub strays : Strays
