@@ -199,7 +199,7 @@ module _ (lo : ℕ) (d : Desk) (inv : Inv d) (c : Call) (g : ℕ) (j : Job) (n :
       stay (postedOut d c h (Waits p) (windowIn d c h)) (stage-other d h g (Waiting (request p 0)) gh) refl refl refl refl
       (windowOf (withWindow (c .arena) h (windowSize d) (windowIn d c h)) g (windowSize d)) (c .store)
       (elsewhere h (windowIn d c h) b gh l (window-length d c h b l) (i .0)) (ap length (i .1)) (same-store lo (j .count) s (c .store) (i .1)) (i .2)
-  goes o (serving h p t b l v f) i u = serve-next h p b l v i (λ y x e m n. u h (quota p) x p refl y v (e, m) n) (ℕ-discrete h g)
+  goes o (serving h p t b l v f) i u = serve-next h p b l v i (λ y x e m n. u h (quota p) x p refl y v (e, (omega (arith, m .0), omega (arith, m .1))) n) (ℕ-discrete h g)
   goes o (giving h r t b v) i u =
       let gh : g ≢ h = λ y. finished≢waiting (sym v ∙ (rw y at (mid .here))) in
       stay (collectedOut d c h r) (stage-other d h g Vacant gh) refl refl refl refl w s refl refl (λ k a z. refl) i

@@ -28,7 +28,7 @@ use Rattle.desk.specs.Parts.{withStage, withPointer}
 use Rattle.desk.specs.Calls.{seek, stageAfter}
 use Rattle.isolation.specs.Lists.{post, turn, Call, Out, step, Event, run, after}
 use Rattle.isolation.specs.Words.{NoneOpens, total, Accepted, Waits as WaitsOn, Finishes, turns, services, moved, turnsFor, Unwritten, Left}
-use Rattle.isolation.specs.Demand.{foundBy, askedBy, firstBy, Ends, Same, Claim}
+use Rattle.isolation.specs.Demand.{foundBy, askedBy, firstBy, Taken, Ends, Same, Claim}
 use Rattle.isolation.proofs.Accept.{Inv}
 use Rattle.isolation.proofs.Bound.{after-none}
 use Rattle.isolation.proofs.Equal.{request}
@@ -556,6 +556,10 @@ module _ (a s : List ℕ) where
     accepted : Accepted d₀ c₁ 2 verifies
     accepted = record { posts = refl; waits = ap (λ (o : Out). o .answer) e₁ }
 
+    taken : Taken d₀ calls
+    unfolding after
+    taken = record { before = []; call = c₁; guest = 2; registers = verifies; since = posts ++ (stretch ++ c₁₇ ∷ idle); place = refl; accepted = accepted }
+
     goes-posts : (cs : List Call) (x : Desk) → after d₉ cs ≡ x → after d₁ (posts ++ cs) ≡ x
     goes-posts cs x f =
         goes d₁ c₂ o₂ _ x e₂ (goes d₂ c₃ o₃ _ x e₃ (goes d₃ c₄ o₄ _ x e₄ (goes d₄ c₅ o₅ _ x e₅
@@ -594,13 +598,13 @@ module _ (a s : List ℕ) where
     eight = ap (λ (d : Desk). turns (run d (stretch ++ c₁₇ ∷ []))) posts-done ∙ ap turns (follow-turns (c₁₇ ∷ []) _ (last [] [] (none d₁₇)))
 
     pub within : 0 < services 2 (run (after (step d₀ c₁ .desk) posts) (stretch ++ c₁₇ ∷ []))
-    unfolding after
-    within = claim .within [] posts stretch idle c₁ c₁₇ 2 verifies refl accepted waits the-last (omega (arith, eight))
+    unfolding after taken
+    within = claim .within taken posts stretch idle c₁₇ refl waits the-last (omega (arith, eight))
 
     -- eight turns have passed before it finishes, of fewer than sixteen
     pub bounded : turns (run (step d₀ c₁ .desk) (posts ++ stretch)) < turnsFor (askedBy M c₁ 2 verifies)
-    unfolding after
-    bounded = claim .bounded [] (posts ++ stretch) (c₁₇ ∷ idle) c₁ 2 verifies refl accepted waits
+    unfolding after taken
+    bounded = claim .bounded taken (posts ++ stretch) (c₁₇ ∷ idle) refl waits
 
     eight-passed : turns (run (step d₀ c₁ .desk) (posts ++ stretch)) ≡ 8
     eight-passed = ap (λ (o : Out). turns (run (o .desk) (posts ++ stretch))) e₁ ∙ ap turns waiting
@@ -610,8 +614,8 @@ module _ (a s : List ℕ) where
     sixteen = ap (λ (o : Out). turns (run (o .desk) (posts ++ (stretch ++ c₁₇ ∷ idle)))) e₁ ∙ ap turns after-first
 
     pub finishes : Ends 2 (askedBy M c₁ 2 verifies) (turnsFor (askedBy M c₁ 2 verifies)) (step d₀ c₁ .desk) (posts ++ (stretch ++ c₁₇ ∷ idle))
-    unfolding after
-    finishes = claim .finishes [] (posts ++ (stretch ++ c₁₇ ∷ idle)) [] c₁ 2 verifies refl accepted
+    unfolding after taken
+    finishes = claim .finishes taken (posts ++ (stretch ++ c₁₇ ∷ idle)) [] refl
         (subst (λ (n : ℕ). turnsFor n ≤ turns (run (step d₀ c₁ .desk) (posts ++ (stretch ++ c₁₇ ∷ idle)))) (sym asked-is) (omega (arith, sixteen)))
 
     -- the finishing turn
@@ -649,8 +653,8 @@ module _ (a s : List ℕ) where
 
     pub example : Same M 2 (firstBy table M c₁ 2 verifies) (askedBy M c₁ 2 verifies) (step (after (step d₀ c₁ .desk) (posts ++ stretch)) c₁₇)
         (alone tableBytes verifies (foundBy M c₁ 2))
-    unfolding after
-    example = claim .equal [] (posts ++ stretch) idle c₁ c₁₇ 2 verifies refl accepted ends left unwritten
+    unfolding after taken
+    example = claim .equal taken (posts ++ stretch) idle c₁₇ refl ends left unwritten
 
 -- ---- such an arena, and a store: zeros but for the packets, and sevens
 

@@ -29,7 +29,7 @@ use Rattle.desk.specs.Parts.{withStage, withPointer}
 use Rattle.desk.specs.Calls.{openOf, seek, stageAfter}
 use Rattle.isolation.specs.Lists.{openTable, post, turn, collect, withdraw, Call, opening as opened, collected, Out, step, Event, run, after}
 use Rattle.isolation.specs.Words.{refused, hands, kindOf, NoneOpens, total, Accepted, Waits as WaitsOn, Finishes, moved, collects, Unwritten, Left}
-use Rattle.isolation.specs.Demand.{foundBy, firstBy, Same, SameAtOnce, Claim}
+use Rattle.isolation.specs.Demand.{foundBy, firstBy, Taken, Same, SameAtOnce, Claim}
 use Rattle.isolation.proofs.Accept.{Inv}
 use Rattle.isolation.proofs.Bound.{after-none}
 use Rattle.isolation.proofs.Equal.{request}
@@ -329,6 +329,10 @@ module _ (a s : List ℕ) where
     accepted : Accepted d₀ c₁ 2 saved
     accepted = record { posts = refl; waits = ap (λ (o : Out). o .answer) e₁ }
 
+    taken : Taken d₀ calls
+    unfolding after
+    taken = record { before = []; call = c₁; guest = 2; registers = saved; since = between ++ c₁₀ ∷ c₁₁ ∷ c₁₂ ∷ c₁₃ ∷ []; place = refl; accepted = accepted }
+
     finishes : Finishes 2 17 (step d₀ c₁ .desk) between c₁₀
     finishes = subst (λ (o : Out). Finishes 2 17 (o .desk) between c₁₀) (sym e₁)
         (record { waited = subst (WaitsOn 2 17) (sym before) (refl, omega arith); reached = ap (moved 2) upto })
@@ -355,8 +359,8 @@ module _ (a s : List ℕ) where
 
     -- after its last part, guest 2's registers, window and store blocks 56 to 72 are those of its write served alone
     pub example : Same M 2 (firstBy table M c₁ 2 saved) 17 (step (after (step d₀ c₁ .desk) between) c₁₀) (alone tableBytes saved (foundBy M c₁ 2))
-    unfolding after
-    example = claim .equal [] between (c₁₁ ∷ c₁₂ ∷ c₁₃ ∷ []) c₁ c₁₀ 2 saved refl accepted finishes left unwritten
+    unfolding after taken
+    example = claim .equal taken between (c₁₁ ∷ c₁₂ ∷ c₁₃ ∷ []) c₁₀ refl finishes left unwritten
 
     at-end : after (step d₀ c₁ .desk) (between ++ c₁₀ ∷ []) ≡ d₁₀
     at-end = ap (λ (o : Out). after (o .desk) (between ++ c₁₀ ∷ [])) e₁ ∙ goes-to (c₁₀ ∷ []) d₁₀ (goes d₉ c₁₀ o₁₀ [] d₁₀ e₁₀ (after-none d₁₀))
@@ -376,8 +380,8 @@ module _ (a s : List ℕ) where
 
     pub handed : step (after (step d₀ c₁ .desk) (between ++ c₁₀ ∷ c₁₁ ∷ c₁₂ ∷ [])) c₁₃ .answer
         ≡ collected 2 (CollectGiven (alone tableBytes saved (foundBy M c₁ 2) .registers))
-    unfolding after
-    handed = claim .handed [] between (c₁₁ ∷ c₁₂ ∷ []) [] c₁ c₁₀ c₁₃ 2 saved refl accepted finishes no-collect refl
+    unfolding after taken
+    handed = claim .handed taken between (c₁₁ ∷ c₁₂ ∷ []) [] c₁₀ c₁₃ refl finishes no-collect refl
         (λ x. let z : hands 2 (succeed (postedRegisters saved)) ≡ refused = sym (ap (λ (o : Out). kindOf (o .answer)) given) ∙ x in different cc)
 
     -- guest 6 was refused at once as served alone is, the packet's count word included

@@ -94,92 +94,70 @@ total f (e ∷ es) = f (kindIn e) + total f es
 abbrev pub ifSame : ℕ → ℕ → ℕ → ℕ
 ifSame h g k = pick (eqb h g) k 0
 
--- turns not refused
-abbrev pub turnIn : Kind → ℕ
-turnIn refused = 0
-turnIn plain = 0
-turnIn opens = 0
-turnIn (answers h) = 0
-turnIn (accepts h) = 0
-turnIn (serves h k) = 1
-turnIn idles = 1
-turnIn (hands h r) = 0
-turnIn (withdraws h) = 0
+-- what one answer counts for: a turn not refused; a post, turn or withdrawal without a house number; and of one guest a service, the blocks
+-- moved, a withdrawal and a collect
+pub record Marks : Type 0 where
+  pub turn : ℕ
+  pub touch : ℕ
+  pub service : ℕ
+  pub moved : ℕ
+  pub withdrawal : ℕ
+  pub collect : ℕ
 
+abbrev pub line : ℕ → ℕ → ℕ → ℕ → ℕ → ℕ → Marks
+line turn touch service moved withdrawal collect =
+    record { turn = turn; touch = touch; service = service; moved = moved; withdrawal = withdrawal; collect = collect }
+
+-- a line for each kind of answer, in that order, for guest g. "A turn serves it by answering that guest", whatever the number
+abbrev pub marks : ℕ → Kind → Marks
+marks g refused = line 0 0 0 0 0 0
+marks g plain = line 0 0 0 0 0 0
+marks g opens = line 0 0 0 0 0 0
+marks g (answers h) = line 0 1 0 0 0 0
+marks g (accepts h) = line 0 1 0 0 0 0
+marks g (serves h k) = line 1 1 (ifSame h g 1) (ifSame h g k) 0 0
+marks g idles = line 1 1 0 0 0 0
+marks g (hands h r) = line 0 0 0 0 0 (ifSame h g 1)
+marks g (withdraws h) = line 0 1 0 0 (ifSame h g 1) 0
+
+-- those that are of no guest: 8 is none
+abbrev pub turnIn : Kind → ℕ
+turnIn k = marks guests k .turn
+
+abbrev pub touchIn : Kind → ℕ
+touchIn k = marks guests k .touch
+
+abbrev pub serviceIn : ℕ → Kind → ℕ
+serviceIn g k = marks g k .service
+
+abbrev pub movedIn : ℕ → Kind → ℕ
+movedIn g k = marks g k .moved
+
+abbrev pub withdrawalIn : ℕ → Kind → ℕ
+withdrawalIn g k = marks g k .withdrawal
+
+abbrev pub collectIn : ℕ → Kind → ℕ
+collectIn g k = marks g k .collect
+
+-- turns not refused
 abbrev pub turns : List Event → ℕ
 turns = total turnIn
 
--- "A turn serves it by answering that guest", whatever the number
-abbrev pub serviceIn : ℕ → Kind → ℕ
-serviceIn g refused = 0
-serviceIn g plain = 0
-serviceIn g opens = 0
-serviceIn g (answers h) = 0
-serviceIn g (accepts h) = 0
-serviceIn g (serves h k) = ifSame h g 1
-serviceIn g idles = 0
-serviceIn g (hands h r) = 0
-serviceIn g (withdraws h) = 0
-
+-- turns that serve a guest
 abbrev pub services : ℕ → List Event → ℕ
 services g = total (serviceIn g)
 
 -- "the numbers so answered"
-abbrev pub movedIn : ℕ → Kind → ℕ
-movedIn g refused = 0
-movedIn g plain = 0
-movedIn g opens = 0
-movedIn g (answers h) = 0
-movedIn g (accepts h) = 0
-movedIn g (serves h k) = ifSame h g k
-movedIn g idles = 0
-movedIn g (hands h r) = 0
-movedIn g (withdraws h) = 0
-
 abbrev pub moved : ℕ → List Event → ℕ
 moved g = total (movedIn g)
 
 -- withdrawals of a guest not refused
-abbrev pub withdrawalIn : ℕ → Kind → ℕ
-withdrawalIn g refused = 0
-withdrawalIn g plain = 0
-withdrawalIn g opens = 0
-withdrawalIn g (answers h) = 0
-withdrawalIn g (accepts h) = 0
-withdrawalIn g (serves h k) = 0
-withdrawalIn g idles = 0
-withdrawalIn g (hands h r) = 0
-withdrawalIn g (withdraws h) = ifSame h g 1
-
 abbrev pub withdrawals : ℕ → List Event → ℕ
 withdrawals g = total (withdrawalIn g)
 
 -- collects of a guest not refused
-abbrev pub collectIn : ℕ → Kind → ℕ
-collectIn g refused = 0
-collectIn g plain = 0
-collectIn g opens = 0
-collectIn g (answers h) = 0
-collectIn g (accepts h) = 0
-collectIn g (serves h k) = 0
-collectIn g idles = 0
-collectIn g (hands h r) = ifSame h g 1
-collectIn g (withdraws h) = 0
-
 abbrev pub collects : ℕ → List Event → ℕ
 collects g = total (collectIn g)
-
--- posts, turns and withdrawals without a house number
-abbrev pub touchIn : Kind → ℕ
-touchIn refused = 0
-touchIn plain = 0
-touchIn opens = 0
-touchIn (answers h) = 1
-touchIn (accepts h) = 1
-touchIn (serves h k) = 1
-touchIn idles = 1
-touchIn (hands h r) = 0
-touchIn (withdraws h) = 1
 
 -- ---- a request, by the calls since its acceptance
 
@@ -202,9 +180,13 @@ pub record Withdraws (g n : ℕ) (d : Desk) (front : List Call) (t : Call) : Typ
   pub waited : Waits g n (run d front)
   pub gone : kindOf (step (after d front) t .answer) ≡ withdraws g
 
+-- "any eight successive turns", and the eight for each part
+abbrev pub turnsEach : ℕ
+turnsEach = 8
+
 -- 8 x ceil(n / 16)
 abbrev pub turnsFor : ℕ → ℕ
-turnsFor n = guests * ((n + 15) / partLength)
+turnsFor n = turnsEach * ((n + 15) / partLength)
 
 -- ---- the blocks, the arena and the store
 
