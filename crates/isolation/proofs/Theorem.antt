@@ -89,7 +89,7 @@ module _ (t : List ℕ) (arena store : ℕ) (calls : List Call) (passed : openOf
             (opens-upto (mid ++ stretch) rest last d₁
             (subst (λ (l : List Call). NoneOpens (run d₁ l)) (sym (append-assoc mid stretch (last ∷ rest))) (a .later))) in
             within′ (after d₀ (q .before)) (a .inv) (q .call) (q .guest) (q .registers) (q .accepted) (a .here) mid stretch last o
-            (subst (λ (k : ℕ). Waits (q .guest) k (run d₁ (mid ++ stretch))) (sym (counts q _ a)) w) one eight;
+            (subst (λ (k : ℕ). Waits (q .guest) k (run d₁ (mid ++ stretch))) (sym (counts q _ a)) w) one (omega (arith, eight));
         bounded = λ q mid rest e w.
             let d₁ : Desk = outOn q .desk in
             let a = placed q (mid ++ rest) e in
