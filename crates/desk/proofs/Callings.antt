@@ -19,7 +19,7 @@ use Rattle.table.specs.Table.{writeAnswer, writeOut}
 use Rattle.int13.specs.declared.Registers.{Registers}
 use Rattle.int13.specs.declared.Outcome.{Outcome}
 use Rattle.int13.specs.declared.Outcome.the-variants.{Answered, Waits as OutcomeWaits}
-use Rattle.int13.specs.Steps.{Checked, isDrive, driveAt, check}
+use Rattle.int13.specs.Steps.{Checked, isDrive, driveAt, fed, begin}
 use Rattle.int13.specs.Alone.{Memory, storeBlock, moves}
 use Rattle.desk.proofs.Stage as stage
 use Rattle.desk.specs.declared.Request.{Request}
@@ -169,12 +169,12 @@ module _ (d : Desk) (good : accept d ≡ true) where
       post-other g r h k = post-stage (stageAt d g) d g r arena store k ∙ post-row g r h
 
       pub post-vacant : {desk : Desk} {answer : PostAnswer} {outcome : Outcome} {w : List ℕ} (g : ℕ) (r : Registers) → g < 8 → stageAt d g ≡ Vacant
-          → outcome ≡ check (d .table) r (windowOf arena g (windowLength (length arena))) .outcome → w ≡ check (d .table) r (windowOf arena g (windowLength (length arena))) .window
+          → outcome ≡ begin (fed (d .table)) r (windowOf arena g (windowLength (length arena))) .outcome → w ≡ begin (fed (d .table)) r (windowOf arena g (windowLength (length arena))) .window
           → desk ≡ postChecked d g [] [] outcome [] .desk → answer ≡ postChecked d g [] [] outcome [] .answer
           → done desk answer (withWindow arena g (windowLength (length arena)) w) store ≡ postOf d g r arena store
       post-vacant g r h v eo ew e₁ e₂ =
           let m : windowLength (length arena) ≡ windowSize d = ap (λ (n : ℕ). n / 8) (lent-arena d arena store lent) in
-          let asked : ℕ → Checked = λ n. check (d .table) r (windowOf arena g n) in
+          let asked : ℕ → Checked = λ n. begin (fed (d .table)) r (windowOf arena g n) in
           rw (e₁, e₂, eo, ew)
           (ap (λ (n : ℕ). done (postChecked d g [] [] (asked n .outcome) [] .desk) (postChecked d g [] [] (asked n .outcome) [] .answer) (withWindow arena g n (asked n .window)) store) m
           ∙ post-parts d g arena store (asked (windowSize d) .outcome) (asked (windowSize d) .window)

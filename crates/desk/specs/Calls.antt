@@ -20,7 +20,7 @@ use Rattle.int13.specs.declared.Job.{Job}
 use Rattle.int13.specs.declared.Outcome.{Outcome}
 use Rattle.int13.specs.declared.Outcome.the-variants.{Answered, Waits}
 use Rattle.int13.specs.Answers.{ah, isSectors, succeed, withdraw}
-use Rattle.int13.specs.Steps.{Checked, withCount, check}
+use Rattle.int13.specs.Steps.{Checked, withCount, fed, begin}
 use Rattle.int13.specs.Alone.{Memory, storeBlock, moves}
 use Rattle.desk.specs.declared.Request.{Request}
 use Rattle.desk.specs.declared.Stage.{Stage}
@@ -121,7 +121,7 @@ postChecked d g arena store (Waits j) w =
 
 abbrev pub postVacant : Desk → ℕ → Registers → List ℕ → List ℕ → Done PostAnswer
 postVacant d g r arena store =
-    postChecked d g arena store (check (d .table) r (windowOf arena g (windowSize d)) .outcome) (check (d .table) r (windowOf arena g (windowSize d)) .window)
+    postChecked d g arena store (begin (fed (d .table)) r (windowOf arena g (windowSize d)) .outcome) (begin (fed (d .table)) r (windowOf arena g (windowSize d)) .window)
 
 abbrev pub postRow : Desk → ℕ → Registers → List ℕ → List ℕ → Stage → Done PostAnswer
 postRow d g r arena store Vacant = postVacant d g r arena store

@@ -498,7 +498,7 @@ impl Desk {
         let start = span.start;
         let end = span.end;
         let b = self.table;
-        let outcome = int13::check(b, registers, &mut arena[start..end]);
+        let outcome = int13::begin(b, registers, &mut arena[start..end]);
         self.posted(guest, outcome)
     }
 

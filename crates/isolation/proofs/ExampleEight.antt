@@ -19,7 +19,7 @@ use Rattle.int13.specs.declared.Outcome.the-variants.{Waits}
 use Rattle.int13.specs.declared.Plan.{Plan}
 use Rattle.int13.specs.declared.Plan.the-variants.{Wait}
 use Rattle.int13.specs.Answers.{succeed}
-use Rattle.int13.specs.Steps.{unchanged, isDrive, verifyOk, packetJob, packetTests, packetRead, packetPlan, carryOut, check}
+use Rattle.int13.specs.Steps.{unchanged, isDrive, verifyOk, packetJob, packetTests, packetRead, packetPlan, carryOut, fed, steps, begin}
 use Rattle.int13.specs.Alone.{alone}
 use Rattle.desk.specs.declared.Request.{Request}
 use Rattle.desk.specs.declared.Stage.the-variants.{Waiting, Finished}
@@ -74,44 +74,44 @@ abbrev p₁ : Packet
 p₁ = record { size = 16; count = 11; buffer = 271; start = 50 }
 
 by-packet : (r : Registers) (p : Packet) (w : List ℕ) → length w ≡ M → packetAt w 24 ≡ p
-    → check table r w ≡ carryOut (packetRead plain r (length w) (readPacket w 24)) r w → packetRead plain r M (Whole p) ≡ Wait (packetJob r p)
-    → check table r w ≡ unchanged w (Waits (packetJob r p))
+    → begin (fed table) r w ≡ carryOut (packetRead plain r (length w) (readPacket w 24)) r w → packetRead plain r M (Whole p) ≡ Wait (packetJob r p)
+    → begin (fed table) r w ≡ unchanged w (Waits (packetJob r p))
 by-packet r p w l e f g =
     f
     ∙ ap (λ (x : PacketRead). carryOut (packetRead plain r (length w) x) r w) (read-packet w p l e)
     ∙ ap (λ (n : ℕ). carryOut (packetRead plain r n (Whole p)) r w) l
     ∙ ap (λ (x : Plan). carryOut x r w) g
 
-check₂ : (w : List ℕ) → length w ≡ M → packetAt w 24 ≡ p₂ → check table verifies w ≡ unchanged w (Waits (packetJob verifies p₂))
-unfolding check packetPlan verifyOk isDrive packetTests
+check₂ : (w : List ℕ) → length w ≡ M → packetAt w 24 ≡ p₂ → begin (fed table) verifies w ≡ unchanged w (Waits (packetJob verifies p₂))
+unfolding begin steps packetPlan verifyOk isDrive packetTests
 check₂ w l e = by-packet verifies p₂ w l e refl refl
 
-check₃ : (w : List ℕ) → length w ≡ M → packetAt w 24 ≡ p₃ → check table reads w ≡ unchanged w (Waits (packetJob reads p₃))
-unfolding check packetPlan verifyOk isDrive packetTests
+check₃ : (w : List ℕ) → length w ≡ M → packetAt w 24 ≡ p₃ → begin (fed table) reads w ≡ unchanged w (Waits (packetJob reads p₃))
+unfolding begin steps packetPlan verifyOk isDrive packetTests
 check₃ w l e = by-packet reads p₃ w l e refl refl
 
-check₄ : (w : List ℕ) → length w ≡ M → packetAt w 24 ≡ p₄ → check table reads w ≡ unchanged w (Waits (packetJob reads p₄))
-unfolding check packetPlan verifyOk isDrive packetTests
+check₄ : (w : List ℕ) → length w ≡ M → packetAt w 24 ≡ p₄ → begin (fed table) reads w ≡ unchanged w (Waits (packetJob reads p₄))
+unfolding begin steps packetPlan verifyOk isDrive packetTests
 check₄ w l e = by-packet reads p₄ w l e refl refl
 
-check₅ : (w : List ℕ) → length w ≡ M → packetAt w 24 ≡ p₅ → check table writes w ≡ unchanged w (Waits (packetJob writes p₅))
-unfolding check packetPlan verifyOk isDrive packetTests
+check₅ : (w : List ℕ) → length w ≡ M → packetAt w 24 ≡ p₅ → begin (fed table) writes w ≡ unchanged w (Waits (packetJob writes p₅))
+unfolding begin steps packetPlan verifyOk isDrive packetTests
 check₅ w l e = by-packet writes p₅ w l e refl refl
 
-check₆ : (w : List ℕ) → length w ≡ M → packetAt w 24 ≡ p₆ → check table reads w ≡ unchanged w (Waits (packetJob reads p₆))
-unfolding check packetPlan verifyOk isDrive packetTests
+check₆ : (w : List ℕ) → length w ≡ M → packetAt w 24 ≡ p₆ → begin (fed table) reads w ≡ unchanged w (Waits (packetJob reads p₆))
+unfolding begin steps packetPlan verifyOk isDrive packetTests
 check₆ w l e = by-packet reads p₆ w l e refl refl
 
-check₇ : (w : List ℕ) → length w ≡ M → packetAt w 24 ≡ p₇ → check table reads w ≡ unchanged w (Waits (packetJob reads p₇))
-unfolding check packetPlan verifyOk isDrive packetTests
+check₇ : (w : List ℕ) → length w ≡ M → packetAt w 24 ≡ p₇ → begin (fed table) reads w ≡ unchanged w (Waits (packetJob reads p₇))
+unfolding begin steps packetPlan verifyOk isDrive packetTests
 check₇ w l e = by-packet reads p₇ w l e refl refl
 
-check₀ : (w : List ℕ) → length w ≡ M → packetAt w 24 ≡ p₀ → check table writes w ≡ unchanged w (Waits (packetJob writes p₀))
-unfolding check packetPlan verifyOk isDrive packetTests
+check₀ : (w : List ℕ) → length w ≡ M → packetAt w 24 ≡ p₀ → begin (fed table) writes w ≡ unchanged w (Waits (packetJob writes p₀))
+unfolding begin steps packetPlan verifyOk isDrive packetTests
 check₀ w l e = by-packet writes p₀ w l e refl refl
 
-check₁ : (w : List ℕ) → length w ≡ M → packetAt w 24 ≡ p₁ → check table reads w ≡ unchanged w (Waits (packetJob reads p₁))
-unfolding check packetPlan verifyOk isDrive packetTests
+check₁ : (w : List ℕ) → length w ≡ M → packetAt w 24 ≡ p₁ → begin (fed table) reads w ≡ unchanged w (Waits (packetJob reads p₁))
+unfolding begin steps packetPlan verifyOk isDrive packetTests
 check₁ w l e = by-packet reads p₁ w l e refl refl
 
 -- ---- the requests as the rows hold them, and the desks
@@ -652,7 +652,7 @@ module _ (a s : List ℕ) where
         (also (own-turn 2 29 17 1 d₁₆) tt))))))))))))))))))
 
     pub example : Same M 2 (firstBy table M c₁ 2 verifies) (askedBy M c₁ 2 verifies) (step (after (step d₀ c₁ .desk) (posts ++ stretch)) c₁₇)
-        (alone tableBytes verifies (foundBy M c₁ 2))
+        (alone (fed tableBytes) verifies (foundBy M c₁ 2))
     unfolding after taken
     example = claim .equal taken (posts ++ stretch) idle c₁₇ refl ends left unwritten
 
@@ -695,7 +695,7 @@ long-store = length-replicate {A = ℕ} storeLength 7
 
 pub example-bytes : Same M 2 (firstBy table M (c₁ someArena someStore) 2 verifies) (askedBy M (c₁ someArena someStore) 2 verifies)
     (step (after (step d₀ (c₁ someArena someStore) .desk) (posts someArena someStore ++ stretch someArena someStore)) (c₁₇ someArena someStore))
-    (alone tableBytes verifies (foundBy M (c₁ someArena someStore) 2))
+    (alone (fed tableBytes) verifies (foundBy M (c₁ someArena someStore) 2))
 unfolding packetAt le
 example-bytes =
     example someArena someStore long-arena long-store

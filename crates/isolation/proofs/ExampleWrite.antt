@@ -19,7 +19,7 @@ use Rattle.int13.specs.declared.Registers.{Registers}
 use Rattle.int13.specs.declared.Job.{Job}
 use Rattle.int13.specs.declared.Outcome.the-variants.{Answered, Waits}
 use Rattle.int13.specs.Answers.{writeProtected, succeed, refuse, posted as postedRegisters}
-use Rattle.int13.specs.Steps.{unchanged, isDrive, verifyOk, packetTests, packetRead, packetPlan, withCount, carryOut, sectors, check}
+use Rattle.int13.specs.Steps.{unchanged, isDrive, verifyOk, packetTests, packetRead, packetPlan, withCount, carryOut, sectors, fed, steps, begin}
 use Rattle.int13.specs.Alone.{alone}
 use Rattle.desk.specs.declared.Stage.the-variants.{Vacant, Waiting, Finished}
 use Rattle.desk.specs.declared.Desk.{Desk}
@@ -60,21 +60,21 @@ spoiled = record { ax = 0x4301; bx = 0x5555; cx = 0x6666; dx = 0x0080; ds = 1; s
 abbrev pub packet : Packet
 packet = record { size = 16; count = 3; buffer = 101; start = 4 }
 
-by-sectors : (r : Registers) (j : Job) (w : List ℕ) → length w ≡ M → sectors table r M ≡ Waits j → check table r w ≡ unchanged w (sectors table r (length w))
-    → check table r w ≡ unchanged w (Waits j)
-by-sectors r j w l e f = f ∙ ap (λ (n : ℕ). unchanged w (sectors table r n)) l ∙ ap (unchanged w) e
+by-sectors : (r : Registers) (j : Job) (w : List ℕ) → length w ≡ M → sectors true plain r M ≡ Waits j
+    → begin (fed table) r w ≡ unchanged w (sectors true plain r (length w)) → begin (fed table) r w ≡ unchanged w (Waits j)
+by-sectors r j w l e f = f ∙ ap (λ (n : ℕ). unchanged w (sectors true plain r n)) l ∙ ap (unchanged w) e
 
-check-save : (w : List ℕ) → length w ≡ M → check table saved w ≡ unchanged w (Waits saveJob)
-unfolding check sectors isDrive blockOf inLimits isValid
+check-save : (w : List ℕ) → length w ≡ M → begin (fed table) saved w ≡ unchanged w (Waits saveJob)
+unfolding begin steps sectors isDrive blockOf inLimits isValid
 check-save w l = by-sectors saved saveJob w l refl refl
 
-check-write : (w : List ℕ) → length w ≡ M → check table wrote w ≡ unchanged w (Waits writeJob)
-unfolding check sectors isDrive blockOf inLimits isValid
+check-write : (w : List ℕ) → length w ≡ M → begin (fed table) wrote w ≡ unchanged w (Waits writeJob)
+unfolding begin steps sectors isDrive blockOf inLimits isValid
 check-write w l = by-sectors wrote writeJob w l refl refl
 
 check-spoiled : (w : List ℕ) → length w ≡ M → packetAt w 24 ≡ packet
-    → check table spoiled w ≡ record { outcome = Answered (refuse writeProtected spoiled); window = withCount w 24 0 }
-unfolding check packetPlan verifyOk isDrive packetTests
+    → begin (fed table) spoiled w ≡ record { outcome = Answered (refuse writeProtected spoiled); window = withCount w 24 0 }
+unfolding begin steps packetPlan verifyOk isDrive packetTests
 check-spoiled w l e = ap (λ (x : PacketRead). carryOut (packetRead guarded spoiled (length w) x) spoiled w) (read-packet w packet l e)
 
 -- ---- the desks
@@ -358,7 +358,7 @@ module _ (a s : List ℕ) where
         (also (own-turn 2 56 17 1 d₉) tt)))))))))))
 
     -- after its last part, guest 2's registers, window and store blocks 56 to 72 are those of its write served alone
-    pub example : Same M 2 (firstBy table M c₁ 2 saved) 17 (step (after (step d₀ c₁ .desk) between) c₁₀) (alone tableBytes saved (foundBy M c₁ 2))
+    pub example : Same M 2 (firstBy table M c₁ 2 saved) 17 (step (after (step d₀ c₁ .desk) between) c₁₀) (alone (fed tableBytes) saved (foundBy M c₁ 2))
     unfolding after taken
     example = claim .equal taken between (c₁₁ ∷ c₁₂ ∷ c₁₃ ∷ []) c₁₀ refl finishes left unwritten
 
@@ -379,7 +379,7 @@ module _ (a s : List ℕ) where
     given = ap (λ (d : Desk). step d c₁₃) at-collect ∙ e₁₃
 
     pub handed : step (after (step d₀ c₁ .desk) (between ++ c₁₀ ∷ c₁₁ ∷ c₁₂ ∷ [])) c₁₃ .answer
-        ≡ collected 2 (CollectGiven (alone tableBytes saved (foundBy M c₁ 2) .registers))
+        ≡ collected 2 (CollectGiven (alone (fed tableBytes) saved (foundBy M c₁ 2) .registers))
     unfolding after taken
     handed = claim .handed taken between (c₁₁ ∷ c₁₂ ∷ []) [] c₁₀ c₁₃ refl finishes no-collect refl
         (λ x. let z : hands 2 (succeed (postedRegisters saved)) ≡ refused = sym (ap (λ (o : Out). kindOf (o .answer)) given) ∙ x in different cc)
@@ -391,8 +391,8 @@ module _ (a s : List ℕ) where
     refused-then : step (after d₀ (c₁ ∷ c₂ ∷ c₃ ∷ c₄ ∷ c₅ ∷ c₆ ∷ [])) c₇ ≡ o₇
     refused-then = ap (λ (d : Desk). step d c₇) there ∙ e₇
 
-    pub at-once : SameAtOnce M 6 o₇ (refuse writeProtected spoiled) (alone tableBytes spoiled (foundBy M c₇ 6))
-    at-once = subst (λ (o : Out). SameAtOnce M 6 o (refuse writeProtected spoiled) (alone tableBytes spoiled (foundBy M c₇ 6))) refused-then
+    pub at-once : SameAtOnce M 6 o₇ (refuse writeProtected spoiled) (alone (fed tableBytes) spoiled (foundBy M c₇ 6))
+    at-once = subst (λ (o : Out). SameAtOnce M 6 o (refuse writeProtected spoiled) (alone (fed tableBytes) spoiled (foundBy M c₇ 6))) refused-then
         (claim .atOnce (c₁ ∷ c₂ ∷ c₃ ∷ c₄ ∷ c₅ ∷ c₆ ∷ []) (c₈ ∷ c₉ ∷ c₁₀ ∷ c₁₁ ∷ c₁₂ ∷ c₁₃ ∷ []) c₇ 6 spoiled (refuse writeProtected spoiled) refl refl
         (ap (λ (o : Out). o .answer) refused-then))
 
@@ -428,5 +428,5 @@ long-store = length-replicate {A = ℕ} storeLength 7
 
 pub example-bytes : Same M 2 (firstBy table M (c₁ someArena someStore) 2 saved) 17
     (step (after (step d₀ (c₁ someArena someStore) .desk) (between someArena someStore)) (c₁₀ someArena someStore))
-    (alone tableBytes saved (foundBy M (c₁ someArena someStore) 2))
+    (alone (fed tableBytes) saved (foundBy M (c₁ someArena someStore) 2))
 example-bytes = example someArena someStore long-arena long-store held-there

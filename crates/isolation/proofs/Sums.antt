@@ -21,7 +21,7 @@ use Rattle.int13.specs.declared.Job.{Job}
 use Rattle.int13.specs.declared.Outcome.{Outcome}
 use Rattle.int13.specs.declared.Outcome.the-variants.{Answered, Waits}
 use Rattle.int13.specs.Answers.{ah, posted as postedRegisters}
-use Rattle.int13.specs.Steps.{Checked, unchanged, isDrive, sectors, parameters, result, check}
+use Rattle.int13.specs.Steps.{Checked, unchanged, isDrive, sectors, parameters, result, fed, steps, begin}
 use Rattle.desk.specs.declared.Stage.{Stage}
 use Rattle.desk.specs.declared.Stage.the-variants.{Vacant, Waiting, Finished}
 use Rattle.desk.specs.declared.Desk.{Desk}
@@ -64,7 +64,7 @@ geometryIn (Answered r) = ah r ∷ r .cx ∷ r .dx / 256 ∷ []
 geometryIn (Waits j) = []
 
 abbrev pub parametersOf : Table → List ℕ
-parametersOf b = geometryIn (check b (asking 0x0800) [] .outcome)
+parametersOf b = geometryIn (begin (fed b) (asking 0x0800) [] .outcome)
 
 -- P6: a table of one drive with C 1024, H 255, S 63
 abbrev pub wide : Table
@@ -88,7 +88,7 @@ table = readTable tableBytes 4294967296 .table
 
 -- 48h with a buffer at 0001:0008 that says a size
 abbrev pub resultOf : ℕ → Checked
-resultOf asked = check table (asking 0x4800) (replicate 24 0 ++ (leBytes 2 asked ++ replicate 64 0))
+resultOf asked = begin (fed table) (asking 0x4800) (replicate 24 0 ++ (leBytes 2 asked ++ replicate 64 0))
 
 abbrev pub codeIn : Outcome → ℕ
 codeIn (Answered r) = ah r
@@ -175,12 +175,12 @@ job = record { registers = postedRegisters reads; drive = 0x80; start = 0; count
 abbrev waiting : Stage
 waiting = Waiting (request job 0)
 
-sectors-reads : (n : ℕ) → n ≡ 20480 → sectors tableRead reads n ≡ Waits job
-unfolding sectors isDrive blockOf inLimits isValid
+sectors-reads : (n : ℕ) → n ≡ 20480 → sectors true drive reads n ≡ Waits job
+unfolding sectors blockOf inLimits isValid
 sectors-reads n e = rw e
 
-check-reads : (w : List ℕ) → length w ≡ 20480 → check tableRead reads w ≡ unchanged w (Waits job)
-unfolding check
+check-reads : (w : List ℕ) → length w ≡ 20480 → begin (fed tableRead) reads w ≡ unchanged w (Waits job)
+unfolding begin steps isDrive
 check-reads w e = ap (unchanged w) (sectors-reads (length w) e)
 
 -- ---- a turn's answer and the desk that it leaves are not of the arena's and the store's bytes
@@ -256,7 +256,7 @@ module _ (a s : ℕ → List ℕ) (la : (i : ℕ) → length (a i) ≡ arenaLeng
   posts : (d : Desk) (i g : ℕ) → At d → g < guests → stageAt d g ≡ Vacant → step d (posting a s i g) ≡ waitsOut d (a i) (s i) g job
   posts d i g t b v =
       post-waits d (t .inv) (a i) (s i) g reads job (lent-at d i t) b v
-      (subst (λ (x : Table). check x reads (windowOf (a i) g (windowSize d)) ≡ unchanged (windowOf (a i) g (windowSize d)) (Waits job)) (sym (t .table))
+      (subst (λ (x : Table). begin (fed x) reads (windowOf (a i) g (windowSize d)) ≡ unchanged (windowOf (a i) g (windowSize d)) (Waits job)) (sym (t .table))
       (check-reads (windowOf (a i) g (windowSize d)) (window-lent d (a i) g (la i ∙ sym (t .arena)) b ∙ ap windowLength (t .arena))))
 
   posted-at : (d : Desk) (i g : ℕ) → At d → g < guests → stageAt d g ≡ Vacant → At (withStage d g waiting)
@@ -404,7 +404,7 @@ module _ (a s : ℕ → List ℕ) (la : (i : ℕ) → length (a i) ≡ arenaLeng
       ∷ (0 ∷ 2 ∷ 16 ∷ 0 ∷ 5 ∷ 16 ∷ 0 ∷ 2 ∷ 16 ∷ 0 ∷ 5 ∷ 16 ∷ 0 ∷ 2 ∷ 8 ∷ 0 ∷ 5 ∷ 8 ∷ [])
       ∷ (0 ∷ 1 ∷ 16 ∷ 0 ∷ 2 ∷ 16 ∷ 0 ∷ 3 ∷ 16 ∷ 0 ∷ 4 ∷ 16 ∷ 0 ∷ 5 ∷ 16 ∷ 0 ∷ 6 ∷ 16 ∷ 0 ∷ 7 ∷ 16 ∷ 0 ∷ 0 ∷ 16 ∷ [])
       ∷ []
-  unfolding blockNumbers blockOf inLimits isValid le leBytes driveOf same busOk interfaceOk geometryFits fieldsOk inStore overlap headerOf headerAt overlapsAny refusal driveStep endStep stepOf stepAt readFrom readTable isDrive parameters result check resultAnswer returnedSize resultBytes wholeResult parameterBytes blockBytes interfaceBytes pathBytes sum
+  unfolding blockNumbers blockOf inLimits isValid le leBytes driveOf same busOk interfaceOk geometryFits fieldsOk inStore overlap headerOf headerAt overlapsAny refusal driveStep endStep stepOf stepAt readFrom readTable isDrive parameters result steps begin resultAnswer returnedSize resultBytes wholeResult parameterBytes blockBytes interfaceBytes pathBytes sum
   sums =
       ap₂ (λ (x y : List ℕ).
       block 0 0 1

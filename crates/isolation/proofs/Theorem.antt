@@ -9,6 +9,7 @@ use Rattle.memory.specs.Blocks.{blockLength}
 use Rattle.table.specs.declared.Table.{Table}
 use Rattle.table.specs.Table.{readTable}
 use Rattle.int13.specs.declared.Registers.{Registers}
+use Rattle.int13.specs.Steps.{fed}
 use Rattle.int13.specs.Alone.{storeBlock, alone}
 use Rattle.desk.specs.declared.Stage.the-variants.{Finished}
 use Rattle.desk.specs.declared.Desk.{Desk}
@@ -144,7 +145,7 @@ module _ (t : List ℕ) (arena store : ℕ) (calls : List Call) (passed : openOf
             (subst (λ (k : ℕ). Finishes (q .guest) k d₁ mid last) (sym (counts q _ a)) f));
         atOnce = λ pre rest c g r x e op p.
             let a = at pre rest c e in
-            subst (λ (k : ℕ). SameAtOnce k g (outAfter d₀ pre c) x (alone t r (foundBy k c g))) (a .size)
+            subst (λ (k : ℕ). SameAtOnce k g (outAfter d₀ pre c) x (alone (fed t) r (foundBy k c g))) (a .size)
             (at-once t (after d₀ pre) c g r x (outAfter d₀ pre c) (a .table) op p (view (after d₀ pre) (a .inv) c (a .here)));
         acceptable = λ pre rest e.
             inv-accept (after d₀ pre)

@@ -15,7 +15,7 @@ use Rattle.int13.specs.declared.Registers.{Registers}
 use Rattle.int13.specs.declared.Job.{Job}
 use Rattle.int13.specs.declared.Outcome.the-variants.{Answered, Waits}
 use Rattle.int13.specs.Answers.{ah, isSectors, isWrite, withdraw as withdrawnRegisters}
-use Rattle.int13.specs.Steps.{Checked, unchanged, check}
+use Rattle.int13.specs.Steps.{Checked, unchanged, fed, begin}
 use Rattle.int13.specs.Alone.{storeBlock, moves}
 use Rattle.desk.specs.declared.Request.{Request}
 use Rattle.desk.specs.declared.Stage.{Stage}
@@ -96,20 +96,20 @@ module _ (d : Desk) (a s : List ℕ) where
 
 module _ (d : Desk) (inv : Inv d) (a s : List ℕ) where
   checked : (g : ℕ) (r : Registers) → isLent d a s ≡ true → g < guests → stageAt d g ≡ Vacant → (k : Checked)
-      → check (d .table) r (windowOf a g (windowSize d)) ≡ k → step d (call (post g r) a s) ≡ outOf (posted g) (postChecked d g a s (k .outcome) (k .window))
+      → begin (fed (d .table)) r (windowOf a g (windowSize d)) ≡ k → step d (call (post g r) a s) ≡ outOf (posted g) (postChecked d g a s (k .outcome) (k .window))
   unfolding step postOf
   checked g r l b v k e =
       rw (inv-accept d inv, l, lt-ltb g guests b)
       (ap (λ (x : Stage). outOf (posted g) (postRow d g r a s x)) v ∙ ap (λ (x : Checked). outOf (posted g) (postChecked d g a s (x .outcome) (x .window))) e)
 
   pub post-waits : (g : ℕ) (r : Registers) (j : Job) → isLent d a s ≡ true → g < guests → stageAt d g ≡ Vacant
-      → check (d .table) r (windowOf a g (windowSize d)) ≡ unchanged (windowOf a g (windowSize d)) (Waits j) → step d (call (post g r) a s) ≡ waitsOut d a s g j
+      → begin (fed (d .table)) r (windowOf a g (windowSize d)) ≡ unchanged (windowOf a g (windowSize d)) (Waits j) → step d (call (post g r) a s) ≡ waitsOut d a s g j
   post-waits g r j l b v e =
       checked g r l b v (unchanged (windowOf a g (windowSize d)) (Waits j)) e
       ∙ ap (λ (x : List ℕ). record { desk = withStage d g (Waiting (request j 0)); answer = posted g PostWaits; arena = x; store = s }) (with-window-same a g (windowSize d))
 
   pub post-answered : (g : ℕ) (r x : Registers) (w : List ℕ) → isLent d a s ≡ true → g < guests → stageAt d g ≡ Vacant
-      → check (d .table) r (windowOf a g (windowSize d)) ≡ record { outcome = Answered x; window = w } → step d (call (post g r) a s) ≡ answeredOut d a s g x w
+      → begin (fed (d .table)) r (windowOf a g (windowSize d)) ≡ record { outcome = Answered x; window = w } → step d (call (post g r) a s) ≡ answeredOut d a s g x w
   post-answered g r x w l b v e = checked g r l b v (record { outcome = Answered x; window = w }) e
 
   pub turn-serves : (g : ℕ) (q : Request) → isLent d a s ≡ true → seek (d .rows) guests (d .pointer) ≡ Guest g → stageAt d g ≡ Waiting q

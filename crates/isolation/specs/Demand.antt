@@ -10,6 +10,7 @@ use Rattle.memory.specs.Blocks.{blockLength}
 use Rattle.table.specs.declared.Table.{Table}
 use Rattle.int13.specs.declared.Registers.{Registers}
 use Rattle.int13.specs.Alone.{Memory, Served, asked, namedFrom, alone}
+use Rattle.int13.specs.Steps.{fed}
 use Rattle.desk.specs.declared.Stage.the-variants.{Finished}
 use Rattle.desk.specs.declared.Desk.{Desk}
 use Rattle.desk.specs.declared.OpenAnswer.the-variants.{Opened}
@@ -68,7 +69,7 @@ module _ {d₀ : Desk} {calls : List Call} (q : Taken d₀ calls) where
   firstOf m = firstBy (d₀ .table) m (q .call) (q .guest) (q .registers)
 
   abbrev pub aloneOf : List ℕ → ℕ → Served
-  aloneOf t m = alone t (q .registers) (foundBy m (q .call) (q .guest))
+  aloneOf t m = alone (fed t) (q .registers) (foundBy m (q .call) (q .guest))
 
 -- within so many turns not refused, the request of g with n blocks, accepted just before the calls cs, finishes or is withdrawn
 pub data Ends (g n most : ℕ) (d : Desk) (cs : List Call) : Type 0 where
@@ -136,7 +137,7 @@ pub record Claim (t : List ℕ) (d₀ : Desk) (m : ℕ) (calls : List Call) : Ty
   pub atOnce : (pre rest : List Call) (c : Call) (g : ℕ) (r x : Registers) → calls ≡ pre ++ c ∷ rest
       → c .op ≡ post g r
       → outAfter d₀ pre c .answer ≡ posted g (Answered x)
-      → SameAtOnce m g (outAfter d₀ pre c) x (alone t r (foundBy m c g))
+      → SameAtOnce m g (outAfter d₀ pre c) x (alone (fed t) r (foundBy m c g))
   -- every call gets an acceptable desk and leaves one: none is answered 25
   pub acceptable : (pre rest : List Call) → calls ≡ pre ++ rest → accept (after d₀ pre) ≡ true
   pub never25 : (pre rest : List Call) (c : Call) → calls ≡ pre ++ c ∷ rest

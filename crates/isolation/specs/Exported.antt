@@ -8,6 +8,7 @@ use lib.ListN.{length}
 use Rattle.table.specs.Table.{writtenNumbers}
 use Rattle.int13.specs.declared.Registers.{Registers}
 use Rattle.int13.specs.Answers.{posted as postedRegisters}
+use Rattle.int13.specs.Steps.{fed}
 use Rattle.int13.specs.Alone.{Memory, alone}
 use Rattle.desk.specs.Calls.{notAcceptable}
 use Rattle.desk.specs.Numbers.{openNumbers, postNumbers, turnNumbers, collectNumbers, withdrawNumbers}
@@ -39,7 +40,7 @@ bufferOf (written x out) = out
 -- The exported post hands on the guest's registers with carry clear; served alone is fed them as posted. It does not look at the posted carry,
 -- so that both speak of the same request.
 abbrev pub CarryUnread : Type 0
-CarryUnread = (t : List ℕ) (r : Registers) (m : Memory) → alone t r m ≡ alone t (postedRegisters r) m
+CarryUnread = (t : List ℕ) (r : Registers) (m : Memory) → alone (fed t) r m ≡ alone (fed t) (postedRegisters r) m
 
 -- at a block, with an arena and a store
 module _ (b arena store : List ℕ) where

@@ -4,12 +4,12 @@ use lib.Dec.{eqb}
 use borrow.Author.Tests.{eq-eqb, ne-eqb}
 use Rattle.logic.specs.Logic.{either}
 use Rattle.int13.specs.Answers.{ah, isSectors}
-use Rattle.int13.specs.Steps.{check}
+use Rattle.int13.specs.Steps.{steps}
 use borrow.Author.Needs.{needs}
-use Rattle.int13.proofs.check.Statement.{statement}
-use Rattle.int13.proofs.check.Tie as tie
-use Rattle.int13.proofs.check.Reads as reads
-use Rattle.int13.proofs.check.Lts as lts
+use Rattle.int13.proofs.steps.Statement.{statement}
+use Rattle.int13.proofs.steps.Tie as tie
+use Rattle.int13.proofs.steps.Reads as reads
+use Rattle.int13.proofs.steps.Lts as lts
 use Rattle.int13.proofs.extended_42_43_44.Reads as extended-42-43-44-reads
 use Rattle.int13.proofs.extensions_41.Reads as extensions-41-reads
 use Rattle.int13.proofs.function_of.Reads as function-of-reads
@@ -51,7 +51,7 @@ sectors-02-03-requires : tie.Need-sectors-02-03-requires
 sectors-02-03-requires c κs = search needs
 
 returns : tie.Need-returns
-unfolding check
+unfolding steps
 returns c =
     let this : isSectors (ah (c .before .before .before .before .before .args .r)) ≡ true = rw (c .before .before .before .function-of .ensures) at (sym (c .before .before .is-sectors .ensures) ∙ c .before .if1 .taken) in
     (rw this (c .sectors-02-03 .ensures), rw this)
@@ -60,7 +60,7 @@ parameters-08-requires : tie.Need-parameters-08-requires
 parameters-08-requires c κs = search needs
 
 returns-2 : tie.Need-returns-2
-unfolding check
+unfolding steps
 returns-2 c =
     let this : eqb (ah (c .before .before .before .before .before .before .args .r)) 0x08 ≡ true = eq-eqb _ _ (sym (c .before .before .before .before .function-of .ensures) ∙ c .before .if2 .taken) in
     (rw (not-sectors (c .before .before), this) (c .parameters-08 .ensures), rw (not-sectors (c .before .before), this))
@@ -69,7 +69,7 @@ extensions-41-requires : tie.Need-extensions-41-requires
 extensions-41-requires c κs = search needs
 
 returns-3 : tie.Need-returns-3
-unfolding check
+unfolding steps
 returns-3 c =
     let this : eqb (ah (c .before .before .before .before .before .before .before .args .r)) 0x41 ≡ true = eq-eqb _ _ (sym (c .before .before .before .before .before .function-of .ensures) ∙ c .before .if3 .taken) in
     (rw (not-sectors (c .before .before .before), not-parameters (c .before .before), this) (c .extensions-41 .ensures), rw (not-sectors (c .before .before .before), not-parameters (c .before .before), this))
@@ -84,7 +84,7 @@ same-length : tie.Need-same-length
 same-length c = search needs
 
 returns-4 : tie.Need-returns-4
-unfolding check
+unfolding steps
 returns-4 c =
     let this : either (eqb (ah (c .before .before .before .before .before .before .before .before .before .before .before .before .args .r)) 0x42) (either (eqb (ah (c .before .before .before .before .before .before .before .before .before .before .before .before .args .r)) 0x43) (eqb (ah (c .before .before .before .before .before .before .before .before .before .before .before .before .args .r)) 0x44)) ≡ true = rw (c .before .before .before .before .before .before .before .before .before .before .function-of .ensures) at (sym (c .before .before .before .before .before .is-extended .ensures) ∙ c .before .before .before .before .if4 .taken) in
     (rw (not-sectors (c .before .before .before .before .before .before .before .before), not-parameters (c .before .before .before .before .before .before .before), not-extensions (c .before .before .before .before .before .before), this) (c .before .before .extended-42-43-44 .ensures .0), rw (not-sectors (c .before .before .before .before .before .before .before .before), not-parameters (c .before .before .before .before .before .before .before), not-extensions (c .before .before .before .before .before .before), this) (c .before .before .extended-42-43-44 .ensures .1))
@@ -96,7 +96,7 @@ same-length-2 : tie.Need-same-length-2
 same-length-2 c = search needs
 
 returns-5 : tie.Need-returns-5
-unfolding check
+unfolding steps
 returns-5 c =
     let this : eqb (ah (c .before .before .before .before .before .before .before .before .before .before .before .args .r)) 0x47 ≡ true = eq-eqb _ _ (sym (c .before .before .before .before .before .before .before .before .before .function-of .ensures) ∙ c .before .before .if5 .taken) in
     (rw (not-sectors (c .before .before .before .before .before .before .before), not-parameters (c .before .before .before .before .before .before), not-extensions (c .before .before .before .before .before), not-extended (c .before .before .before), this) (c .seek-47 .ensures), rw (not-sectors (c .before .before .before .before .before .before .before), not-parameters (c .before .before .before .before .before .before), not-extensions (c .before .before .before .before .before), not-extended (c .before .before .before), this))
@@ -108,7 +108,7 @@ same-length-3 : tie.Need-same-length-3
 same-length-3 c = search needs
 
 returns-6 : tie.Need-returns-6
-unfolding check
+unfolding steps
 returns-6 c =
     let this : eqb (ah (c .before .before .before .before .before .before .before .before .before .before .before .before .before .before .args .r)) 0x48 ≡ true = eq-eqb _ _ (sym (c .before .before .before .before .before .before .before .before .before .before .before .before .function-of .ensures) ∙ c .before .before .before .before .if6 .taken) in
     (rw (not-sectors (c .before .before .before .before .before .before .before .before .before .before), not-parameters (c .before .before .before .before .before .before .before .before .before), not-extensions (c .before .before .before .before .before .before .before .before), not-extended (c .before .before .before .before .before .before), not-seek (c .before .before .before .before .before), this) (c .before .before .result-48 .ensures .0), rw (not-sectors (c .before .before .before .before .before .before .before .before .before .before), not-parameters (c .before .before .before .before .before .before .before .before .before), not-extensions (c .before .before .before .before .before .before .before .before), not-extended (c .before .before .before .before .before .before), not-seek (c .before .before .before .before .before), this) (c .before .before .result-48 .ensures .1))
@@ -117,11 +117,11 @@ refuse-requires : tie.Need-refuse-requires
 refuse-requires c κs = search needs
 
 returns-7 : tie.Need-returns-7
-unfolding check
+unfolding steps
 returns-7 c = (rw (c .refuse .ensures, not-sectors (c .before .before .before .before .before .before .before), not-parameters (c .before .before .before .before .before .before), not-extensions (c .before .before .before .before .before), not-extended (c .before .before .before), not-seek (c .before .before), not-result (c .before)), rw (not-sectors (c .before .before .before .before .before .before .before), not-parameters (c .before .before .before .before .before .before), not-extensions (c .before .before .before .before .before), not-extended (c .before .before .before), not-seek (c .before .before), not-result (c .before)))
 
-pub check-spec : {M : Type 1} → statement M
-check-spec =
+pub steps-spec : {M : Type 1} → statement M
+steps-spec =
     tie.close
     (tie.spec
     function-of-requires
