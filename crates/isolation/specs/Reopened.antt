@@ -33,5 +33,6 @@ pub record Reopened (b : List ℕ) : Type 0 where
   pub again : (arena : ℕ) → openOf (tableOf (deskOf b .table)) arena (deskOf b .store)
       ≡ record { desk = opened (deskOf b .table) arena (deskOf b .store); answer = Opened }
 
+-- for every such block
 abbrev pub ReopenedAll : Type 0
 ReopenedAll = (b : List ℕ) → Bytes b → accepted b ≡ true → Reopened b
