@@ -19,6 +19,7 @@ pub mod Fits
 pub mod Refusals
 pub mod Blocks
 pub mod Strays
+pub mod Reopened
 pub mod ExampleBlock
 pub mod ExampleDesk
 pub mod ExampleWrite

@@ -22,7 +22,7 @@ use Rattle.desk.specs.Calls.{notAcceptable, openOf}
 use Rattle.isolation.specs.Lists.{post, turn, collect, Call, posted, collected, Out, step, Event, run, after}
 use Rattle.isolation.specs.Words.{refused, kindOf, houseNumber, NoneOpens, turns, serviceIn, services, collects, Accepted, Waits, Finishes, Withdraws, turnsEach, turnsFor, Named, Unwritten, Left}
 
--- ---- the calls of a list after those of a prefix
+-- ---- "The words of demand 3", the calls of a list after those of a prefix
 
 -- what the call c leaves, after the calls pre
 abbrev pub outAfter : Desk → List Call → Call → Out
@@ -32,7 +32,7 @@ outAfter d pre c = step (after d pre) c
 abbrev pub runAfter : Desk → List Call → List Call → List Event
 runAfter d pre cs = run (after d pre) cs
 
--- ---- one request
+-- ---- "The words of demand 3", one request
 
 -- a post's guest's window and the store, as the post found them; m is the windows' length
 abbrev pub foundBy : ℕ → Call → ℕ → Memory
@@ -61,15 +61,19 @@ module _ {d₀ : Desk} {calls : List Call} (q : Taken d₀ calls) where
   abbrev pub outOn : Out
   outOn = outAfter d₀ (q .before) (q .call)
 
-  -- its n, its first store block, and the request served alone when accepted
+  -- its n
   abbrev pub countOf : ℕ → ℕ
   countOf m = askedBy m (q .call) (q .guest) (q .registers)
 
+  -- its first store block
   abbrev pub firstOf : ℕ → ℕ
   firstOf m = firstBy (d₀ .table) m (q .call) (q .guest) (q .registers)
 
+  -- the same request served alone when accepted, fed the opening's table bytes
   abbrev pub aloneOf : List ℕ → ℕ → Served
   aloneOf t m = alone (fed t) (q .registers) (foundBy m (q .call) (q .guest))
+
+-- ---- demand 3, what it compares
 
 -- within so many turns not refused, the request of g with n blocks, accepted just before the calls cs, finishes or is withdrawn
 pub data Ends (g n most : ℕ) (d : Desk) (cs : List Call) : Type 0 where
@@ -90,8 +94,9 @@ pub record SameAtOnce (m g : ℕ) (o : Out) (x : Registers) (s : Served) : Type 
   pub window : windowOf (o .arena) g m ≡ s .memory .window
   pub store : o .store ≡ s .memory .store
 
--- ---- the claim, of the calls after an opening of the table bytes t; d₀ is the desk it gave, m the length of its windows
+-- ---- demand 3
 
+-- the claim, of the calls after an opening of the table bytes t; d₀ is the desk it gave, m the length of its windows
 pub record Claim (t : List ℕ) (d₀ : Desk) (m : ℕ) (calls : List Call) : Type 0 where
   -- "A waiting request is served in at least one of any eight successive turns not refused while it waits": in a stretch of calls that
   -- holds eight, the last call one of them, before which it waits

@@ -17,6 +17,8 @@ use Rattle.exports.specs.Exports.{effect, over, openCall, writeCall, given, cha
 use Rattle.isolation.specs.Lists.{Op, openTable, post, turn, collect, withdraw, write, Call, Answer, opening, posted, turned, collected, withdrawn, written}
 use Rattle.isolation.specs.Blocks.{OutBlock, stepBlock}
 
+-- ---- "Calls the host makes", the calls for C
+
 -- the number and the values of an answer
 abbrev pub numbersOf : Answer → List ℕ
 numbersOf (opening x) = openNumbers x
@@ -44,9 +46,11 @@ CarryUnread = (t : List ℕ) (r : Registers) (m : Memory) → alone (fed t) r m 
 
 -- at a block, with an arena and a store
 module _ (b arena store : List ℕ) where
+  -- what a call of the list leaves there
   abbrev pub does : Op → OutBlock
   does o = stepBlock b (record { op = o; arena = arena; store = store })
 
+  -- each call for C, by its contract, gives the numbers of that answer and leaves that block, arena and store
   pub record Exported : Type 0 where
     pub openAt : (t : List ℕ) (a s place : ℕ) → length b ≡ blockSize
         → openCall b t a s place ≡ effect (over (numbersOf (does (openTable t a s) .answer)) (0 ∷ place ∷ [])) (does (openTable t a s) .block ∷ [])

@@ -3,5 +3,6 @@ pub mod Words
 pub mod Demand
 pub mod Blocks
 pub mod Strays
+pub mod Reopened
 pub mod Exported
 pub mod Single

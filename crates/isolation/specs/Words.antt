@@ -24,8 +24,9 @@ use Rattle.desk.specs.Parts.{stageAt}
 use Rattle.desk.specs.Acceptable.{part as partLength}
 use Rattle.isolation.specs.Lists.{post, Call, Answer, opening, posted, turned, collected, withdrawn, written, step, Event, run, after}
 
--- ---- the answers, in the words of the demand; each later word is a clause for each of these
+-- ---- "The words of demand 3", the answers; each later word is a clause for each of these
 
+-- what an answer says of its call
 pub data Kind : Type 0 where
   -- a house number, or a table's number
   refused : Kind
@@ -44,6 +45,7 @@ pub data Kind : Type 0 where
   -- a withdrawal of a guest
   withdraws : ℕ → Kind
 
+-- a house number or a table's number is a refusal; the others by what was asked
 abbrev pub kindOf : Answer → Kind
 kindOf (opening Opened) = opens
 kindOf (opening (OpenRefused n place)) = refused
@@ -60,6 +62,7 @@ kindOf (withdrawn g (WithdrawRefused n)) = refused
 kindOf (written (Bytes n) out) = plain
 kindOf (written (WriteRefused n) out) = refused
 
+-- of one call of the list
 abbrev pub kindIn : Event → Kind
 kindIn e = kindOf (e .out .answer)
 
@@ -84,8 +87,9 @@ abbrev pub NoneOpens : List Event → Type 0
 NoneOpens [] = Unit
 NoneOpens (e ∷ es) = (kindIn e ≡ opens → ⊥) × NoneOpens es
 
--- ---- numbers over a list of calls
+-- ---- "The words of demand 3", numbers over a list of calls
 
+-- the sum over the list of what each answer counts for
 abbrev pub total : (Kind → ℕ) → List Event → ℕ
 total f [] = 0
 total f (e ∷ es) = f (kindIn e) + total f es
@@ -104,6 +108,7 @@ pub record Marks : Type 0 where
   pub withdrawal : ℕ
   pub collect : ℕ
 
+-- such a line
 abbrev pub line : ℕ → ℕ → ℕ → ℕ → ℕ → ℕ → Marks
 line turn touch service moved withdrawal collect =
     record { turn = turn; touch = touch; service = service; moved = moved; withdrawal = withdrawal; collect = collect }
@@ -120,30 +125,35 @@ marks g idles = line 1 1 0 0 0 0
 marks g (hands h r) = line 0 0 0 0 0 (ifSame h g 1)
 marks g (withdraws h) = line 0 1 0 0 (ifSame h g 1) 0
 
--- those that are of no guest: 8 is none
+-- turns not refused, of whatever guest: 8 is none
 abbrev pub turnIn : Kind → ℕ
 turnIn k = marks guests k .turn
 
+-- posts, turns and withdrawals without a house number
 abbrev pub touchIn : Kind → ℕ
 touchIn k = marks guests k .touch
 
+-- turns that serve g
 abbrev pub serviceIn : ℕ → Kind → ℕ
 serviceIn g k = marks g k .service
 
+-- the number that a turn answers for g
 abbrev pub movedIn : ℕ → Kind → ℕ
 movedIn g k = marks g k .moved
 
+-- withdrawals of g not refused
 abbrev pub withdrawalIn : ℕ → Kind → ℕ
 withdrawalIn g k = marks g k .withdrawal
 
+-- collects of g not refused
 abbrev pub collectIn : ℕ → Kind → ℕ
 collectIn g k = marks g k .collect
 
--- turns not refused
+-- how many turns of the list were not refused
 abbrev pub turns : List Event → ℕ
 turns = total turnIn
 
--- turns that serve a guest
+-- how many served g
 abbrev pub services : ℕ → List Event → ℕ
 services g = total (serviceIn g)
 
@@ -151,15 +161,15 @@ services g = total (serviceIn g)
 abbrev pub moved : ℕ → List Event → ℕ
 moved g = total (movedIn g)
 
--- withdrawals of a guest not refused
+-- how many withdrawals of g were not refused
 abbrev pub withdrawals : ℕ → List Event → ℕ
 withdrawals g = total (withdrawalIn g)
 
--- collects of a guest not refused
+-- how many collects of g were not refused
 abbrev pub collects : ℕ → List Event → ℕ
 collects g = total (collectIn g)
 
--- ---- a request, by the calls since its acceptance
+-- ---- "The words of demand 3", a request, by the calls since its acceptance
 
 -- "A request is accepted by the post answered that the row waits."
 pub record Accepted (d : Desk) (c : Call) (g : ℕ) (r : Registers) : Type 0 where
@@ -188,7 +198,7 @@ turnsEach = 8
 abbrev pub turnsFor : ℕ → ℕ
 turnsFor n = turnsEach * ((n + 15) / partLength)
 
--- ---- the blocks, the arena and the store
+-- ---- "The words of demand 3", the blocks, the arena and the store
 
 -- "A request names the n blocks of its drive from start": store block b is one of n from first
 abbrev pub Named : ℕ → ℕ → ℕ → Type 0

@@ -1,0 +1,45 @@
+-- A table that stands in an accepted block is written and opened again as the same, from the table's own law.
+-- Assumes nothing.
+use Prim.Native.Nat.{ℕ, _/_, _<_, _≤_}
+use mathlib.Core.Path.{_≡_, refl, ap, _∙_}
+use mathlib.Core.Bool.{true}
+use mathlib.Core.List.{List, _++_}
+use native.Mathlib.Omega.{arith}
+use lib.ListN.{length, getD, drop}
+use lib.Dec.{leb, ltb}
+use borrow.Author.Tests.{leb-true, le-ltb}
+use Rattle.logic.proofs.Logic.{both-true}
+use Rattle.words.specs.Words.{Bytes}
+use Rattle.drive.specs.Drive.{Fits}
+use Rattle.table.specs.declared.Reading.{Reading}
+use Rattle.table.specs.Table.{noDrive, tableOf, isSound, writeAnswer, writeOut}
+use Rattle.memory.specs.Blocks.{blockLength}
+use Rattle.desk.specs.declared.Desk.{Desk}
+use Rattle.desk.specs.Parts.{storeBlocks}
+use Rattle.desk.specs.Calls.{opened, openDesk, openAnswer, openOf, writtenOf, writtenOut}
+use Rattle.image.specs.Image.{deskOf, accepted, FitsDesk}
+use Rattle.image.proofs.Laws.{exact}
+use Rattle.isolation.specs.Reopened.{ReadsBack, Reopened, ReopenedAll}
+use Rattle.isolation.proofs.Accept.{Facts, accept-facts}
+
+-- each place in use fits its fields
+each : (d : Desk) → FitsDesk d → Facts d → (i : ℕ) → i < d .table .count → Fits (getD (d .table .drives) i noDrive)
+unfolding isSound
+each d f k i h =
+    let l = leb-true (d .table .count) 8 (both-true (leb (d .table .count) 8) _ (k .sound) .0) in
+    f .table .each i (omega arith) .numbers
+
+pub reopened : ReadsBack → ReopenedAll
+unfolding openOf writtenOf writtenOut writeAnswer writeOut
+reopened law b h e =
+    let i = exact .only b h e in
+    let k = accept-facts (deskOf b) .0 (i .acceptable) in
+    let r = law (deskOf b .table) (storeBlocks (deskOf b)) (i .fits .table .eight) (each (deskOf b) (i .fits) k) (k .sound) in
+    record {
+      written = λ out l. (
+        rw (i .acceptable, le-ltb (length out) (length (tableOf (deskOf b .table))) l),
+        rw (i .acceptable, le-ltb (length out) (length (tableOf (deskOf b .table))) l),
+      );
+      again = λ arena.
+          ap (λ (x : Reading). record { desk = openDesk (x .answer) (x .table) arena (deskOf b .store); answer = openAnswer (x .answer) }) r;
+    }
