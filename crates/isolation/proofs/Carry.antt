@@ -2,7 +2,7 @@
 -- Assumes nothing.
 use Prim.Native.Nat.{ℕ, _+_, _/_}
 use mathlib.Core.Path.{_≡_, refl, ap, ap₂, _∙_}
-use mathlib.Core.Bool.{Bool, true, false, not}
+use mathlib.Core.Bool.{Bool, not}
 use mathlib.Core.List.{List}
 use lib.ListN.{length, drop}
 use lib.Dec.{ltb, eqb}
@@ -29,7 +29,7 @@ use Rattle.int13.specs.declared.Plan.{Plan}
 use Rattle.int13.specs.declared.Plan.the-variants.{Refuse, Clear, Finish, Wait}
 use Rattle.int13.specs.Answers.{badParameter, badBuffer, writeProtected, ah, al, dl, isWrite, refuse, posted}
 use Rattle.int13.specs.Steps.{Checked, unchanged, fed, isDrive, driveCount, driveOf, packetPlace, verifyOk, mostRun, packetTests, packetRead, packetPlan, carryOut, extended, seekRead, seek, sectorRun, sectors, parameters, extensions, resultGiven, resultSteps, result, steps, begin}
-use Rattle.int13.specs.Alone.{Memory, finish, alone}
+use Rattle.int13.specs.Alone.{finish, alone}
 use Rattle.isolation.specs.Exported.{CarryUnread}
 
 module _ (known : Bool) (count : ℕ) (d : Drive) (r : Registers) (w : List ℕ) where

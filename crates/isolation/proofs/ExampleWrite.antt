@@ -35,7 +35,7 @@ use Rattle.isolation.proofs.Bound.{after-none}
 use Rattle.isolation.proofs.Equal.{request}
 use Rattle.isolation.proofs.Posts.{different}
 use Rattle.isolation.proofs.Trace.{call, lent, window-lent, collectedTo, waitsOut, answeredOut, servedTo, storeAfter, withdrawnTo, idleOut, turn24Out, post-waits, post-answered, turn-writes, turn-idle, turn-24, withdraw-sectors, collect-gives, length-store, entry, goes-on, one, none, goes, passesIn, none-opens, found, also, own-turn, other-turn}
-use Rattle.isolation.proofs.ExampleDesk.{tableBytes, arenaLength, M, storeLength, guarded, table, d₀, inv₀, claimed, read-packet, windowWith, length-window-with, filled, length-filled, window-filled}
+use Rattle.isolation.proofs.ExampleDesk.{tableBytes, arenaLength, M, storeLength, guarded, plain, table, d₀, inv₀, claimed, read-packet, windowWith, length-window-with, filled, length-filled, window-filled}
 
 -- ---- the requests
 
