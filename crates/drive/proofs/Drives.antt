@@ -9,7 +9,7 @@ use mathlib.Core.Bool.{Bool, true, false}
 use lib.Dec.{leb, ltb, eqb}
 use borrow.Author.Tests.{eq-eqb, eqb-true, eqb-false, le-leb, lt-leb, leb-true, leb-false, lt-ltb, le-ltb, ltb-true, ltb-false}
 use Rattle.logic.specs.Logic.{pick, both}
-use Rattle.logic.proofs.Logic.{both-true, leb-iff}
+use Rattle.logic.proofs.Logic.{impossible, both-true, leb-iff}
 use lib.ListN.{length, getD, set, take, drop, replicate, length-append, length-drop}
 use lib.Seq.{sets, take-at, drop-at, drop-drop, take-all, take-add, drop-cons, length-take-le}
 use Rattle.chs.specs.Chs.{inLimits, size}
@@ -178,8 +178,8 @@ same-refl (x ∷ a) = rw (eq-eqb x x refl) (same-refl a)
 pub same-true : (a b : List ℕ) → same a b ≡ true → a ≡ b
 unfolding same
 same-true [] [] e = refl
-same-true [] (y ∷ b) e = let z : _≡_ {A = ℕ} 0 1 = cc in absurd (omega arith)
-same-true (x ∷ a) [] e = let z : _≡_ {A = ℕ} 0 1 = cc in absurd (omega arith)
+same-true [] (y ∷ b) e = impossible (cc)
+same-true (x ∷ a) [] e = impossible (cc)
 same-true (x ∷ a) (y ∷ b) e =
     let p = both-true (eqb x y) (same a b) e in
     let q : x ≡ y = eqb-true x y (p .0) in
@@ -212,15 +212,7 @@ allBytes-true (x ∷ l) e (suc i) = allBytes-true l (both-true (ltb x 256) (allB
 pub named : (k : ℕ) (b name : List ℕ) → length b ≡ k → length name ≡ k → Bytes b → allBytes name ≡ true → eqb (le k b 0) (le k name 0) ≡ same b name
 named k b name lb ln hb t = same-value k b name lb ln hb (allBytes-true name t)
 
--- ---- the store's rules, by differences
-
-pub inStore-past : (d : Drive) (store : ℕ) → store < d .first → false ≡ inStore d store
-unfolding inStore
-inStore-past d store h = sym (lt-leb (d .first + d .blocks) store (omega arith))
-
-pub inStore-rest : (d : Drive) (store : ℕ) → d .first ≤ store → leb (d .blocks) (store - d .first) ≡ inStore d store
-unfolding inStore
-inStore-rest d store h = leb-iff (d .blocks) (store - d .first) (d .first + d .blocks) store (λ q. omega arith) (λ q. omega arith)
+-- ---- two drives, by differences
 
 pub overlap-before : (a b : Drive) → a .first ≤ b .first → ltb (b .first - a .first) (a .blocks) ≡ overlap a b
 unfolding overlap

@@ -1,1 +1,3 @@
 pub mod Drives
+pub mod Demand2
+pub mod Vectors

@@ -118,7 +118,7 @@ fn al(r: Registers) -> u8
     (r.ax % 256) as u8
 }
 
-fn dl(r: Registers) -> u8
+pub fn dl(r: Registers) -> u8
     ensures { λ n. ⌜ n ≡ dl r ⌝ }
 {
     (r.dx % 256) as u8

@@ -36,7 +36,7 @@ use Rattle.desk.specs.declared.PostAnswer.the-variants.{Refused as PostRefused}
 use Rattle.desk.specs.declared.TurnAnswer.{TurnAnswer}
 use Rattle.desk.specs.declared.TurnAnswer.the-variants.{Refused as TurnRefused}
 use Rattle.desk.specs.Parts.{windowSize, stageAt, withStage, withPointer}
-use Rattle.desk.specs.Acceptable.{jobOk, rowsOk, accept}
+use Rattle.desk.specs.Acceptable.{requestOk, rowsOk, accept}
 use Rattle.desk.specs.Calls.{Done, isLent, opened, openOf, postChecked, postRow, postOf, seek, stageAfter, memoryOf, movedBy, serve, serveStage, turnNext, turnOf}
 use Rattle.isolation.specs.Lists.{Op, post, turn, Call, posted, turned, Out, outOf, step, Event, run, after}
 use Rattle.isolation.specs.Words.{serves, NoneOpens, Accepted, Waits as WaitsOn, Finishes, moved, Named, Writes, Unwritten, Left}
@@ -117,23 +117,23 @@ abbrev d₄ : Desk
 d₄ = withPointer (withStage d₃ 5 (stageAfter (record { job = writeJob; moved = 0 }))) 6
 
 ok₀ : accept d₀ ≡ true
-unfolding accept isSound soundTo refusal fieldsOk geometryFits inLimits busOk interfaceOk same inStore overlapsAny overlap blankTo isBlank blankNumbers blankNames rowsOk jobOk isDrive
+unfolding accept isSound soundTo refusal fieldsOk geometryFits inLimits busOk interfaceOk same inStore overlapsAny overlap blankTo isBlank blankNumbers blankNames rowsOk requestOk isDrive
 ok₀ = refl
 
 ok₁ : accept d₁ ≡ true
-unfolding accept isSound soundTo refusal fieldsOk geometryFits inLimits busOk interfaceOk same inStore overlapsAny overlap blankTo isBlank blankNumbers blankNames rowsOk jobOk isDrive
+unfolding accept isSound soundTo refusal fieldsOk geometryFits inLimits busOk interfaceOk same inStore overlapsAny overlap blankTo isBlank blankNumbers blankNames rowsOk requestOk isDrive
 ok₁ = refl
 
 ok₂ : accept d₂ ≡ true
-unfolding accept isSound soundTo refusal fieldsOk geometryFits inLimits busOk interfaceOk same inStore overlapsAny overlap blankTo isBlank blankNumbers blankNames rowsOk jobOk isDrive
+unfolding accept isSound soundTo refusal fieldsOk geometryFits inLimits busOk interfaceOk same inStore overlapsAny overlap blankTo isBlank blankNumbers blankNames rowsOk requestOk isDrive
 ok₂ = refl
 
 ok₃ : accept d₃ ≡ true
-unfolding accept isSound soundTo refusal fieldsOk geometryFits inLimits busOk interfaceOk same inStore overlapsAny overlap blankTo isBlank blankNumbers blankNames rowsOk jobOk isDrive stageAfter
+unfolding accept isSound soundTo refusal fieldsOk geometryFits inLimits busOk interfaceOk same inStore overlapsAny overlap blankTo isBlank blankNumbers blankNames rowsOk requestOk isDrive stageAfter
 ok₃ = refl
 
 ok₄ : accept d₄ ≡ true
-unfolding accept isSound soundTo refusal fieldsOk geometryFits inLimits busOk interfaceOk same inStore overlapsAny overlap blankTo isBlank blankNumbers blankNames rowsOk jobOk isDrive stageAfter
+unfolding accept isSound soundTo refusal fieldsOk geometryFits inLimits busOk interfaceOk same inStore overlapsAny overlap blankTo isBlank blankNumbers blankNames rowsOk requestOk isDrive stageAfter
 ok₄ = refl
 
 -- ---- a post that is accepted, and a turn that serves

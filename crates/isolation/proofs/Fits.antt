@@ -116,7 +116,7 @@ fits-from (suc k) t store at b y f =
     (λ n p. f)
     (λ h l. f)
     (λ h z.
-    let w = whole-at t at 1 h in
+    let w = whole-at t at 1 68 h in
     let l : length (part 68 t at) ≡ 68 = length-take-le 68 (drop at t) (simp length-drop (omega (arith, w .whole, w .header))) in
     fits-from k t store (at + 68) (more b (driveOf (part 68 t at))) y
     (fits-more b (driveOf (part 68 t at)) f (fits-record (part 68 t at) (bytes-part 68 t at y) l) (refusal-room b (driveOf (part 68 t at)) store z)))

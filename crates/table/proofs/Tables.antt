@@ -1,17 +1,19 @@
 -- Laws of the table's definitions: a record's header, a step, the reading, the bytes written.
 -- Assumes nothing.
 use mathlib.Core.Path.{_≡_, refl, sym, ap, _∙_}
+use mathlib.Core.Logic.{_⊎_, inl, inr, ⊎-elim}
 use mathlib.Core.Bool.{Bool, true, false, not}
 use mathlib.Core.List.{List, [], _∷_, _++_, append-assoc, append-nil}
 use Prim.Native.Nat.{ℕ, zero, suc, _+_, _-_, _*_, _≤_, _<_, min}
 use native.Mathlib.Nat.{zero-add}
 use native.Mathlib.Numerals.{add-one, sub-one}
 use native.Mathlib.Omega.{arith}
-use lib.ListN.{length, getD, take, drop, set, length-append}
-use lib.Seq.{sets, take-suc, take-all}
+use lib.ListN.{length, getD, take, drop, set, length-append, length-take}
+use lib.Seq.{sets}
 use lib.Dec.{ltb, leb, eqb}
 use borrow.Author.Tests.{leb-true, leb-false, lt-leb, ltb-true, ltb-false, lt-ltb, le-ltb, eq-eqb, ne-eqb, eqb-true, eqb-false, not-true, not-false}
-use Rattle.logic.specs.Logic.{pick, both, either}
+use Rattle.logic.specs.Logic.{pick, both, either, someBelow}
+use Rattle.logic.proofs.Logic.{impossible, both-true, either-true}
 use Rattle.words.specs.Words.{le, leBytes, part}
 use Rattle.words.proofs.Words.{sets-append, sets-front, length-leBytes}
 use Rattle.drive.specs.declared.Drive.{Drive}
@@ -27,52 +29,57 @@ use Rattle.table.specs.declared.Answer.the-variants.{Accepted, Refused a
 use Rattle.table.specs.declared.Reading.{Reading}
 use Rattle.table.specs.declared.Written.{Written}
 use Rattle.table.specs.declared.Written.the-variants.{Bytes, Refused as WriteRefused}
-use Rattle.table.specs.Table.{badField, pastStore, overlapping, isKind, recordLength, headerOf, headerAt, noDrive, overlapsAny, refusal, more, stepped, driveStep, endStep, bodyStep, stepOf, stepAt, reading, goOn, readFrom, recordsOf, endRecord, bytesOf, drivesOf, tableOf, writeAnswer, writeOut, firstDrives, soundTo, blankTo, isSound}
+use Rattle.table.specs.Table.{badField, pastStore, overlapping, isKind, lengthOk, headerOf, headerAt, noDrive, overlapsAny, refusal, more, stepped, driveStep, endStep, driveRecord, stepOf, stepAt, reading, goOn, readFrom, placeRecords, recordsOf, endRecord, bytesOf, drivesOf, tableOf, writeAnswer, writeOut, firstDrives}
 
 -- ---- the header
 
 -- what a whole record's header says
-pub record IsWhole (left size kind k : ℕ) : Type 0 where
+pub record IsWhole (left size kind k n : ℕ) : Type 0 where
   pub same : kind ≡ k
-  pub known : isKind k ≡ true
-  pub right : size ≡ recordLength k
-  pub whole : recordLength k ≤ left
+  pub long : size ≡ n
+  pub right : lengthOk k n ≡ true
+  pub whole : n ≤ left
   pub header : 4 ≤ left
 
-pub header-whole : (left size kind k : ℕ) → headerOf left size kind ≡ Whole k → IsWhole left size kind k
+pub header-whole : (left size kind k n : ℕ) → headerOf left size kind ≡ Whole k n → IsWhole left size kind k n
 unfolding headerOf
-header-whole left size kind k h = by-tests (ltb left 4) (isKind kind) (eqb size (recordLength kind)) (ltb left (recordLength kind)) refl refl refl refl h
+header-whole left size kind k n h = by-tests (ltb left 4) (isKind kind) (lengthOk kind size) (ltb left size) refl refl refl refl h
   where
-    by-tests : (a b c d : Bool) → ltb left 4 ≡ a → isKind kind ≡ b → eqb size (recordLength kind) ≡ c → ltb left (recordLength kind) ≡ d
-        → pick a (Bad 1) (pick (not b) (Bad 3) (pick (not c) (Bad 2) (pick d (Bad 1) (Whole kind)))) ≡ Whole k → IsWhole left size kind k
-    by-tests true b c d e₁ e₂ e₃ e₄ q = let z : _≡_ {A = ℕ} 0 1 = cc in absurd (omega arith)
-    by-tests false false c d e₁ e₂ e₃ e₄ q = let z : _≡_ {A = ℕ} 0 1 = cc in absurd (omega arith)
-    by-tests false true false d e₁ e₂ e₃ e₄ q = let z : _≡_ {A = ℕ} 0 1 = cc in absurd (omega arith)
-    by-tests false true true true e₁ e₂ e₃ e₄ q = let z : _≡_ {A = ℕ} 0 1 = cc in absurd (omega arith)
+    by-tests : (a b c d : Bool) → ltb left 4 ≡ a → isKind kind ≡ b → lengthOk kind size ≡ c → ltb left size ≡ d
+        → pick a (Bad 1) (pick (not b) (Bad 3) (pick (not c) (Bad 2) (pick d (Bad 1) (Whole kind size)))) ≡ Whole k n → IsWhole left size kind k n
+    by-tests true b c d e₁ e₂ e₃ e₄ q = impossible (cc)
+    by-tests false false c d e₁ e₂ e₃ e₄ q = impossible (cc)
+    by-tests false true false d e₁ e₂ e₃ e₄ q = impossible (cc)
+    by-tests false true true true e₁ e₂ e₃ e₄ q = impossible (cc)
     by-tests false true true false e₁ e₂ e₃ e₄ q =
         let s : kind ≡ k = cc in
-        record { same = s; known = rw s at e₂; right = rw s at (eqb-true size (recordLength kind) e₃); whole = rw s at (ltb-false left (recordLength kind) e₄); header = ltb-false left 4 e₁ }
+        let l : size ≡ n = cc in
+        record { same = s; long = l; right = rw (s, l) at e₃; whole = rw l at (ltb-false left size e₄); header = ltb-false left 4 e₁ }
 
 -- the header of a whole record at a place
-pub whole-at : (t : List ℕ) (at k : ℕ) → headerAt t at ≡ Whole k → IsWhole (length t - at) (le 2 t at) (le 2 t (at + 2)) k
+pub whole-at : (t : List ℕ) (at k n : ℕ) → headerAt t at ≡ Whole k n → IsWhole (length t - at) (le 2 t at) (le 2 t (at + 2)) k n
 unfolding headerAt
-whole-at t at k h = header-whole _ _ _ k h
+whole-at t at k n h = header-whole _ _ _ k n h
+
+-- the kinds with their lengths
+lengthOk-cases : (k n : ℕ) → lengthOk k n ≡ true → ((k ≡ 0) × (n ≡ 4)) ⊎ ((k ≡ 1) × (n ≡ 68))
+lengthOk-cases k n h =
+    ⊎-elim (λ x. let p = both-true (eqb k 0) (eqb n 4) x in inl (eqb-true k 0 (p .0), eqb-true n 4 (p .1)))
+    (λ x. let p = both-true (eqb k 1) (eqb n 68) x in inr (eqb-true k 1 (p .0), eqb-true n 68 (p .1)))
+    (either-true (both (eqb k 0) (eqb n 4)) (both (eqb k 1) (eqb n 68)) h)
+
+pub lengthOk-end : (k n : ℕ) → lengthOk k n ≡ true → k ≡ 0 → n ≡ 4
+lengthOk-end k n h e = ⊎-elim (λ x. x .1) (λ x. absurd (omega (arith, x .0))) (lengthOk-cases k n h)
 
 -- a kind that does not end the table is a drive's
-pub recordLength-end : (k : ℕ) → eqb k 0 ≡ true → recordLength k ≡ 4
-recordLength-end k e = rw e
+pub lengthOk-drive : (k n : ℕ) → lengthOk k n ≡ true → (k ≡ 0 → ⊥) → (k ≡ 1) × (n ≡ 68)
+lengthOk-drive k n h e = ⊎-elim (λ x. absurd (e (x .0))) (λ x. x) (lengthOk-cases k n h)
 
-drive-kind : (k : ℕ) → isKind k ≡ true → eqb k 0 ≡ false → k ≡ 1
-drive-kind k h e = eqb-true k 1 (rw e at h)
-
-pub recordLength-drive : (k : ℕ) → eqb k 0 ≡ false → recordLength k ≡ 68
-recordLength-drive k e = rw e
+-- no record is longer than a drive's
+pub lengthOk-most : (k n : ℕ) → lengthOk k n ≡ true → n ≤ 68
+lengthOk-most k n h = ⊎-elim (λ x. omega (arith, x .1)) (λ x. omega (arith, x .1)) (lengthOk-cases k n h)
 
 -- ---- a drive among those before it
-
-pub overlapsAny-more : {r o f : Bool} (i : ℕ) (l : List Drive) (d : Drive) → f ≡ overlapsAny i l d → r ≡ either o f → o ≡ overlap d (getD l i noDrive) → r ≡ overlapsAny (i + 1) l d
-unfolding overlapsAny
-overlapsAny-more i l d p q s = rw (add-one, q, s, p)
 
 -- a drive that is taken has room
 pub refusal-room : (b : Table) (d : Drive) (store : ℕ) → refusal b d store ≡ 0 → b .count < 8
@@ -105,20 +112,14 @@ pub driveStep-refused : (n : ℕ) (d : Drive) (b : Table) (at : ℕ) → (n ≡ 
 unfolding driveStep
 driveStep-refused n d b at e = rw (ne-eqb n 0 e)
 
--- the step over a whole drive record, from what its parts answered; the code lends at + 68 - at bytes
-pub body-next : {d : Drive} {n : ℕ} {p : Table} (t : List ℕ) (at : ℕ) (b : Table) (store : ℕ) → d ≡ driveOf (take (at + 68 - at) (drop at t)) → n ≡ refusal b d store → n ≡ 0 → p ≡ more b d
-    → stepped (Next (at + 68)) p ≡ bodyStep (driveOf (part 68 t at)) b at store
-body-next {d} {n} t at b store e r z p =
-    let l : at + 68 - at ≡ 68 = omega arith in
-    let f : d ≡ driveOf (part 68 t at) = rw l at e in
-    rw (← f, p) (driveStep-next (refusal b d store) d b at (sym r ∙ z))
+-- the step over the bytes of a drive's record, from what its parts answered
+pub record-next : {d : Drive} {n : ℕ} {p : Table} (r : List ℕ) (at : ℕ) (b : Table) (store : ℕ) → length r ≡ 68 → d ≡ driveOf r → n ≡ refusal b d store → n ≡ 0 → p ≡ more b d
+    → stepped (Next (at + length r)) p ≡ driveRecord r b at store
+record-next {d} r at b store l e q z p = rw (l, p, ← e) (driveStep-next (refusal b d store) d b at (sym q ∙ z))
 
-pub body-refused : {d : Drive} {n : ℕ} (t : List ℕ) (at : ℕ) (b : Table) (store : ℕ) → d ≡ driveOf (take (at + 68 - at) (drop at t)) → n ≡ refusal b d store → (n ≡ 0 → ⊥)
-    → stepped (Refused n at) b ≡ bodyStep (driveOf (part 68 t at)) b at store
-body-refused {d} {n} t at b store e r z =
-    let l : at + 68 - at ≡ 68 = omega arith in
-    let f : d ≡ driveOf (part 68 t at) = rw l at e in
-    rw (← f, ← r) (driveStep-refused n d b at z)
+pub record-refused : {d : Drive} {n : ℕ} (r : List ℕ) (at : ℕ) (b : Table) (store : ℕ) → d ≡ driveOf r → n ≡ refusal b d store → (n ≡ 0 → ⊥)
+    → stepped (Refused n at) b ≡ driveRecord r b at store
+record-refused {d} {n} r at b store e q z = rw (← e, ← q) (driveStep-refused n d b at z)
 
 pub endStep-byte : (t : List ℕ) (at : ℕ) (b : Table) → at + 4 < length t → stepped (Refused 8 (at + 4)) b ≡ endStep t at b
 unfolding endStep
@@ -132,45 +133,46 @@ pub stepAt-bad : (t : List ℕ) (at n : ℕ) (b : Table) (store : ℕ) → heade
 unfolding stepAt stepOf
 stepAt-bad t at n b store h = rw h
 
-pub stepAt-end : (t : List ℕ) (at k : ℕ) (b : Table) (store : ℕ) → headerAt t at ≡ Whole k → k ≡ 0 → endStep t at b ≡ stepAt t at b store
+pub stepAt-end : (t : List ℕ) (at k n : ℕ) (b : Table) (store : ℕ) → headerAt t at ≡ Whole k n → k ≡ 0 → endStep t at b ≡ stepAt t at b store
 unfolding stepAt stepOf
-stepAt-end t at k b store h e = rw (h, eq-eqb k 0 e)
+stepAt-end t at k n b store h e = rw (h, eq-eqb k 0 e)
 
-pub stepAt-drive : (t : List ℕ) (at k : ℕ) (b : Table) (store : ℕ) → headerAt t at ≡ Whole k → (k ≡ 0 → ⊥)
-    → bodyStep (driveOf (part 68 t at)) b at store ≡ stepAt t at b store
+pub stepAt-drive : (t : List ℕ) (at k n : ℕ) (b : Table) (store : ℕ) → headerAt t at ≡ Whole k n → (k ≡ 0 → ⊥)
+    → driveRecord (part n t at) b at store ≡ stepAt t at b store
 unfolding stepAt stepOf
-stepAt-drive t at k b store h e = rw (h, ne-eqb k 0 e)
+stepAt-drive t at k n b store h e = rw (h, ne-eqb k 0 e)
 
 -- what a step can be: a refusal, the end record with nothing after it, or one more drive
 pub stepAt-cases : (P : Stepped → Type 0) (t : List ℕ) (at : ℕ) (b : Table) (store : ℕ)
     → ((n p : ℕ) → P (stepped (Refused n p) b))
-    → (headerAt t at ≡ Whole 0 → length t ≤ at + 4 → P (stepped Done b))
-    → (headerAt t at ≡ Whole 1 → refusal b (driveOf (part 68 t at)) store ≡ 0 → P (stepped (Next (at + 68)) (more b (driveOf (part 68 t at)))))
+    → (headerAt t at ≡ Whole 0 4 → length t ≤ at + 4 → P (stepped Done b))
+    → (headerAt t at ≡ Whole 1 68 → refusal b (driveOf (part 68 t at)) store ≡ 0 → P (stepped (Next (at + 68)) (more b (driveOf (part 68 t at)))))
     → P (stepAt t at b store)
 stepAt-cases P t at b store refuse finish next = by-header (headerAt t at) refl
   where
-    by-byte : headerAt t at ≡ Whole 0 → (x : Bool) → ltb (at + 4) (length t) ≡ x → P (endStep t at b)
+    by-byte : headerAt t at ≡ Whole 0 4 → (x : Bool) → ltb (at + 4) (length t) ≡ x → P (endStep t at b)
     by-byte h true e = rw (← endStep-byte t at b (ltb-true (at + 4) (length t) e)) (refuse 8 (at + 4))
     by-byte h false e = let l = ltb-false (at + 4) (length t) e in rw (← endStep-done t at b l) (finish h l)
 
-    by-refusal : headerAt t at ≡ Whole 1 → (x : Bool) → eqb (refusal b (driveOf (part 68 t at)) store) 0 ≡ x → P (bodyStep (driveOf (part 68 t at)) b at store)
+    by-refusal : headerAt t at ≡ Whole 1 68 → (x : Bool) → eqb (refusal b (driveOf (part 68 t at)) store) 0 ≡ x → P (driveRecord (part 68 t at) b at store)
     by-refusal h true e =
         let z = eqb-true (refusal b (driveOf (part 68 t at)) store) 0 e in
         rw (← driveStep-next (refusal b (driveOf (part 68 t at)) store) (driveOf (part 68 t at)) b at z) (next h z)
     by-refusal h false e =
         rw (← driveStep-refused (refusal b (driveOf (part 68 t at)) store) (driveOf (part 68 t at)) b at (eqb-false _ _ e)) (refuse (refusal b (driveOf (part 68 t at)) store) at)
 
-    by-kind : (k : ℕ) → headerAt t at ≡ Whole k → (x : Bool) → eqb k 0 ≡ x → P (stepAt t at b store)
-    by-kind k h true e =
+    by-kind : (k n : ℕ) → headerAt t at ≡ Whole k n → (x : Bool) → eqb k 0 ≡ x → P (stepAt t at b store)
+    by-kind k n h true e =
         let z = eqb-true k 0 e in
-        rw (← stepAt-end t at k b store h z) (by-byte (rw z at h) (ltb (at + 4) (length t)) refl)
-    by-kind k h false e =
-        let z = drive-kind k (whole-at t at k h .known) e in
-        rw (← stepAt-drive t at k b store h (eqb-false k 0 e)) (by-refusal (rw z at h) (eqb (refusal b (driveOf (part 68 t at)) store) 0) refl)
+        let l = lengthOk-end k n (whole-at t at k n h .right) z in
+        rw (← stepAt-end t at k n b store h z) (by-byte (rw (z, l) at h) (ltb (at + 4) (length t)) refl)
+    by-kind k n h false e =
+        let z = lengthOk-drive k n (whole-at t at k n h .right) (eqb-false k 0 e) in
+        rw (← stepAt-drive t at k n b store h (eqb-false k 0 e), z .1) (by-refusal (rw (z .0, z .1) at h) (eqb (refusal b (driveOf (part 68 t at)) store) 0) refl)
 
     by-header : (h : Header) → headerAt t at ≡ h → P (stepAt t at b store)
     by-header (Bad n) h = rw (← stepAt-bad t at n b store h) (refuse n at)
-    by-header (Whole k) h = by-kind k h (eqb k 0) refl
+    by-header (Whole k n) h = by-kind k n h (eqb k 0) refl
 
 -- ---- the reading
 
@@ -192,42 +194,35 @@ readFrom-zero k t store at b e = rw e
 
 -- ---- the bytes written
 
-pub recordsOf-append : (a b : List Drive) → recordsOf (a ++ b) ≡ recordsOf a ++ recordsOf b
+-- one place more
+pub recordsOf-more : (n : ℕ) (b : Table) → recordsOf (n + 1) b ≡ recordsOf n b ++ placeRecords b n
 unfolding recordsOf
-recordsOf-append [] b = refl
-recordsOf-append (d ∷ a) b = rw (recordsOf-append a b, append-assoc)
+recordsOf-more n b = rw add-one
 
-pub recordsOf-one : (d : Drive) → recordsOf (d ∷ []) ≡ recordOf d
+pub length-more : (n : ℕ) (b : Table) → length (recordsOf (n + 1) b) ≡ length (recordsOf n b) + length (placeRecords b n)
+length-more n b = ap length (recordsOf-more n b) ∙ length-append (recordsOf n b) (placeRecords b n)
+
+-- one place more in a buffer
+pub sets-place : (s : List ℕ) (b : Table) (i at : ℕ) → at ≡ length (recordsOf i b)
+    → sets (sets s 0 (recordsOf i b)) at (placeRecords b i) ≡ sets s 0 (recordsOf (i + 1) b)
+sets-place s b i at e = rw (recordsOf-more i b, sets-append, zero-add, e)
+
+-- only the first n places count
+pub recordsOf-ext : (n : ℕ) (b c : Table) → ((i : ℕ) → i < n → getD (b .drives) i noDrive ≡ getD (c .drives) i noDrive) → recordsOf n b ≡ recordsOf n c
 unfolding recordsOf
-recordsOf-one d = append-nil (recordOf d)
+recordsOf-ext zero b c f = refl
+recordsOf-ext (suc n) b c f = rw (f n (omega arith), recordsOf-ext n b c (λ i h. f i (omega arith)))
 
--- one record more
-pub recordsOf-more : (l : List Drive) (i : ℕ) → i < length l → recordsOf (take (i + 1) l) ≡ recordsOf (take i l) ++ recordOf (getD l i noDrive)
-recordsOf-more l i h = rw (add-one, take-suc l i noDrive h, recordsOf-append, recordsOf-one)
-
-pub length-more : (l : List Drive) (i : ℕ) → i < length l → length (recordsOf (take (i + 1) l)) ≡ length (recordsOf (take i l)) + length (recordOf (getD l i noDrive))
-length-more l i h = ap length (recordsOf-more l i h) ∙ length-append (recordsOf (take i l)) (recordOf (getD l i noDrive))
-
--- one record more in a buffer
-pub sets-record : (s : List ℕ) (l : List Drive) (i at : ℕ) → i < length l → at ≡ length (recordsOf (take i l))
-    → sets (sets s 0 (recordsOf (take i l))) at (recordOf (getD l i noDrive)) ≡ sets s 0 (recordsOf (take (i + 1) l))
-sets-record s l i at h e = rw (recordsOf-more l i h, sets-append, zero-add, e)
+-- a table of eight places holds as many drives as it counts, and at most eight
+pub length-drives : (b : Table) → length (b .drives) ≡ 8 → length (drivesOf b) ≡ min (b .count) 8
+length-drives b l = rw (length-take (b .count) (b .drives), l)
 
 -- ---- the writer
 
-module _ (b : Table) (out : List ℕ) (n end : ℕ) (eight : length (b .drives) ≡ 8) (held : n ≡ min (b .count) 8) (all : end ≡ length (recordsOf (take n (b .drives)))) where
-  drives-held : drivesOf b ≡ take n (b .drives)
-  drives-held = by-count (leb (b .count) 8) refl
-    where
-      by-count : (t : Bool) → leb (b .count) 8 ≡ t → drivesOf b ≡ take n (b .drives)
-      by-count true e = let q : n ≡ b .count = omega (arith, leb-true (b .count) 8 e) in rw q
-      by-count false e =
-          let q : n ≡ 8 = omega (arith, leb-false (b .count) 8 e) in
-          rw q (take-all (b .count) (b .drives) (omega (arith, leb-false (b .count) 8 e)) ∙ sym (take-all 8 (b .drives) (omega arith)))
-
-  table-held : tableOf b ≡ recordsOf (take n (b .drives)) ++ endRecord
+module _ (b : Table) (out : List ℕ) (n end : ℕ) (eight : length (b .drives) ≡ 8) (held : n ≡ min (b .count) 8) (all : end ≡ length (recordsOf n b)) where
+  table-held : tableOf b ≡ recordsOf n b ++ endRecord
   unfolding tableOf bytesOf
-  table-held = rw drives-held
+  table-held = rw (length-drives b eight, ← held)
 
   length-held : length (tableOf b) ≡ end + 4
   length-held = rw table-held (simp (length-append, length-leBytes) (omega arith))
@@ -238,7 +233,7 @@ module _ (b : Table) (out : List ℕ) (n end : ℕ) (eight : length (b .drives) 
       let t : ltb (length out) (length (tableOf b)) ≡ true = lt-ltb (length out) (length (tableOf b)) (rw length-held h) in
       (rw t, rw t)
 
-  pub write-done : {o₁ o₂ o₃ : List ℕ} → end + 4 ≤ length out → o₁ ≡ sets out 0 (recordsOf (take n (b .drives))) → o₂ ≡ sets o₁ end (leBytes 2 4) → o₃ ≡ sets o₂ (end + 2) (leBytes 2 0)
+  pub write-done : {o₁ o₂ o₃ : List ℕ} → end + 4 ≤ length out → o₁ ≡ sets out 0 (recordsOf n b) → o₂ ≡ sets o₁ end (leBytes 2 4) → o₃ ≡ sets o₂ (end + 2) (leBytes 2 0)
       → (Bytes (end + 4) ≡ writeAnswer b (length out)) × (o₃ ≡ writeOut b out)
   unfolding writeAnswer writeOut
   write-done {o₁} {o₂} {o₃} h e₁ e₂ e₃ =
@@ -248,11 +243,6 @@ module _ (b : Table) (out : List ℕ) (n end : ℕ) (eight : length (b .drives) 
       (rw (t, length-held), rw t (sym whole ∙ sets-front out (tableOf b) (rw length-held h)))
 
 -- ---- a table that obeys the rules
-
-pub soundTo-more : {r a s : Bool} (i : ℕ) (l : List Drive) (store : ℕ) → s ≡ soundTo i l store → r ≡ both a s
-    → a ≡ eqb (refusal (firstDrives l i) (getD l i noDrive) store) 0 → r ≡ soundTo (i + 1) l store
-unfolding soundTo
-soundTo-more i l store p q e = rw (add-one, q, e, p)
 
 -- a drive is taken where it obeys the rules and overlaps none of those before it
 pub taken-is : (i : ℕ) (l : List Drive) (d : Drive) (store : ℕ) → i < 8
@@ -265,8 +255,3 @@ taken-is i l d store h = rw (lt-leb 8 i h) (go (fieldsOk d) (inStore d store) (o
     go true false o = refl
     go true true true = refl
     go true true false = refl
-
-pub blankTo-more : {r a s : Bool} (i : ℕ) (l : List Drive) (count : ℕ) → s ≡ blankTo i l count → r ≡ both a s
-    → a ≡ either (ltb i count) (isBlank (getD l i noDrive)) → r ≡ blankTo (i + 1) l count
-unfolding blankTo
-blankTo-more i l count p q e = rw (add-one, q, e, p)

@@ -6,7 +6,7 @@ use mathlib.Core.Bool.{Bool, true, false, not}
 use mathlib.Core.List.{List, [], _∷_, _++_}
 use lib.ListN.{length, getD, set, take, drop, replicate}
 use lib.Dec.{leb, ltb, eqb}
-use Rattle.logic.specs.Logic.{pick, both, either}
+use Rattle.logic.specs.Logic.{pick, both, either, allBelow, someBelow}
 use Rattle.words.specs.Words.{le, leBytes, part}
 use Rattle.drive.specs.declared.Drive.{Drive}
 use Rattle.drive.specs.Drive.{Fits, driveKind, driveLength, driveOf, recordOf, fieldsOk, inStore, overlap, isBlank}
@@ -63,25 +63,28 @@ endKind = 0
 abbrev pub endLength : ℕ
 endLength = 4
 
+-- the kinds that there are: 0 and 1
 abbrev pub isKind : ℕ → Bool
 isKind kind = either (eqb kind endKind) (eqb kind driveKind)
 
-abbrev pub recordLength : ℕ → ℕ
-recordLength kind = pick (eqb kind endKind) endLength driveLength
+-- the length for the kind: 4 for kind 0, 68 for kind 1
+abbrev pub lengthOk : ℕ → ℕ → Bool
+lengthOk kind size = either (both (eqb kind endKind) (eqb size endLength)) (both (eqb kind driveKind) (eqb size driveLength))
 
 -- the length word and the kind
 abbrev pub headerLength : ℕ
 headerLength = 4
 
--- checks 1, 3, 2, 1 of a record, from the bytes left, its length word and its kind
+-- checks 1, 3, 2, 1 of a record, from the bytes left, its length word and its kind: its refusal, or a whole record of a kind and a length
 unfoldable pub headerOf : ℕ → ℕ → ℕ → Header
 headerOf left size kind =
     pick (ltb left headerLength) (Bad cutOff)
     (pick (not (isKind kind)) (Bad unknownKind)
-    (pick (not (eqb size (recordLength kind))) (Bad wrongLength)
-    (pick (ltb left (recordLength kind)) (Bad cutOff)
-    (Whole kind))))
+    (pick (not (lengthOk kind size)) (Bad wrongLength)
+    (pick (ltb left size) (Bad cutOff)
+    (Whole kind size))))
 
+-- the header at a place: the length word first, the kind two bytes on
 unfoldable pub headerAt : List ℕ → ℕ → Header
 headerAt t at = headerOf (length t - at) (le 2 t at) (le 2 t (at + 2))
 
@@ -97,8 +100,7 @@ noDrive = record { cylinders = 0; heads = 0; sectors = 0; blocks = 0; first = 0;
 
 -- d overlaps one of the first n
 unfoldable pub overlapsAny : ℕ → List Drive → Drive → Bool
-overlapsAny zero l d = false
-overlapsAny (suc n) l d = either (overlap d (getD l n noDrive)) (overlapsAny n l d)
+overlapsAny n l d = someBelow n (λ i. overlap d (getD l i noDrive))
 
 -- the refusal of a drive, or 0 where it is taken
 unfoldable pub refusal : Table → Drive → ℕ → ℕ
@@ -115,9 +117,11 @@ more b d = record { drives = set (b .drives) (b .count) d; count = b .count + 1 
 
 -- ---- one step of the reader; a refusal names the record's start
 
+-- what a record was, and the drives after it
 abbrev pub stepped : Step → Table → Stepped
 stepped s b = record { step = s; table = b }
 
+-- a drive with its refusal, or 0: refused at its record's start, or taken, and on behind its record
 unfoldable pub driveStep : ℕ → Drive → Table → ℕ → Stepped
 driveStep n d b at = pick (eqb n 0) (stepped (Next (at + driveLength)) (more b d)) (stepped (Refused n at) b)
 
@@ -125,14 +129,16 @@ driveStep n d b at = pick (eqb n 0) (stepped (Next (at + driveLength)) (more b d
 unfoldable pub endStep : List ℕ → ℕ → Table → Stepped
 endStep t at b = pick (ltb (at + endLength) (length t)) (stepped (Refused byteFollows (at + endLength)) b) (stepped Done b)
 
--- the step from the drive that the record's bytes say
-abbrev pub bodyStep : Drive → Table → ℕ → ℕ → Stepped
-bodyStep d b at store = driveStep (refusal b d store) d b at
+-- the step over the bytes of a drive's record, which begins at a place
+abbrev pub driveRecord : List ℕ → Table → ℕ → ℕ → Stepped
+driveRecord r b at store = driveStep (refusal b (driveOf r) store) (driveOf r) b at
 
+-- by the header: its refusal at the record's start, or the step of the record's kind over exactly its bytes
 unfoldable pub stepOf : Header → List ℕ → ℕ → Table → ℕ → Stepped
 stepOf (Bad n) t at b store = stepped (Refused n at) b
-stepOf (Whole kind) t at b store = pick (eqb kind endKind) (endStep t at b) (bodyStep (driveOf (part driveLength t at)) b at store)
+stepOf (Whole kind size) t at b store = pick (eqb kind endKind) (endStep t at b) (driveRecord (part size t at) b at store)
 
+-- the record at a place, among the drives before it
 unfoldable pub stepAt : List ℕ → ℕ → Table → ℕ → Stepped
 stepAt t at b store = stepOf (headerAt t at) t at b store
 
@@ -142,6 +148,7 @@ stepAt t at b store = stepOf (headerAt t at) t at b store
 abbrev pub zeroDrive : Drive
 zeroDrive = record { cylinders = 0; heads = 0; sectors = 0; blocks = 0; first = 0; flags = 0; c = 0; h = 0; s = 0; protection = 0; bus = replicate 4 0; interface = replicate 8 0; path = replicate 8 0; device = replicate 8 0 }
 
+-- the table with no drive
 abbrev pub emptyTable : Table
 emptyTable = record { drives = replicate mostDrives zeroDrive; count = 0 }
 
@@ -154,17 +161,22 @@ goOn (Next at) b f = f at b
 goOn Done b f = reading Accepted b
 goOn (Refused n at) b f = reading (AnswerRefused n at) b
 
--- at most k records from a place; the ninth drive is refused, so that nine are enough and the first clause is never met
+-- at most k records from a place; where k are enough the first clause is never met
 unfoldable pub readFrom : ℕ → List ℕ → ℕ → ℕ → Table → Reading
 readFrom zero t store at b = reading (AnswerRefused ninthDrive at) b
 readFrom (suc k) t store at b = goOn (stepAt t at b store .step) (stepAt t at b store .table) (readFrom k t store)
 
+-- enough records: eight drives, and the end record or the ninth drive, which is refused
+abbrev pub mostRecords : ℕ
+mostRecords = 9
+
 -- the drives of a table's bytes, or the refusal with its place and the drives before it
 unfoldable pub readTable : List ℕ → ℕ → Reading
-readTable t store = readFrom 9 t store 0 emptyTable
+readTable t store = readFrom mostRecords t store 0 emptyTable
 
 -- ---- a list of drives that obeys the rules
 
+-- the drives so far with a list of more
 abbrev pub pushAll : Table → List Drive → Table
 pushAll b [] = b
 pushAll b (d ∷ ds) = pushAll (more b d) ds
@@ -176,28 +188,36 @@ pub data Taken (store : ℕ) : Table → List Drive → Type 0 where
 
 -- ---- the table written back
 
+-- the end record
 abbrev pub endRecord : List ℕ
 endRecord = leBytes 2 endLength ++ leBytes 2 endKind
 
-unfoldable pub recordsOf : List Drive → List ℕ
-recordsOf [] = []
-recordsOf (d ∷ ds) = recordOf d ++ recordsOf ds
+-- the records of a place: its drive's
+abbrev pub placeRecords : Table → ℕ → List ℕ
+placeRecords b i = recordOf (getD (b .drives) i noDrive)
 
--- the bytes of a list of drives
-unfoldable pub bytesOf : List Drive → List ℕ
-bytesOf ds = recordsOf ds ++ endRecord
+-- the records of the first n places
+unfoldable pub recordsOf : ℕ → Table → List ℕ
+recordsOf zero b = []
+recordsOf (suc n) b = recordsOf n b ++ placeRecords b n
+
+-- the bytes of the first n places as a table
+unfoldable pub bytesOf : ℕ → Table → List ℕ
+bytesOf n b = recordsOf n b ++ endRecord
 
 -- the drives that a table holds
 abbrev pub drivesOf : Table → List Drive
 drivesOf b = take (b .count) (b .drives)
 
+-- the table's bytes: the records of its drives' places, and the end record
 unfoldable pub tableOf : Table → List ℕ
-tableOf b = bytesOf (drivesOf b)
+tableOf b = bytesOf (length (drivesOf b)) b
 
 -- write: 19 if the buffer is shorter, which then stays; else the bytes past the table stay
 unfoldable pub writeAnswer : Table → ℕ → Written
 writeAnswer b room = pick (ltb room (length (tableOf b))) (WriteRefused shortBuffer) (Bytes (length (tableOf b)))
 
+-- what is then in the buffer
 unfoldable pub writeOut : Table → List ℕ → List ℕ
 writeOut b out = pick (ltb (length out) (length (tableOf b))) out (tableOf b ++ drop (length (tableOf b)) out)
 
@@ -222,15 +242,21 @@ writtenNumbers (WriteRefused n) = n ∷ []
 abbrev pub firstDrives : List Drive → ℕ → Table
 firstDrives l n = record { drives = l; count = n }
 
+-- the drive at place i is taken after those before it
+abbrev pub takenAt : List Drive → ℕ → ℕ → Bool
+takenAt l store i = eqb (refusal (firstDrives l i) (getD l i noDrive) store) 0
+
 -- each of the first n drives is taken after those before it
 unfoldable pub soundTo : ℕ → List Drive → ℕ → Bool
-soundTo zero l store = true
-soundTo (suc n) l store = both (eqb (refusal (firstDrives l n) (getD l n noDrive) store) 0) (soundTo n l store)
+soundTo n l store = allBelow n (takenAt l store)
+
+-- place i is blank, if it is past the count
+abbrev pub blankAt : List Drive → ℕ → ℕ → Bool
+blankAt l count i = either (ltb i count) (isBlank (getD l i noDrive))
 
 -- of the first n places, those past the count are blank
 unfoldable pub blankTo : ℕ → List Drive → ℕ → Bool
-blankTo zero l count = true
-blankTo (suc n) l count = both (either (ltb n count) (isBlank (getD l n noDrive))) (blankTo n l count)
+blankTo n l count = allBelow n (blankAt l count)
 
 -- at most eight drives, each of which the reader would take, and blank places past them
 unfoldable pub isSound : Table → ℕ → Bool

@@ -1,9 +1,4 @@
-use Rattle.desk.proofs.Acceptances.{jobOk-tests}
-use mathlib.Core.Path.{_≡_, sym, _∙_}
-use mathlib.Core.Bool.{true, false}
-use borrow.Author.Tests.{not-true, not-false}
-use Rattle.int13.specs.Steps.{isDrive}
-use Rattle.desk.specs.Acceptable.{jobOk}
+use Rattle.desk.proofs.Acceptances.{job-tests}
 use borrow.Author.Needs.{needs}
 use Rattle.desk.proofs.job_ok.Statement.{statement}
 use Rattle.desk.proofs.job_ok.Tie as tie
@@ -14,25 +9,11 @@ use Rattle.desk.proofs.count_ok.Reads as count-ok-reads
 use Rattle.desk.proofs.packet_ok.Reads as packet-ok-reads
 use Rattle.desk.proofs.range_ok.Reads as range-ok-reads
 use Rattle.drive.proofs.is_protected.Reads as is-protected-reads
-use Rattle.int13.proofs.drive_at.Reads as drive-at-reads
 use Rattle.int13.proofs.function_of.Reads as function-of-reads
-use Rattle.int13.proofs.is_drive.Reads as is-drive-reads
 use Rattle.int13.proofs.is_sectors.Reads as is-sectors-reads
 use Rattle.int13.proofs.is_write.Reads as is-write-reads
 use Rattle.logic.proofs.and.Reads as and-reads
 use Rattle.logic.proofs.or.Reads as or-reads
-
-is-drive-requires : tie.Need-is-drive-requires
-is-drive-requires c κs = search needs
-
-returns : tie.Need-returns
-unfolding jobOk
-returns c =
-    let e : isDrive (c .before .before .args .b) (c .before .before .args .j .drive) ≡ false = sym (c .before .is-drive .ensures) ∙ not-true _ (c .if1 .taken) in
-    rw e
-
-drive-at-requires : tie.Need-drive-at-requires
-drive-at-requires c κs = search needs
 
 function-of-requires : tie.Need-function-of-requires
 function-of-requires c κs = search needs
@@ -82,21 +63,31 @@ and-requires-5 c κs = search needs
 and-requires-6 : tie.Need-and-requires-6
 and-requires-6 c κs = search needs
 
-returns-2 : tie.Need-returns-2
-returns-2 c =
-    let s = c .before .before .before .before .before .before .before .before .before .before .before .before .before .before .before .before .before .before .before in
-    let known = sym (c .before .before .before .before .before .before .before .before .before .before .before .before .before .before .before .before .before .before .is-drive .ensures) ∙ not-false _ (c .before .before .before .before .before .before .before .before .before .before .before .before .before .before .before .before .before .if1 .left) in
-    jobOk-tests (s .args .b) (s .args .m) (s .args .j) known (c .before .before .before .before .before .before .before .before .before .before .before .before .before .before .before .before .drive-at .ensures .1 known) (c .before .before .before .before .before .before .before .before .before .before .before .before .before .before .before .function-of .ensures) (c .before .before .before .before .before .before .before .before .before .before .before .before .before .before .is-sectors .ensures)
-    (c .before .before .before .before .before .before .before .before .before .before .before .before .before .or .ensures) (c .before .before .before .before .before .before .before .before .before .before .before .before .or2 .ensures) (c .before .before .before .before .before .before .before .before .before .before .before .is-write .ensures) (c .before .before .before .before .before .before .before .before .before .before .is-protected .ensures) (c .before .before .before .before .before .before .before .before .before .and .ensures) (c .before .before .before .before .before .before .before .before .blocks-end-by .ensures) (c .before .before .before .before .before .before .before .packet-ok .ensures) (c .before .before .before .before .before .before .and2 .ensures) (c .before .before .before .before .before .and3 .ensures)
-    (c .before .before .before .before .range-ok .ensures) (c .before .before .before .and4 .ensures) (c .before .before .count-ok .ensures) (c .before .and5 .ensures) (c .and6 .ensures)
+returns : tie.Need-returns
+returns c =
+    let s = c .before .before .before .before .before .before .before .before .before .before .before .before .before .before .before .before in
+    job-tests (s .args .d) (s .args .m) (s .args .j)
+    (c .before .before .before .before .before .before .before .before .before .before .before .before .before .before .before .function-of .ensures)
+    (c .before .before .before .before .before .before .before .before .before .before .before .before .before .before .is-sectors .ensures)
+    (c .before .before .before .before .before .before .before .before .before .before .before .before .before .or .ensures)
+    (c .before .before .before .before .before .before .before .before .before .before .before .before .or2 .ensures)
+    (c .before .before .before .before .before .before .before .before .before .before .before .is-write .ensures)
+    (c .before .before .before .before .before .before .before .before .before .before .is-protected .ensures)
+    (c .before .before .before .before .before .before .before .before .before .and .ensures)
+    (c .before .before .before .before .before .before .before .before .blocks-end-by .ensures)
+    (c .before .before .before .before .before .before .before .packet-ok .ensures)
+    (c .before .before .before .before .before .before .and2 .ensures)
+    (c .before .before .before .before .before .and3 .ensures)
+    (c .before .before .before .before .range-ok .ensures)
+    (c .before .before .before .and4 .ensures)
+    (c .before .before .count-ok .ensures)
+    (c .before .and5 .ensures)
+    (c .and6 .ensures)
 
 pub job-ok-spec : {M : Type 1} → statement M
 job-ok-spec =
     tie.close
     (tie.spec
-    is-drive-requires
-    returns
-    drive-at-requires
     function-of-requires
     is-sectors-requires
     or-requires
@@ -113,4 +104,4 @@ job-ok-spec =
     count-ok-requires
     and-requires-5
     and-requires-6
-    returns-2)
+    returns)

@@ -8,11 +8,9 @@ use Rattle.drive.proofs.record_length.Tie as tie
 use Rattle.drive.proofs.record_length.Reads as reads
 use Rattle.drive.proofs.record_length.Lts as lts
 
--- src/lib.rt:116:5
 cast-result : tie.Need-cast-result
 cast-result c = search needs
 
--- src/lib.rt:113:1
 returns : tie.Need-returns
 returns c =
     let d = c .args .d in

@@ -3,7 +3,7 @@ use native.Mathlib.Omega.{arith}
 use Prim.Native.Nat.{_≤_, _-_}
 use mathlib.Core.Path.{_≡_}
 use Rattle.table.specs.Table.{overlapsAny}
-use Rattle.table.proofs.Tables.{overlapsAny-more}
+use Rattle.logic.proofs.Logic.{some-more}
 use Rattle.table.proofs.overlaps_any.Statement.{statement}
 use Rattle.table.proofs.overlaps_any.Tie as tie
 use Rattle.table.proofs.overlaps_any.Reads as reads
@@ -17,43 +17,34 @@ Inv-loop d drives n found₀ i₀ found i = (i ≤ n) × (found ≡ overlapsAny 
 abbrev μ-loop : tie.MeasureT-loop
 μ-loop d drives n found₀ i₀ found i = n - i
 
--- src/lib.rt:128:5
 loop-holds : tie.Need-loop-holds Inv-loop μ-loop
 unfolding overlapsAny
 loop-holds c = search needs
 
--- src/lib.rt:129:17
 mul-e : tie.Need-mul-e Inv-loop μ-loop
 mul-e c = search needs
 
--- src/lib.rt:129:17
 array-copy-out-e : tie.Need-array-copy-out-e Inv-loop μ-loop
 array-copy-out-e c = search needs
 
--- src/lib.rt:130:27
 overlaps-requires : tie.Need-overlaps-requires Inv-loop μ-loop
 overlaps-requires c κs = search needs
 
--- src/lib.rt:130:9
 or-requires : tie.Need-or-requires Inv-loop μ-loop
 or-requires c κs = search needs
 
--- src/lib.rt:131:9
 add-i : tie.Need-add-i Inv-loop μ-loop
 add-i c = search needs
 
--- src/lib.rt:128:5
 loop-less : tie.Need-loop-less Inv-loop μ-loop
 loop-less c = search needs
 
--- src/lib.rt:128:5
 loop-again : tie.Need-loop-again Inv-loop μ-loop
+unfolding overlapsAny
 loop-again c =
     let h = c .before .before .before .before in
-    let a = h .before .before .args in
-    (search needs, overlapsAny-more (h .loop .i) (a .b .drives) (a .d) (h .loop .inv .1) (c .or .ensures) (c .before .overlaps .ensures))
+    (search needs, some-more (h .loop .i) _ (h .loop .inv .1) (c .or .ensures) (c .before .overlaps .ensures))
 
--- src/lib.rt:120:1
 returns : tie.Need-returns Inv-loop μ-loop
 returns c =
     let h = c .before in

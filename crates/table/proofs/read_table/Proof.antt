@@ -19,27 +19,21 @@ Inv-loop t store at₀ b₀ left₀ at b left = readFrom left t store at b ≡ r
 abbrev μ-loop : tie.MeasureT-loop
 μ-loop t store at₀ b₀ left₀ at b left = left
 
--- src/lib.rt:315:9
 empty-table-requires : tie.Need-empty-table-requires Inv-loop μ-loop
 empty-table-requires c κs = search needs
 
--- src/lib.rt:317:5
 loop-holds : tie.Need-loop-holds Inv-loop μ-loop
 loop-holds c = refl
 
--- src/lib.rt:318:13
 record-at-requires : tie.Need-record-at-requires Inv-loop μ-loop
 record-at-requires c κs = search needs
 
--- src/lib.rt:322:24
 enum-known-s : tie.Need-enum-known-s Inv-loop μ-loop
 enum-known-s c = search needs
 
--- src/lib.rt:327:29
 enum-told : tie.Need-enum-told Inv-loop μ-loop
 enum-told c = search needs
 
--- src/lib.rt:326:17
 returns : tie.Need-returns Inv-loop μ-loop
 unfolding readTable
 returns c =
@@ -48,11 +42,9 @@ returns c =
     readFrom-step (l .loop .left) (now (a .t)) (a .store) (l .loop .at) (l .loop .b) (c .before .before .before .before .loop-test .taken) (c .before .before .before .record-at .ensures) (c .enum-told .given .1)
     ∙ l .loop .inv ∙ ap (readFrom 9 (now (a .t)) (a .store) 0) (c .before .before .before .before .before .before .empty-table .ensures)
 
--- src/lib.rt:331:27
 enum-known-s-2 : tie.Need-enum-known-s-2 Inv-loop μ-loop
 enum-known-s-2 c = search needs
 
--- src/lib.rt:332:17
 returns-2 : tie.Need-returns-2 Inv-loop μ-loop
 unfolding readTable
 returns-2 c =
@@ -61,22 +53,18 @@ returns-2 c =
     readFrom-step (l .loop .left) (now (a .t)) (a .store) (l .loop .at) (l .loop .b) (c .before .before .before .before .before .loop-test .taken) (c .before .before .before .before .record-at .ensures) (c .before .s2 .given .1)
     ∙ l .loop .inv ∙ ap (readFrom 9 (now (a .t)) (a .store) 0) (c .before .before .before .before .before .before .before .empty-table .ensures)
 
--- src/lib.rt:338:9
 sub-left : tie.Need-sub-left Inv-loop μ-loop
 sub-left c = search needs
 
--- src/lib.rt:317:5
 loop-less : tie.Need-loop-less Inv-loop μ-loop
 loop-less c = search needs
 
--- src/lib.rt:317:5
 loop-again : tie.Need-loop-again Inv-loop μ-loop
 loop-again c =
     let l = c .before .before .before .before .before .before in
     let a = c .before .before .before .before .before .before .before .before .before .args in
     readFrom-step (l .loop .left) (now (a .t)) (a .store) (l .loop .at) (l .loop .b) (c .before .before .before .before .before .loop-test .taken) (c .before .before .before .before .record-at .ensures) (c .before .s .given .1) ∙ l .loop .inv
 
--- src/lib.rt:311:1
 returns-3 : tie.Need-returns-3 Inv-loop μ-loop
 unfolding readTable
 returns-3 c =

@@ -10,39 +10,31 @@ use Rattle.drive.proofs.fields_ok.Reads as fields-ok-reads
 use Rattle.drive.proofs.in_store.Reads as in-store-reads
 use Rattle.table.proofs.overlaps_any.Reads as overlaps-any-reads
 
--- src/lib.rt:150:9
 returns : tie.Need-returns
 unfolding refusal
 returns c = rw (le-leb _ _ (c .if1 .taken))
 
--- src/lib.rt:152:9
 fields-ok-requires : tie.Need-fields-ok-requires
 fields-ok-requires c κs = search needs
 
--- src/lib.rt:153:9
 returns-2 : tie.Need-returns-2
 unfolding refusal
 returns-2 c = rw (lt-leb _ _ (c .before .before .if1 .left), sym (c .before .fields-ok .ensures) ∙ not-true _ (c .if2 .taken))
 
--- src/lib.rt:155:9
 in-store-requires : tie.Need-in-store-requires
 in-store-requires c κs = search needs
 
--- src/lib.rt:156:9
 returns-3 : tie.Need-returns-3
 unfolding refusal
 returns-3 c = rw (lt-leb _ _ (c .before .before .before .before .if1 .left), sym (c .before .before .before .fields-ok .ensures) ∙ not-false _ (c .before .before .if2 .left), sym (c .before .in-store .ensures) ∙ not-true _ (c .if3 .taken))
 
--- src/lib.rt:158:8
 overlaps-any-requires : tie.Need-overlaps-any-requires
 overlaps-any-requires c κs = search needs
 
--- src/lib.rt:159:9
 returns-4 : tie.Need-returns-4
 unfolding refusal
 returns-4 c = rw (lt-leb _ _ (c .before .before .before .before .before .before .if1 .left), sym (c .before .before .before .before .before .fields-ok .ensures) ∙ not-false _ (c .before .before .before .before .if2 .left), sym (c .before .before .before .in-store .ensures) ∙ not-false _ (c .before .before .if3 .left), sym (c .before .overlaps-any .ensures) ∙ c .if4 .taken)
 
--- src/lib.rt:146:1
 returns-5 : tie.Need-returns-5
 unfolding refusal
 returns-5 c = rw (lt-leb _ _ (c .before .before .before .before .before .before .if1 .left), sym (c .before .before .before .before .before .fields-ok .ensures) ∙ not-false _ (c .before .before .before .before .if2 .left), sym (c .before .before .before .in-store .ensures) ∙ not-false _ (c .before .before .if3 .left), sym (c .before .overlaps-any .ensures) ∙ c .if4 .left)
