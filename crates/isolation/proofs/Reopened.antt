@@ -1,25 +1,23 @@
--- A table that stands in an accepted block is written and opened again as the same, from the table's own law.
+-- A table that stands in an accepted block, though no opening put it there, is written and opened again as the same.
 -- Assumes nothing.
-use Prim.Native.Nat.{ℕ, _/_, _<_, _≤_}
-use mathlib.Core.Path.{_≡_, refl, ap, _∙_}
-use mathlib.Core.Bool.{true}
-use mathlib.Core.List.{List, _++_}
+use Prim.Native.Nat.{ℕ, _<_}
+use mathlib.Core.Path.{ap}
 use native.Mathlib.Omega.{arith}
-use lib.ListN.{length, getD, drop}
-use lib.Dec.{leb, ltb}
+use lib.ListN.{length, getD}
+use lib.Dec.{leb}
 use borrow.Author.Tests.{leb-true, le-ltb}
 use Rattle.logic.proofs.Logic.{both-true}
-use Rattle.words.specs.Words.{Bytes}
 use Rattle.drive.specs.Drive.{Fits}
 use Rattle.table.specs.declared.Reading.{Reading}
 use Rattle.table.specs.Table.{noDrive, tableOf, isSound, writeAnswer, writeOut}
-use Rattle.memory.specs.Blocks.{blockLength}
+use Rattle.table.specs.Demand2.{Widths}
+use Rattle.table.proofs.ReadWrite.{read-written}
 use Rattle.desk.specs.declared.Desk.{Desk}
 use Rattle.desk.specs.Parts.{storeBlocks}
-use Rattle.desk.specs.Calls.{opened, openDesk, openAnswer, openOf, writtenOf, writtenOut}
-use Rattle.image.specs.Image.{deskOf, accepted, FitsDesk}
+use Rattle.desk.specs.Calls.{openDesk, openAnswer, openOf, writtenOf, writtenOut}
+use Rattle.image.specs.Image.{deskOf, FitsDesk}
 use Rattle.image.proofs.Laws.{exact}
-use Rattle.isolation.specs.Reopened.{ReadsBack, Reopened, ReopenedAll}
+use Rattle.isolation.specs.Reopened.{ReopenedAll}
 use Rattle.isolation.proofs.Accept.{Facts, accept-facts}
 
 -- each place in use fits its fields
@@ -29,12 +27,13 @@ each d f k i h =
     let l = leb-true (d .table .count) 8 (both-true (leb (d .table .count) 8) _ (k .sound) .0) in
     f .table .each i (omega arith) .numbers
 
-pub reopened : ReadsBack → ReopenedAll
+pub reopened : ReopenedAll
 unfolding openOf writtenOf writtenOut writeAnswer writeOut
-reopened law b h e =
+reopened b h e =
     let i = exact .only b h e in
     let k = accept-facts (deskOf b) .0 (i .acceptable) in
-    let r = law (deskOf b .table) (storeBlocks (deskOf b)) (i .fits .table .eight) (each (deskOf b) (i .fits) k) (k .sound) in
+    let w : Widths (deskOf b .table) = record { eight = i .fits .table .eight; each = each (deskOf b) (i .fits) k } in
+    let r = read-written (deskOf b .table) (storeBlocks (deskOf b)) w (k .sound) in
     record {
       written = λ out l. (
         rw (i .acceptable, le-ltb (length out) (length (tableOf (deskOf b .table))) l),

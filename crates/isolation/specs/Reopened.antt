@@ -1,26 +1,16 @@
 -- Demand 2 at a desk block: a table that stands in an accepted block, though no opening put it there, is written and opened again as the same.
 -- Assumes nothing.
-use Prim.Native.Nat.{ℕ, _<_, _≤_}
+use Prim.Native.Nat.{ℕ, _≤_}
 use mathlib.Core.Path.{_≡_}
 use mathlib.Core.Bool.{true}
 use mathlib.Core.List.{List, _++_}
-use lib.ListN.{length, getD, drop}
+use lib.ListN.{length, drop}
 use Rattle.words.specs.Words.{Bytes}
-use Rattle.drive.specs.Drive.{Fits}
-use Rattle.table.specs.declared.Table.{Table}
-use Rattle.table.specs.declared.Answer.the-variants.{Accepted}
 use Rattle.table.specs.declared.Written.the-variants.{Bytes as WrittenBytes}
-use Rattle.table.specs.Table.{mostDrives, noDrive, reading, readTable, tableOf, isSound}
+use Rattle.table.specs.Table.{tableOf}
 use Rattle.desk.specs.declared.OpenAnswer.the-variants.{Opened}
 use Rattle.desk.specs.Calls.{opened, openOf, writtenOf, writtenOut}
 use Rattle.image.specs.Image.{deskOf, accepted}
-
--- ---- "The drive table", read and written
-
--- whatever table obeys the rules, in its widths, what is written of it and read gives that table
-abbrev pub ReadsBack : Type 0
-ReadsBack = (b : Table) (store : ℕ) → length (b .drives) ≡ mostDrives → ((i : ℕ) → i < b .count → Fits (getD (b .drives) i noDrive))
-    → isSound b store ≡ true → readTable (tableOf b) store ≡ reading Accepted b
 
 -- ---- "Calls the host makes", write and open, at a block that is accepted, whoever made it
 
