@@ -84,7 +84,7 @@ accept d = both (isSound (d .table) (storeBlocks d)) (both (ltb (d .pointer) gue
 -- what acceptance says of the row that a turn serves, for k blocks of it, its drive's first store block, an arena of a bytes and a store of s
 pub record InRange (first : ℕ) (q : Request) (k g a s : ℕ) : Type 0 where
   pub guest : g < guests
-  pub turnBlocks : q .moved + k ≤ q .job .count
+  pub part : q .moved + k ≤ q .job .count
   pub buffer : q .job .buffer + blockLength * q .job .count ≤ windowLength a
   pub blocks : blockLength * (first + q .job .start + q .job .count) ≤ s
   pub arena : a < 2 ^ 64
