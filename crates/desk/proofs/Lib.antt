@@ -1,6 +1,7 @@
 pub mod Searches
 pub mod AcceptableLaws
 pub mod CallsLaws
+pub mod NumbersLaws
 pub mod Transfers
 pub mod Vectors
 pub mod AcceptVectors

@@ -18,6 +18,7 @@ ghost use Rattle.drive.specs.Drive.{geometryOf};
 ghost use Rattle.desk.specs.Parts.{ownWindow, withOwn, withStage, isWaiting, next, withPointer};
 ghost use Rattle.desk.specs.Acceptable.{packetOk, movedOk, jobRules, requestOk, stageOk, rowsOk, accept, InRange};
 ghost use mathlib.Core.List.{List, []};
+ghost use Rattle.table.specs.Table.{writtenNumbers};
 ghost use Rattle.layout.specs.Packet.{packetLength};
 ghost use Rattle.memory.specs.Window.{guests, windowLength, spanLength};
 ghost use Rattle.memory.specs.Blocks.{blockLength};
@@ -26,6 +27,7 @@ ghost use Rattle.int13.specs.Steps.{mostBlocks, mostRun};
 ghost use Rattle.desk.specs.declared.Stage.the-variants.{Waiting};
 ghost use Rattle.desk.specs.declared.TurnAnswer.the-variants.{Served};
 ghost use Rattle.desk.specs.Calls.{houseNumber, done, opened, openOf, writtenOf, writtenOut, postChecked, postOf, firstWaiting, quota, serviceOf, Copied, Transferred, turnOf, collectOf, withdrawnWindow, withdrawStage, withdrawOf};
+ghost use Rattle.desk.specs.Numbers.{openNumbers, postNumbers, turnNumbers, collectNumbers, withdrawNumbers, openGiven, writeGiven, postGiven, turnGiven, collectGiven, withdrawGiven};
 
 // A request with the number of blocks that have moved.
 pub struct Request {
@@ -457,7 +459,7 @@ impl Desk {
 
     // Reads the table; a desk with all rows vacant, or the table's refusal with its place and a desk at which every call is 25.
     pub fn open(t: &[u8], arena: u64, store: u64) -> Opening
-        ensures { λ r. ⌜ r ≡ openOf (now (t .entry)) arena store ⌝ }
+        ensures { λ r. ⌜ (r ≡ openOf (now (t .entry)) arena store) × (openNumbers (r .answer) ≡ openGiven (now (t .entry)) store) ⌝ }
     {
         let reading = table::read_table(t, store / BLOCK_LENGTH);
         let answer = reading.answer;
@@ -481,7 +483,7 @@ impl Desk {
 
     // Lays the drives out as a table again.
     pub fn write(self, out: &mut [u8]) -> Written
-        ensures { λ r. ⌜ (r ≡ writtenOf self (length (now (out .entry)))) × (now (out .exit) ≡ writtenOut self (now (out .entry))) ⌝ }
+        ensures { λ r. ⌜ (r ≡ writtenOf self (length (now (out .entry)))) × (now (out .exit) ≡ writtenOut self (now (out .entry))) × (writtenNumbers r ≡ writeGiven self (length (now (out .entry)))) ⌝ }
     {
         let number = house_number(self.accept(), true, true);
         if number != 0 {
@@ -516,7 +518,7 @@ impl Desk {
 
     // A guest's call: answered at once, or the row waits.
     pub fn post(self, guest: usize, registers: Registers, arena: &mut [u8], store: &[u8]) -> Posted
-        ensures { λ r. ⌜ done (r .desk) (r .answer) (now (arena .exit)) (now (store .entry)) ≡ postOf self guest registers (now (arena .entry)) (now (store .entry)) ⌝ }
+        ensures { λ r. ⌜ (done (r .desk) (r .answer) (now (arena .exit)) (now (store .entry)) ≡ postOf self guest registers (now (arena .entry)) (now (store .entry))) × (postNumbers (r .answer) ≡ postGiven self guest registers (now (arena .entry)) (now (store .entry))) ⌝ }
     {
         let number = house_number(
             self.accept(),
@@ -563,7 +565,7 @@ impl Desk {
 
     // Serves the first waiting row at or after the pointer.
     pub fn turn(self, arena: &mut [u8], store: &mut [u8]) -> Turned
-        ensures { λ r. ⌜ done (r .desk) (r .answer) (now (arena .exit)) (now (store .exit)) ≡ turnOf self (now (arena .entry)) (now (store .entry)) ⌝ }
+        ensures { λ r. ⌜ (done (r .desk) (r .answer) (now (arena .exit)) (now (store .exit)) ≡ turnOf self (now (arena .entry)) (now (store .entry))) × (turnNumbers (r .answer) ≡ turnGiven self (now (arena .entry)) (now (store .entry))) ⌝ }
     {
         let number = house_number(self.accept(), self.is_lent(arena.len(), store.len()), true);
         if number != 0 {
@@ -597,7 +599,7 @@ impl Desk {
 
     // A turn over a desk that is lent for change.
     pub fn turn_lent(&mut self, arena: &mut [u8], store: &mut [u8]) -> TurnAnswer
-        ensures { λ r. ⌜ done (now (self .exit)) r (now (arena .exit)) (now (store .exit)) ≡ turnOf (now (self .entry)) (now (arena .entry)) (now (store .entry)) ⌝ }
+        ensures { λ r. ⌜ (done (now (self .exit)) r (now (arena .exit)) (now (store .exit)) ≡ turnOf (now (self .entry)) (now (arena .entry)) (now (store .entry))) × (turnNumbers r ≡ turnGiven (now (self .entry)) (now (arena .entry)) (now (store .entry))) ⌝ }
     {
         let d = *self;
         let t = d.turn(arena, store);
@@ -607,7 +609,7 @@ impl Desk {
 
     // Hands the finished registers out and vacates the row.
     pub fn collect(self, guest: usize) -> Collected
-        ensures { λ r. ⌜ ((arena store : List ℕ) → done (r .desk) (r .answer) arena store ≡ collectOf self guest arena store) ⌝ }
+        ensures { λ r. ⌜ ((arena store : List ℕ) → done (r .desk) (r .answer) arena store ≡ collectOf self guest arena store) × (collectNumbers (r .answer) ≡ collectGiven self guest) ⌝ }
     {
         let number = house_number(self.accept(), true, guest < 8);
         if number != 0 {
@@ -652,7 +654,7 @@ impl Desk {
 
     // Ends a waiting request.
     pub fn withdraw(self, guest: usize, arena: &mut [u8], store: &[u8]) -> Withdrawn
-        ensures { λ r. ⌜ done (r .desk) (r .answer) (now (arena .exit)) (now (store .entry)) ≡ withdrawOf self guest (now (arena .entry)) (now (store .entry)) ⌝ }
+        ensures { λ r. ⌜ (done (r .desk) (r .answer) (now (arena .exit)) (now (store .entry)) ≡ withdrawOf self guest (now (arena .entry)) (now (store .entry))) × (withdrawNumbers (r .answer) ≡ withdrawGiven self guest (now (arena .entry)) (now (store .entry))) ⌝ }
     {
         let number = house_number(
             self.accept(),

@@ -24,7 +24,7 @@ ghost use Rattle.int13.specs.Steps.{fed, begin};
 ghost use Rattle.desk.specs.Parts.{ownWindow, withOwn, next};
 ghost use Rattle.desk.specs.Acceptable.{accept};
 ghost use Rattle.desk.specs.Calls.{houseNumber};
-ghost use Rattle.desk.specs.Numbers.{registerNumbers};
+ghost use Rattle.int13.specs.Answers.{registerNumbers};
 ghost use Rattle.image.specs.Image.{deskSize, readDesk, deskOf, putStage, putPointer};
 ghost use Rattle.exports.specs.Exports.{version, effect, openCall, writeCall, postCall, turnCall, collectCall, withdrawCall, windowCall, blockCall, addressCall};
 

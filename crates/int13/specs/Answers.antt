@@ -89,11 +89,11 @@ posted r = record { ax = r .ax; bx = r .bx; cx = r .cx; dx = r .dx; ds = r .ds; 
 abbrev pub registerNumbers : Registers → List ℕ
 registerNumbers r = r .ax ∷ r .bx ∷ r .cx ∷ r .dx ∷ r .ds ∷ r .si ∷ r .es ∷ pick (r .carry) 1 0 ∷ []
 
--- the paper has no number for a call that waits: 256, as the desk's calls answer it, is no code and no house number
-abbrev pub waiting : ℕ
-waiting = 256
+-- 256: a call or a row waits, or a turn is idle; document 01 gives none of them a number, and has no number 256
+abbrev pub nothingYet : ℕ
+nothingYet = 256
 
 -- 0 and the registers; or 256, what the request asks, and the registers that its row keeps
 unfoldable pub outcomeNumbers : Outcome → List ℕ
 outcomeNumbers (Answered r) = 0 ∷ registerNumbers r
-outcomeNumbers (Waits j) = waiting ∷ j .drive ∷ j .start ∷ j .count ∷ j .buffer ∷ j .packet ∷ registerNumbers (j .registers)
+outcomeNumbers (Waits j) = nothingYet ∷ j .drive ∷ j .start ∷ j .count ∷ j .buffer ∷ j .packet ∷ registerNumbers (j .registers)

@@ -13,8 +13,9 @@ ghost use Prim.Native.Nat.{_+_, _-_, _≤_};
 ghost use lib.Dec.{ltb, eqb};
 ghost use Rattle.logic.specs.Logic.{either};
 ghost use Rattle.chs.specs.declared.ToBlock.the-variants.{Block};
-ghost use Rattle.int13.specs.Answers.{ah, al, dl, isSectors, isWrite, answer, succeed, stop, refuse, withdraw, posted};
+ghost use Rattle.int13.specs.Answers.{ah, al, dl, isSectors, isWrite, answer, succeed, stop, refuse, withdraw, posted, outcomeNumbers};
 ghost use Rattle.int13.specs.Steps.{driveCount, isDrive, driveAt, driveIn, fed, packetPlace, verifyOk, packetJob, packetTests, packetRead, packetPlan, extended, seekRead, seek, sectorBuffer, sectorJob, sectorRun, sectors, geometryGiven, parameters, extensionsGiven, extensions, resultGiven, result, steps, begin};
+ghost use Rattle.int13.specs.Numbers.{stepsGiven, beginGiven};
 
 // The registers of a call.
 pub struct Registers {
@@ -548,7 +549,7 @@ fn is_extended(f: u8) -> bool
 // table; `count`: how many drives there are; `d`: the drive that DL names, any one where there is none. The window is written by 48h and
 // by a refused 42h, 43h or 44h only. A function that is not named here is refused with 01h.
 pub fn steps(known: bool, count: u8, d: Drive, r: Registers, window: &mut [u8]) -> Outcome
-    ensures { λ o. ⌜ (o ≡ steps known count d r (now (window .entry)) .outcome) × (now (window .exit) ≡ steps known count d r (now (window .entry)) .window) ⌝ }
+    ensures { λ o. ⌜ (o ≡ steps known count d r (now (window .entry)) .outcome) × (now (window .exit) ≡ steps known count d r (now (window .entry)) .window) × (outcomeNumbers o ≡ stepsGiven known count d r (now (window .entry))) ⌝ }
 {
     let f = function_of(r);
     if is_sectors(f) {
@@ -574,7 +575,7 @@ pub fn steps(known: bool, count: u8, d: Drive, r: Registers, window: &mut [u8]) 
 
 // A call begun at a whole table: the steps over the drive that DL names, with what they write.
 pub fn begin(b: Table, r: Registers, window: &mut [u8]) -> Outcome
-    ensures { λ o. ⌜ (o ≡ begin (fed b) r (now (window .entry)) .outcome) × (now (window .exit) ≡ begin (fed b) r (now (window .entry)) .window) ⌝ }
+    ensures { λ o. ⌜ (o ≡ begin (fed b) r (now (window .entry)) .outcome) × (now (window .exit) ≡ begin (fed b) r (now (window .entry)) .window) × (outcomeNumbers o ≡ beginGiven b r (now (window .entry))) ⌝ }
 {
     let n = dl(r);
     let known = is_drive(b, n);

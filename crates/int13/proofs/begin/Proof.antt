@@ -4,6 +4,7 @@ use denote.Ref.{now}
 use Rattle.int13.specs.Answers.{dl}
 use Rattle.int13.specs.Steps.{Checked, isDrive, driveNamed, fed, steps, begin}
 use Rattle.int13.proofs.StepsLaws.{begin-steps}
+use Rattle.int13.proofs.Numbers.{begin-answered}
 use borrow.Author.Needs.{needs}
 use Rattle.int13.proofs.begin.Statement.{statement}
 use Rattle.int13.proofs.begin.Tie as tie
@@ -41,7 +42,7 @@ returns c =
     let named : isDrive (a .b) (dl (a .r)) ≡ true → c .before .before .before .before .drive-at .result ≡ driveNamed (a .b) (a .r)
     = λ e. rw number at (c .before .before .before .before .drive-at .ensures .1 (ap (isDrive (a .b)) number ∙ e)) in
     let same = begin-steps (a .b) (a .r) (now (a .window)) known (c .before .before .before .before .before .drive-count .ensures .0) named in
-    (c .before .before .steps .ensures .0 ∙ ap (λ (k : Checked). k .outcome) same, c .before .before .steps .ensures .1 ∙ ap (λ (k : Checked). k .window) same)
+    begin-answered (a .b) (a .r) (now (a .window)) (c .before .before .steps .ensures .0 ∙ ap (λ (k : Checked). k .outcome) same) (c .before .before .steps .ensures .1 ∙ ap (λ (k : Checked). k .window) same)
 
 pub begin-spec : {M : Type 1} → statement M
 begin-spec = tie.close (tie.spec dl-requires is-drive-requires drive-count-requires drive-at-requires steps-requires same-length returns)

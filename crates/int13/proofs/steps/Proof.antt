@@ -1,10 +1,12 @@
 use mathlib.Core.Path.{_≡_, sym, _∙_}
 use mathlib.Core.Bool.{true, false}
+use denote.Ref.{now}
 use lib.Dec.{eqb}
 use borrow.Author.Tests.{eq-eqb, ne-eqb}
 use Rattle.logic.specs.Logic.{either}
 use Rattle.int13.specs.Answers.{ah, isSectors}
 use Rattle.int13.specs.Steps.{steps}
+use Rattle.int13.proofs.Numbers.{steps-answered}
 use borrow.Author.Needs.{needs}
 use Rattle.int13.proofs.steps.Statement.{statement}
 use Rattle.int13.proofs.steps.Tie as tie
@@ -54,7 +56,10 @@ returns : tie.Need-returns
 unfolding steps
 returns c =
     let this : isSectors (ah (c .before .before .before .before .before .args .r)) ≡ true = rw (c .before .before .before .function-of .ensures) at (sym (c .before .before .is-sectors .ensures) ∙ c .before .if1 .taken) in
-    (rw this (c .sectors-02-03 .ensures), rw this)
+    let a = c .before .before .before .before .before .args in
+    steps-answered (a .known) (a .count) (a .d) (a .r) (now (a .window))
+    (rw this (c .sectors-02-03 .ensures))
+    (rw this)
 
 parameters-08-requires : tie.Need-parameters-08-requires
 parameters-08-requires c κs = search needs
@@ -63,7 +68,10 @@ returns-2 : tie.Need-returns-2
 unfolding steps
 returns-2 c =
     let this : eqb (ah (c .before .before .before .before .before .before .args .r)) 0x08 ≡ true = eq-eqb _ _ (sym (c .before .before .before .before .function-of .ensures) ∙ c .before .if2 .taken) in
-    (rw (not-sectors (c .before .before), this) (c .parameters-08 .ensures), rw (not-sectors (c .before .before), this))
+    let a = c .before .before .before .before .before .before .args in
+    steps-answered (a .known) (a .count) (a .d) (a .r) (now (a .window))
+    (rw (not-sectors (c .before .before), this) (c .parameters-08 .ensures))
+    (rw (not-sectors (c .before .before), this))
 
 extensions-41-requires : tie.Need-extensions-41-requires
 extensions-41-requires c κs = search needs
@@ -72,7 +80,10 @@ returns-3 : tie.Need-returns-3
 unfolding steps
 returns-3 c =
     let this : eqb (ah (c .before .before .before .before .before .before .before .args .r)) 0x41 ≡ true = eq-eqb _ _ (sym (c .before .before .before .before .before .function-of .ensures) ∙ c .before .if3 .taken) in
-    (rw (not-sectors (c .before .before .before), not-parameters (c .before .before), this) (c .extensions-41 .ensures), rw (not-sectors (c .before .before .before), not-parameters (c .before .before), this))
+    let a = c .before .before .before .before .before .before .before .args in
+    steps-answered (a .known) (a .count) (a .d) (a .r) (now (a .window))
+    (rw (not-sectors (c .before .before .before), not-parameters (c .before .before), this) (c .extensions-41 .ensures))
+    (rw (not-sectors (c .before .before .before), not-parameters (c .before .before), this))
 
 is-extended-requires : tie.Need-is-extended-requires
 is-extended-requires c κs = search needs
@@ -87,7 +98,10 @@ returns-4 : tie.Need-returns-4
 unfolding steps
 returns-4 c =
     let this : either (eqb (ah (c .before .before .before .before .before .before .before .before .before .before .before .before .args .r)) 0x42) (either (eqb (ah (c .before .before .before .before .before .before .before .before .before .before .before .before .args .r)) 0x43) (eqb (ah (c .before .before .before .before .before .before .before .before .before .before .before .before .args .r)) 0x44)) ≡ true = rw (c .before .before .before .before .before .before .before .before .before .before .function-of .ensures) at (sym (c .before .before .before .before .before .is-extended .ensures) ∙ c .before .before .before .before .if4 .taken) in
-    (rw (not-sectors (c .before .before .before .before .before .before .before .before), not-parameters (c .before .before .before .before .before .before .before), not-extensions (c .before .before .before .before .before .before), this) (c .before .before .extended-42-43-44 .ensures .0), rw (not-sectors (c .before .before .before .before .before .before .before .before), not-parameters (c .before .before .before .before .before .before .before), not-extensions (c .before .before .before .before .before .before), this) (c .before .before .extended-42-43-44 .ensures .1))
+    let a = c .before .before .before .before .before .before .before .before .before .before .before .before .args in
+    steps-answered (a .known) (a .count) (a .d) (a .r) (now (a .window))
+    (rw (not-sectors (c .before .before .before .before .before .before .before .before), not-parameters (c .before .before .before .before .before .before .before), not-extensions (c .before .before .before .before .before .before), this) (c .before .before .extended-42-43-44 .ensures .0))
+    (rw (not-sectors (c .before .before .before .before .before .before .before .before), not-parameters (c .before .before .before .before .before .before .before), not-extensions (c .before .before .before .before .before .before), this) (c .before .before .extended-42-43-44 .ensures .1))
 
 seek-47-requires : tie.Need-seek-47-requires
 seek-47-requires c κs = search needs
@@ -99,7 +113,10 @@ returns-5 : tie.Need-returns-5
 unfolding steps
 returns-5 c =
     let this : eqb (ah (c .before .before .before .before .before .before .before .before .before .before .before .args .r)) 0x47 ≡ true = eq-eqb _ _ (sym (c .before .before .before .before .before .before .before .before .before .function-of .ensures) ∙ c .before .before .if5 .taken) in
-    (rw (not-sectors (c .before .before .before .before .before .before .before), not-parameters (c .before .before .before .before .before .before), not-extensions (c .before .before .before .before .before), not-extended (c .before .before .before), this) (c .seek-47 .ensures), rw (not-sectors (c .before .before .before .before .before .before .before), not-parameters (c .before .before .before .before .before .before), not-extensions (c .before .before .before .before .before), not-extended (c .before .before .before), this))
+    let a = c .before .before .before .before .before .before .before .before .before .before .before .args in
+    steps-answered (a .known) (a .count) (a .d) (a .r) (now (a .window))
+    (rw (not-sectors (c .before .before .before .before .before .before .before), not-parameters (c .before .before .before .before .before .before), not-extensions (c .before .before .before .before .before), not-extended (c .before .before .before), this) (c .seek-47 .ensures))
+    (rw (not-sectors (c .before .before .before .before .before .before .before), not-parameters (c .before .before .before .before .before .before), not-extensions (c .before .before .before .before .before), not-extended (c .before .before .before), this))
 
 result-48-requires : tie.Need-result-48-requires
 result-48-requires c κs = search needs
@@ -111,14 +128,21 @@ returns-6 : tie.Need-returns-6
 unfolding steps
 returns-6 c =
     let this : eqb (ah (c .before .before .before .before .before .before .before .before .before .before .before .before .before .before .args .r)) 0x48 ≡ true = eq-eqb _ _ (sym (c .before .before .before .before .before .before .before .before .before .before .before .before .function-of .ensures) ∙ c .before .before .before .before .if6 .taken) in
-    (rw (not-sectors (c .before .before .before .before .before .before .before .before .before .before), not-parameters (c .before .before .before .before .before .before .before .before .before), not-extensions (c .before .before .before .before .before .before .before .before), not-extended (c .before .before .before .before .before .before), not-seek (c .before .before .before .before .before), this) (c .before .before .result-48 .ensures .0), rw (not-sectors (c .before .before .before .before .before .before .before .before .before .before), not-parameters (c .before .before .before .before .before .before .before .before .before), not-extensions (c .before .before .before .before .before .before .before .before), not-extended (c .before .before .before .before .before .before), not-seek (c .before .before .before .before .before), this) (c .before .before .result-48 .ensures .1))
+    let a = c .before .before .before .before .before .before .before .before .before .before .before .before .before .before .args in
+    steps-answered (a .known) (a .count) (a .d) (a .r) (now (a .window))
+    (rw (not-sectors (c .before .before .before .before .before .before .before .before .before .before), not-parameters (c .before .before .before .before .before .before .before .before .before), not-extensions (c .before .before .before .before .before .before .before .before), not-extended (c .before .before .before .before .before .before), not-seek (c .before .before .before .before .before), this) (c .before .before .result-48 .ensures .0))
+    (rw (not-sectors (c .before .before .before .before .before .before .before .before .before .before), not-parameters (c .before .before .before .before .before .before .before .before .before), not-extensions (c .before .before .before .before .before .before .before .before), not-extended (c .before .before .before .before .before .before), not-seek (c .before .before .before .before .before), this) (c .before .before .result-48 .ensures .1))
 
 refuse-requires : tie.Need-refuse-requires
 refuse-requires c κs = search needs
 
 returns-7 : tie.Need-returns-7
 unfolding steps
-returns-7 c = (rw (c .refuse .ensures, not-sectors (c .before .before .before .before .before .before .before), not-parameters (c .before .before .before .before .before .before), not-extensions (c .before .before .before .before .before), not-extended (c .before .before .before), not-seek (c .before .before), not-result (c .before)), rw (not-sectors (c .before .before .before .before .before .before .before), not-parameters (c .before .before .before .before .before .before), not-extensions (c .before .before .before .before .before), not-extended (c .before .before .before), not-seek (c .before .before), not-result (c .before)))
+returns-7 c =
+    let a = c .before .before .before .before .before .before .before .before .before .before .before .args in
+    steps-answered (a .known) (a .count) (a .d) (a .r) (now (a .window))
+    (rw (c .refuse .ensures, not-sectors (c .before .before .before .before .before .before .before), not-parameters (c .before .before .before .before .before .before), not-extensions (c .before .before .before .before .before), not-extended (c .before .before .before), not-seek (c .before .before), not-result (c .before)))
+    (rw (not-sectors (c .before .before .before .before .before .before .before), not-parameters (c .before .before .before .before .before .before), not-extensions (c .before .before .before .before .before), not-extended (c .before .before .before), not-seek (c .before .before), not-result (c .before)))
 
 pub steps-spec : {M : Type 1} → statement M
 steps-spec =

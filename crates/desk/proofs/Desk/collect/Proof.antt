@@ -10,6 +10,7 @@ use Rattle.desk.specs.Parts.{stageAt}
 use Rattle.desk.specs.Acceptable.{accept}
 use Rattle.desk.specs.Calls.{houseNumber, done, collectStage, collectOf}
 use Rattle.desk.proofs.CallsLaws.{house-tests, house-refused, Passed, house-passed, collect-other, collect-finished}
+use Rattle.desk.proofs.NumbersLaws.{collect-answered}
 use borrow.Author.Needs.{needs}
 use Rattle.desk.proofs.Desk.collect.Statement.{statement}
 use Rattle.desk.proofs.Desk.collect.Tie as tie
@@ -42,7 +43,8 @@ house-number-requires c κs = search needs
 returns : tie.Need-returns
 unfolding collectOf
 returns c =
-    λ arena store. house-refused _ _ _ (λ n. done (desk (c .before)) (CollectRefused n) arena store) (collectStage (desk (c .before)) (guest (c .before)) (stageAt (desk (c .before)) (guest (c .before))) arena store) (number (c .before)) (c .if1 .taken)
+    collect-answered (desk (c .before)) (guest (c .before))
+    (λ arena store. house-refused _ _ _ (λ n. done (desk (c .before)) (CollectRefused n) arena store) (collectStage (desk (c .before)) (guest (c .before)) (stageAt (desk (c .before)) (guest (c .before))) arena store) (number (c .before)) (c .if1 .taken))
 
 mul-row : tie.Need-mul-row
 mul-row c = omega (arith, below c)
@@ -54,7 +56,9 @@ enum-known-stage : tie.Need-enum-known-stage
 enum-known-stage c = search needs
 
 returns-2 : tie.Need-returns-2
-returns-2 c = λ arena store. collect-other (desk (c .before .before .before)) (guest (c .before .before .before)) arena store (passed (c .before .before)) (c .match .keys2)
+returns-2 c =
+    collect-answered (desk (c .before .before .before)) (guest (c .before .before .before))
+    (λ arena store. collect-other (desk (c .before .before .before)) (guest (c .before .before .before)) arena store (passed (c .before .before)) (c .match .keys2))
 
 mul-t14 : tie.Need-mul-t14
 mul-t14 c = omega (arith, below (c .before .before .before .before))
@@ -63,7 +67,9 @@ element-set-from-next : tie.Need-element-set-from-next
 element-set-from-next c = omega (arith, below (c .before .before .before .before))
 
 returns-3 : tie.Need-returns-3
-returns-3 c = λ arena store. collect-finished (desk (c .before .before .before .before .before)) (guest (c .before .before .before .before .before)) arena store (passed (c .before .before .before .before)) (c .before .stage .given .0 .0) (c .before .stage .given .1)
+returns-3 c =
+    collect-answered (desk (c .before .before .before .before .before)) (guest (c .before .before .before .before .before))
+    (λ arena store. collect-finished (desk (c .before .before .before .before .before)) (guest (c .before .before .before .before .before)) arena store (passed (c .before .before .before .before)) (c .before .stage .given .0 .0) (c .before .stage .given .1))
 
 pub collect-spec : {M : Type 1} → statement M
 collect-spec =

@@ -1,5 +1,6 @@
 use mathlib.Core.Path.{_≡_, sym, ap, _∙_}
 use Rattle.desk.specs.Calls.{openOf}
+use Rattle.desk.proofs.NumbersLaws.{open-answered}
 use borrow.Author.Needs.{needs}
 use Rattle.desk.proofs.Desk.open.Statement.{statement}
 use Rattle.desk.proofs.Desk.open.Tie as tie
@@ -29,11 +30,11 @@ vacant-requires-2 c κs = search needs
 
 returns : tie.Need-returns
 unfolding openOf
-returns c = rw (c .vacant .ensures, ← c .before .before .before .before .read-table .ensures .reading, c .before .before .enum-told .given .1)
+returns c = open-answered _ _ _ (rw (c .vacant .ensures, ← c .before .before .before .before .read-table .ensures .reading, c .before .before .enum-told .given .1))
 
 returns-2 : tie.Need-returns-2
 unfolding openOf
-returns-2 c = rw (c .vacant2 .ensures, c .before .empty-table .ensures, ← c .before .before .before .before .before .read-table .ensures .reading, c .before .before .before .answer .given .1)
+returns-2 c = open-answered _ _ _ (rw (c .vacant2 .ensures, c .before .empty-table .ensures, ← c .before .before .before .before .before .read-table .ensures .reading, c .before .before .before .answer .given .1))
 
 pub open-spec : {M : Type 1} → statement M
 open-spec =

@@ -15,6 +15,7 @@ use Rattle.desk.specs.Parts.{stageAt}
 use Rattle.desk.specs.Acceptable.{accept}
 use Rattle.desk.specs.Calls.{houseNumber, isLent, done, postRow, postOf}
 use Rattle.desk.proofs.CallsLaws.{house-tests, house-refused, Passed, house-passed, post-other, post-vacant}
+use Rattle.desk.proofs.NumbersLaws.{post-answered}
 use borrow.Author.Needs.{needs}
 use Rattle.desk.proofs.Desk.post.Statement.{statement}
 use Rattle.desk.proofs.Desk.post.Tie as tie
@@ -62,7 +63,8 @@ returns : tie.Need-returns
 unfolding postOf
 returns c =
     let h = c .before in
-    house-refused _ _ _ (λ n. done (desk h) (PostRefused n) (arena h) (store h)) (postRow (desk h) (guest h) (h .before .before .before .before .before .args .registers) (arena h) (store h) (stageAt (desk h) (guest h))) (number h) (c .if1 .taken)
+    post-answered (desk h) (guest h) (h .before .before .before .before .before .args .registers) (arena h) (store h)
+    (house-refused _ _ _ (λ n. done (desk h) (PostRefused n) (arena h) (store h)) (postRow (desk h) (guest h) (h .before .before .before .before .before .args .registers) (arena h) (store h) (stageAt (desk h) (guest h))) (number h) (c .if1 .taken))
 
 mul-row : tie.Need-mul-row
 mul-row c = omega (arith, below c)
@@ -76,7 +78,8 @@ enum-told c = search needs
 returns-2 : tie.Need-returns-2
 returns-2 c =
     let h = c .before .before .before in
-    post-other (desk h) (guest h) (arena h) (store h) (passed (c .before .before)) (h .before .before .before .before .before .args .registers) (c .match .keys2)
+    post-answered (desk h) (guest h) (h .before .before .before .before .before .args .registers) (arena h) (store h)
+    (post-other (desk h) (guest h) (arena h) (store h) (passed (c .before .before)) (h .before .before .before .before .before .args .registers) (c .match .keys2))
 
 window-length-requires : tie.Need-window-length-requires
 window-length-requires c κs = search needs
@@ -113,11 +116,12 @@ returns-3 c =
     let part : take (o .result .end - o .result .start) (drop (o .result .start) (arena h)) ≡ windowOf (arena h) (guest h) own = rw (e, o .ensures .0, m) in
     let k = c .before .before .before .begin in
     let n : length (k .last .1 .1 .0) ≡ spanLength (length (arena h)) (guest h) own = k .kept .1 .1 .0 ∙ ap length part ∙ length-window (arena h) (guest h) own in
-    rw (e, o .ensures .0, m)
+    post-answered (desk h) (guest h) r (arena h) (store h)
+    (rw (e, o .ensures .0, m)
     (ap (λ (x : List ℕ). done (c .posted .result .desk) (c .posted .result .answer) x (store h)) (with-window-lent (arena h) (guest h) own (k .last .1 .1 .0) n)
     ∙ post-vacant (desk h) (guest h) (arena h) (store h) (passed (c .before .before .before .before .before .before .before .before .before .before .before)) r (c .before .before .before .before .before .before .before .before .enum-told .given .1)
     (k .ensures .0 ∙ ap (λ (x : List ℕ). begin (fed (desk h .table)) r x .outcome) part) (k .ensures .1 ∙ ap (λ (x : List ℕ). begin (fed (desk h .table)) r x .window) part)
-    (c .posted .ensures .0) (c .posted .ensures .1))
+    (c .posted .ensures .0) (c .posted .ensures .1)))
 
 pub post-spec : {M : Type 1} → statement M
 post-spec =

@@ -13,6 +13,7 @@ use Rattle.desk.specs.Acceptable.{accept}
 use Rattle.desk.specs.Calls.{houseNumber, isLent, done, firstWaiting, Transferred, turnNext, turnOf}
 use Rattle.desk.proofs.AcceptableLaws.{accept-true, Waits}
 use Rattle.desk.proofs.CallsLaws.{house-tests, house-refused, Passed, house-passed, turn-nobody, turn-other, turn-served, seek-below, waiting-facts, in-range}
+use Rattle.desk.proofs.NumbersLaws.{turn-answered}
 use borrow.Author.Needs.{needs}
 use Rattle.desk.proofs.Desk.turn.Statement.{statement}
 use Rattle.desk.proofs.Desk.turn.Tie as tie
@@ -69,7 +70,8 @@ returns : tie.Need-returns
 unfolding turnOf
 returns c =
     let h = c .before in
-    house-refused _ _ _ (λ n. done (desk h) (TurnRefused n) (arena h) (store h)) (turnNext (desk h) (firstWaiting (desk h .rows) 8 (desk h .pointer)) (arena h) (store h)) (number h) (c .if1 .taken)
+    turn-answered (desk h) (arena h) (store h)
+    (house-refused _ _ _ (λ n. done (desk h) (TurnRefused n) (arena h) (store h)) (turnNext (desk h) (firstWaiting (desk h .rows) 8 (desk h .pointer)) (arena h) (store h)) (number h) (c .if1 .taken))
 
 next-waiting-requires : tie.Need-next-waiting-requires
 next-waiting-requires c κs = accept-true (desk (c .before .before)) (passed (c .before) .acceptable) .pointer
@@ -83,7 +85,8 @@ enum-told c = search needs
 returns-2 : tie.Need-returns-2
 returns-2 c =
     let h = c .before .before .before .before .before in
-    turn-nobody (desk h) (arena h) (store h) (passed (c .before .before .before .before)) (sym (c .before .before .next-waiting .ensures) ∙ c .enum-told .given .1)
+    turn-answered (desk h) (arena h) (store h)
+    (turn-nobody (desk h) (arena h) (store h) (passed (c .before .before .before .before)) (sym (c .before .before .next-waiting .ensures) ∙ c .enum-told .given .1))
 
 mul-row : tie.Need-mul-row
 mul-row c = omega (arith, below c)
@@ -97,7 +100,8 @@ enum-known-stage c = search needs
 returns-3 : tie.Need-returns-3
 returns-3 c =
     let h = c .before .before .before .before .before .before .before .before in
-    turn-other (desk h) (arena h) (store h) (passed (c .before .before .before .before .before .before .before)) (guest (c .before .before)) (found (c .before .before)) (c .match2 .keys2)
+    turn-answered (desk h) (arena h) (store h)
+    (turn-other (desk h) (arena h) (store h) (passed (c .before .before .before .before .before .before .before)) (guest (c .before .before)) (found (c .before .before)) (c .match2 .keys2))
 
 drive-at-requires : tie.Need-drive-at-requires
 drive-at-requires c κs = search needs
@@ -128,7 +132,8 @@ returns-4 c =
     let w = c .before .before .before .before .before .before .before .before .before .before .before .before .before .before .before in
     let s = c .before .before .before .before .before .before .before .before .before .before .before .before .stage in
     let t : Transferred (driveAt (desk h .table) (s .given .0 .0 .job .drive) .first) (s .given .0 .0) (c .before .before .before .before .before .before .before .before .service-of .result .moved) (guest w) (arena h) (store h) _ _ = rw (c .before .before .before .before .before .before .before .before .before .drive-at .ensures .1 (facts (c .before .before .before .before .before .before .before .before .before .before .before) .job .drive)) at (c .before .before .before .before .before .transfer .ensures) in
-    turn-served (desk h) (arena h) (store h) (passed (c .before .before .before .before .before .before .before .before .before .before .before .before .before .before .before .before .before .before .before .before)) (guest w) (s .given .0 .0) (found w) (s .given .1) (c .before .before .before .before .before .before .before .before .service-of .ensures) (c .served .ensures .0) (c .served .ensures .1) t
+    turn-answered (desk h) (arena h) (store h)
+    (turn-served (desk h) (arena h) (store h) (passed (c .before .before .before .before .before .before .before .before .before .before .before .before .before .before .before .before .before .before .before .before)) (guest w) (s .given .0 .0) (found w) (s .given .1) (c .before .before .before .before .before .before .before .before .service-of .ensures) (c .served .ensures .0) (c .served .ensures .1) t)
 
 pub turn-spec : {M : Type 1} → statement M
 turn-spec =

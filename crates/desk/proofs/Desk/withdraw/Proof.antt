@@ -12,6 +12,7 @@ use Rattle.desk.specs.Parts.{stageAt}
 use Rattle.desk.specs.Acceptable.{accept}
 use Rattle.desk.specs.Calls.{houseNumber, isLent, done, withdrawStage, withdrawOf}
 use Rattle.desk.proofs.CallsLaws.{house-tests, house-refused, Passed, house-passed, withdraw-other, withdraw-waiting, Report, report-facts}
+use Rattle.desk.proofs.NumbersLaws.{withdraw-answered}
 use borrow.Author.Needs.{needs}
 use Rattle.desk.proofs.Desk.withdraw.Statement.{statement}
 use Rattle.desk.proofs.Desk.withdraw.Tie as tie
@@ -63,7 +64,8 @@ returns : tie.Need-returns
 unfolding withdrawOf
 returns c =
     let h = c .before in
-    house-refused _ _ _ (λ n. done (desk h) (WithdrawRefused n) (arena h) (store h)) (withdrawStage (desk h) (guest h) (stageAt (desk h) (guest h)) (arena h) (store h)) (number h) (c .if1 .taken)
+    withdraw-answered (desk h) (guest h) (arena h) (store h)
+    (house-refused _ _ _ (λ n. done (desk h) (WithdrawRefused n) (arena h) (store h)) (withdrawStage (desk h) (guest h) (stageAt (desk h) (guest h)) (arena h) (store h)) (number h) (c .if1 .taken))
 
 mul-row : tie.Need-mul-row
 mul-row c = omega (arith, below c)
@@ -77,7 +79,8 @@ enum-known-stage c = search needs
 returns-2 : tie.Need-returns-2
 returns-2 c =
     let h = c .before .before .before in
-    withdraw-other (desk h) (guest h) (arena h) (store h) (passed (c .before .before)) (c .match .keys2)
+    withdraw-answered (desk h) (guest h) (arena h) (store h)
+    (withdraw-other (desk h) (guest h) (arena h) (store h) (passed (c .before .before)) (c .match .keys2))
 
 report-moved-requires : tie.Need-report-moved-requires
 report-moved-requires c κs = let f = facts (c .before) in (f .guest, f .packet, f .moved)
@@ -92,7 +95,8 @@ returns-3 : tie.Need-returns-3
 returns-3 c =
     let h = c .before .before .before .before .before .before .before .before .before .before in
     let s = c .before .before .before .before .before .before .stage in
-    withdraw-waiting (desk h) (guest h) (arena h) (store h) (passed (c .before .before .before .before .before .before .before .before .before)) (s .given .0 .0) (s .given .1) (c .withdrawn .ensures .0) (c .withdrawn .ensures .1) (c .before .before .before .report-moved .ensures)
+    withdraw-answered (desk h) (guest h) (arena h) (store h)
+    (withdraw-waiting (desk h) (guest h) (arena h) (store h) (passed (c .before .before .before .before .before .before .before .before .before)) (s .given .0 .0) (s .given .1) (c .withdrawn .ensures .0) (c .withdrawn .ensures .1) (c .before .before .before .report-moved .ensures))
 
 pub withdraw-spec : {M : Type 1} → statement M
 withdraw-spec =
