@@ -2,13 +2,14 @@
 -- Assumes nothing.
 use Prim.Native.Nat.{ℕ, _<_}
 use mathlib.Core.Path.{_≡_, refl, sym, ap, ap₂, subst, _∙_}
-use mathlib.Core.Bool.{true, false}
+use mathlib.Core.Bool.{Bool, true, false}
 use mathlib.Core.Logic.{⊎-elim}
 use mathlib.Core.List.{List, [], _∷_, _++_, map}
 use native.Mathlib.Omega.{arith}
 use lib.Dec.{leb, eqb}
 use lib.ListN.{length, getD, List·getD-eq-default}
 use borrow.Author.Tests.{eq-eqb, ne-eqb, eqb-true, leb-true}
+use Rattle.logic.specs.Logic.{pick}
 use Rattle.logic.proofs.Logic.{both-true, pick-cases, lt-or-le}
 use Rattle.words.specs.Words.{Bytes}
 use Rattle.memory.specs.Window.{guests, windowLength}
@@ -337,5 +338,19 @@ never b c h e x =
     let w = whole b h e in
     never-25 (deskOf b) c (house-25 (deskOf b) (w .held .inv) c) (sym (ap (λ (o : OutBlock). numberOf (o .answer)) (step-at b (deskOf b) c (w .size) refl)) ∙ x)
 
+-- an opening needs no desk
+openings : (b : List ℕ) (c : Call) (t : List ℕ) (a s : ℕ) → c .op ≡ openTable t a s → length b ≡ blockSize → numberOf (stepBlock b c .answer) ≡ 25 → ⊥
+unfolding stepBlock
+openings b c t a s e l x =
+    by-answer (openOf t a s .answer) (opening-low t a s)
+    (sym (ap (λ (o : Op). numberOf (stepBlockOf b o (c .arena) (c .store) .answer)) e ∙ ap (λ (y : Bool). numberOf (pick y here (left25 b (openTable t a s) (c .arena) (c .store)) .answer)) (eq-eqb (length b) blockSize l)) ∙ x)
+  where
+    here : OutBlock
+    here = outBlock b (stepOf (deskOf b) (openTable t a s) (c .arena) (c .store))
+
+    by-answer : (y : OpenAnswer) → LowOpening y → numberOf (opening y) ≡ 25 → ⊥
+    by-answer Opened low x = omega arith
+    by-answer (OpenRefused n place) low x = omega arith
+
 pub at-blocks : AtBlocks
-at-blocks = record { notAccepted = not-accepted; otherSize = other-size; never = never; kept = kept }
+at-blocks = record { notAccepted = not-accepted; otherSize = other-size; never = never; openings = openings; kept = kept }

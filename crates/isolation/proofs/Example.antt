@@ -40,7 +40,7 @@ use Rattle.desk.specs.Acceptable.{requestOk, rowsOk, accept}
 use Rattle.desk.specs.Calls.{Done, isLent, opened, openOf, postChecked, postRow, postOf, seek, stageAfter, memoryOf, movedBy, serve, serveStage, turnNext, turnOf}
 use Rattle.isolation.specs.Lists.{Op, post, turn, Call, posted, turned, Out, outOf, step, Event, run, after}
 use Rattle.isolation.specs.Words.{serves, NoneOpens, Accepted, Waits as WaitsOn, Finishes, moved, Named, Writes, Unwritten, Left}
-use Rattle.isolation.specs.Demand.{foundBy, firstBy, Same, Claim}
+use Rattle.isolation.specs.Demand.{foundBy, firstBy, Taken, Same, Claim}
 use Rattle.isolation.proofs.Moves.{moves-size}
 use Rattle.logic.proofs.Logic.{both-intro}
 use Rattle.isolation.proofs.View.{window-length}
@@ -295,6 +295,10 @@ module _ (a s : List ℕ) where
     accepted : Accepted d₀ c₁ 2 read
     accepted = record { posts = refl; waits = ap (λ (o : Out). o .answer) e₁ }
 
+    taken : Taken d₀ calls
+    unfolding after
+    taken = record { before = []; call = c₁; guest = 2; registers = read; since = c₂ ∷ c₃ ∷ c₄ ∷ c₅ ∷ []; place = refl; accepted = accepted }
+
     finishes : Finishes 2 17 (step d₀ c₁ .desk) (c₂ ∷ c₃ ∷ c₄ ∷ []) c₅
     finishes = subst (λ (o : Out). Finishes 2 17 (o .desk) (c₂ ∷ c₃ ∷ c₄ ∷ []) c₅) (sym e₁)
         (record {
@@ -334,8 +338,8 @@ module _ (a s : List ℕ) where
 
     -- after the third turn, guest 2's registers, window and blocks 0 to 16 are those of its read served alone
     pub example : Same 8704 2 (firstBy table 8704 c₁ 2 read) 17 (step (after (step d₀ c₁ .desk) (c₂ ∷ c₃ ∷ c₄ ∷ [])) c₅) (alone (fed table₁) read (foundBy 8704 c₁ 2))
-    unfolding after
-    example = claimed .equal [] (c₂ ∷ c₃ ∷ c₄ ∷ []) [] c₁ c₅ 2 read refl accepted finishes left unwritten
+    unfolding after taken
+    example = claimed .equal taken (c₂ ∷ c₃ ∷ c₄ ∷ []) [] c₅ refl finishes left unwritten
 
 -- and with bytes: an arena of zeros, a store of sevens
 pub zeros : List ℕ

@@ -51,7 +51,7 @@ same-request e = cc
 full : (n m : ℕ) → m + min 16 (n - m) < n → min 16 (n - m) ≡ 16
 full n m h = omega arith
 
-rest : (n m : ℕ) → m < n → n ≤ m + min 16 (n - m) → m + min 16 (n - m) ≡ n
+pub rest : (n m : ℕ) → m < n → n ≤ m + min 16 (n - m) → m + min 16 (n - m) ≡ n
 rest n m l h = omega arith
 
 -- the stage that a service leaves, by cases

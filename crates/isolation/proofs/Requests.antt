@@ -8,7 +8,7 @@ use native.Mathlib.Omega.{arith}
 use lib.ListN.{length}
 use Rattle.logic.proofs.Logic.{lt-or-le}
 use Rattle.words.specs.Words.{part}
-use Rattle.memory.specs.Window.{guests, windowLength, windowOf}
+use Rattle.memory.specs.Window.{windowLength, windowOf}
 use Rattle.memory.specs.Blocks.{blockLength}
 use Rattle.table.specs.declared.Table.{Table}
 use Rattle.table.specs.Table.{readTable}
@@ -25,7 +25,7 @@ use Rattle.desk.specs.declared.CollectAnswer.the-variants.{Given}
 use Rattle.desk.specs.Parts.{windowSize, stageAt}
 use Rattle.desk.specs.Acceptable.{jobOk}
 use Rattle.isolation.specs.Lists.{collect, Call, collected, step, run, after}
-use Rattle.isolation.specs.Words.{Kind, refused, plain, opens, answers, accepts, serves, idles, hands, withdraws, kindOf, NoneOpens, total, turnIn, turns, services, movedIn, moved, withdrawalIn, withdrawals, collects, Accepted, Waits, Finishes, turnsFor, Unwritten, Left}
+use Rattle.isolation.specs.Words.{Kind, refused, plain, opens, answers, accepts, serves, idles, hands, withdraws, kindOf, NoneOpens, total, turnIn, turns, services, movedIn, moved, withdrawalIn, withdrawals, collects, Accepted, Waits, Finishes, turnsEach, turnsFor, Unwritten, Left}
 use Rattle.isolation.specs.Demand.{Ends, finishing as endsFinishing, withdrawing as endsWithdrawing, Same}
 use Rattle.isolation.proofs.Turn.{dist-lt}
 use Rattle.isolation.proofs.Moves.{Alike, part-agree, moves-size, moves-none}
@@ -81,7 +81,7 @@ module _ (d : Desk) (inv : Inv d) (c : Call) (g : ℕ) (r : Registers) (acc : Ac
   n = job .count
 
   tracked : (mid : List Call) → NoneOpens (run d₁ mid) → Waits g n (run d₁ mid) → Track g (request job 0) d₁ mid
-  tracked mid no-open w = track mid d₁ inv₁ no-open g (request job 0) (accepted .row) (w .0) (omega (arith, w .1))
+  tracked mid no-open w = track mid d₁ inv₁ no-open g (request job 0) (accepted .row) (omega (arith, w .0)) (omega (arith, w .1))
 
   start : waitFor (d₁ .pointer) g (request job 0) < turnsFor n
   start = wait-start (d₁ .pointer) g (request job 0) refl (accepted .fresh .some)
@@ -115,7 +115,7 @@ module _ (d : Desk) (inv : Inv d) (c : Call) (g : ℕ) (r : Registers) (acc : Ac
   pub within′ : (mid stretch : List Call) (last : Call) → NoneOpens (run d₁ (mid ++ (stretch ++ last ∷ [])))
       → Waits g n (run d₁ (mid ++ stretch))
       → turns (run (after d₁ (mid ++ stretch)) (last ∷ [])) ≡ 1
-      → guests ≤ turns (run (after d₁ mid) (stretch ++ last ∷ []))
+      → turnsEach ≤ turns (run (after d₁ mid) (stretch ++ last ∷ []))
       → 0 < services g (run (after d₁ mid) (stretch ++ last ∷ []))
   within′ mid stretch last no-open w one eight =
       let d₂ : Desk = after d₁ mid in
@@ -229,6 +229,10 @@ module _ (d : Desk) (inv : Inv d) (c : Call) (g : ℕ) (r : Registers) (acc : Ac
             (omega (arith, h .0)) (omega (arith, h .1)) (omega (arith, room .range, len)) (e .alike .length) (e .alike .named)
             ∙ ap (λ (x : Served). part blockLength (x .memory .store) (blockLength * b)) (sym al);
       }
+
+  pub finished′ : (t : List ℕ) → readTable t (d .store / blockLength) .table ≡ d .table → (mid : List Call) (last : Call) → NoneOpens (run d₁ (mid ++ last ∷ []))
+      → Finishes g n d₁ mid last → stageAt (step (after d₁ mid) last .desk) g ≡ Finished (alone (fed t) r found .registers)
+  finished′ t te mid last no-open f = finished mid last no-open f ∙ ap (λ (x : Served). Finished (x .registers)) (sym (alone-is t te))
 
   pub handed′ : (t : List ℕ) → readTable t (d .store / blockLength) .table ≡ d .table → (mid after₁ : List Call) (last x : Call)
       → NoneOpens (run d₁ (mid ++ last ∷ (after₁ ++ x ∷ [])))

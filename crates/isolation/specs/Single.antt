@@ -20,6 +20,8 @@ use Rattle.desk.specs.Parts.{stageAt}
 use Rattle.desk.specs.Acceptable.{accept}
 use Rattle.desk.specs.Calls.{Done, isLent, turnOf}
 
+-- ---- "Numbers given back", registers not named; "Calls the host makes", turn
+
 -- "registers not named stay as given": no step of any function names DS, SI or ES
 pub record SameSegments (r x : Registers) : Type 0 where
   pub ds : x .ds ≡ r .ds
@@ -31,11 +33,13 @@ abbrev pub KeepsSegments : Registers → Outcome → Type 0
 KeepsSegments r (Answered x) = SameSegments r x
 KeepsSegments r (Waits j) = SameSegments r (j .registers)
 
+-- a turn that serves a guest
 pub record Serves (x : TurnAnswer) : Type 0 where
   pub guest : ℕ
   pub moved : ℕ
   pub is : x ≡ Served guest moved
 
+-- of every answer at once, every finish and every withdrawal, and of every turn
 pub record Single : Type 0 where
   pub posted : (b : Table) (r : Registers) (w : List ℕ) → KeepsSegments r (begin (fed b) r w .outcome)
   pub finished : (r : Registers) → SameSegments r (succeed r)
