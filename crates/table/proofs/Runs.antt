@@ -12,7 +12,7 @@ use lib.Seq.{getD-set-same, getD-set-other}
 use lib.Dec.{leb, ltb, eqb}
 use borrow.Author.Tests.{eqb-true, eqb-false, eq-eqb, ne-eqb, le-leb, lt-leb, lt-ltb, le-ltb}
 use Rattle.logic.specs.Logic.{pick, someBelow}
-use Rattle.logic.proofs.Logic.{impossible, leb-iff, some-ext}
+use Rattle.logic.proofs.Logic.{impossible, leb-iff, lt-or-le, some-ext}
 use Rattle.words.specs.Words.{part}
 use Rattle.drive.specs.declared.Drive.{Drive}
 use Rattle.drive.specs.Drive.{driveOf, fieldsOk, inStore, overlap}
@@ -63,6 +63,43 @@ beside-more b firsts sizes d lb lf ls r h i l = by-place (ℕ-discrete i (b .cou
         rw (x, getD-set-same firsts (b .count) (d .first) 0 (omega arith), getD-set-same sizes (b .count) (d .blocks) 0 (omega arith), getD-set-same (b .drives) (b .count) d noDrive (omega arith)) (refl, refl)
     by-place (no x) =
         rw (getD-set-other firsts (b .count) i (d .first) 0 x, getD-set-other sizes (b .count) i (d .blocks) 0 x, getD-set-other (b .drives) (b .count) i d noDrive x) (h i (omega arith))
+
+-- the first n of a list of drives, as a loop finds their runs
+pub BesideTo : ℕ → List Drive → List ℕ → List ℕ → Type 0
+BesideTo n l firsts sizes = (i : ℕ) → i < n → (getD firsts i 0 ≡ getD l i noDrive .first) × (getD sizes i 0 ≡ getD l i noDrive .blocks)
+
+pub to-none : (l : List Drive) (firsts sizes : List ℕ) → BesideTo 0 l firsts sizes
+unfolding BesideTo
+to-none l firsts sizes i h = absurd (omega arith)
+
+pub to-more : (n : ℕ) (l : List Drive) (firsts sizes : List ℕ) → n < length firsts → n < length sizes → BesideTo n l firsts sizes
+    → BesideTo (n + 1) l (set firsts n (getD l n noDrive .first)) (set sizes n (getD l n noDrive .blocks))
+unfolding BesideTo
+to-more n l firsts sizes lf ls h i q = by-place (ℕ-discrete i n)
+  where
+    by-place : Dec (i ≡ n) → (getD (set firsts n (getD l n noDrive .first)) i 0 ≡ getD l i noDrive .first) × (getD (set sizes n (getD l n noDrive .blocks)) i 0 ≡ getD l i noDrive .blocks)
+    by-place (yes x) = rw (x, getD-set-same firsts n (getD l n noDrive .first) 0 lf, getD-set-same sizes n (getD l n noDrive .blocks) 0 ls) (refl, refl)
+    by-place (no x) = rw (getD-set-other firsts n i (getD l n noDrive .first) 0 x, getD-set-other sizes n i (getD l n noDrive .blocks) 0 x) (h i (omega arith))
+
+beside-few : (b : Table) (firsts sizes : List ℕ) → b .count < 8
+    → ((i : ℕ) → i < 8 → (getD firsts i 0 ≡ getD (b .drives) i noDrive .first) × (getD sizes i 0 ≡ getD (b .drives) i noDrive .blocks)) → Beside b firsts sizes
+unfolding Beside
+beside-few b firsts sizes l h i q = h i (omega arith)
+
+both-ninth : (b : Table) (firsts sizes : List ℕ) (d : Drive) (store : ℕ) → 8 ≤ b .count → refusalAmong (b .count) firsts sizes d store ≡ refusal b d store
+unfolding refusalAmong refusal
+both-ninth b firsts sizes d store l = rw (le-leb 8 (b .count) l)
+
+-- the runs of all eight places are enough, whatever the count
+pub among-eight : (b : Table) (firsts sizes : List ℕ) (d : Drive) (store : ℕ) → BesideTo 8 (b .drives) firsts sizes → refusalAmong (b .count) firsts sizes d store ≡ refusal b d store
+unfolding BesideTo
+among-eight b firsts sizes d store h = ⊎-elim (λ l. among-is b firsts sizes d store (few l)) (λ l. many l) (lt-or-le (b .count) 8)
+  where
+    few : b .count < 8 → Beside b firsts sizes
+    few l = beside-few b firsts sizes l h
+
+    many : 8 ≤ b .count → refusalAmong (b .count) firsts sizes d store ≡ refusal b d store
+    many l = both-ninth b firsts sizes d store l
 
 -- ---- a step from what was found
 

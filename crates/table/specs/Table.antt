@@ -111,14 +111,18 @@ noDrive = record { cylinders = 0; heads = 0; sectors = 0; blocks = 0; first = 0;
 unfoldable pub overlapsAny : ℕ → List Drive → Drive → Bool
 overlapsAny n l d = someBelow n (λ i. overlap d (getD l i noDrive))
 
--- the refusal of a drive, or 0 where it is taken
-unfoldable pub refusal : Table → Drive → ℕ → ℕ
-refusal b d store =
-    pick (leb mostDrives (b .count)) ninthDrive
+-- the refusal of a drive after n others, which it overlaps or not; or 0 where it is taken
+abbrev pub refusalBy : ℕ → Bool → Drive → ℕ → ℕ
+refusalBy n overlaps d store =
+    pick (leb mostDrives n) ninthDrive
     (pick (not (fieldsOk d)) badField
     (pick (not (inStore d store)) pastStore
-    (pick (overlapsAny (b .count) (b .drives) d) overlapping
+    (pick overlaps overlapping
     0)))
+
+-- the refusal of a drive after those of a table
+unfoldable pub refusal : Table → Drive → ℕ → ℕ
+refusal b d store = refusalBy (b .count) (overlapsAny (b .count) (b .drives) d) d store
 
 -- the drives so far with one more
 abbrev pub more : Table → Drive → Table
@@ -227,14 +231,9 @@ overlapRuns first blocks other others = pick (leb first other) (ltb other (first
 unfoldable pub overlapsRun : ℕ → List ℕ → List ℕ → Drive → Bool
 overlapsRun n firsts sizes d = someBelow n (λ i. overlapRuns (d .first) (d .blocks) (getD firsts i 0) (getD sizes i 0))
 
--- checks 4, 5, 6, 7 of a drive among n runs
+-- the refusal of a drive after n others, of which it is given the runs
 unfoldable pub refusalAmong : ℕ → List ℕ → List ℕ → Drive → ℕ → ℕ
-refusalAmong n firsts sizes d store =
-    pick (leb mostDrives n) ninthDrive
-    (pick (not (fieldsOk d)) badField
-    (pick (not (inStore d store)) pastStore
-    (pick (overlapsRun n firsts sizes d) overlapping
-    0)))
+refusalAmong n firsts sizes d store = refusalBy n (overlapsRun n firsts sizes d) d store
 
 -- ---- "The drive table", a list of drives that obeys the rules
 

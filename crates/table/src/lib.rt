@@ -138,28 +138,36 @@ fn header_at(t: &[u8], at: usize) -> Header
 
 // ---- a drive among those before it
 
-// d overlaps one of the drives so far. `refusal_of` has tested that there are at most eight.
-fn overlaps_any(b: Table, d: Drive) -> bool
-    requires { ⌜ b .count ≤ 8 ⌝ }
-    ensures { λ r. ⌜ r ≡ overlapsAny (b .count) (b .drives) d ⌝ }
+// Two runs of blocks share one. Tested by differences, as drives are.
+fn runs_overlap(first: u64, blocks: u64, other: u64, others: u64) -> bool
+    ensures { λ r. ⌜ r ≡ overlapRuns first blocks other others ⌝ }
 {
-    let drives = b.drives;
-    let n = b.count;
+    if first <= other {
+        other - first < blocks
+    } else {
+        first - other < others
+    }
+}
+
+// d overlaps one of n runs. Numbers are lent where drives would be copied, which is most of what a reading costs.
+fn overlaps_run(d: Drive, firsts: &[u64; 8], sizes: &[u64; 8], n: usize) -> bool
+    requires { ⌜ n ≤ 8 ⌝ }
+    ensures { λ r. ⌜ r ≡ overlapsRun n (now (firsts .entry)) (now (sizes .entry)) d ⌝ }
+{
     let mut found = false;
     let mut i = 0;
     while i < n {
-        let e = drives[i];
-        found = logic::or(drive::overlaps(d, e), found);
+        found = logic::or(runs_overlap(d.first, d.blocks, firsts[i], sizes[i]), found);
         i += 1;
     }
     found
 }
 
-// The refusal of a drive, or 0.
-fn refusal_of(b: Table, d: Drive, store: u64) -> u8
-    ensures { λ r. ⌜ r ≡ refusal b d store ⌝ }
+// The refusal of a drive among n runs, or 0.
+fn refusal_among(d: Drive, store: u64, firsts: &[u64; 8], sizes: &[u64; 8], n: usize) -> u8
+    ensures { λ r. ⌜ r ≡ refusalAmong n (now (firsts .entry)) (now (sizes .entry)) d store ⌝ }
 {
-    if MOST_DRIVES <= b.count {
+    if MOST_DRIVES <= n {
         return NINTH_DRIVE;
     }
     if !drive::fields_ok(d) {
@@ -168,10 +176,27 @@ fn refusal_of(b: Table, d: Drive, store: u64) -> u8
     if !drive::in_store(d, store) {
         return PAST_STORE;
     }
-    if overlaps_any(b, d) {
+    if overlaps_run(d, firsts, sizes, n) {
         return OVERLAPPING;
     }
     0
+}
+
+// The refusal of a drive after those of a table, or 0.
+fn refusal_of(b: Table, d: Drive, store: u64) -> u8
+    ensures { λ r. ⌜ r ≡ refusal b d store ⌝ }
+{
+    let drives = b.drives;
+    let mut firsts = [0u64; 8];
+    let mut sizes = [0u64; 8];
+    let mut i = 0;
+    while i < 8 {
+        let e = drives[i];
+        firsts[i] = e.first;
+        sizes[i] = e.blocks;
+        i += 1;
+    }
+    refusal_among(d, store, &firsts, &sizes, b.count)
 }
 
 // The drives so far with one more, which `refusal_of` has not refused as the ninth.
@@ -389,50 +414,6 @@ fn found_at(t: &[u8], at: usize) -> Found
     }
 }
 
-// Two runs of blocks share one. Tested by differences, as drives are.
-fn runs_overlap(first: u64, blocks: u64, other: u64, others: u64) -> bool
-    ensures { λ r. ⌜ r ≡ overlapRuns first blocks other others ⌝ }
-{
-    if first <= other {
-        other - first < blocks
-    } else {
-        first - other < others
-    }
-}
-
-// d overlaps one of n runs. Numbers are lent where drives would be copied, which is most of what a reading costs.
-fn overlaps_run(d: Drive, firsts: &[u64; 8], sizes: &[u64; 8], n: usize) -> bool
-    requires { ⌜ n ≤ 8 ⌝ }
-    ensures { λ r. ⌜ r ≡ overlapsRun n (now (firsts .entry)) (now (sizes .entry)) d ⌝ }
-{
-    let mut found = false;
-    let mut i = 0;
-    while i < n {
-        found = logic::or(runs_overlap(d.first, d.blocks, firsts[i], sizes[i]), found);
-        i += 1;
-    }
-    found
-}
-
-// The refusal of a drive among n runs, or 0.
-fn refusal_among(d: Drive, store: u64, firsts: &[u64; 8], sizes: &[u64; 8], n: usize) -> u8
-    ensures { λ r. ⌜ r ≡ refusalAmong n (now (firsts .entry)) (now (sizes .entry)) d store ⌝ }
-{
-    if MOST_DRIVES <= n {
-        return NINTH_DRIVE;
-    }
-    if !drive::fields_ok(d) {
-        return BAD_FIELD;
-    }
-    if !drive::in_store(d, store) {
-        return PAST_STORE;
-    }
-    if overlaps_run(d, firsts, sizes, n) {
-        return OVERLAPPING;
-    }
-    0
-}
-
 // All drives of a table, for a store of that many blocks. The runs of the drives so far stand beside them.
 pub fn read_table(t: &[u8], store: u64) -> Reading
     ensures { λ r. ⌜ Reads (now (t .entry)) store r ⌝ }
@@ -603,7 +584,7 @@ pub fn is_sound(b: Table, store: u64) -> bool
     ensures { λ r. ⌜ r ≡ isSound b store ⌝ }
 {
     let n = b.count;
-    if MOST_DRIVES < n {
+    if MOST_DRIVES <= n {
         return false;
     }
     let drives = b.drives;
