@@ -15,7 +15,7 @@ use lib.ListN.{length, getD, take, length-take}
 use lib.Dec.{leb, ltb, eqb}
 use borrow.Author.Tests.{leb-true, ltb-true, eqb-true, not-true}
 use Rattle.logic.specs.Logic.{pick, both, either}
-use Rattle.logic.proofs.Logic.{both-true}
+use Rattle.logic.proofs.Logic.{both-true, both-intro}
 use Rattle.drive.specs.declared.Drive.{Drive}
 use Rattle.chs.specs.Chs.{size}
 use Rattle.drive.specs.Drive.{geometryOf, isProtected, same, blankNumbers, blankNames, isBlank}
@@ -31,7 +31,7 @@ use Rattle.desk.specs.declared.Stage.the-variants.{Vacant, Waiting, Fini
 use Rattle.desk.specs.declared.Row.{Row}
 use Rattle.desk.specs.declared.Desk.{Desk}
 use Rattle.desk.specs.Parts.{windowSize, storeBlocks, stageIn, stageAt}
-use Rattle.desk.specs.Acceptable.{isTransfer, countOk, rangeOk, packetOk, jobOk, movedOk, stageOk, rowsOk, accept}
+use Rattle.desk.specs.Acceptable.{isTransfer, countOk, rangeOk, packetOk, jobRules, jobOk, movedOk, requestOk, stageOk, rowsOk, accept}
 use Rattle.desk.specs.Calls.{closed}
 
 -- ---- the parts of the test
@@ -79,12 +79,12 @@ job-facts b M j e =
     let free : Bool = not (both (isWrite f) (isProtected (driveAt b (j .drive)))) in
     let placed : Bool = both (packetOk f (j .packet) M) free in
     let places : Bool = both (leb (j .buffer + 512 * j .count) M) placed in
-    let blocks : Bool = both (rangeOk b f j) places in
+    let blocks : Bool = both (rangeOk (driveAt b (j .drive)) f j) places in
     let numbers : Bool = both (countOk f (j .count)) blocks in
     let p₁ = both-true (isDrive b (j .drive)) (both (isTransfer f) numbers) e in
     let p₂ = both-true (isTransfer f) numbers (p₁ .1) in
     let p₃ = both-true (countOk f (j .count)) blocks (p₂ .1) in
-    let p₄ = both-true (rangeOk b f j) places (p₃ .1) in
+    let p₄ = both-true (rangeOk (driveAt b (j .drive)) f j) places (p₃ .1) in
     let p₅ = both-true (leb (j .buffer + 512 * j .count) M) placed (p₄ .1) in
     let p₆ = both-true (packetOk f (j .packet) M) free (p₅ .1) in
     let r = both-true (leb (j .start + j .count) (driveAt b (j .drive) .blocks)) (pick (isSectors f) (leb (j .start + j .count) (size (geometryOf (driveAt b (j .drive))))) true) (p₄ .0) in
@@ -104,10 +104,23 @@ pub record Waits (b : Table) (M : ℕ) (q : Request) : Type 0 where
   pub whole : q .moved % 16 ≡ 0
 
 pub waits-facts : (b : Table) (M : ℕ) (q : Request) → stageOk b M (Waiting q) ≡ true → Waits b M q
+unfolding requestOk jobOk
 waits-facts b M q e =
-    let p = both-true (jobOk b M (q .job)) (movedOk (q .moved) (q .job .count)) e in
+    let d : Drive = driveAt b (q .job .drive) in
+    let k = both-true (isDrive b (q .job .drive)) (both (jobRules d M (q .job)) (movedOk (q .moved) (q .job .count))) e in
+    let p = both-true (jobRules d M (q .job)) (movedOk (q .moved) (q .job .count)) (k .1) in
     let m = both-true (eqb (q .moved % 16) 0) (ltb (q .moved) (q .job .count)) (p .1) in
-    record { ok = p .0; job = job-facts b M (q .job) (p .0); moved = ltb-true (q .moved) (q .job .count) (m .1); whole = eqb-true (q .moved % 16) 0 (m .0) }
+    let o : jobOk b M (q .job) ≡ true = both-intro (isDrive b (q .job .drive)) (jobRules d M (q .job)) (k .0) (p .0) in
+    record { ok = o; job = job-facts b M (q .job) o; moved = ltb-true (q .moved) (q .job .count) (m .1); whole = eqb-true (q .moved % 16) 0 (m .0) }
+
+-- and back
+pub waiting-ok : (b : Table) (M : ℕ) (q : Request) → jobOk b M (q .job) ≡ true → movedOk (q .moved) (q .job .count) ≡ true → stageOk b M (Waiting q) ≡ true
+unfolding requestOk jobOk
+waiting-ok b M q e m =
+    let d : Drive = driveAt b (q .job .drive) in
+    let k = both-true (isDrive b (q .job .drive)) (jobRules d M (q .job)) e in
+    both-intro (isDrive b (q .job .drive)) (both (jobRules d M (q .job)) (movedOk (q .moved) (q .job .count))) (k .0)
+    (both-intro (jobRules d M (q .job)) (movedOk (q .moved) (q .job .count)) (k .1) m)
 
 -- ---- the drives of a sound table
 
@@ -131,14 +144,13 @@ pub rowsOk-more : {r a s : Bool} (i : ℕ) (rows : List Row) (b : Table) (M : �
 unfolding rowsOk
 rowsOk-more i rows b M p q e = rw (add-one, q, e, p)
 
-pub jobOk-tests : {d : Drive} {f : ℕ} {sector word transfer writes guarded protected buffer packet placed places range blocks count x y : Bool} (b : Table) (M : ℕ) (j : Job)
-    → isDrive b (j .drive) ≡ true → d ≡ driveAt b (j .drive) → f ≡ ah (j .registers) → sector ≡ isSectors f
+pub job-tests : {f : ℕ} {sector word transfer writes guarded protected buffer packet placed places range blocks count x y : Bool} (d : Drive) (M : ℕ) (j : Job)
+    → f ≡ ah (j .registers) → sector ≡ isSectors f
     → word ≡ either (eqb f 0x42) (eqb f 0x43) → transfer ≡ either sector word → writes ≡ isWrite f → guarded ≡ isProtected d → protected ≡ both writes guarded
     → buffer ≡ leb (j .buffer + 512 * j .count) M → packet ≡ pick sector (eqb (j .packet) 0) (leb (j .packet + 16) M) → placed ≡ both packet (not protected) → places ≡ both buffer placed
     → range ≡ both (leb (j .start + j .count) (d .blocks)) (pick sector (leb (j .start + j .count) (size (geometryOf d))) true) → blocks ≡ both range places
-    → count ≡ leb (j .count) (pick sector 128 127) → x ≡ both count blocks → y ≡ both transfer x → y ≡ jobOk b M j
-unfolding jobOk
-jobOk-tests b M j known ed ef es ew et ei eg ep eb ek el en er eo ec ex ey = rw (ey, ex, ec, eo, er, en, el, ek, eb, ep, eg, ei, et, ew, es, ef, ed, known)
+    → count ≡ leb (j .count) (pick sector 128 127) → x ≡ both count blocks → y ≡ both transfer x → y ≡ jobRules d M j
+job-tests d M j ef es ew et ei eg ep eb ek el en er eo ec ex ey = rw (ey, ex, ec, eo, er, en, el, ek, eb, ep, eg, ei, et, ew, es, ef)
 
 -- at a desk whose opening was refused every call is 25
 pub closed-refused : (arena store : ℕ) → accept (closed arena store) ≡ false

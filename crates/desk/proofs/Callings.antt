@@ -10,7 +10,7 @@ use Prim.Native.Nat.{ℕ, zero, suc, _+_, _-_, _*_, _/_, _%_, _^_, _≤_, _<_}
 use native.Mathlib.Omega.{arith}
 use lib.ListN.{length}
 use lib.Dec.{ltb, eqb}
-use borrow.Author.Tests.{lt-ltb, le-ltb, eqb-true}
+use borrow.Author.Tests.{ltb-true, eqb-true}
 use Rattle.logic.specs.Logic.{pick, both}
 use Rattle.logic.proofs.Logic.{both-true}
 use Rattle.memory.specs.Window.{windowLength, windowOf, withWindow}
@@ -19,7 +19,8 @@ use Rattle.table.specs.Table.{writeAnswer, writeOut}
 use Rattle.int13.specs.declared.Registers.{Registers}
 use Rattle.int13.specs.declared.Outcome.{Outcome}
 use Rattle.int13.specs.declared.Outcome.the-variants.{Answered, Waits as OutcomeWaits}
-use Rattle.int13.specs.Steps.{Checked, isDrive, driveAt, check}
+use Rattle.int13.specs.Answers.{ah}
+use Rattle.int13.specs.Steps.{Checked, isDrive, driveAt, fed, begin}
 use Rattle.int13.specs.Alone.{Memory, storeBlock, moves}
 use Rattle.desk.proofs.Stage as stage
 use Rattle.desk.specs.declared.Request.{Request}
@@ -27,18 +28,19 @@ use Rattle.desk.specs.declared.Stage.{Stage}
 use Rattle.desk.specs.declared.Stage.the-variants.{Vacant, Waiting, Finished}
 use Rattle.desk.specs.declared.Row.{Row}
 use Rattle.desk.specs.declared.Desk.{Desk}
+use Rattle.desk.specs.declared.Service.{Service}
 use Rattle.desk.specs.declared.Next.{Next}
 use Rattle.desk.specs.declared.Next.the-variants.{Guest, Nobody}
 use Rattle.desk.specs.declared.PostAnswer.{PostAnswer}
 use Rattle.desk.specs.declared.PostAnswer.the-variants.{Refused as PostRefused}
 use Rattle.desk.specs.declared.TurnAnswer.{TurnAnswer}
-use Rattle.desk.specs.declared.TurnAnswer.the-variants.{Idle, Refused as TurnRefused}
+use Rattle.desk.specs.declared.TurnAnswer.the-variants.{Served, Idle, Refused as TurnRefused}
 use Rattle.desk.specs.declared.CollectAnswer.the-variants.{Given as CollectGiven, Refused as CollectRefused}
 use Rattle.desk.specs.declared.WithdrawAnswer.{WithdrawAnswer}
 use Rattle.desk.specs.declared.WithdrawAnswer.the-variants.{Given as WithdrawGiven, Refused as WithdrawRefused}
-use Rattle.desk.specs.Parts.{windowSize, stageIn, stageAt, withStage, isWaiting, next}
-use Rattle.desk.specs.Acceptable.{InRange, accept}
-use Rattle.desk.specs.Calls.{isLent, Done, done, writtenOf, writtenOut, postChecked, postRow, postOf, seek, quota, serve, serveStage, turnNext, turnOf, collectStage, collectOf, withdrawnWindow, withdrawStage, withdrawOf}
+use Rattle.desk.specs.Parts.{windowSize, ownWindow, withOwn, stageIn, stageAt, withStage, isWaiting, next, withPointer}
+use Rattle.desk.specs.Acceptable.{packetOk, InRange, accept}
+use Rattle.desk.specs.Calls.{houseTests, houseNumber, isLent, Done, done, writtenOf, writtenOut, postChecked, postRow, postOf, seek, quota, serviceOf, Transferred, serve, serveStage, turnNext, turnOf, collectStage, collectOf, withdrawnWindow, withdrawStage, withdrawOf}
 use Rattle.desk.proofs.Acceptances.{Accepted, accept-true, rowsOk-at, Waits, waits-facts, drive-obeys}
 
 -- ---- stages that a `let .. else` leaves
@@ -77,127 +79,116 @@ lent-arena d arena store e = eqb-true (length arena) (d .arena) (both-true (eqb 
 pub lent-store : (d : Desk) (arena store : List ℕ) → isLent d arena store ≡ true → length store ≡ d .store
 lent-store d arena store e = eqb-true (length store) (d .store) (both-true (eqb (length arena) (d .arena)) (eqb (length store) (d .store)) e .1)
 
--- ---- the calls, by their tests
+-- ---- the tests before the row's
 
-module _ (d : Desk) (bad : accept d ≡ false) where
-  pub collect-unacceptable : (g : ℕ) (arena store : List ℕ) → done d (CollectRefused 25) arena store ≡ collectOf d g arena store
+-- a number that is not 0 is the refusal
+pub house-refused : {A : Type 0} {n : ℕ} (a l g : Bool) (f : ℕ → A) (x : A) → n ≡ houseNumber a l g → (n ≡ 0 → ⊥) → f n ≡ houseTests a l g f x
+unfolding houseNumber
+house-refused false l g f x e z = ap f e
+house-refused true false g f x e z = ap f e
+house-refused true true false f x e z = ap f e
+house-refused true true true f x e z = absurd (z e)
+
+-- the tests as the code has them
+pub house-tests : {n : ℕ} {a l g a′ l′ g′ : Bool} → n ≡ houseNumber a l g → a ≡ a′ → l ≡ l′ → g ≡ g′ → n ≡ houseNumber a′ l′ g′
+house-tests e ea el eg = rw (← ea, ← el, ← eg) e
+
+pub record Passed (a l g : Bool) : Type 0 where
+  pub acceptable : a ≡ true
+  pub lent : l ≡ true
+  pub guest : g ≡ true
+
+-- at 0 all of them pass
+pub house-passed : {n : ℕ} (a l g : Bool) → n ≡ houseNumber a l g → n ≡ 0 → Passed a l g
+unfolding houseNumber
+house-passed false l g e z = absurd (omega arith)
+house-passed true false g e z = absurd (omega arith)
+house-passed true true false e z = absurd (omega arith)
+house-passed true true true e z = record { acceptable = refl; lent = refl; guest = refl }
+
+pub house-on : {A : Type 0} {a l g : Bool} (f : ℕ → A) (x : A) → Passed a l g → x ≡ houseTests a l g f x
+house-on f x p = rw (p .acceptable, p .lent, p .guest)
+
+-- ---- the calls that pass, by the row
+
+pub write-table : (d : Desk) (out : List ℕ) → Passed (accept d) true true → (writeAnswer (d .table) (length out) ≡ writtenOf d (length out)) × (writeOut (d .table) out ≡ writtenOut d out)
+unfolding writtenOf writtenOut
+write-table d out p = (house-on WriteRefused _ p, house-on (λ n. out) _ p)
+
+module _ (d : Desk) (g : ℕ) (arena store : List ℕ) (p : Passed (accept d) true (ltb g 8)) where
+  collect-row : collectStage d g (stageAt d g) arena store ≡ collectOf d g arena store
   unfolding collectOf
-  collect-unacceptable g arena store = rw bad
+  collect-row = house-on (λ n. done d (CollectRefused n) arena store) _ p
 
-  pub turn-unacceptable : (arena store : List ℕ) → done d (TurnRefused 25) arena store ≡ turnOf d arena store
+  pub collect-other : OneOf (0 ∷ 1 ∷ []) (tagOf stage.the-type (stageAt d g)) → done d (CollectRefused 22) arena store ≡ collectOf d g arena store
+  collect-other k = collect-stage (stageAt d g) d g arena store k ∙ collect-row
+
+  pub collect-finished : (r : Registers) → stageAt d g ≡ Finished r → done (withStage d g Vacant) (CollectGiven r) arena store ≡ collectOf d g arena store
+  collect-finished r e = ap (λ (s : Stage). collectStage d g s arena store) (sym e) ∙ collect-row
+
+module _ (d : Desk) (arena store : List ℕ) (p : Passed (accept d) (isLent d arena store) true) where
+  turn-next : turnNext d (seek (d .rows) 8 (d .pointer)) arena store ≡ turnOf d arena store
   unfolding turnOf
-  turn-unacceptable arena store = rw bad
+  turn-next = house-on (λ n. done d (TurnRefused n) arena store) _ p
 
-  pub post-unacceptable : (g : ℕ) (r : Registers) (arena store : List ℕ) → done d (PostRefused 25) arena store ≡ postOf d g r arena store
+  pub turn-nobody : seek (d .rows) 8 (d .pointer) ≡ Nobody → done d Idle arena store ≡ turnOf d arena store
+  turn-nobody e = ap (λ (n : Next). turnNext d n arena store) (sym e) ∙ turn-next
+
+  pub turn-guest : (g : ℕ) → seek (d .rows) 8 (d .pointer) ≡ Guest g → serveStage d g (stageAt d g) arena store ≡ turnOf d arena store
+  turn-guest g e = ap (λ (n : Next). turnNext d n arena store) (sym e) ∙ turn-next
+
+  pub turn-other : (g : ℕ) → seek (d .rows) 8 (d .pointer) ≡ Guest g → OneOf (0 ∷ 2 ∷ []) (tagOf stage.the-type (stageAt d g)) → done d Idle arena store ≡ turnOf d arena store
+  turn-other g e k = serve-stage (stageAt d g) d g arena store k ∙ turn-guest g e
+
+  pub turn-served : {s : Service} {desk : Desk} {answer : TurnAnswer} {arena′ store′ : List ℕ} (g : ℕ) (q : Request) → seek (d .rows) 8 (d .pointer) ≡ Guest g → stageAt d g ≡ Waiting q
+      → s ≡ serviceOf q → desk ≡ withPointer (withStage d g (s .stage)) (next g) → answer ≡ Served g (s .moved)
+      → Transferred (driveAt (d .table) (q .job .drive) .first) q (s .moved) g arena store arena′ store′
+      → done desk answer arena′ store′ ≡ turnOf d arena store
+  turn-served g q e w es e₁ e₂ t =
+      let after : ℕ → ℕ → Memory = λ k m. moves (q .job) (storeBlock (d .table) (q .job)) (q .moved) k (record { window = windowOf arena g m; store = store }) in
+      let m : windowLength (length arena) ≡ windowSize d = ap (λ (n : ℕ). n / 8) (lent-arena d arena store (p .lent)) in
+      rw (e₁, e₂, t .0, t .1, es)
+      (ap (λ (n : ℕ). done (serve d g q [] [] .desk) (serve d g q [] [] .answer) (withWindow arena g n (after (quota q) n .window)) (after (quota q) n .store)) m
+      ∙ ap (λ (s : Stage). serveStage d g s arena store) (sym w) ∙ turn-guest g e)
+
+module _ (d : Desk) (g : ℕ) (arena store : List ℕ) (p : Passed (accept d) (isLent d arena store) (ltb g 8)) where
+  -- the windows that the arena's length cuts are the desk's
+  own-length : windowLength (length arena) ≡ windowSize d
+  own-length = ap (λ (n : ℕ). n / 8) (lent-arena d arena store (p .lent))
+
+  post-row : (r : Registers) → postRow d g r arena store (stageAt d g) ≡ postOf d g r arena store
   unfolding postOf
-  post-unacceptable g r arena store = rw bad
+  post-row r = house-on (λ n. done d (PostRefused n) arena store) _ p
 
-  pub withdraw-unacceptable : (g : ℕ) (arena store : List ℕ) → done d (WithdrawRefused 25) arena store ≡ withdrawOf d g arena store
+  pub post-other : (r : Registers) → OneOf (1 ∷ 2 ∷ []) (tagOf stage.the-type (stageAt d g)) → done d (PostRefused 21) arena store ≡ postOf d g r arena store
+  post-other r k = post-stage (stageAt d g) d g r arena store k ∙ post-row r
+
+  pub post-vacant : {desk : Desk} {answer : PostAnswer} {outcome : Outcome} {w : List ℕ} (r : Registers) → stageAt d g ≡ Vacant
+      → outcome ≡ begin (fed (d .table)) r (ownWindow arena g) .outcome → w ≡ begin (fed (d .table)) r (ownWindow arena g) .window
+      → desk ≡ postChecked d g [] [] outcome [] .desk → answer ≡ postChecked d g [] [] outcome [] .answer
+      → done desk answer (withOwn arena g w) store ≡ postOf d g r arena store
+  post-vacant r v eo ew e₁ e₂ =
+      let asked : ℕ → Checked = λ n. begin (fed (d .table)) r (windowOf arena g n) in
+      rw (e₁, e₂, eo, ew)
+      (ap (λ (n : ℕ). done (postChecked d g [] [] (asked n .outcome) [] .desk) (postChecked d g [] [] (asked n .outcome) [] .answer) (withWindow arena g n (asked n .window)) store) own-length
+      ∙ post-parts d g arena store (asked (windowSize d) .outcome) (asked (windowSize d) .window)
+      ∙ ap (postRow d g r arena store) (sym v) ∙ post-row r)
+
+  withdraw-row : withdrawStage d g (stageAt d g) arena store ≡ withdrawOf d g arena store
   unfolding withdrawOf
-  withdraw-unacceptable g arena store = rw bad
+  withdraw-row = house-on (λ n. done d (WithdrawRefused n) arena store) _ p
 
-  pub write-unacceptable : (out : List ℕ) → (WriteRefused 25 ≡ writtenOf d (length out)) × (out ≡ writtenOut d out)
-  unfolding writtenOf writtenOut
-  write-unacceptable out = (rw bad, rw bad)
+  pub withdraw-other : OneOf (0 ∷ 2 ∷ []) (tagOf stage.the-type (stageAt d g)) → done d (WithdrawRefused 23) arena store ≡ withdrawOf d g arena store
+  withdraw-other k = withdraw-stage (stageAt d g) d g arena store k ∙ withdraw-row
 
-module _ (d : Desk) (good : accept d ≡ true) where
-  pub write-table : (out : List ℕ) → (writeAnswer (d .table) (length out) ≡ writtenOf d (length out)) × (writeOut (d .table) out ≡ writtenOut d out)
-  unfolding writtenOf writtenOut
-  write-table out = (rw good, rw good)
-
-  pub collect-guest : (g : ℕ) (arena store : List ℕ) → 8 ≤ g → done d (CollectRefused 20) arena store ≡ collectOf d g arena store
-  unfolding collectOf
-  collect-guest g arena store h = rw (good, le-ltb g 8 h)
-
-  pub collect-row : (g : ℕ) (arena store : List ℕ) → g < 8 → collectStage d g (stageAt d g) arena store ≡ collectOf d g arena store
-  unfolding collectOf
-  collect-row g arena store h = rw (good, lt-ltb g 8 h)
-
-  pub collect-other : (g : ℕ) (arena store : List ℕ) → g < 8 → OneOf (0 ∷ 1 ∷ []) (tagOf stage.the-type (stageAt d g)) → done d (CollectRefused 22) arena store ≡ collectOf d g arena store
-  collect-other g arena store h k = collect-stage (stageAt d g) d g arena store k ∙ collect-row g arena store h
-
-  pub collect-finished : (g : ℕ) (r : Registers) (arena store : List ℕ) → g < 8 → stageAt d g ≡ Finished r → done (withStage d g Vacant) (CollectGiven r) arena store ≡ collectOf d g arena store
-  collect-finished g r arena store h e = ap (λ (s : Stage). collectStage d g s arena store) (sym e) ∙ collect-row g arena store h
-
-  module _ (arena store : List ℕ) where
-    pub turn-length : isLent d arena store ≡ false → done d (TurnRefused 24) arena store ≡ turnOf d arena store
-    unfolding turnOf
-    turn-length e = rw (good, e)
-
-    pub post-length : (g : ℕ) (r : Registers) → isLent d arena store ≡ false → done d (PostRefused 24) arena store ≡ postOf d g r arena store
-    unfolding postOf
-    post-length g r e = rw (good, e)
-
-    pub withdraw-length : (g : ℕ) → isLent d arena store ≡ false → done d (WithdrawRefused 24) arena store ≡ withdrawOf d g arena store
-    unfolding withdrawOf
-    withdraw-length g e = rw (good, e)
-
-    module _ (lent : isLent d arena store ≡ true) where
-      pub turn-next : turnNext d (seek (d .rows) 8 (d .pointer)) arena store ≡ turnOf d arena store
-      unfolding turnOf
-      turn-next = rw (good, lent)
-
-      pub turn-nobody : seek (d .rows) 8 (d .pointer) ≡ Nobody → done d Idle arena store ≡ turnOf d arena store
-      turn-nobody e = ap (λ (n : Next). turnNext d n arena store) (sym e) ∙ turn-next
-
-      pub turn-guest : (g : ℕ) → seek (d .rows) 8 (d .pointer) ≡ Guest g → serveStage d g (stageAt d g) arena store ≡ turnOf d arena store
-      turn-guest g e = ap (λ (n : Next). turnNext d n arena store) (sym e) ∙ turn-next
-
-      pub turn-other : (g : ℕ) → seek (d .rows) 8 (d .pointer) ≡ Guest g → OneOf (0 ∷ 2 ∷ []) (tagOf stage.the-type (stageAt d g)) → done d Idle arena store ≡ turnOf d arena store
-      turn-other g e k = serve-stage (stageAt d g) d g arena store k ∙ turn-guest g e
-
-      pub turn-served : {desk : Desk} {answer : TurnAnswer} {arena′ store′ : List ℕ} (g : ℕ) (q : Request) → seek (d .rows) 8 (d .pointer) ≡ Guest g → stageAt d g ≡ Waiting q
-          → desk ≡ serve d g q [] [] .desk → answer ≡ serve d g q [] [] .answer
-          → arena′ ≡ withWindow arena g (windowLength (length arena)) (moves (q .job) (storeBlock (d .table) (q .job)) (q .moved) (quota q) (record { window = windowOf arena g (windowLength (length arena)); store = store }) .window)
-          → store′ ≡ moves (q .job) (storeBlock (d .table) (q .job)) (q .moved) (quota q) (record { window = windowOf arena g (windowLength (length arena)); store = store }) .store
-          → done desk answer arena′ store′ ≡ turnOf d arena store
-      turn-served g q e w e₁ e₂ e₃ e₄ =
-          let l = lent-arena d arena store lent in
-          let after : ℕ → Memory = λ m. moves (q .job) (storeBlock (d .table) (q .job)) (q .moved) (quota q) (record { window = windowOf arena g m; store = store }) in
-          let m : windowLength (length arena) ≡ windowSize d = ap (λ (n : ℕ). n / 8) l in
-          rw (e₁, e₂, e₃ ∙ ap (λ (n : ℕ). withWindow arena g n (after n .window)) m, e₄ ∙ ap (λ (n : ℕ). after n .store) m) (ap (λ (s : Stage). serveStage d g s arena store) (sym w) ∙ turn-guest g e)
-
-      pub post-guest : (g : ℕ) (r : Registers) → 8 ≤ g → done d (PostRefused 20) arena store ≡ postOf d g r arena store
-      unfolding postOf
-      post-guest g r h = rw (good, lent, le-ltb g 8 h)
-
-      pub post-row : (g : ℕ) (r : Registers) → g < 8 → postRow d g r arena store (stageAt d g) ≡ postOf d g r arena store
-      unfolding postOf
-      post-row g r h = rw (good, lent, lt-ltb g 8 h)
-
-      pub post-other : (g : ℕ) (r : Registers) → g < 8 → OneOf (1 ∷ 2 ∷ []) (tagOf stage.the-type (stageAt d g)) → done d (PostRefused 21) arena store ≡ postOf d g r arena store
-      post-other g r h k = post-stage (stageAt d g) d g r arena store k ∙ post-row g r h
-
-      pub post-vacant : {desk : Desk} {answer : PostAnswer} {outcome : Outcome} {w : List ℕ} (g : ℕ) (r : Registers) → g < 8 → stageAt d g ≡ Vacant
-          → outcome ≡ check (d .table) r (windowOf arena g (windowLength (length arena))) .outcome → w ≡ check (d .table) r (windowOf arena g (windowLength (length arena))) .window
-          → desk ≡ postChecked d g [] [] outcome [] .desk → answer ≡ postChecked d g [] [] outcome [] .answer
-          → done desk answer (withWindow arena g (windowLength (length arena)) w) store ≡ postOf d g r arena store
-      post-vacant g r h v eo ew e₁ e₂ =
-          let m : windowLength (length arena) ≡ windowSize d = ap (λ (n : ℕ). n / 8) (lent-arena d arena store lent) in
-          let asked : ℕ → Checked = λ n. check (d .table) r (windowOf arena g n) in
-          rw (e₁, e₂, eo, ew)
-          (ap (λ (n : ℕ). done (postChecked d g [] [] (asked n .outcome) [] .desk) (postChecked d g [] [] (asked n .outcome) [] .answer) (withWindow arena g n (asked n .window)) store) m
-          ∙ post-parts d g arena store (asked (windowSize d) .outcome) (asked (windowSize d) .window)
-          ∙ ap (postRow d g r arena store) (sym v) ∙ post-row g r h)
-
-      pub withdraw-guest : (g : ℕ) → 8 ≤ g → done d (WithdrawRefused 20) arena store ≡ withdrawOf d g arena store
-      unfolding withdrawOf
-      withdraw-guest g h = rw (good, lent, le-ltb g 8 h)
-
-      pub withdraw-row : (g : ℕ) → g < 8 → withdrawStage d g (stageAt d g) arena store ≡ withdrawOf d g arena store
-      unfolding withdrawOf
-      withdraw-row g h = rw (good, lent, lt-ltb g 8 h)
-
-      pub withdraw-other : (g : ℕ) → g < 8 → OneOf (0 ∷ 2 ∷ []) (tagOf stage.the-type (stageAt d g)) → done d (WithdrawRefused 23) arena store ≡ withdrawOf d g arena store
-      withdraw-other g h k = withdraw-stage (stageAt d g) d g arena store k ∙ withdraw-row g h
-
-      pub withdraw-waiting : {desk : Desk} {answer : WithdrawAnswer} {arena′ : List ℕ} (g : ℕ) (q : Request) → g < 8 → stageAt d g ≡ Waiting q
-          → desk ≡ withdrawStage d g (Waiting q) [] [] .desk → answer ≡ withdrawStage d g (Waiting q) [] [] .answer
-          → arena′ ≡ withWindow arena g (windowLength (length arena)) (withdrawnWindow q (windowOf arena g (windowLength (length arena))))
-          → done desk answer arena′ store ≡ withdrawOf d g arena store
-      withdraw-waiting g q h w e₁ e₂ e₃ =
-          let m : windowLength (length arena) ≡ windowSize d = ap (λ (n : ℕ). n / 8) (lent-arena d arena store lent) in
-          rw (e₁, e₂, e₃ ∙ ap (λ (n : ℕ). withWindow arena g n (withdrawnWindow q (windowOf arena g n))) m) (ap (λ (s : Stage). withdrawStage d g s arena store) (sym w) ∙ withdraw-row g h)
+  pub withdraw-waiting : {desk : Desk} {answer : WithdrawAnswer} {arena′ : List ℕ} (q : Request) → stageAt d g ≡ Waiting q
+      → desk ≡ withdrawStage d g (Waiting q) [] [] .desk → answer ≡ withdrawStage d g (Waiting q) [] [] .answer
+      → arena′ ≡ withOwn arena g (withdrawnWindow q (ownWindow arena g))
+      → done desk answer arena′ store ≡ withdrawOf d g arena store
+  withdraw-waiting q w e₁ e₂ e₃ =
+      rw (e₁, e₂, e₃)
+      (ap (λ (n : ℕ). done (withdrawStage d g (Waiting q) [] [] .desk) (withdrawStage d g (Waiting q) [] [] .answer) (withWindow arena g n (withdrawnWindow q (windowOf arena g n))) store) own-length
+      ∙ ap (λ (s : Stage). withdrawStage d g s arena store) (sym w) ∙ withdraw-row)
 
 -- ---- the guest that a search finds
 
@@ -215,12 +206,27 @@ pub waiting-facts : (d : Desk) (g : ℕ) (q : Request) → accept d ≡ true →
 waiting-facts d g q a b e = waits-facts (d .table) (windowSize d) q (rw e at (rowsOk-at 8 (d .rows) (d .table) (windowSize d) g b (accept-true d a .rows)))
 
 -- and of the row that a turn serves
-pub in-range : (d : Desk) (arena store : List ℕ) (g : ℕ) (q : Request) → accept d ≡ true → isLent d arena store ≡ true → g < 8 → stageAt d g ≡ Waiting q
-    → length arena < 2 ^ 64 → length store < 2 ^ 64 → InRange (d .table) q g (length arena) (length store)
-in-range d arena store g q a l b e fa fs =
-    let A = accept-true d a in
-    let la = lent-arena d arena store l in
-    let ls = lent-store d arena store l in
-    let w = waiting-facts d g q a b e in
-    let s = drive-obeys (d .table) (d .store / 512) (q .job .drive) (A .sound) (w .job .drive) in
-    record { guest = b; drive = w .job .drive; moved = w .moved; buffer = rw la (w .job .buffer); blocks = omega (arith, s .inside, w .job .range, ls); arena = fa; store = fs }
+pub in-range : {s : Service} (d : Desk) (arena store : List ℕ) (g : ℕ) (q : Request) → Passed (accept d) (isLent d arena store) true → g < 8 → stageAt d g ≡ Waiting q
+    → length arena < 2 ^ 64 → length store < 2 ^ 64 → s ≡ serviceOf q
+    → InRange (driveAt (d .table) (q .job .drive) .first) q (s .moved) g (length arena) (length store)
+in-range d arena store g q p b e fa fs es =
+    let A = accept-true d (p .acceptable) in
+    let la = lent-arena d arena store (p .lent) in
+    let ls = lent-store d arena store (p .lent) in
+    let w = waiting-facts d g q (p .acceptable) b e in
+    let o = drive-obeys (d .table) (d .store / 512) (q .job .drive) (A .sound) (w .job .drive) in
+    let k = ap (λ (x : Service). x .moved) es in
+    record { guest = b; part = omega (arith, k, w .moved); buffer = rw la (w .job .buffer); blocks = omega (arith, o .inside, w .job .range, ls); arena = fa; store = fs }
+
+-- the row that a withdrawal ends
+pub record Report (q : Request) (g n : ℕ) : Type 0 where
+  pub guest : g < 8
+  pub packet : packetOk (ah (q .job .registers)) (q .job .packet) (windowLength n) ≡ true
+  pub moved : q .moved < 128
+
+pub report-facts : (d : Desk) (arena store : List ℕ) (g : ℕ) (q : Request) → Passed (accept d) (isLent d arena store) (ltb g 8) → stageAt d g ≡ Waiting q → Report q g (length arena)
+report-facts d arena store g q p e =
+    let b = ltb-true g 8 (p .guest) in
+    let w = waiting-facts d g q (p .acceptable) b e in
+    let m : windowLength (length arena) ≡ windowSize d = ap (λ (n : ℕ). n / 8) (lent-arena d arena store (p .lent)) in
+    record { guest = b; packet = ap (packetOk (ah (q .job .registers)) (q .job .packet)) m ∙ w .job .packet; moved = omega (arith, w .moved, w .job .count) }

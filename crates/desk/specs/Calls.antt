@@ -1,13 +1,14 @@
 -- Document 01, "Calls the host makes" and "Numbers given back": what each call answers, and the desk, arena and store it leaves.
 -- Assumes nothing.
 use Prim.Native.Nat.{ℕ, zero, suc, _+_, _-_, _/_, min}
+use mathlib.Core.Path.{_≡_}
 use mathlib.Core.Bool.{Bool, true, false, not}
 use mathlib.Core.List.{List, [], _∷_}
 use lib.ListN.{length, replicate}
 use lib.Dec.{leb, ltb, eqb}
 use Rattle.logic.specs.Logic.{pick, both}
 use Rattle.memory.specs.Window.{guests, windowOf, withWindow}
-use Rattle.memory.specs.Blocks.{blockLength}
+use Rattle.memory.specs.Blocks.{blockLength, blocks}
 use Rattle.table.specs.declared.Table.{Table}
 use Rattle.table.specs.declared.Answer.{Answer}
 use Rattle.table.specs.declared.Answer.the-variants.{Accepted, Refused as TableRefused}
@@ -20,13 +21,14 @@ use Rattle.int13.specs.declared.Job.{Job}
 use Rattle.int13.specs.declared.Outcome.{Outcome}
 use Rattle.int13.specs.declared.Outcome.the-variants.{Answered, Waits}
 use Rattle.int13.specs.Answers.{ah, isSectors, succeed, withdraw}
-use Rattle.int13.specs.Steps.{Checked, withCount, check}
+use Rattle.int13.specs.Steps.{Checked, withCount, fed, begin}
 use Rattle.int13.specs.Alone.{Memory, storeBlock, moves}
 use Rattle.desk.specs.declared.Request.{Request}
 use Rattle.desk.specs.declared.Stage.{Stage}
 use Rattle.desk.specs.declared.Stage.the-variants.{Vacant, Waiting, Finished}
 use Rattle.desk.specs.declared.Row.{Row}
 use Rattle.desk.specs.declared.Desk.{Desk}
+use Rattle.desk.specs.declared.Service.{Service}
 use Rattle.desk.specs.declared.Next.{Next}
 use Rattle.desk.specs.declared.Next.the-variants.{Guest, Nobody}
 use Rattle.desk.specs.declared.OpenAnswer.{OpenAnswer}
@@ -40,10 +42,10 @@ use Rattle.desk.specs.declared.CollectAnswer.{CollectAnswer}
 use Rattle.desk.specs.declared.CollectAnswer.the-variants.{Given as CollectGiven, Refused as CollectRefused}
 use Rattle.desk.specs.declared.WithdrawAnswer.{WithdrawAnswer}
 use Rattle.desk.specs.declared.WithdrawAnswer.the-variants.{Given as WithdrawGiven, Refused as WithdrawRefused}
-use Rattle.desk.specs.Parts.{windowSize, vacantRow, stageIn, stageAt, withStage, isWaiting, next, withPointer}
+use Rattle.desk.specs.Parts.{windowSize, ownWindow, withOwn, vacantRow, stageIn, stageAt, withStage, isWaiting, next, withPointer}
 use Rattle.desk.specs.Acceptable.{part, accept}
 
--- ---- house numbers, in their order: 25, 24, 20, then the row or 19
+-- ---- "Numbers given back": the house numbers, and the tests that come before the row's in every call
 
 abbrev pub notAcceptable : ℕ
 notAcceptable = 25
@@ -62,6 +64,18 @@ notFinished = 22
 
 abbrev pub notWaiting : ℕ
 notWaiting = 23
+
+-- 25, then 24, then 20: the first test that fails is the answer. A call that is lent no arena and store, or names no guest, passes that test
+abbrev pub houseTests : {A : Type 0} → Bool → Bool → Bool → (ℕ → A) → A → A
+houseTests acceptable lent guest refused passed =
+    pick (not acceptable) (refused notAcceptable)
+    (pick (not lent) (refused otherLength)
+    (pick (not guest) (refused noGuest)
+    passed))
+
+-- the number that they give, 0 where all pass
+unfoldable pub houseNumber : Bool → Bool → Bool → ℕ
+houseNumber acceptable lent guest = houseTests acceptable lent guest (λ n. n) 0
 
 -- arena and store have the lengths of the opening
 abbrev pub isLent : Desk → List ℕ → List ℕ → Bool
@@ -106,10 +120,10 @@ openOf t arena store =
 -- ---- write
 
 unfoldable pub writtenOf : Desk → ℕ → Written
-writtenOf d room = pick (not (accept d)) (WriteRefused notAcceptable) (writeAnswer (d .table) room)
+writtenOf d room = houseTests (accept d) true true (λ n. WriteRefused n) (writeAnswer (d .table) room)
 
 unfoldable pub writtenOut : Desk → List ℕ → List ℕ
-writtenOut d out = pick (not (accept d)) out (writeOut (d .table) out)
+writtenOut d out = houseTests (accept d) true true (λ n. out) (writeOut (d .table) out)
 
 -- ---- post
 
@@ -121,7 +135,7 @@ postChecked d g arena store (Waits j) w =
 
 abbrev pub postVacant : Desk → ℕ → Registers → List ℕ → List ℕ → Done PostAnswer
 postVacant d g r arena store =
-    postChecked d g arena store (check (d .table) r (windowOf arena g (windowSize d)) .outcome) (check (d .table) r (windowOf arena g (windowSize d)) .window)
+    postChecked d g arena store (begin (fed (d .table)) r (windowOf arena g (windowSize d)) .outcome) (begin (fed (d .table)) r (windowOf arena g (windowSize d)) .window)
 
 abbrev pub postRow : Desk → ℕ → Registers → List ℕ → List ℕ → Stage → Done PostAnswer
 postRow d g r arena store Vacant = postVacant d g r arena store
@@ -130,10 +144,8 @@ postRow d g r arena store (Finished x) = done d (PostRefused notVacant) arena st
 
 unfoldable pub postOf : Desk → ℕ → Registers → List ℕ → List ℕ → Done PostAnswer
 postOf d g r arena store =
-    pick (not (accept d)) (done d (PostRefused notAcceptable) arena store)
-    (pick (not (isLent d arena store)) (done d (PostRefused otherLength) arena store)
-    (pick (not (ltb g guests)) (done d (PostRefused noGuest) arena store)
-    (postRow d g r arena store (stageAt d g))))
+    houseTests (accept d) (isLent d arena store) (ltb g guests) (λ n. done d (PostRefused n) arena store)
+    (postRow d g r arena store (stageAt d g))
 
 -- ---- turn
 
@@ -141,6 +153,8 @@ postOf d g r arena store =
 unfoldable pub seek : List Row → ℕ → ℕ → Next
 seek rows zero g = Nobody
 seek rows (suc k) g = pick (isWaiting (stageIn rows g)) (Guest g) (seek rows k (next g))
+
+-- ---- what a turn does to a request
 
 -- the next 16 blocks, or what remains if fewer
 abbrev pub quota : Request → ℕ
@@ -153,18 +167,40 @@ later q k = record { job = q .job; moved = q .moved + k }
 unfoldable pub stageAfter : Request → Stage
 stageAfter q = pick (ltb (q .moved + quota q) (q .job .count)) (Waiting (later q (quota q))) (Finished (succeed (q .job .registers)))
 
+-- the blocks that it moves now, and the stage of the row after it
+abbrev pub serviceOf : Request → Service
+serviceOf q = record { moved = quota q; stage = stageAfter q }
+
+-- what it writes in the window beside the data: nothing
+abbrev pub beside : Request → List ℕ → List ℕ
+beside q w = w
+
 abbrev pub memoryOf : Desk → ℕ → List ℕ → List ℕ → Memory
 memoryOf d g arena store = record { window = windowOf arena g (windowSize d); store = store }
 
 abbrev pub movedBy : Desk → ℕ → Request → List ℕ → List ℕ → Memory
-movedBy d g q arena store = moves (q .job) (storeBlock (d .table) (q .job)) (q .moved) (quota q) (memoryOf d g arena store)
+movedBy d g q arena store = moves (q .job) (storeBlock (d .table) (q .job)) (q .moved) (serviceOf q .moved) (memoryOf d g arena store)
+
+-- k blocks between a place of guest g's window and a place of the store: what arena and store hold then
+abbrev pub Copied : Bool → ℕ → ℕ → ℕ → ℕ → List ℕ → List ℕ → List ℕ → List ℕ → Type 0
+Copied write g at place k arena store arena′ store′ =
+    (arena′ ≡ pick write arena (withOwn arena g (blocks (ownWindow arena g) at store place k)))
+    × (store′ ≡ pick write (blocks store place (ownWindow arena g) at k) store)
+
+-- the next k blocks of a request on a drive whose first store block is `first`: what arena and store hold then
+abbrev pub movedFrom : ℕ → Request → ℕ → ℕ → List ℕ → List ℕ → Memory
+movedFrom first q k g arena store = moves (q .job) (first + q .job .start) (q .moved) k (record { window = ownWindow arena g; store = store })
+
+abbrev pub Transferred : ℕ → Request → ℕ → ℕ → List ℕ → List ℕ → List ℕ → List ℕ → Type 0
+Transferred first q k g arena store arena′ store′ =
+    (arena′ ≡ withOwn arena g (movedFrom first q k g arena store .window)) × (store′ ≡ movedFrom first q k g arena store .store)
 
 abbrev pub serve : Desk → ℕ → Request → List ℕ → List ℕ → Done TurnAnswer
 serve d g q arena store =
     record {
-      desk = withPointer (withStage d g (stageAfter q)) (next g);
-      answer = Served g (quota q);
-      arena = withWindow arena g (windowSize d) (movedBy d g q arena store .window);
+      desk = withPointer (withStage d g (serviceOf q .stage)) (next g);
+      answer = Served g (serviceOf q .moved);
+      arena = withWindow arena g (windowSize d) (beside q (movedBy d g q arena store .window));
       store = movedBy d g q arena store .store;
     }
 
@@ -179,9 +215,8 @@ turnNext d (Guest g) arena store = serveStage d g (stageAt d g) arena store
 
 unfoldable pub turnOf : Desk → List ℕ → List ℕ → Done TurnAnswer
 turnOf d arena store =
-    pick (not (accept d)) (done d (TurnRefused notAcceptable) arena store)
-    (pick (not (isLent d arena store)) (done d (TurnRefused otherLength) arena store)
-    (turnNext d (seek (d .rows) guests (d .pointer)) arena store))
+    houseTests (accept d) (isLent d arena store) true (λ n. done d (TurnRefused n) arena store)
+    (turnNext d (seek (d .rows) guests (d .pointer)) arena store)
 
 -- ---- collect
 
@@ -193,9 +228,8 @@ collectStage d g (Finished r) arena store = done (withStage d g Vacant) (Collect
 -- it is lent no arena and no store, which stay whatever they are
 unfoldable pub collectOf : Desk → ℕ → List ℕ → List ℕ → Done CollectAnswer
 collectOf d g arena store =
-    pick (not (accept d)) (done d (CollectRefused notAcceptable) arena store)
-    (pick (not (ltb g guests)) (done d (CollectRefused noGuest) arena store)
-    (collectStage d g (stageAt d g) arena store))
+    houseTests (accept d) true (ltb g guests) (λ n. done d (CollectRefused n) arena store)
+    (collectStage d g (stageAt d g) arena store)
 
 -- ---- withdraw
 
@@ -216,7 +250,5 @@ withdrawStage d g (Finished r) arena store = done d (WithdrawRefused notWaiting)
 
 unfoldable pub withdrawOf : Desk → ℕ → List ℕ → List ℕ → Done WithdrawAnswer
 withdrawOf d g arena store =
-    pick (not (accept d)) (done d (WithdrawRefused notAcceptable) arena store)
-    (pick (not (isLent d arena store)) (done d (WithdrawRefused otherLength) arena store)
-    (pick (not (ltb g guests)) (done d (WithdrawRefused noGuest) arena store)
-    (withdrawStage d g (stageAt d g) arena store)))
+    houseTests (accept d) (isLent d arena store) (ltb g guests) (λ n. done d (WithdrawRefused n) arena store)
+    (withdrawStage d g (stageAt d g) arena store)

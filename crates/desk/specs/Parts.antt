@@ -3,8 +3,8 @@
 use Prim.Native.Nat.{ℕ, _+_, _/_, _%_}
 use mathlib.Core.Bool.{Bool, true, false}
 use mathlib.Core.List.{List}
-use lib.ListN.{getD, set}
-use Rattle.memory.specs.Window.{guests, windowLength}
+use lib.ListN.{length, getD, set}
+use Rattle.memory.specs.Window.{guests, windowLength, windowOf, withWindow}
 use Rattle.memory.specs.Blocks.{blockLength}
 use Rattle.table.specs.declared.Table.{Table}
 use Rattle.desk.specs.declared.Request.{Request}
@@ -16,6 +16,13 @@ use Rattle.desk.specs.declared.Desk.{Desk}
 -- M, the length of each guest's window
 abbrev pub windowSize : Desk → ℕ
 windowSize d = windowLength (d .arena)
+
+-- a guest's window of an arena, which the arena's length alone cuts, and the arena with other bytes there
+abbrev pub ownWindow : List ℕ → ℕ → List ℕ
+ownWindow arena g = windowOf arena g (windowLength (length arena))
+
+abbrev pub withOwn : List ℕ → ℕ → List ℕ → List ℕ
+withOwn arena g w = withWindow arena g (windowLength (length arena)) w
 
 -- the store's blocks
 abbrev pub storeBlocks : Desk → ℕ

@@ -6,7 +6,7 @@ use native.Mathlib.Omega.{arith}
 use mathlib.Core.Path.{_≡_, refl, sym, _∙_, ap, subst}
 use mathlib.Core.Bool.{Bool, true, false}
 use mathlib.Core.List.{List, [], _∷_, _++_, append-assoc, append-nil}
-use lib.ListN.{length, take, drop, getD, length-append, length-drop, List·getD-append}
+use lib.ListN.{length, take, drop, getD, replicate, length-append, length-drop, List·getD-append}
 use lib.Seq.{getD-append-add, length-take-le, take-all}
 use lib.Dec.{eqb}
 use borrow.Author.Tests.{eq-eqb, eqb-true}
@@ -29,8 +29,10 @@ use Rattle.desk.specs.Numbers.{registerNumbers}
 use Rattle.desk.specs.Acceptable.{accept}
 use Rattle.desk.specs.Calls.{closed}
 use Rattle.desk.proofs.Acceptances.{closed-refused}
-use Rattle.image.specs.Image.{each, flat, requestWords, stageWords, rowWords, driveWords, tailWords, deskWords, image, blockSize, registersAt, requestAt, readStage, readRow, readDrive, readRows, blockTable, readDesk, isImage, deskOf, accepted, FitsRegisters, FitsRequest, FitsStage, FitsDrive, FitsTable, FitsDesk, ImageOf, Exact}
+use Rattle.memory.proofs.Sets.{length-part}
+use Rattle.image.specs.Image.{each, flat, requestWords, stageWords, rowWords, rowsWords, driveWords, placesWords, tailWords, deskWords, image, placeSize, rowAt, placeAt, tailAt, blockSize, countAt, pointerAt, arenaAt, storeAt, requestPlace, finishedPlace, registersAt, requestAt, readStage, readRow, readDrive, readRows, readPlaces, readDesk, isImage, deskOf, accepted, FitsRegisters, FitsRequest, FitsStage, FitsDrive, FitsTable, FitsDesk, ImageOf, Exact}
 use Rattle.image.proofs.Fill.{length-each, length-flat, length-row, length-drive}
+use Rattle.image.proofs.Fields.{listed-is, row-of, place-of}
 
 -- ---- members of a list that is put together
 
@@ -51,7 +53,7 @@ module _ {A : Type 0} (f : A → List ℕ) (n : ℕ) (wide : (x : A) → length 
 -- ---- what bytes say
 
 -- from a place the bytes are those of the words ws
-Says : List ℕ → ℕ → List ℕ → Type 0
+unfoldable pub Says : List ℕ → ℕ → List ℕ → Type 0
 Says s i ws = (j m : ℕ) → j < length ws → m < 8 → getD s (i + 8 * j + m) 0 ≡ getD (leBytes 8 (getD ws j 0)) m 0
 
 -- the first k bytes of a word that fits them are the word
@@ -143,15 +145,15 @@ stage-read s i Vacant h f = rw (rw add-zero at (byte s i (stageWords Vacant) h 0
 stage-read s i (Waiting q) h f =
     rw (
       rw add-zero at (byte s i (stageWords (Waiting q)) h 0 1 (omega arith) refl (omega arith)),
-      request-read s (i + 8) q (says-left s (i + 8) (requestWords q) _ (says-right s i (i + 8) (1 ∷ []) _ refl h)) f,
+      request-read s (requestPlace i) q (says-left s (requestPlace i) (requestWords q) _ (says-right s i (requestPlace i) (1 ∷ []) _ refl h)) f,
     )
 stage-read s i (Finished r) h f =
     rw (
       rw add-zero at (byte s i (stageWords (Finished r)) h 0 2 (omega arith) refl (omega arith)),
-      registers-read s (i + 120) r (says-right s i (i + 120) (2 ∷ 0 ∷ 0 ∷ 0 ∷ 0 ∷ 0 ∷ 0 ∷ 0 ∷ 0 ∷ 0 ∷ 0 ∷ 0 ∷ 0 ∷ 0 ∷ 0 ∷ []) _ refl h) f,
+      registers-read s (finishedPlace i) r (says-right s i (finishedPlace i) (2 ∷ replicate 14 0) _ refl h) f,
     )
 
-drive-read : (s : List ℕ) (i : ℕ) (d : Drive) → Says s i (driveWords d) → FitsDrive d → Bytes s → i + 112 ≤ length s → readDrive s i ≡ d
+pub drive-read : (s : List ℕ) (i : ℕ) (d : Drive) → Says s i (driveWords d) → FitsDrive d → Bytes s → i + placeSize ≤ length s → readDrive s i ≡ d
 unfolding readDrive
 drive-read s i d h f bs l =
     let n = f .numbers in
@@ -208,25 +210,12 @@ unfolding each
 bytes-flat [] i = omega arith
 bytes-flat (x ∷ ws) i = bytes-append (leBytes 8 x) (flat ws) (bytes-leBytes 8 x) (bytes-flat ws) i
 
-eight : {A : Type 0} (l : List A) (e : A) → length l ≡ 8
-    → getD l 0 e ∷ getD l 1 e ∷ getD l 2 e ∷ getD l 3 e ∷ getD l 4 e ∷ getD l 5 e ∷ getD l 6 e ∷ getD l 7 e ∷ [] ≡ l
-eight (x0 ∷ x1 ∷ x2 ∷ x3 ∷ x4 ∷ x5 ∷ x6 ∷ x7 ∷ []) e n = refl
-eight [] e n = absurd (omega arith)
-eight (x0 ∷ []) e n = absurd (omega arith)
-eight (x0 ∷ x1 ∷ []) e n = absurd (omega arith)
-eight (x0 ∷ x1 ∷ x2 ∷ []) e n = absurd (omega arith)
-eight (x0 ∷ x1 ∷ x2 ∷ x3 ∷ []) e n = absurd (omega arith)
-eight (x0 ∷ x1 ∷ x2 ∷ x3 ∷ x4 ∷ []) e n = absurd (omega arith)
-eight (x0 ∷ x1 ∷ x2 ∷ x3 ∷ x4 ∷ x5 ∷ []) e n = absurd (omega arith)
-eight (x0 ∷ x1 ∷ x2 ∷ x3 ∷ x4 ∷ x5 ∷ x6 ∷ []) e n = absurd (omega arith)
-eight (x0 ∷ x1 ∷ x2 ∷ x3 ∷ x4 ∷ x5 ∷ x6 ∷ x7 ∷ x8 ∷ l) e n = absurd (omega arith)
-
 module _ (d : Desk) (fit : FitsDesk d) where
-  rows-length : length (each rowWords (d .rows)) ≡ 184
+  rows-length : length (rowsWords (d .rows)) ≡ 23 * 8
   rows-length = length-each rowWords 23 length-row (d .rows) ∙ ap (λ (m : ℕ). 23 * m) (fit .eight)
 
-  drives-length : length (each driveWords (d .table .drives)) ≡ 112
-  drives-length = length-each driveWords 14 length-drive (d .table .drives) ∙ ap (λ (m : ℕ). 14 * m) (fit .table .eight)
+  places-length : length (placesWords (d .table .drives)) ≡ 14 * 8
+  places-length = length-each driveWords 14 length-drive (d .table .drives) ∙ ap (λ (m : ℕ). 14 * m) (fit .table .eight)
 
   pub length-image : length (image d) ≡ blockSize
   unfolding image deskWords
@@ -235,62 +224,53 @@ module _ (d : Desk) (fit : FitsDesk d) where
       ∙ omega (
         arith,
         rows-length,
-        drives-length,
-        length-append (each rowWords (d .rows)) (each driveWords (d .table .drives) ++ tailWords d),
-        length-append (each driveWords (d .table .drives)) (tailWords d),
+        places-length,
+        length-append (rowsWords (d .rows)) (placesWords (d .table .drives) ++ tailWords d),
+        length-append (placesWords (d .table .drives)) (tailWords d),
       )
 
-  says-image : Says (image d) 0 (each rowWords (d .rows) ++ (each driveWords (d .table .drives) ++ tailWords d))
+  -- the words of each section
+
+  says-rows : Says (image d) (rowAt 0) (rowsWords (d .rows) ++ (placesWords (d .table .drives) ++ tailWords d))
   unfolding image deskWords
-  says-image = says-flat (deskWords d)
+  says-rows = says-flat (deskWords d)
 
-  says-drives : Says (image d) 1472 (each driveWords (d .table .drives) ++ tailWords d)
-  says-drives = says-right (image d) 0 1472 (each rowWords (d .rows)) _ (omega (arith, rows-length)) says-image
+  says-places : Says (image d) (placeAt 0) (placesWords (d .table .drives) ++ tailWords d)
+  says-places = says-right (image d) (rowAt 0) (placeAt 0) (rowsWords (d .rows)) _ (omega (arith, rows-length)) says-rows
 
-  says-tail : Says (image d) 2368 (tailWords d)
-  says-tail = says-right (image d) 1472 2368 (each driveWords (d .table .drives)) _ (omega (arith, drives-length)) says-drives
+  says-tail : Says (image d) (tailAt 0) (tailWords d)
+  says-tail = says-right (image d) (placeAt 0) (tailAt 0) (placesWords (d .table .drives)) _ (omega (arith, places-length)) says-places
 
-  row-read : (k at : ℕ) → k < 8 → at ≡ 184 * k → readStage (image d) at ≡ stageAt d k
-  row-read k at l p =
-      stage-read (image d) at (stageAt d k)
-      (says-each rowWords 23 length-row vacantRow (image d) 0 at (d .rows) _ k (omega (arith, fit .eight)) (omega arith) says-image) (fit .each k l)
+  -- each section is read back
 
-  place-read : (k at : ℕ) → k < 8 → at ≡ 1472 + 112 * k → readDrive (image d) at ≡ getD (d .table .drives) k noDrive
+  rows-read : readRows (image d) ≡ d .rows
+  rows-read =
+      listed-is (λ g. readRow (image d) (rowAt g)) (d .rows) 8 vacantRow (fit .eight) (λ g l.
+      ap (λ (s : Stage). record { stage = s })
+      (stage-read (image d) (rowAt g) (stageAt d g)
+      (says-each rowWords 23 length-row vacantRow (image d) (rowAt 0) (rowAt g) (d .rows) _ g (omega (arith, fit .eight)) (omega arith) says-rows) (fit .each g l)))
+
+  places-read : readPlaces (image d) ≡ d .table .drives
   unfolding image
-  place-read k at l p =
-      drive-read (image d) at (getD (d .table .drives) k noDrive)
-      (says-each driveWords 14 length-drive noDrive (image d) 1472 at (d .table .drives) _ k (omega (arith, fit .table .eight)) (omega arith) says-drives)
-      (fit .table .each k l) (bytes-flat (deskWords d)) (omega (arith, length-image))
+  places-read =
+      listed-is (λ i. readDrive (image d) (placeAt i)) (d .table .drives) 8 noDrive (fit .table .eight) (λ i l.
+      drive-read (image d) (placeAt i) (getD (d .table .drives) i noDrive)
+      (says-each driveWords 14 length-drive noDrive (image d) (placeAt 0) (placeAt i) (d .table .drives) _ i (omega (arith, fit .table .eight)) (omega arith) says-places)
+      (fit .table .each i l) (bytes-flat (deskWords d)) (omega (arith, length-image)))
 
-  tail-read : (j v : ℕ) → j < 4 → getD (tailWords d) j 0 ≡ v → v < 256 ^ 8 → le 8 (image d) (2368 + 8 * j) ≡ v
-  tail-read j v l e f = field (image d) 2368 (tailWords d) says-tail 8 j v (omega arith) l e f
+  tail-read : (j v : ℕ) → j < 4 → getD (tailWords d) j 0 ≡ v → v < 256 ^ 8 → le 8 (image d) (tailAt j) ≡ v
+  tail-read j v l e f = field (image d) (tailAt 0) (tailWords d) says-tail 8 j v (omega arith) l e f
 
   pub read-image : readDesk (image d) ≡ d
   unfolding readDesk
   read-image =
       rw (
-        row-read 0 0 (omega arith) refl,
-        row-read 1 184 (omega arith) refl,
-        row-read 2 368 (omega arith) refl,
-        row-read 3 552 (omega arith) refl,
-        row-read 4 736 (omega arith) refl,
-        row-read 5 920 (omega arith) refl,
-        row-read 6 1104 (omega arith) refl,
-        row-read 7 1288 (omega arith) refl,
-        place-read 0 1472 (omega arith) refl,
-        place-read 1 1584 (omega arith) refl,
-        place-read 2 1696 (omega arith) refl,
-        place-read 3 1808 (omega arith) refl,
-        place-read 4 1920 (omega arith) refl,
-        place-read 5 2032 (omega arith) refl,
-        place-read 6 2144 (omega arith) refl,
-        place-read 7 2256 (omega arith) refl,
+        rows-read,
+        places-read,
         tail-read 0 (d .table .count) (omega arith) refl (fit .table .count),
         tail-read 1 (d .pointer) (omega arith) refl (fit .pointer),
         tail-read 2 (d .arena) (omega arith) refl (fit .arena),
         tail-read 3 (d .store) (omega arith) refl (fit .store),
-        eight (d .rows) vacantRow (fit .eight),
-        eight (d .table .drives) noDrive (fit .table .eight),
       )
 
 -- the desk of a desk's image is the desk
@@ -329,15 +309,12 @@ module _ (b : List ℕ) (h : Bytes b) where
   unfolding readStage FitsStage
   stage-fits i = go (eqb (getD b i 0) 1) (eqb (getD b i 0) 2)
     where
-      go : (p q : Bool) → FitsStage (pick p (Waiting (requestAt b (i + 8))) (pick q (Finished (registersAt b (i + 120))) Vacant))
-      go true q = request-fits (i + 8)
-      go false true = registers-fit (i + 120)
+      go : (p q : Bool) → FitsStage (pick p (Waiting (requestAt b (requestPlace i))) (pick q (Finished (registersAt b (finishedPlace i))) Vacant))
+      go true q = request-fits (requestPlace i)
+      go false true = registers-fit (finishedPlace i)
       go false false = tt
 
-  part-length : (k i : ℕ) → i + k ≤ length b → length (part k b i) ≡ k
-  part-length k i l = length-take-le k (drop i b) (simp length-drop (omega arith))
-
-  drive-fits : (i : ℕ) → i + 112 ≤ length b → FitsDrive (readDrive b i)
+  drive-fits : (i : ℕ) → i + placeSize ≤ length b → FitsDrive (readDrive b i)
   unfolding readDrive
   drive-fits i l =
       record {
@@ -351,10 +328,10 @@ module _ (b : List ℕ) (h : Bytes b) where
               flags = le-lt 2 b (i + 40) h;
               c = le-lt 2 b (i + 48) h;
               h = le-lt 2 b (i + 56) h;
-              bus = part-length 4 (i + 80) (omega arith);
-              interface = part-length 8 (i + 88) (omega arith);
-              path = part-length 8 (i + 96) (omega arith);
-              device = part-length 8 (i + 104) (omega arith);
+              bus = length-part 4 b (i + 80) (omega arith);
+              interface = length-part 8 b (i + 88) (omega arith);
+              path = length-part 8 b (i + 96) (omega arith);
+              device = length-part 8 b (i + 104) (omega arith);
             };
         s = h (i + 64);
         protection = h (i + 72);
@@ -364,27 +341,13 @@ module _ (b : List ℕ) (h : Bytes b) where
         device = bytes-part 8 b (i + 104) h;
       }
 
-  -- each of eight members
-  by-eight : {A : Type 0} (P : A → Type 0) (x0 x1 x2 x3 x4 x5 x6 x7 e : A) → P x0 → P x1 → P x2 → P x3 → P x4 → P x5 → P x6 → P x7
-      → (k : ℕ) → k < 8 → P (getD (x0 ∷ x1 ∷ x2 ∷ x3 ∷ x4 ∷ x5 ∷ x6 ∷ x7 ∷ []) k e)
-  by-eight P x0 x1 x2 x3 x4 x5 x6 x7 e p0 p1 p2 p3 p4 p5 p6 p7 zero l = p0
-  by-eight P x0 x1 x2 x3 x4 x5 x6 x7 e p0 p1 p2 p3 p4 p5 p6 p7 (suc zero) l = p1
-  by-eight P x0 x1 x2 x3 x4 x5 x6 x7 e p0 p1 p2 p3 p4 p5 p6 p7 (suc (suc zero)) l = p2
-  by-eight P x0 x1 x2 x3 x4 x5 x6 x7 e p0 p1 p2 p3 p4 p5 p6 p7 (suc (suc (suc zero))) l = p3
-  by-eight P x0 x1 x2 x3 x4 x5 x6 x7 e p0 p1 p2 p3 p4 p5 p6 p7 (suc (suc (suc (suc zero)))) l = p4
-  by-eight P x0 x1 x2 x3 x4 x5 x6 x7 e p0 p1 p2 p3 p4 p5 p6 p7 (suc (suc (suc (suc (suc zero))))) l = p5
-  by-eight P x0 x1 x2 x3 x4 x5 x6 x7 e p0 p1 p2 p3 p4 p5 p6 p7 (suc (suc (suc (suc (suc (suc zero)))))) l = p6
-  by-eight P x0 x1 x2 x3 x4 x5 x6 x7 e p0 p1 p2 p3 p4 p5 p6 p7 (suc (suc (suc (suc (suc (suc (suc zero))))))) l = p7
-  by-eight P x0 x1 x2 x3 x4 x5 x6 x7 e p0 p1 p2 p3 p4 p5 p6 p7 (suc (suc (suc (suc (suc (suc (suc (suc k)))))))) l = absurd (omega arith)
-
-  table-fits : length b ≡ blockSize → FitsTable (blockTable b)
+  table-fits : length b ≡ blockSize → FitsTable (readDesk b .table)
+  unfolding readDesk
   table-fits l =
       record {
         eight = refl;
-        each =
-            by-eight FitsDrive _ _ _ _ _ _ _ _ noDrive (drive-fits 1472 (omega arith)) (drive-fits 1584 (omega arith)) (drive-fits 1696 (omega arith))
-            (drive-fits 1808 (omega arith)) (drive-fits 1920 (omega arith)) (drive-fits 2032 (omega arith)) (drive-fits 2144 (omega arith)) (drive-fits 2256 (omega arith));
-        count = le-lt 8 b 2368 h;
+        each = λ i q. rw (place-of b i q) (drive-fits (placeAt i) (omega arith));
+        count = le-lt 8 b countAt h;
       }
 
   read-fits : length b ≡ blockSize → FitsDesk (readDesk b)
@@ -392,18 +355,16 @@ module _ (b : List ℕ) (h : Bytes b) where
   read-fits l =
       record {
         eight = refl;
-        each =
-            by-eight (λ (r : Row). FitsStage (r .stage)) _ _ _ _ _ _ _ _ vacantRow (stage-fits 0) (stage-fits 184) (stage-fits 368) (stage-fits 552)
-            (stage-fits 736) (stage-fits 920) (stage-fits 1104) (stage-fits 1288);
+        each = λ g q. rw (row-of b g q) (stage-fits (rowAt g));
         table = table-fits l;
-        pointer = le-lt 8 b 2376 h;
-        arena = le-lt 8 b 2384 h;
-        store = le-lt 8 b 2392 h;
+        pointer = le-lt 8 b pointerAt h;
+        arena = le-lt 8 b arenaAt h;
+        store = le-lt 8 b storeAt h;
       }
 
 -- ---- accepted exactly when it is the image of an acceptable desk
 
-not-closed : accept (closed 0 0) ≡ true → ⊥
+pub not-closed : accept (closed 0 0) ≡ true → ⊥
 not-closed e = absurd (let z : _≡_ {A = Bool} true false = sym e ∙ closed-refused 0 0 in apart z)
   where
     apart : _≡_ {A = Bool} true false → ⊥

@@ -9,7 +9,7 @@ use lib.ListN.{take, replicate}
 use Rattle.words.specs.Words.{le, leBytes}
 use Rattle.chs.specs.Chs.{inLimits, isValid, blockOf}
 use Rattle.drive.specs.declared.Drive.{Drive}
-use Rattle.drive.specs.Drive.{driveOf, same, busOk, interfaceOk, geometryFits, fieldsOk, inStore, overlap}
+use Rattle.drive.specs.Drive.{driveOf as driveIn, same, busOk, interfaceOk, geometryFits, fieldsOk, inStore, overlap}
 use Rattle.table.specs.declared.Table.{Table}
 use Rattle.table.specs.Table.{headerOf, headerAt, overlapsAny, refusal, driveStep, endStep, stepOf, stepAt, zeroDrive, emptyTable, readFrom, readTable}
 use Rattle.layout.specs.Packet.{packetAt, readPacket}
@@ -19,8 +19,8 @@ use Rattle.int13.specs.declared.Outcome.{Outcome}
 use Rattle.int13.specs.declared.Outcome.the-variants.{Answered, Waits}
 use Rattle.int13.specs.declared.Plan.{Plan}
 use Rattle.int13.specs.declared.Plan.the-variants.{Refuse, Clear, Finish, Wait}
-use Rattle.int13.specs.Answers.{succeed, withdraw, posted}
-use Rattle.int13.specs.Steps.{Checked, isDrive, verifyOk, packetTests, packetPlan, seek, sectors, parameters, extensions, result, check}
+use Rattle.int13.specs.Answers.{dl, succeed, withdraw, posted}
+use Rattle.int13.specs.Steps.{Checked, fed, isDrive, driveOf, verifyOk, packetTests, packetPlan, seek, sectors, parameters, extensions, result, steps, begin}
 
 -- ---- tables
 
@@ -93,7 +93,7 @@ bytes = 68 ∷ 0 ∷ 1 ∷ 0 ∷ 2 ∷ 0 ∷ 0 ∷ 0 ∷ 16 ∷ 0 ∷ 0 ∷ 0 �
 
 -- they are read as the drive above
 pub worked-table : readTable bytes 4294967296 .table ≡ plain
-unfolding le leBytes inLimits driveOf same busOk interfaceOk geometryFits fieldsOk inStore overlap headerOf headerAt overlapsAny refusal driveStep endStep stepOf stepAt readFrom readTable
+unfolding le leBytes inLimits driveIn same busOk interfaceOk geometryFits fieldsOk inStore overlap headerOf headerAt overlapsAny refusal driveStep endStep stepOf stepAt readFrom readTable
 worked-table = refl
 
 -- ---- calls
@@ -105,6 +105,10 @@ call ax dx = record { ax = ax; bx = 0x1111; cx = 0x2222; dx = dx; ds = 0; si = 0
 -- AX, CX and DX, with the buffer ES:BX at the window's start
 abbrev run : ℕ → ℕ → ℕ → Registers
 run ax cx dx = record { ax = ax; bx = 0; cx = cx; dx = dx; ds = 0; si = 0; es = 0; carry = true }
+
+-- 02h and 03h at a table, in a window of that many bytes
+abbrev sectorsOf : Table → Registers → ℕ → Outcome
+sectorsOf b r M = sectors (isDrive b (dl r)) (driveOf b r) r M
 
 -- size byte, count, offset and segment of the buffer, start; byte 1 is A5h, which nobody reads
 abbrev packet : ℕ → ℕ → ℕ → ℕ → ℕ → List ℕ
@@ -194,21 +198,21 @@ registers-sectors = refl
 --   48h, size 26: AX 0055h
 --   48h, size 25: AX 0155h
 pub registers-answered : wholes
-    ((check plain (call 0x0205 0x81) ([]))
-    ∷ (check plain (call 0x0305 0x81) ([]))
-    ∷ (check guarded (call 0x0305 0x80) ([]))
-    ∷ (check plain (call 0x0855 0x80) ([]))
-    ∷ (check plain (call 0x0855 0x81) ([]))
-    ∷ (check plain (call 0x4255 0x80) (packet 16 0 16 0 0))
-    ∷ (check plain (call 0x4255 0x80) (packet 16 0 16 0 2049))
-    ∷ (check plain (call 0x4301 0x80) (packet 16 0 16 0 0))
-    ∷ (check guarded (call 0x4301 0x80) (packet 16 0 16 0 0))
-    ∷ (check plain (call 0x4455 0x80) (packet 16 1 16 0 0))
-    ∷ (check plain (call 0x4455 0x80) (packet 16 0 16 0 2049))
-    ∷ (check plain (call 0x4755 0x80) (packet 16 0 16 0 0))
-    ∷ (check plain (call 0x4755 0x80) (packet 16 0 16 0 2048))
-    ∷ (check plain (call 0x4855 0x80) (26 ∷ replicate 25 0))
-    ∷ (check plain (call 0x4855 0x80) (25 ∷ replicate 25 0))
+    ((begin (fed plain) (call 0x0205 0x81) ([]))
+    ∷ (begin (fed plain) (call 0x0305 0x81) ([]))
+    ∷ (begin (fed guarded) (call 0x0305 0x80) ([]))
+    ∷ (begin (fed plain) (call 0x0855 0x80) ([]))
+    ∷ (begin (fed plain) (call 0x0855 0x81) ([]))
+    ∷ (begin (fed plain) (call 0x4255 0x80) (packet 16 0 16 0 0))
+    ∷ (begin (fed plain) (call 0x4255 0x80) (packet 16 0 16 0 2049))
+    ∷ (begin (fed plain) (call 0x4301 0x80) (packet 16 0 16 0 0))
+    ∷ (begin (fed guarded) (call 0x4301 0x80) (packet 16 0 16 0 0))
+    ∷ (begin (fed plain) (call 0x4455 0x80) (packet 16 1 16 0 0))
+    ∷ (begin (fed plain) (call 0x4455 0x80) (packet 16 0 16 0 2049))
+    ∷ (begin (fed plain) (call 0x4755 0x80) (packet 16 0 16 0 0))
+    ∷ (begin (fed plain) (call 0x4755 0x80) (packet 16 0 16 0 2048))
+    ∷ (begin (fed plain) (call 0x4855 0x80) (26 ∷ replicate 25 0))
+    ∷ (begin (fed plain) (call 0x4855 0x80) (25 ∷ replicate 25 0))
     ∷ [])
     ≡ (0x0100 ∷ 0x1111 ∷ 0x2222 ∷ 0x81 ∷ 0 ∷ 0 ∷ 0x3333 ∷ 1 ∷ [])
     ∷ (0x0100 ∷ 0x1111 ∷ 0x2222 ∷ 0x81 ∷ 0 ∷ 0 ∷ 0x3333 ∷ 1 ∷ [])
@@ -226,7 +230,7 @@ pub registers-answered : wholes
     ∷ (0x0055 ∷ 0x1111 ∷ 0x2222 ∷ 0x80 ∷ 0 ∷ 0 ∷ 0x3333 ∷ 0 ∷ [])
     ∷ (0x0155 ∷ 0x1111 ∷ 0x2222 ∷ 0x80 ∷ 0 ∷ 0 ∷ 0x3333 ∷ 1 ∷ [])
     ∷ []
-unfolding le leBytes inLimits isValid blockOf readPacket packetAt returnedSize resultAnswer isDrive verifyOk packetTests packetPlan seek sectors parameters extensions result check
+unfolding le leBytes inLimits isValid blockOf readPacket packetAt returnedSize resultAnswer isDrive verifyOk packetTests packetPlan seek sectors parameters extensions result steps begin
 registers-answered = refl
 
 -- 41h: AL becomes 0 on success and stays on refusal, DH is not set
@@ -234,23 +238,23 @@ registers-answered = refl
 --   drive known, BX AA55h: AX 0155h
 --   drive unknown, BX 55AAh: AX 0155h
 pub registers-extensions :
-    map (λ (r : Registers). whole (check plain r [] .outcome))
+    map (λ (r : Registers). whole (begin (fed plain) r [] .outcome))
     ((record { ax = 0x4155; bx = 0x55AA; cx = 0x2222; dx = 0x7780; ds = 0; si = 0; es = 0x3333; carry = true })
     ∷ (record { ax = 0x4155; bx = 0xAA55; cx = 0x2222; dx = 0x7780; ds = 0; si = 0; es = 0x3333; carry = true })
     ∷ (record { ax = 0x4155; bx = 0x55AA; cx = 0x2222; dx = 0x7781; ds = 0; si = 0; es = 0x3333; carry = true })
     ∷ [])
     ≡ (0x3000 ∷ 0xAA55 ∷ 0x0001 ∷ 0x7780 ∷ 0 ∷ 0 ∷ 0x3333 ∷ 0 ∷ []) ∷ (0x0155 ∷ 0xAA55 ∷ 0x2222 ∷ 0x7780 ∷ 0 ∷ 0 ∷ 0x3333 ∷ 1 ∷ []) ∷ (0x0155 ∷ 0x55AA ∷ 0x2222 ∷ 0x7781 ∷ 0 ∷ 0 ∷ 0x3333 ∷ 1 ∷ []) ∷ []
-unfolding le leBytes inLimits isValid blockOf readPacket packetAt returnedSize resultAnswer isDrive verifyOk packetTests packetPlan seek sectors parameters extensions result check
+unfolding le leBytes inLimits isValid blockOf readPacket packetAt returnedSize resultAnswer isDrive verifyOk packetTests packetPlan seek sectors parameters extensions result steps begin
 registers-extensions = refl
 
 -- a request that waits keeps its registers, with carry clear: drive 80h, then the registers
 --   42h, one block
 pub registers-waiting : wholes
-    ((check plain (call 0x4255 0x80) (roomy (packet 16 1 16 0 0)))
+    ((begin (fed plain) (call 0x4255 0x80) (roomy (packet 16 1 16 0 0)))
     ∷ [])
     ≡ (0x80 ∷ 0x4255 ∷ 0x1111 ∷ 0x2222 ∷ 0x80 ∷ 0 ∷ 0 ∷ 0x3333 ∷ 0 ∷ [])
     ∷ []
-unfolding le leBytes inLimits isValid blockOf readPacket packetAt returnedSize resultAnswer isDrive verifyOk packetTests packetPlan seek sectors parameters extensions result check
+unfolding le leBytes inLimits isValid blockOf readPacket packetAt returnedSize resultAnswer isDrive verifyOk packetTests packetPlan seek sectors parameters extensions result steps begin
 registers-waiting = refl
 
 -- an unknown function is 01h whatever DL, AL stays
@@ -261,12 +265,12 @@ registers-waiting = refl
 --   45h, drive 80h: AX 0155h
 --   FFh, drive 80h: AX 0155h
 pub unknown-functions : wholes
-    ((check plain (call 0x0055 0x80) ([]))
-    ∷ (check plain (call 0x0155 0x80) ([]))
-    ∷ (check plain (call 0x0455 0x00) ([]))
-    ∷ (check plain (call 0x1555 0x81) ([]))
-    ∷ (check plain (call 0x4555 0x80) ([]))
-    ∷ (check plain (call 0xFF55 0x80) ([]))
+    ((begin (fed plain) (call 0x0055 0x80) ([]))
+    ∷ (begin (fed plain) (call 0x0155 0x80) ([]))
+    ∷ (begin (fed plain) (call 0x0455 0x00) ([]))
+    ∷ (begin (fed plain) (call 0x1555 0x81) ([]))
+    ∷ (begin (fed plain) (call 0x4555 0x80) ([]))
+    ∷ (begin (fed plain) (call 0xFF55 0x80) ([]))
     ∷ [])
     ≡ (0x0155 ∷ 0x1111 ∷ 0x2222 ∷ 0x80 ∷ 0 ∷ 0 ∷ 0x3333 ∷ 1 ∷ [])
     ∷ (0x0155 ∷ 0x1111 ∷ 0x2222 ∷ 0x80 ∷ 0 ∷ 0 ∷ 0x3333 ∷ 1 ∷ [])
@@ -275,7 +279,7 @@ pub unknown-functions : wholes
     ∷ (0x0155 ∷ 0x1111 ∷ 0x2222 ∷ 0x80 ∷ 0 ∷ 0 ∷ 0x3333 ∷ 1 ∷ [])
     ∷ (0x0155 ∷ 0x1111 ∷ 0x2222 ∷ 0x80 ∷ 0 ∷ 0 ∷ 0x3333 ∷ 1 ∷ [])
     ∷ []
-unfolding le leBytes inLimits isValid blockOf readPacket packetAt returnedSize resultAnswer isDrive verifyOk packetTests packetPlan seek sectors parameters extensions result check
+unfolding le leBytes inLimits isValid blockOf readPacket packetAt returnedSize resultAnswer isDrive verifyOk packetTests packetPlan seek sectors parameters extensions result steps begin
 unknown-functions = refl
 
 -- drive numbers 00h, 7Fh, 80h, 80h + n - 1, 80h + n and FFh of n = 0, 1 and 8 drives; DL - 80h is never taken in eight bits
@@ -298,14 +302,14 @@ drive-numbers = refl
 --   47h, 81h: AX 0155h
 --   48h, 7Fh: AX 0155h
 pub unknown-drives : answers
-    ((check plain (call 0x0201 0x00) ([]))
-    ∷ (check plain (call 0x0301 0x7F) ([]))
-    ∷ (check emptyTable (call 0x0855 0x80) ([]))
-    ∷ (check eight (call 0x0855 0x88) ([]))
-    ∷ (check plain (call 0x4155 0xFF) ([]))
-    ∷ (check plain (call 0x4255 0x81) (packet 16 0 16 0 0))
-    ∷ (check plain (call 0x4755 0x81) (packet 16 0 16 0 0))
-    ∷ (check plain (call 0x4855 0x7F) (26 ∷ replicate 25 0))
+    ((begin (fed plain) (call 0x0201 0x00) ([]))
+    ∷ (begin (fed plain) (call 0x0301 0x7F) ([]))
+    ∷ (begin (fed emptyTable) (call 0x0855 0x80) ([]))
+    ∷ (begin (fed eight) (call 0x0855 0x88) ([]))
+    ∷ (begin (fed plain) (call 0x4155 0xFF) ([]))
+    ∷ (begin (fed plain) (call 0x4255 0x81) (packet 16 0 16 0 0))
+    ∷ (begin (fed plain) (call 0x4755 0x81) (packet 16 0 16 0 0))
+    ∷ (begin (fed plain) (call 0x4855 0x7F) (26 ∷ replicate 25 0))
     ∷ [])
     ≡ (0x0100 ∷ 1 ∷ [])
     ∷ (0x0100 ∷ 1 ∷ [])
@@ -316,7 +320,7 @@ pub unknown-drives : answers
     ∷ (0x0155 ∷ 1 ∷ [])
     ∷ (0x0155 ∷ 1 ∷ [])
     ∷ []
-unfolding le leBytes inLimits isValid blockOf readPacket packetAt returnedSize resultAnswer isDrive verifyOk packetTests packetPlan seek sectors parameters extensions result check
+unfolding le leBytes inLimits isValid blockOf readPacket packetAt returnedSize resultAnswer isDrive verifyOk packetTests packetPlan seek sectors parameters extensions result steps begin
 unknown-drives = refl
 
 -- ---- "Run by program": start and count against 2048 blocks, the limits of AL and of the packet's count
@@ -329,12 +333,12 @@ unknown-drives = refl
 --   44h, count 127: success
 --   44h, count 128: 01h
 pub run-by-program : answers
-    ((check plain (call 0x4200 0x80) (roomy (packet 16 1 16 0 2047)))
-    ∷ (check plain (call 0x4200 0x80) (roomy (packet 16 0 16 0 2048)))
-    ∷ (check plain (call 0x4200 0x80) (roomy (packet 16 1 16 0 2048)))
-    ∷ (check guarded (call 0x4300 0x80) (roomy (packet 16 1 16 0 2048)))
-    ∷ (check plain (call 0x4400 0x80) (roomy (packet 16 127 16 0 0)))
-    ∷ (check plain (call 0x4400 0x80) (roomy (packet 16 128 16 0 0)))
+    ((begin (fed plain) (call 0x4200 0x80) (roomy (packet 16 1 16 0 2047)))
+    ∷ (begin (fed plain) (call 0x4200 0x80) (roomy (packet 16 0 16 0 2048)))
+    ∷ (begin (fed plain) (call 0x4200 0x80) (roomy (packet 16 1 16 0 2048)))
+    ∷ (begin (fed guarded) (call 0x4300 0x80) (roomy (packet 16 1 16 0 2048)))
+    ∷ (begin (fed plain) (call 0x4400 0x80) (roomy (packet 16 127 16 0 0)))
+    ∷ (begin (fed plain) (call 0x4400 0x80) (roomy (packet 16 128 16 0 0)))
     ∷ [])
     ≡ (2047 ∷ 1 ∷ 16 ∷ 0 ∷ [])
     ∷ (0x0000 ∷ 0 ∷ [])
@@ -343,7 +347,7 @@ pub run-by-program : answers
     ∷ (0x0000 ∷ 0 ∷ [])
     ∷ (0x0100 ∷ 1 ∷ [])
     ∷ []
-unfolding le leBytes inLimits isValid blockOf readPacket packetAt returnedSize resultAnswer isDrive verifyOk packetTests packetPlan seek sectors parameters extensions result check
+unfolding le leBytes inLimits isValid blockOf readPacket packetAt returnedSize resultAnswer isDrive verifyOk packetTests packetPlan seek sectors parameters extensions result steps begin
 run-by-program = refl
 
 -- 02h and 03h by AL, in a window of 65536 bytes
@@ -351,15 +355,15 @@ run-by-program = refl
 --   02h, AL 129: 09h
 --   03h, protected and out of range: 03h
 pub run-by-program-sectors : map short
-    ((sectors plain (run 0x0280 0x0001 0x0080) 65536)
-    ∷ (sectors plain (run 0x0281 0x0001 0x0080) 65536)
-    ∷ (sectors guarded (run 0x0301 0x0201 0x0080) 65536)
+    ((sectorsOf plain (run 0x0280 0x0001 0x0080) 65536)
+    ∷ (sectorsOf plain (run 0x0281 0x0001 0x0080) 65536)
+    ∷ (sectorsOf guarded (run 0x0301 0x0201 0x0080) 65536)
     ∷ [])
     ≡ (0 ∷ 128 ∷ 0 ∷ 0 ∷ [])
     ∷ (0x0900 ∷ 1 ∷ [])
     ∷ (0x0300 ∷ 1 ∷ [])
     ∷ []
-unfolding le leBytes inLimits isValid blockOf readPacket packetAt returnedSize resultAnswer isDrive verifyOk packetTests packetPlan seek sectors parameters extensions result check
+unfolding le leBytes inLimits isValid blockOf readPacket packetAt returnedSize resultAnswer isDrive verifyOk packetTests packetPlan seek sectors parameters extensions result steps begin
 run-by-program-sectors = refl
 
 -- 42h by count, in a window of 65040 bytes
@@ -385,12 +389,12 @@ run-by-program-packets = refl
 --   out of range and buffer outside: 04h, count word 0
 --   buffer outside: 09h, count word 0
 pub order-read : map shown
-    ((check plain (call 0x4200 0x81) (take 15 (packet 16 1 16 0 0)))
-    ∷ (check plain (call 0x4200 0x80) (take 15 (packet 15 1 16 0 0)))
-    ∷ (check plain (call 0x4200 0x80) (packet 15 128 16 0 0))
-    ∷ (check plain (call 0x4200 0x80) (packet 16 128 16 0 2048))
-    ∷ (check plain (call 0x4200 0x80) (packet 16 1 16 0 2048))
-    ∷ (check plain (call 0x4200 0x80) (packet 16 1 16 0 0))
+    ((begin (fed plain) (call 0x4200 0x81) (take 15 (packet 16 1 16 0 0)))
+    ∷ (begin (fed plain) (call 0x4200 0x80) (take 15 (packet 15 1 16 0 0)))
+    ∷ (begin (fed plain) (call 0x4200 0x80) (packet 15 128 16 0 0))
+    ∷ (begin (fed plain) (call 0x4200 0x80) (packet 16 128 16 0 2048))
+    ∷ (begin (fed plain) (call 0x4200 0x80) (packet 16 1 16 0 2048))
+    ∷ (begin (fed plain) (call 0x4200 0x80) (packet 16 1 16 0 0))
     ∷ [])
     ≡ ((0x0100 ∷ 1 ∷ []) ∷ (take 15 (packet 16 1 16 0 0)) ∷ [])
     ∷ ((0x0100 ∷ 1 ∷ []) ∷ (take 15 (packet 15 1 16 0 0)) ∷ [])
@@ -399,7 +403,7 @@ pub order-read : map shown
     ∷ ((0x0400 ∷ 1 ∷ []) ∷ (packet 16 0 16 0 2048) ∷ [])
     ∷ ((0x0900 ∷ 1 ∷ []) ∷ (packet 16 0 16 0 0) ∷ [])
     ∷ []
-unfolding le leBytes inLimits isValid blockOf readPacket packetAt returnedSize resultAnswer isDrive verifyOk packetTests packetPlan seek sectors parameters extensions result check
+unfolding le leBytes inLimits isValid blockOf readPacket packetAt returnedSize resultAnswer isDrive verifyOk packetTests packetPlan seek sectors parameters extensions result steps begin
 order-read = refl
 
 -- 43h: AL and protection too
@@ -412,14 +416,14 @@ order-read = refl
 --   out of range and buffer outside: 04h, count word 0
 --   buffer outside: 09h, count word 0
 pub order-write : map shown
-    ((check plain (call 0x4303 0x81) (packet 16 1 16 0 0))
-    ∷ (check plain (call 0x4303 0x80) (take 15 (packet 16 1 16 0 0)))
-    ∷ (check plain (call 0x4300 0x80) (take 15 (packet 15 1 16 0 0)))
-    ∷ (check plain (call 0x4300 0x80) (packet 15 128 16 0 0))
-    ∷ (check guarded (call 0x4300 0x80) (packet 16 128 16 0 0))
-    ∷ (check guarded (call 0x4300 0x80) (packet 16 1 16 0 2048))
-    ∷ (check plain (call 0x4300 0x80) (packet 16 1 16 0 2048))
-    ∷ (check plain (call 0x4300 0x80) (packet 16 1 16 0 0))
+    ((begin (fed plain) (call 0x4303 0x81) (packet 16 1 16 0 0))
+    ∷ (begin (fed plain) (call 0x4303 0x80) (take 15 (packet 16 1 16 0 0)))
+    ∷ (begin (fed plain) (call 0x4300 0x80) (take 15 (packet 15 1 16 0 0)))
+    ∷ (begin (fed plain) (call 0x4300 0x80) (packet 15 128 16 0 0))
+    ∷ (begin (fed guarded) (call 0x4300 0x80) (packet 16 128 16 0 0))
+    ∷ (begin (fed guarded) (call 0x4300 0x80) (packet 16 1 16 0 2048))
+    ∷ (begin (fed plain) (call 0x4300 0x80) (packet 16 1 16 0 2048))
+    ∷ (begin (fed plain) (call 0x4300 0x80) (packet 16 1 16 0 0))
     ∷ [])
     ≡ ((0x0103 ∷ 1 ∷ []) ∷ (packet 16 1 16 0 0) ∷ [])
     ∷ ((0x0103 ∷ 1 ∷ []) ∷ (take 15 (packet 16 1 16 0 0)) ∷ [])
@@ -430,7 +434,7 @@ pub order-write : map shown
     ∷ ((0x0400 ∷ 1 ∷ []) ∷ (packet 16 0 16 0 2048) ∷ [])
     ∷ ((0x0900 ∷ 1 ∷ []) ∷ (packet 16 0 16 0 0) ∷ [])
     ∷ []
-unfolding le leBytes inLimits isValid blockOf readPacket packetAt returnedSize resultAnswer isDrive verifyOk packetTests packetPlan seek sectors parameters extensions result check
+unfolding le leBytes inLimits isValid blockOf readPacket packetAt returnedSize resultAnswer isDrive verifyOk packetTests packetPlan seek sectors parameters extensions result steps begin
 order-write = refl
 
 -- 44h: neither AL, nor protection, nor the buffer
@@ -441,12 +445,12 @@ order-write = refl
 --   out of range: 04h, count word 0
 --   protected, AL FFh, count 127, buffer FFFFh:FFFFh: success, nothing written
 pub order-verify : map shown
-    ((check plain (call 0x4403 0x81) (take 15 (packet 16 1 16 0 0)))
-    ∷ (check plain (call 0x4403 0x80) (take 15 (packet 15 1 16 0 0)))
-    ∷ (check plain (call 0x4403 0x80) (packet 15 128 16 0 0))
-    ∷ (check plain (call 0x4403 0x80) (packet 16 128 16 0 2048))
-    ∷ (check plain (call 0x4403 0x80) (packet 16 1 16 0 2048))
-    ∷ (check guarded (call 0x44FF 0x80) (packet 16 127 0xFFFF 0xFFFF 0))
+    ((begin (fed plain) (call 0x4403 0x81) (take 15 (packet 16 1 16 0 0)))
+    ∷ (begin (fed plain) (call 0x4403 0x80) (take 15 (packet 15 1 16 0 0)))
+    ∷ (begin (fed plain) (call 0x4403 0x80) (packet 15 128 16 0 0))
+    ∷ (begin (fed plain) (call 0x4403 0x80) (packet 16 128 16 0 2048))
+    ∷ (begin (fed plain) (call 0x4403 0x80) (packet 16 1 16 0 2048))
+    ∷ (begin (fed guarded) (call 0x44FF 0x80) (packet 16 127 0xFFFF 0xFFFF 0))
     ∷ [])
     ≡ ((0x0103 ∷ 1 ∷ []) ∷ (take 15 (packet 16 1 16 0 0)) ∷ [])
     ∷ ((0x0103 ∷ 1 ∷ []) ∷ (take 15 (packet 15 1 16 0 0)) ∷ [])
@@ -455,7 +459,7 @@ pub order-verify : map shown
     ∷ ((0x0403 ∷ 1 ∷ []) ∷ (packet 16 0 16 0 2048) ∷ [])
     ∷ ((0x00FF ∷ 0 ∷ []) ∷ (packet 16 127 0xFFFF 0xFFFF 0) ∷ [])
     ∷ []
-unfolding le leBytes inLimits isValid blockOf readPacket packetAt returnedSize resultAnswer isDrive verifyOk packetTests packetPlan seek sectors parameters extensions result check
+unfolding le leBytes inLimits isValid blockOf readPacket packetAt returnedSize resultAnswer isDrive verifyOk packetTests packetPlan seek sectors parameters extensions result steps begin
 order-verify = refl
 
 -- a count of 0 passes every test before it is answered at once, and success leaves the packet
@@ -466,12 +470,12 @@ order-verify = refl
 --   42h, buffer 16 of 16 bytes: success
 --   43h, buffer 17 of 16 bytes: 09h
 pub count-zero : map shown
-    ((check guarded (call 0x4300 0x80) (packet 16 0 16 0 0))
-    ∷ (check plain (call 0x4200 0x80) (packet 16 0 16 0 2049))
-    ∷ (check plain (call 0x4200 0x80) (packet 16 0 16 0 2048))
-    ∷ (check plain (call 0x4200 0x80) (packet 16 0 17 0 0))
-    ∷ (check plain (call 0x4200 0x80) (packet 16 0 16 0 0))
-    ∷ (check plain (call 0x4300 0x80) (packet 16 0 17 0 0))
+    ((begin (fed guarded) (call 0x4300 0x80) (packet 16 0 16 0 0))
+    ∷ (begin (fed plain) (call 0x4200 0x80) (packet 16 0 16 0 2049))
+    ∷ (begin (fed plain) (call 0x4200 0x80) (packet 16 0 16 0 2048))
+    ∷ (begin (fed plain) (call 0x4200 0x80) (packet 16 0 17 0 0))
+    ∷ (begin (fed plain) (call 0x4200 0x80) (packet 16 0 16 0 0))
+    ∷ (begin (fed plain) (call 0x4300 0x80) (packet 16 0 17 0 0))
     ∷ [])
     ≡ ((0x0300 ∷ 1 ∷ []) ∷ (packet 16 0 16 0 0) ∷ [])
     ∷ ((0x0400 ∷ 1 ∷ []) ∷ (packet 16 0 16 0 2049) ∷ [])
@@ -480,7 +484,7 @@ pub count-zero : map shown
     ∷ ((0x0000 ∷ 0 ∷ []) ∷ (packet 16 0 16 0 0) ∷ [])
     ∷ ((0x0900 ∷ 1 ∷ []) ∷ (packet 16 0 17 0 0) ∷ [])
     ∷ []
-unfolding le leBytes inLimits isValid blockOf readPacket packetAt returnedSize resultAnswer isDrive verifyOk packetTests packetPlan seek sectors parameters extensions result check
+unfolding le leBytes inLimits isValid blockOf readPacket packetAt returnedSize resultAnswer isDrive verifyOk packetTests packetPlan seek sectors parameters extensions result steps begin
 count-zero = refl
 
 -- the packet is always 16 bytes, its count a whole word, its buffer an address that is never wrapped
@@ -491,12 +495,12 @@ count-zero = refl
 --   42h, count FFFFh: 01h, both bytes 0
 --   42h, count 0, buffer FFFFh:FFFFh: 09h
 pub packet-forms : map shown
-    ((check plain (call 0x4400 0x80) (packet 24 1 16 0 0))
-    ∷ (check plain (call 0x4400 0x80) (packet 255 1 16 0 0))
-    ∷ (check plain (call 0x4400 0x80) (packet 16 0x0100 16 0 0))
-    ∷ (check plain (call 0x4400 0x80) (packet 16 0xFF 16 0 0))
-    ∷ (check plain (call 0x4200 0x80) (packet 16 0xFFFF 16 0 0))
-    ∷ (check plain (call 0x4200 0x80) (packet 16 0 0xFFFF 0xFFFF 0))
+    ((begin (fed plain) (call 0x4400 0x80) (packet 24 1 16 0 0))
+    ∷ (begin (fed plain) (call 0x4400 0x80) (packet 255 1 16 0 0))
+    ∷ (begin (fed plain) (call 0x4400 0x80) (packet 16 0x0100 16 0 0))
+    ∷ (begin (fed plain) (call 0x4400 0x80) (packet 16 0xFF 16 0 0))
+    ∷ (begin (fed plain) (call 0x4200 0x80) (packet 16 0xFFFF 16 0 0))
+    ∷ (begin (fed plain) (call 0x4200 0x80) (packet 16 0 0xFFFF 0xFFFF 0))
     ∷ [])
     ≡ ((0x0000 ∷ 0 ∷ []) ∷ (packet 24 1 16 0 0) ∷ [])
     ∷ ((0x0000 ∷ 0 ∷ []) ∷ (packet 255 1 16 0 0) ∷ [])
@@ -505,7 +509,7 @@ pub packet-forms : map shown
     ∷ ((0x0100 ∷ 1 ∷ []) ∷ (packet 16 0 16 0 0) ∷ [])
     ∷ ((0x0900 ∷ 1 ∷ []) ∷ (packet 16 0 0xFFFF 0xFFFF 0) ∷ [])
     ∷ []
-unfolding le leBytes inLimits isValid blockOf readPacket packetAt returnedSize resultAnswer isDrive verifyOk packetTests packetPlan seek sectors parameters extensions result check
+unfolding le leBytes inLimits isValid blockOf readPacket packetAt returnedSize resultAnswer isDrive verifyOk packetTests packetPlan seek sectors parameters extensions result steps begin
 packet-forms = refl
 
 -- buffers above 1 MiB and across 64 KiB: 42h, one block at FFFFh:FFFFh and eight at 65000
@@ -534,11 +538,11 @@ buffers = refl
 --   44h, start 2^64 - 127 count 127
 --   47h, start 2^64 - 1
 pub no-wrap : answers
-    ((check plain (call 0x4200 0x80) (roomy (packet 16 0 16 0 18446744073709551615)))
-    ∷ (check plain (call 0x4200 0x80) (roomy (packet 16 1 16 0 18446744073709551615)))
-    ∷ (check plain (call 0x4200 0x80) (roomy (packet 16 2 16 0 18446744073709551615)))
-    ∷ (check plain (call 0x4400 0x80) (roomy (packet 16 127 16 0 18446744073709551489)))
-    ∷ (check plain (call 0x4700 0x80) (roomy (packet 16 1 16 0 18446744073709551615)))
+    ((begin (fed plain) (call 0x4200 0x80) (roomy (packet 16 0 16 0 18446744073709551615)))
+    ∷ (begin (fed plain) (call 0x4200 0x80) (roomy (packet 16 1 16 0 18446744073709551615)))
+    ∷ (begin (fed plain) (call 0x4200 0x80) (roomy (packet 16 2 16 0 18446744073709551615)))
+    ∷ (begin (fed plain) (call 0x4400 0x80) (roomy (packet 16 127 16 0 18446744073709551489)))
+    ∷ (begin (fed plain) (call 0x4700 0x80) (roomy (packet 16 1 16 0 18446744073709551615)))
     ∷ [])
     ≡ (0x0400 ∷ 1 ∷ [])
     ∷ (0x0400 ∷ 1 ∷ [])
@@ -546,7 +550,7 @@ pub no-wrap : answers
     ∷ (0x0400 ∷ 1 ∷ [])
     ∷ (0x0400 ∷ 1 ∷ [])
     ∷ []
-unfolding le leBytes inLimits isValid blockOf readPacket packetAt returnedSize resultAnswer isDrive verifyOk packetTests packetPlan seek sectors parameters extensions result check
+unfolding le leBytes inLimits isValid blockOf readPacket packetAt returnedSize resultAnswer isDrive verifyOk packetTests packetPlan seek sectors parameters extensions result steps begin
 no-wrap = refl
 
 -- 43h: AL 0 and 1, and 2 where information flag bit 3 is set; a bad AL is refused before the packet is looked at
@@ -557,12 +561,12 @@ no-wrap = refl
 --   AL 3, bit set, count 128: 01h, nothing written
 --   AL FFh, bit set, count 128: 01h, nothing written
 pub verify-flag : map shown
-    ((check plain (call 0x4300 0x80) (packet 16 0 16 0 0))
-    ∷ (check plain (call 0x4301 0x80) (packet 16 0 16 0 0))
-    ∷ (check verifying (call 0x4302 0x80) (packet 16 0 16 0 0))
-    ∷ (check plain (call 0x4302 0x80) (packet 16 128 16 0 0))
-    ∷ (check verifying (call 0x4303 0x80) (packet 16 128 16 0 0))
-    ∷ (check verifying (call 0x43FF 0x80) (packet 16 128 16 0 0))
+    ((begin (fed plain) (call 0x4300 0x80) (packet 16 0 16 0 0))
+    ∷ (begin (fed plain) (call 0x4301 0x80) (packet 16 0 16 0 0))
+    ∷ (begin (fed verifying) (call 0x4302 0x80) (packet 16 0 16 0 0))
+    ∷ (begin (fed plain) (call 0x4302 0x80) (packet 16 128 16 0 0))
+    ∷ (begin (fed verifying) (call 0x4303 0x80) (packet 16 128 16 0 0))
+    ∷ (begin (fed verifying) (call 0x43FF 0x80) (packet 16 128 16 0 0))
     ∷ [])
     ≡ ((0x0000 ∷ 0 ∷ []) ∷ (packet 16 0 16 0 0) ∷ [])
     ∷ ((0x0001 ∷ 0 ∷ []) ∷ (packet 16 0 16 0 0) ∷ [])
@@ -571,7 +575,7 @@ pub verify-flag : map shown
     ∷ ((0x0103 ∷ 1 ∷ []) ∷ (packet 16 128 16 0 0) ∷ [])
     ∷ ((0x01FF ∷ 1 ∷ []) ∷ (packet 16 128 16 0 0) ∷ [])
     ∷ []
-unfolding le leBytes inLimits isValid blockOf readPacket packetAt returnedSize resultAnswer isDrive verifyOk packetTests packetPlan seek sectors parameters extensions result check
+unfolding le leBytes inLimits isValid blockOf readPacket packetAt returnedSize resultAnswer isDrive verifyOk packetTests packetPlan seek sectors parameters extensions result steps begin
 verify-flag = refl
 
 -- ---- 47h, 02h and 03h, 08h, 48h
@@ -583,11 +587,11 @@ verify-flag = refl
 --   size 15 and start 2048: 01h
 --   15 bytes left: 01h
 pub seeks : map shown
-    ((check plain (call 0x4700 0x80) (packet 16 1 16 0 2047))
-    ∷ (check plain (call 0x4700 0x80) (packet 16 1 16 0 2048))
-    ∷ (check plain (call 0x4700 0x80) (packet 16 65535 16 0 0))
-    ∷ (check plain (call 0x4700 0x80) (packet 15 1 16 0 2048))
-    ∷ (check plain (call 0x4700 0x80) (take 15 (packet 16 1 16 0 0)))
+    ((begin (fed plain) (call 0x4700 0x80) (packet 16 1 16 0 2047))
+    ∷ (begin (fed plain) (call 0x4700 0x80) (packet 16 1 16 0 2048))
+    ∷ (begin (fed plain) (call 0x4700 0x80) (packet 16 65535 16 0 0))
+    ∷ (begin (fed plain) (call 0x4700 0x80) (packet 15 1 16 0 2048))
+    ∷ (begin (fed plain) (call 0x4700 0x80) (take 15 (packet 16 1 16 0 0)))
     ∷ [])
     ≡ ((0x0000 ∷ 0 ∷ []) ∷ (packet 16 1 16 0 2047) ∷ [])
     ∷ ((0x0400 ∷ 1 ∷ []) ∷ (packet 16 1 16 0 2048) ∷ [])
@@ -595,7 +599,7 @@ pub seeks : map shown
     ∷ ((0x0100 ∷ 1 ∷ []) ∷ (packet 15 1 16 0 2048) ∷ [])
     ∷ ((0x0100 ∷ 1 ∷ []) ∷ (take 15 (packet 16 1 16 0 0)) ∷ [])
     ∷ []
-unfolding le leBytes inLimits isValid blockOf readPacket packetAt returnedSize resultAnswer isDrive verifyOk packetTests packetPlan seek sectors parameters extensions result check
+unfolding le leBytes inLimits isValid blockOf readPacket packetAt returnedSize resultAnswer isDrive verifyOk packetTests packetPlan seek sectors parameters extensions result steps begin
 seeks = refl
 
 -- 02h and 03h: drive, AL, protection, address, buffer
@@ -608,14 +612,14 @@ seeks = refl
 --   buffer outside: 09h
 --   buffer at the end: waits
 pub order-sectors : map short
-    ((sectors plain (run 0x0281 0x0001 0x0081) 65536)
-    ∷ (sectors guarded (run 0x0300 0x0001 0x0080) 65536)
-    ∷ (sectors guarded (run 0x0381 0x0001 0x0080) 65536)
-    ∷ (sectors guarded (run 0x0301 0x0201 0x0080) 65536)
-    ∷ (sectors guarded (run 0x0201 0x0001 0x0080) 65536)
-    ∷ (sectors plain (run 0x0201 0x0201 0x0080) 511)
-    ∷ (sectors plain (run 0x0201 0x0001 0x0080) 511)
-    ∷ (sectors plain (run 0x0201 0x0001 0x0080) 512)
+    ((sectorsOf plain (run 0x0281 0x0001 0x0081) 65536)
+    ∷ (sectorsOf guarded (run 0x0300 0x0001 0x0080) 65536)
+    ∷ (sectorsOf guarded (run 0x0381 0x0001 0x0080) 65536)
+    ∷ (sectorsOf guarded (run 0x0301 0x0201 0x0080) 65536)
+    ∷ (sectorsOf guarded (run 0x0201 0x0001 0x0080) 65536)
+    ∷ (sectorsOf plain (run 0x0201 0x0201 0x0080) 511)
+    ∷ (sectorsOf plain (run 0x0201 0x0001 0x0080) 511)
+    ∷ (sectorsOf plain (run 0x0201 0x0001 0x0080) 512)
     ∷ [])
     ≡ (0x0100 ∷ 1 ∷ [])
     ∷ (0x0100 ∷ 1 ∷ [])
@@ -626,7 +630,7 @@ pub order-sectors : map short
     ∷ (0x0900 ∷ 1 ∷ [])
     ∷ (0 ∷ 1 ∷ 0 ∷ 0 ∷ [])
     ∷ []
-unfolding le leBytes inLimits isValid blockOf readPacket packetAt returnedSize resultAnswer isDrive verifyOk packetTests packetPlan seek sectors parameters extensions result check
+unfolding le leBytes inLimits isValid blockOf readPacket packetAt returnedSize resultAnswer isDrive verifyOk packetTests packetPlan seek sectors parameters extensions result steps begin
 order-sectors = refl
 
 -- 02h: the address and its run in the geometry of 2016 blocks, of a drive of 2048
@@ -637,12 +641,12 @@ order-sectors = refl
 --   cylinder 256, in the top bits of CL: 04h
 --   a run across tracks, 128 blocks from 0/0/63: waits at block 62
 pub addresses : map short
-    ((sectors plain (run 0x0201 0x013F 0x0F80) 65536)
-    ∷ (sectors plain (run 0x0202 0x013F 0x0F80) 65536)
-    ∷ (sectors plain (run 0x0201 0x0001 0x1080) 65536)
-    ∷ (sectors plain (run 0x0201 0x0000 0x0080) 65536)
-    ∷ (sectors plain (run 0x0201 0x0041 0x0080) 65536)
-    ∷ (sectors plain (run 0x0280 0x003F 0x0080) 65536)
+    ((sectorsOf plain (run 0x0201 0x013F 0x0F80) 65536)
+    ∷ (sectorsOf plain (run 0x0202 0x013F 0x0F80) 65536)
+    ∷ (sectorsOf plain (run 0x0201 0x0001 0x1080) 65536)
+    ∷ (sectorsOf plain (run 0x0201 0x0000 0x0080) 65536)
+    ∷ (sectorsOf plain (run 0x0201 0x0041 0x0080) 65536)
+    ∷ (sectorsOf plain (run 0x0280 0x003F 0x0080) 65536)
     ∷ [])
     ≡ (2015 ∷ 1 ∷ 0 ∷ 0 ∷ [])
     ∷ (0x0400 ∷ 1 ∷ [])
@@ -651,7 +655,7 @@ pub addresses : map short
     ∷ (0x0400 ∷ 1 ∷ [])
     ∷ (62 ∷ 128 ∷ 0 ∷ 0 ∷ [])
     ∷ []
-unfolding le leBytes inLimits isValid blockOf readPacket packetAt returnedSize resultAnswer isDrive verifyOk packetTests packetPlan seek sectors parameters extensions result check
+unfolding le leBytes inLimits isValid blockOf readPacket packetAt returnedSize resultAnswer isDrive verifyOk packetTests packetPlan seek sectors parameters extensions result steps begin
 addresses = refl
 
 -- 08h: the number of drives whichever was asked, and the largest geometry
@@ -659,15 +663,15 @@ addresses = refl
 --   80h of three: CX 013Fh, DX 0F03h
 --   C 1024, H 255, S 63: CX FFFFh, DX FE01h
 pub parameters-given : wholes
-    ((check three (call 0x0855 0x82) ([]))
-    ∷ (check three (call 0x0855 0x80) ([]))
-    ∷ (check largest (call 0x0855 0x80) ([]))
+    ((begin (fed three) (call 0x0855 0x82) ([]))
+    ∷ (begin (fed three) (call 0x0855 0x80) ([]))
+    ∷ (begin (fed largest) (call 0x0855 0x80) ([]))
     ∷ [])
     ≡ (0x0000 ∷ 0x1111 ∷ 0x013F ∷ 0x0F03 ∷ 0 ∷ 0 ∷ 0x3333 ∷ 0 ∷ [])
     ∷ (0x0000 ∷ 0x1111 ∷ 0x013F ∷ 0x0F03 ∷ 0 ∷ 0 ∷ 0x3333 ∷ 0 ∷ [])
     ∷ (0x0000 ∷ 0x1111 ∷ 0xFFFF ∷ 0xFE01 ∷ 0 ∷ 0 ∷ 0x3333 ∷ 0 ∷ [])
     ∷ []
-unfolding le leBytes inLimits isValid blockOf readPacket packetAt returnedSize resultAnswer isDrive verifyOk packetTests packetPlan seek sectors parameters extensions result check
+unfolding le leBytes inLimits isValid blockOf readPacket packetAt returnedSize resultAnswer isDrive verifyOk packetTests packetPlan seek sectors parameters extensions result steps begin
 parameters-given = refl
 
 -- 48h at place 4 of the window: bytes before it and past the returned size stay, and a refusal writes none
@@ -676,15 +680,15 @@ parameters-given = refl
 --   size 25: 01h
 --   one byte left: 01h
 pub results : map shown
-    ((check plain (record { ax = 0x4800; bx = 0; cx = 0; dx = 0x80; ds = 0; si = 4; es = 0; carry = true }) (9 ∷ 9 ∷ 9 ∷ 9 ∷ 29 ∷ 0 ∷ replicate 27 7))
-    ∷ (check plain (record { ax = 0x4800; bx = 0; cx = 0; dx = 0x80; ds = 0; si = 4; es = 0; carry = true }) (9 ∷ 9 ∷ 9 ∷ 9 ∷ 30 ∷ 0 ∷ replicate 27 7))
-    ∷ (check plain (record { ax = 0x4800; bx = 0; cx = 0; dx = 0x80; ds = 0; si = 4; es = 0; carry = true }) (9 ∷ 9 ∷ 9 ∷ 9 ∷ 25 ∷ 0 ∷ replicate 27 7))
-    ∷ (check plain (record { ax = 0x4800; bx = 0; cx = 0; dx = 0x80; ds = 0; si = 4; es = 0; carry = true }) (9 ∷ 9 ∷ 9 ∷ 9 ∷ 26 ∷ []))
+    ((begin (fed plain) (record { ax = 0x4800; bx = 0; cx = 0; dx = 0x80; ds = 0; si = 4; es = 0; carry = true }) (9 ∷ 9 ∷ 9 ∷ 9 ∷ 29 ∷ 0 ∷ replicate 27 7))
+    ∷ (begin (fed plain) (record { ax = 0x4800; bx = 0; cx = 0; dx = 0x80; ds = 0; si = 4; es = 0; carry = true }) (9 ∷ 9 ∷ 9 ∷ 9 ∷ 30 ∷ 0 ∷ replicate 27 7))
+    ∷ (begin (fed plain) (record { ax = 0x4800; bx = 0; cx = 0; dx = 0x80; ds = 0; si = 4; es = 0; carry = true }) (9 ∷ 9 ∷ 9 ∷ 9 ∷ 25 ∷ 0 ∷ replicate 27 7))
+    ∷ (begin (fed plain) (record { ax = 0x4800; bx = 0; cx = 0; dx = 0x80; ds = 0; si = 4; es = 0; carry = true }) (9 ∷ 9 ∷ 9 ∷ 9 ∷ 26 ∷ []))
     ∷ [])
     ≡ ((0x0000 ∷ 0 ∷ []) ∷ (9 ∷ 9 ∷ 9 ∷ 9 ∷ 26 ∷ 0 ∷ 2 ∷ 0 ∷ 2 ∷ 0 ∷ 0 ∷ 0 ∷ 16 ∷ 0 ∷ 0 ∷ 0 ∷ 63 ∷ 0 ∷ 0 ∷ 0 ∷ 0 ∷ 8 ∷ 0 ∷ 0 ∷ 0 ∷ 0 ∷ 0 ∷ 0 ∷ 0 ∷ 2 ∷ replicate 3 7) ∷ [])
     ∷ ((0x0100 ∷ 1 ∷ []) ∷ (9 ∷ 9 ∷ 9 ∷ 9 ∷ 30 ∷ 0 ∷ replicate 27 7) ∷ [])
     ∷ ((0x0100 ∷ 1 ∷ []) ∷ (9 ∷ 9 ∷ 9 ∷ 9 ∷ 25 ∷ 0 ∷ replicate 27 7) ∷ [])
     ∷ ((0x0100 ∷ 1 ∷ []) ∷ (9 ∷ 9 ∷ 9 ∷ 9 ∷ 26 ∷ []) ∷ [])
     ∷ []
-unfolding le leBytes inLimits isValid blockOf readPacket packetAt returnedSize parameterBytes blockBytes interfaceBytes pathBytes sum wholeResult resultBytes resultAnswer isDrive verifyOk packetTests packetPlan seek sectors parameters extensions result check
+unfolding le leBytes inLimits isValid blockOf readPacket packetAt returnedSize parameterBytes blockBytes interfaceBytes pathBytes sum wholeResult resultBytes resultAnswer isDrive verifyOk packetTests packetPlan seek sectors parameters extensions result steps begin
 results = refl

@@ -18,7 +18,7 @@ use Rattle.int13.specs.declared.Job.{Job}
 use Rattle.int13.specs.declared.Outcome.{Outcome}
 use Rattle.int13.specs.declared.Outcome.the-variants.{Answered, Waits}
 use Rattle.int13.specs.Answers.{ah, al, isSectors, isWrite, succeed}
-use Rattle.int13.specs.Steps.{Checked, driveAt, driveOf, packetPlace, check}
+use Rattle.int13.specs.Steps.{Checked, Feeds, fed, driveAt, driveOf, packetPlace, begin}
 
 -- ---- a request, from outside: the registers and the window that the post found
 
@@ -67,9 +67,10 @@ abbrev pub finish : Table → Outcome → List ℕ → Memory → Served
 finish b (Answered r) w m = record { registers = r; memory = record { window = w; store = m .store } }
 finish b (Waits j) w m = record { registers = succeed (j .registers); memory = moves j (storeBlock b j) 0 (j .count) m }
 
-abbrev pub servedBy : Table → Registers → Memory → Served
-servedBy b r m = finish b (check b r (m .window) .outcome) (check b r (m .window) .window) m
+-- by the steps, with the table that the opening read
+abbrev pub servedBy : Feeds Table → Registers → Memory → Served
+servedBy f r m = finish (f .table) (begin f r (m .window) .outcome) (begin f r (m .window) .window) m
 
 -- fed the opening's table bytes, the post's registers, and the guest's window and the store as the post found them
-unfoldable pub alone : List ℕ → Registers → Memory → Served
-alone t r m = servedBy (readTable t (length (m .store) / blockLength) .table) r m
+unfoldable pub alone : Feeds (List ℕ) → Registers → Memory → Served
+alone f r m = servedBy (fed (readTable (f .table) (length (m .store) / blockLength) .table)) r m

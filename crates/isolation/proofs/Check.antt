@@ -35,7 +35,7 @@ use Rattle.int13.specs.declared.Outcome.the-variants.{Answered, Waits}
 use Rattle.int13.specs.declared.Plan.{Plan}
 use Rattle.int13.specs.declared.Plan.the-variants.{Clear}
 use Rattle.int13.specs.Answers.{ah, al, dl, isSectors, isWrite, posted}
-use Rattle.int13.specs.Steps.{Checked, isDrive, driveAt, driveOf, packetPlace, verifyOk, packetTests, packetRead, packetPlan, packetJob, carryOut, extended, seekRead, seek, sectorBuffer, sectorJob, sectorRun, sectors, parameters, extensions, resultGiven, result, check}
+use Rattle.int13.specs.Steps.{Checked, isDrive, driveAt, driveOf, packetPlace, verifyOk, packetTests, packetRead, packetPlan, packetJob, carryOut, extended, seekRead, seek, sectorBuffer, sectorJob, sectorRun, sectors, parameters, extensions, resultGiven, result, fed, driveCount, steps, begin}
 use Rattle.int13.specs.Alone.{asked, namedFrom, storeBlock}
 use Rattle.desk.specs.Acceptable.{jobOk}
 use Rattle.table.proofs.Sound.{Obeys, Good, good-obeys}
@@ -97,7 +97,7 @@ module _ (b : Table) (store : ℕ) (g : Good b store) (r : Registers) (w : List 
         first = rw (s, e);
       }
 
-  sectors-says : isSectors (ah r) ≡ true → Stays (sectors b r (length w))
+  sectors-says : isSectors (ah r) ≡ true → Stays (sectors (isDrive b (dl r)) (driveOf b r) r (length w))
   unfolding sectors
   sectors-says s =
       pick-cases Stays (not (isDrive b (dl r))) _ _ (λ e. refl) (λ e₁.
@@ -161,7 +161,7 @@ module _ (b : Table) (store : ℕ) (g : Good b store) (r : Registers) (w : List 
       pick-cases Plans (eqb (packet .count) 0) _ _ (λ e. refl) (λ e₆.
       (packet-wait s x d i e₁ e₂ e₃ e₄ e₅ e₆, refl)))))))
 
-  extended-says : isSectors (ah r) ≡ false → Extended ≡ true → After (extended b r w)
+  extended-says : isSectors (ah r) ≡ false → Extended ≡ true → After (extended (isDrive b (dl r)) (driveOf b r) r w)
   unfolding packetPlan readPacket
   extended-says s x =
       pick-cases Plans (not (isDrive b (dl r))) _ _ (λ e. refl) (λ e₁.
@@ -172,7 +172,7 @@ module _ (b : Table) (store : ℕ) (g : Good b store) (r : Registers) (w : List 
 
   -- ---- the others never wait
 
-  seek-says : Stays (seek b r w)
+  seek-says : Stays (seek (isDrive b (dl r)) (driveOf b r) r w)
   unfolding seek
   seek-says = pick-cases Stays (not (isDrive b (dl r))) _ _ (λ e. refl) (λ e. by-packet (readPacket w (packetPlace r)))
     where
@@ -180,15 +180,15 @@ module _ (b : Table) (store : ℕ) (g : Good b store) (r : Registers) (w : List 
       by-packet (NoPacket code) = refl
       by-packet (Whole p) = pick-cases Stays (ltb (p .size) 16) _ _ (λ e. refl) (λ e. pick-cases Stays (leb (driveOf b r .blocks) (p .start)) _ _ (λ e. refl) (λ e. refl))
 
-  parameters-says : Stays (parameters b r)
+  parameters-says : Stays (parameters (isDrive b (dl r)) (driveCount b) (driveOf b r) r)
   unfolding parameters
   parameters-says = pick-cases Stays (isDrive b (dl r)) _ _ (λ e. refl) (λ e. refl)
 
-  extensions-says : Stays (extensions b r)
+  extensions-says : Stays (extensions (isDrive b (dl r)) r)
   unfolding extensions
   extensions-says = pick-cases Stays (both (isDrive b (dl r)) (eqb (r .bx) 0x55AA)) _ _ (λ e. refl) (λ e. refl)
 
-  result-says : After (result b r w)
+  result-says : After (result (isDrive b (dl r)) (driveOf b r) r w)
   unfolding result
   result-says =
       pick-cases After (not (isDrive b (dl r))) _ _ (λ e. refl) (λ e₁.
@@ -212,8 +212,8 @@ module _ (b : Table) (store : ℕ) (g : Good b store) (r : Registers) (w : List 
 
   -- ---- every function
 
-  pub check-says : After (check b r w)
-  unfolding check
+  pub check-says : After (begin (fed b) r w)
+  unfolding begin steps
   check-says =
       pick-cases After (either (eqb (ah r) 0x02) (eqb (ah r) 0x03)) _ _ (λ e. sectors-says e) (λ e₁.
       pick-cases After (eqb (ah r) 0x08) _ _ (λ e. parameters-says) (λ e₂.

@@ -21,7 +21,7 @@ use Rattle.int13.specs.declared.Registers.{Registers}
 use Rattle.int13.specs.declared.Job.{Job}
 use Rattle.int13.specs.declared.Outcome.{Outcome}
 use Rattle.int13.specs.declared.Outcome.the-variants.{Waits}
-use Rattle.int13.specs.Steps.{isDrive, sectors, check}
+use Rattle.int13.specs.Steps.{isDrive, fed, driveOf as driveNamed, sectors, steps, begin}
 use Rattle.int13.specs.Alone.{storeBlock, alone}
 use Rattle.desk.specs.declared.Request.{Request}
 use Rattle.desk.specs.declared.Stage.{Stage}
@@ -36,7 +36,7 @@ use Rattle.desk.specs.declared.PostAnswer.the-variants.{Refused as PostRefused}
 use Rattle.desk.specs.declared.TurnAnswer.{TurnAnswer}
 use Rattle.desk.specs.declared.TurnAnswer.the-variants.{Refused as TurnRefused}
 use Rattle.desk.specs.Parts.{windowSize, stageAt, withStage, withPointer}
-use Rattle.desk.specs.Acceptable.{jobOk, rowsOk, accept}
+use Rattle.desk.specs.Acceptable.{requestOk, rowsOk, accept}
 use Rattle.desk.specs.Calls.{Done, isLent, opened, openOf, postChecked, postRow, postOf, seek, stageAfter, memoryOf, movedBy, serve, serveStage, turnNext, turnOf}
 use Rattle.isolation.specs.Lists.{Op, post, turn, Call, posted, turned, Out, outOf, step, Event, run, after}
 use Rattle.isolation.specs.Words.{serves, NoneOpens, Accepted, Waits as WaitsOn, Finishes, moved, Named, Writes, Unwritten, Left}
@@ -83,20 +83,20 @@ abbrev writeJob : Job
 writeJob = record { registers = wrote; drive = 0x80; start = 17; count = 1; buffer = 0; packet = 0 }
 
 -- the steps let both wait, whatever a window of that length holds
-sectors-read : (n : ℕ) → n ≡ 8704 → sectors table read n ≡ Waits readJob
+sectors-read : (n : ℕ) → n ≡ 8704 → sectors (isDrive table 0x80) (driveNamed table read) read n ≡ Waits readJob
 unfolding sectors isDrive blockOf inLimits isValid
 sectors-read n e = rw e
 
-check-read : (w : List ℕ) → length w ≡ 8704 → (check table read w .outcome ≡ Waits readJob) × (check table read w .window ≡ w)
-unfolding check
+check-read : (w : List ℕ) → length w ≡ 8704 → (begin (fed table) read w .outcome ≡ Waits readJob) × (begin (fed table) read w .window ≡ w)
+unfolding begin steps
 check-read w e = (sectors-read (length w) e, refl)
 
-sectors-write : (n : ℕ) → n ≡ 8704 → sectors table wrote n ≡ Waits writeJob
+sectors-write : (n : ℕ) → n ≡ 8704 → sectors (isDrive table 0x80) (driveNamed table wrote) wrote n ≡ Waits writeJob
 unfolding sectors isDrive blockOf inLimits isValid
 sectors-write n e = rw e
 
-check-write : (w : List ℕ) → length w ≡ 8704 → (check table wrote w .outcome ≡ Waits writeJob) × (check table wrote w .window ≡ w)
-unfolding check
+check-write : (w : List ℕ) → length w ≡ 8704 → (begin (fed table) wrote w .outcome ≡ Waits writeJob) × (begin (fed table) wrote w .window ≡ w)
+unfolding begin steps
 check-write w e = (sectors-write (length w) e, refl)
 
 -- ---- the desks
@@ -117,23 +117,23 @@ abbrev d₄ : Desk
 d₄ = withPointer (withStage d₃ 5 (stageAfter (record { job = writeJob; moved = 0 }))) 6
 
 ok₀ : accept d₀ ≡ true
-unfolding accept isSound soundTo refusal fieldsOk geometryFits inLimits busOk interfaceOk same inStore overlapsAny overlap blankTo isBlank blankNumbers blankNames rowsOk jobOk isDrive
+unfolding accept isSound soundTo refusal fieldsOk geometryFits inLimits busOk interfaceOk same inStore overlapsAny overlap blankTo isBlank blankNumbers blankNames rowsOk requestOk isDrive
 ok₀ = refl
 
 ok₁ : accept d₁ ≡ true
-unfolding accept isSound soundTo refusal fieldsOk geometryFits inLimits busOk interfaceOk same inStore overlapsAny overlap blankTo isBlank blankNumbers blankNames rowsOk jobOk isDrive
+unfolding accept isSound soundTo refusal fieldsOk geometryFits inLimits busOk interfaceOk same inStore overlapsAny overlap blankTo isBlank blankNumbers blankNames rowsOk requestOk isDrive
 ok₁ = refl
 
 ok₂ : accept d₂ ≡ true
-unfolding accept isSound soundTo refusal fieldsOk geometryFits inLimits busOk interfaceOk same inStore overlapsAny overlap blankTo isBlank blankNumbers blankNames rowsOk jobOk isDrive
+unfolding accept isSound soundTo refusal fieldsOk geometryFits inLimits busOk interfaceOk same inStore overlapsAny overlap blankTo isBlank blankNumbers blankNames rowsOk requestOk isDrive
 ok₂ = refl
 
 ok₃ : accept d₃ ≡ true
-unfolding accept isSound soundTo refusal fieldsOk geometryFits inLimits busOk interfaceOk same inStore overlapsAny overlap blankTo isBlank blankNumbers blankNames rowsOk jobOk isDrive stageAfter
+unfolding accept isSound soundTo refusal fieldsOk geometryFits inLimits busOk interfaceOk same inStore overlapsAny overlap blankTo isBlank blankNumbers blankNames rowsOk requestOk isDrive stageAfter
 ok₃ = refl
 
 ok₄ : accept d₄ ≡ true
-unfolding accept isSound soundTo refusal fieldsOk geometryFits inLimits busOk interfaceOk same inStore overlapsAny overlap blankTo isBlank blankNumbers blankNames rowsOk jobOk isDrive stageAfter
+unfolding accept isSound soundTo refusal fieldsOk geometryFits inLimits busOk interfaceOk same inStore overlapsAny overlap blankTo isBlank blankNumbers blankNames rowsOk requestOk isDrive stageAfter
 ok₄ = refl
 
 -- ---- a post that is accepted, and a turn that serves
@@ -142,7 +142,7 @@ differ : {A : Type 0} → _≡_ {A = ℕ} 0 1 → A
 differ e = absurd (omega arith)
 
 post-accepted : (d : Desk) (g : ℕ) (r : Registers) (arena store : List ℕ) (j : Job) → accept d ≡ true → isLent d arena store ≡ true → ltb g guests ≡ true → stageAt d g ≡ Vacant
-    → check (d .table) r (windowOf arena g (windowSize d)) .outcome ≡ Waits j → check (d .table) r (windowOf arena g (windowSize d)) .window ≡ windowOf arena g (windowSize d)
+    → begin (fed (d .table)) r (windowOf arena g (windowSize d)) .outcome ≡ Waits j → begin (fed (d .table)) r (windowOf arena g (windowSize d)) .window ≡ windowOf arena g (windowSize d)
     → postOf d g r arena store ≡ postChecked d g arena store (Waits j) (windowOf arena g (windowSize d))
 unfolding postOf
 post-accepted d g r arena store j a l b s o w =
@@ -150,7 +150,7 @@ post-accepted d g r arena store j a l b s o w =
     ∙ ap (λ (t : Bool). pick (not t) (refuse 24) (pick (not (ltb g guests)) (refuse 20) (postRow d g r arena store (stageAt d g)))) l
     ∙ ap (λ (t : Bool). pick (not t) (refuse 20) (postRow d g r arena store (stageAt d g))) b
     ∙ ap (postRow d g r arena store) s
-    ∙ ap (λ (x : Outcome). postChecked d g arena store x (check (d .table) r (windowOf arena g (windowSize d)) .window)) o
+    ∙ ap (λ (x : Outcome). postChecked d g arena store x (begin (fed (d .table)) r (windowOf arena g (windowSize d)) .window)) o
     ∙ ap (postChecked d g arena store (Waits j)) w
   where
     refuse : ℕ → Done PostAnswer
@@ -333,7 +333,7 @@ module _ (a s : List ℕ) where
         )))
 
     -- after the third turn, guest 2's registers, window and blocks 0 to 16 are those of its read served alone
-    pub example : Same 8704 2 (firstBy table 8704 c₁ 2 read) 17 (step (after (step d₀ c₁ .desk) (c₂ ∷ c₃ ∷ c₄ ∷ [])) c₅) (alone table₁ read (foundBy 8704 c₁ 2))
+    pub example : Same 8704 2 (firstBy table 8704 c₁ 2 read) 17 (step (after (step d₀ c₁ .desk) (c₂ ∷ c₃ ∷ c₄ ∷ [])) c₅) (alone (fed table₁) read (foundBy 8704 c₁ 2))
     unfolding after
     example = claimed .equal [] (c₂ ∷ c₃ ∷ c₄ ∷ []) [] c₁ c₅ 2 read refl accepted finishes left unwritten
 
@@ -354,5 +354,5 @@ long-store = length-replicate {A = ℕ} storeLength 7
 
 pub example-bytes : Same 8704 2 (firstBy table 8704 (c₁ zeros sevens) 2 read) 17
     (step (after (step d₀ (c₁ zeros sevens) .desk) (c₂ zeros sevens ∷ c₃ zeros sevens ∷ c₄ zeros sevens ∷ [])) (c₅ zeros sevens))
-    (alone table₁ read (foundBy 8704 (c₁ zeros sevens) 2))
+    (alone (fed table₁) read (foundBy 8704 (c₁ zeros sevens) 2))
 example-bytes = example zeros sevens long-arena long-store

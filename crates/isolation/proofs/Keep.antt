@@ -24,10 +24,11 @@ use Rattle.desk.specs.declared.Stage.the-variants.{Vacant, Waiting}
 use Rattle.desk.specs.declared.Row.{Row}
 use Rattle.desk.specs.declared.Desk.{Desk}
 use Rattle.desk.specs.Parts.{windowSize, vacantRow, stageAt, withStage, withPointer, next}
-use Rattle.desk.specs.Acceptable.{jobOk, movedOk, stageOk}
-use Rattle.desk.specs.Calls.{quota, stageAfter, memoryOf, movedBy, withdrawnWindow}
+use Rattle.desk.specs.Acceptable.{jobOk, stageOk}
+use Rattle.desk.specs.Calls.{quota, later, stageAfter, memoryOf, movedBy, withdrawnWindow}
 use Rattle.isolation.specs.Lists.{post, turn, collect, withdraw, Call, Out, step, run, after}
 use Rattle.isolation.specs.Words.{opens, kindOf, NoneOpens, serviceIn, ifSame}
+use Rattle.desk.proofs.Acceptances.{waiting-ok}
 use Rattle.isolation.proofs.Turn.{next-lt, vacant≢waiting}
 use Rattle.isolation.proofs.Moves.{moves-size}
 use Rattle.logic.proofs.Logic.{pick-cases, both-intro, lt-or-le}
@@ -73,14 +74,14 @@ after-ok : (b : Table) (M S : ℕ) (q : Request) → jobOk b M (q .job) ≡ true
 unfolding stageAfter
 after-ok b M S q j a =
     pick-cases (λ (s : Stage). stageOk b M s ≡ true) (ltb (q .moved + quota q) (q .job .count)) _ _
-    (λ e. both-intro (jobOk b M (q .job)) (movedOk (q .moved + quota q) (q .job .count)) j
+    (λ e. waiting-ok b M (later q (quota q)) j
     (both-intro (eqb ((q .moved + quota q) % 16) 0) (ltb (q .moved + quota q) (q .job .count))
     (eq-eqb _ _ (next-whole (q .job .count) (q .moved) (a .whole) (ltb-true _ _ e))) e))
     (λ e. refl)
 
 fresh-ok : (b : Table) (M : ℕ) (r : Registers) (w : List ℕ) (q : Request) → q .moved ≡ 0 → length w ≡ M → Fresh b r w (q .job) → stageOk b M (Waiting q) ≡ true
 fresh-ok b M r w q z l f =
-    both-intro (jobOk b M (q .job)) (movedOk (q .moved) (q .job .count)) (ap (λ (m : ℕ). jobOk b m (q .job)) (sym l) ∙ f .ok)
+    waiting-ok b M q (ap (λ (m : ℕ). jobOk b m (q .job)) (sym l) ∙ f .ok)
     (rw z (both-intro (eqb 0 0) (ltb 0 (q .job .count)) refl (lt-ltb _ _ (f .some))))
 
 pub inv-did : (d : Desk) (c : Call) (o : Out) → Inv d → Did d c o → Inv (o .desk)

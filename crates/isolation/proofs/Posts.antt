@@ -13,7 +13,7 @@ use Rattle.int13.specs.declared.Registers.{Registers}
 use Rattle.int13.specs.declared.Job.{Job}
 use Rattle.int13.specs.declared.Outcome.{Outcome}
 use Rattle.int13.specs.declared.Outcome.the-variants.{Answered, Waits as JobWaits}
-use Rattle.int13.specs.Steps.{check}
+use Rattle.int13.specs.Steps.{fed, begin}
 use Rattle.int13.specs.Alone.{Memory, Served, finish, servedBy, alone}
 use Rattle.desk.specs.declared.Stage.the-variants.{Waiting}
 use Rattle.desk.specs.declared.Desk.{Desk}
@@ -39,7 +39,7 @@ pub record Took (d : Desk) (c : Call) (g : ℕ) (r : Registers) (o : Out) : Type
   pub row : stageAt (o .desk) g ≡ Waiting (request job 0)
   pub below : g < guests
   pub lent : Lent d c
-  pub outcome : check (d .table) r (windowIn d c g) .outcome ≡ JobWaits job
+  pub outcome : begin (fed (d .table)) r (windowIn d c g) .outcome ≡ JobWaits job
   pub fresh : Fresh (d .table) r (windowIn d c g) job
   pub arena : o .arena ≡ c .arena
   pub store : o .store ≡ c .store
@@ -89,18 +89,18 @@ same-answer : {g h : ℕ} {x y : Registers} → posted g (PostAnswered x) ≡ po
 same-answer e = cc
 
 answered-alone : (t : List ℕ) (d : Desk) (c : Call) (g : ℕ) (r x : Registers) (w : List ℕ) → Lent d c → readTable t (d .store / blockLength) .table ≡ d .table
-    → check (d .table) r (windowIn d c g) .outcome ≡ Answered x → check (d .table) r (windowIn d c g) .window ≡ w
-    → alone t r (memory (windowIn d c g) (c .store)) ≡ record { registers = x; memory = memory w (c .store) }
+    → begin (fed (d .table)) r (windowIn d c g) .outcome ≡ Answered x → begin (fed (d .table)) r (windowIn d c g) .window ≡ w
+    → alone (fed t) r (memory (windowIn d c g) (c .store)) ≡ record { registers = x; memory = memory w (c .store) }
 unfolding alone
 answered-alone t d c g r x w l te ko kw =
     let m : Memory = memory (windowIn d c g) (c .store) in
-    ap (λ (s : ℕ). servedBy (readTable t (s / blockLength) .table) r m) (l .store)
-    ∙ ap (λ (b : Table). servedBy b r m) te
-    ∙ ap (λ (o : Outcome). finish (d .table) o (check (d .table) r (windowIn d c g) .window) m) ko
+    ap (λ (s : ℕ). servedBy (fed (readTable t (s / blockLength) .table)) r m) (l .store)
+    ∙ ap (λ (b : Table). servedBy (fed b) r m) te
+    ∙ ap (λ (o : Outcome). finish (d .table) o (begin (fed (d .table)) r (windowIn d c g) .window) m) ko
     ∙ ap (λ (v : List ℕ). finish (d .table) (Answered x) v m) kw
 
 pub at-once : (t : List ℕ) (d : Desk) (c : Call) (g : ℕ) (r x : Registers) (o : Out) → readTable t (d .store / blockLength) .table ≡ d .table
-    → c .op ≡ post g r → o .answer ≡ posted g (PostAnswered x) → Did d c o → SameAtOnce (windowSize d) g o x (alone t r (memory (windowIn d c g) (c .store)))
+    → c .op ≡ post g r → o .answer ≡ posted g (PostAnswered x) → Did d c o → SameAtOnce (windowSize d) g o x (alone (fed t) r (memory (windowIn d c g) (c .store)))
 at-once t d c g r x o te p a (same y k n) = absurd (quiet-answers k (ap kindOf a))
 at-once t d c g r x o te p a (idle e f) = different cc
 at-once t d c g r x o te p a (answer h r′ y w e b l v ko kw k) =

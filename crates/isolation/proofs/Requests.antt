@@ -17,7 +17,7 @@ use Rattle.int13.specs.declared.Job.{Job}
 use Rattle.int13.specs.declared.Outcome.{Outcome}
 use Rattle.int13.specs.declared.Outcome.the-variants.{Waits as JobWaits}
 use Rattle.int13.specs.Answers.{succeed}
-use Rattle.int13.specs.Steps.{check}
+use Rattle.int13.specs.Steps.{fed, begin}
 use Rattle.int13.specs.Alone.{Memory, Served, storeBlock, moves, finish, servedBy, alone}
 use Rattle.desk.specs.declared.Stage.the-variants.{Finished}
 use Rattle.desk.specs.declared.Desk.{Desk}
@@ -180,12 +180,12 @@ module _ (d : Desk) (inv : Inv d) (c : Call) (g : ℕ) (r : Registers) (acc : Ac
   abbrev lo : ℕ
   lo = storeBlock (d .table) job
 
-  alone-is : (t : List ℕ) → readTable t (d .store / blockLength) .table ≡ d .table → alone t r found ≡ finish (d .table) (JobWaits job) (check (d .table) r (windowIn d c g) .window) found
+  alone-is : (t : List ℕ) → readTable t (d .store / blockLength) .table ≡ d .table → alone (fed t) r found ≡ finish (d .table) (JobWaits job) (begin (fed (d .table)) r (windowIn d c g) .window) found
   unfolding alone
   alone-is t e =
-      ap (λ (s : ℕ). servedBy (readTable t (s / blockLength) .table) r found) (accepted .lent .store)
-      ∙ ap (λ (b : Table). servedBy b r found) e
-      ∙ ap (λ (o : Outcome). finish (d .table) o (check (d .table) r (windowIn d c g) .window) found) (accepted .outcome)
+      ap (λ (s : ℕ). servedBy (fed (readTable t (s / blockLength) .table)) r found) (accepted .lent .store)
+      ∙ ap (λ (b : Table). servedBy (fed b) r found) e
+      ∙ ap (λ (o : Outcome). finish (d .table) o (begin (fed (d .table)) r (windowIn d c g) .window) found) (accepted .outcome)
 
   mid₀ : Mid lo d₁ g job 0 found (windowIn d c g) (c .store)
   mid₀ =
@@ -207,7 +207,7 @@ module _ (d : Desk) (inv : Inv d) (c : Call) (g : ℕ) (r : Registers) (acc : Ac
       → Finishes g n d₁ mid last
       → Left (windowSize d) g (windowOf (step d c .arena) g (windowSize d)) (step d c .store) (run d₁ (mid ++ last ∷ []))
       → Unwritten g lo n (run d₁ (mid ++ last ∷ []))
-      → Same (windowSize d) g lo n (step (after d₁ mid) last) (alone t r found)
+      → Same (windowSize d) g lo n (step (after d₁ mid) last) (alone (fed t) r found)
   equal′ t te mid last no-open f l u =
       let l₁ : Left (windowSize d) g (windowIn d c g) (c .store) (run d₁ (mid ++ last ∷ []))
       = subst (λ (s : List ℕ). Left (windowSize d) g (windowIn d c g) s (run d₁ (mid ++ last ∷ []))) (accepted .store)
@@ -236,7 +236,7 @@ module _ (d : Desk) (inv : Inv d) (c : Call) (g : ℕ) (r : Registers) (acc : Ac
       → collects g (run (step (after d₁ mid) last .desk) after₁) ≡ 0
       → x .op ≡ collect g
       → (kindOf (step (after (step (after d₁ mid) last .desk) after₁) x .answer) ≡ refused → ⊥)
-      → step (after (step (after d₁ mid) last .desk) after₁) x .answer ≡ collected g (Given (alone t r found .registers))
+      → step (after (step (after d₁ mid) last .desk) after₁) x .answer ≡ collected g (Given (alone (fed t) r found .registers))
   handed′ t te mid after₁ last x no-open f z op u =
       let d₂ : Desk = step (after d₁ mid) last .desk in
       let o₁ : NoneOpens (run d₁ mid) = opens-front mid (last ∷ (after₁ ++ x ∷ [])) d₁ no-open in

@@ -32,7 +32,7 @@ use Rattle.int13.specs.declared.Outcome.the-variants.{Answered, Waits}
 use Rattle.int13.specs.declared.Plan.{Plan}
 use Rattle.int13.specs.declared.Plan.the-variants.{Refuse, Clear, Finish, Wait}
 use Rattle.int13.specs.Answers.{ah, al, dl, isWrite, succeed, withdraw}
-use Rattle.int13.specs.Steps.{Checked, mostRun, mostBlocks, isDrive, driveOf, packetPlace, verifyOk, packetTests, packetRead, packetPlan, carryOut, seekRead, seek, sectorBuffer, sectorRun, sectors, parameters, extensions, resultGiven, result, check}
+use Rattle.int13.specs.Steps.{Checked, mostRun, mostBlocks, isDrive, driveOf, packetPlace, verifyOk, packetTests, packetRead, packetPlan, carryOut, seekRead, seek, sectorBuffer, sectorRun, sectors, parameters, extensions, resultGiven, result, fed, driveCount, steps, begin}
 use Rattle.desk.specs.declared.Request.{Request}
 use Rattle.desk.specs.declared.Stage.the-variants.{Waiting}
 use Rattle.desk.specs.declared.Desk.{Desk}
@@ -61,7 +61,7 @@ module _ (b : Table) (r : Registers) (w : List ℕ) where
       pick-cases Keeps (ltb (size (geometryOf d)) (n + al r)) _ _ (λ e. record { ds = refl; si = refl; es = refl })
       (λ e. pick-cases Keeps (ltb M (sectorBuffer r + blockLength * al r)) _ _ (λ e. record { ds = refl; si = refl; es = refl }) (λ e. record { ds = refl; si = refl; es = refl }))
 
-  by-sectors : (M : ℕ) → Keeps (sectors b r M)
+  by-sectors : (M : ℕ) → Keeps (sectors (isDrive b (dl r)) (driveOf b r) r M)
   unfolding sectors
   by-sectors M =
       pick-cases Keeps (not (isDrive b (dl r))) _ _ (λ e. record { ds = refl; si = refl; es = refl })
@@ -70,11 +70,11 @@ module _ (b : Table) (r : Registers) (w : List ℕ) where
       (λ e. pick-cases Keeps (both (isWrite (ah r)) (isProtected (driveOf b r))) _ _ (λ e. record { ds = refl; si = refl; es = refl })
       (λ e. run (driveOf b r) M (blockOf (geometryOf (driveOf b r)) (addressIn (r .cx) (r .dx)))))))
 
-  by-parameters : Keeps (parameters b r)
+  by-parameters : Keeps (parameters (isDrive b (dl r)) (driveCount b) (driveOf b r) r)
   unfolding parameters
   by-parameters = pick-cases Keeps (isDrive b (dl r)) _ _ (λ e. record { ds = refl; si = refl; es = refl }) (λ e. record { ds = refl; si = refl; es = refl })
 
-  by-extensions : Keeps (extensions b r)
+  by-extensions : Keeps (extensions (isDrive b (dl r)) r)
   unfolding extensions
   by-extensions = pick-cases Keeps (both (isDrive b (dl r)) (eqb (r .bx) 0x55AA)) _ _ (λ e. record { ds = refl; si = refl; es = refl }) (λ e. record { ds = refl; si = refl; es = refl })
 
@@ -99,7 +99,7 @@ module _ (b : Table) (r : Registers) (w : List ℕ) where
   read d M (NoPacket code) = tt
   read d M (Whole p) = pick-cases Plans (ltb (p .size) packetLength) _ _ (λ e. tt) (λ e. tests d M p)
 
-  by-plan : Plans (packetPlan b r w)
+  by-plan : Plans (packetPlan (isDrive b (dl r)) (driveOf b r) r w)
   unfolding packetPlan
   by-plan =
       pick-cases Plans (not (isDrive b (dl r))) _ _ (λ e. tt)
@@ -111,7 +111,7 @@ module _ (b : Table) (r : Registers) (w : List ℕ) where
   carried Finish k = record { ds = refl; si = refl; es = refl }
   carried (Wait j) k = k
 
-  by-seek : Keeps (seek b r w)
+  by-seek : Keeps (seek (isDrive b (dl r)) (driveOf b r) r w)
   unfolding seek
   by-seek = pick-cases Keeps (not (isDrive b (dl r))) _ _ (λ e. record { ds = refl; si = refl; es = refl }) (λ e. go (readPacket w (packetPlace r)))
     where
@@ -121,7 +121,7 @@ module _ (b : Table) (r : Registers) (w : List ℕ) where
           pick-cases Keeps (ltb (p .size) packetLength) _ _ (λ e. record { ds = refl; si = refl; es = refl })
           (λ e. pick-cases Keeps (leb (driveOf b r .blocks) (p .start)) _ _ (λ e. record { ds = refl; si = refl; es = refl }) (λ e. record { ds = refl; si = refl; es = refl }))
 
-  by-result : KeepsChecked (result b r w)
+  by-result : KeepsChecked (result (isDrive b (dl r)) (driveOf b r) r w)
   unfolding result
   by-result =
       pick-cases KeepsChecked (not (isDrive b (dl r))) _ _ (λ e. record { ds = refl; si = refl; es = refl })
@@ -132,13 +132,13 @@ module _ (b : Table) (r : Registers) (w : List ℕ) where
       go (NoResult code) = record { ds = refl; si = refl; es = refl }
       go (Written n) = record { ds = refl; si = refl; es = refl }
 
-  by-function : KeepsChecked (check b r w)
-  unfolding check
+  by-function : KeepsChecked (begin (fed b) r w)
+  unfolding begin steps
   by-function =
       pick-cases KeepsChecked (either (eqb (ah r) 0x02) (eqb (ah r) 0x03)) _ _ (λ e. by-sectors (length w))
       (λ e. pick-cases KeepsChecked (eqb (ah r) 0x08) _ _ (λ e. by-parameters)
       (λ e. pick-cases KeepsChecked (eqb (ah r) 0x41) _ _ (λ e. by-extensions)
-      (λ e. pick-cases KeepsChecked (either (eqb (ah r) 0x42) (either (eqb (ah r) 0x43) (eqb (ah r) 0x44))) _ _ (λ e. carried (packetPlan b r w) by-plan)
+      (λ e. pick-cases KeepsChecked (either (eqb (ah r) 0x42) (either (eqb (ah r) 0x43) (eqb (ah r) 0x44))) _ _ (λ e. carried (packetPlan (isDrive b (dl r)) (driveOf b r) r w) by-plan)
       (λ e. pick-cases KeepsChecked (eqb (ah r) 0x47) _ _ (λ e. by-seek)
       (λ e. pick-cases KeepsChecked (eqb (ah r) 0x48) _ _ (λ e. by-result) (λ e. record { ds = refl; si = refl; es = refl }))))))
 

@@ -9,6 +9,7 @@ use Rattle.table.specs.declared.Table.{Table}
 use Rattle.table.specs.Table.{readTable}
 use Rattle.int13.specs.declared.Registers.{Registers}
 use Rattle.int13.specs.Alone.{storeBlock, alone}
+use Rattle.int13.specs.Steps.{fed}
 use Rattle.desk.specs.declared.Desk.{Desk}
 use Rattle.desk.specs.declared.OpenAnswer.the-variants.{Opened}
 use Rattle.desk.specs.declared.PostAnswer.the-variants.{Answered as PostAnswered}
@@ -123,7 +124,7 @@ module _ (t : List ℕ) (arena store : ℕ) (calls : List Call) (passed : openOf
       → Finishes g (askedBy m c g r) (step (after d₀ pre) c .desk) mid last
       → Left m g (windowOf (step (after d₀ pre) c .arena) g m) (step (after d₀ pre) c .store) (run (step (after d₀ pre) c .desk) (mid ++ last ∷ []))
       → Unwritten g (firstBy (d₀ .table) m c g r) (askedBy m c g r) (run (step (after d₀ pre) c .desk) (mid ++ last ∷ []))
-      → Same m g (firstBy (d₀ .table) m c g r) (askedBy m c g r) (step (after (step (after d₀ pre) c .desk) mid) last) (alone t r (foundBy m c g))
+      → Same m g (firstBy (d₀ .table) m c g r) (askedBy m c g r) (step (after (step (after d₀ pre) c .desk) mid) last) (alone (fed t) r (foundBy m c g))
   equal″ pre mid rest c last g r e acc =
       let d : Desk = after d₀ pre in
       let d₁ : Desk = step d c .desk in
@@ -135,11 +136,11 @@ module _ (t : List ℕ) (arena store : ℕ) (calls : List Call) (passed : openOf
       subst (λ (k : ℕ). Finishes g (askedBy m c g r) d₁ mid last
       → Left k g (windowOf (step d c .arena) g k) (step d c .store) es
       → Unwritten g (firstBy (d₀ .table) m c g r) (askedBy m c g r) es
-      → Same k g (firstBy (d₀ .table) m c g r) (askedBy m c g r) (step (after d₁ mid) last) (alone t r (foundBy k c g))) (a .size)
+      → Same k g (firstBy (d₀ .table) m c g r) (askedBy m c g r) (step (after d₁ mid) last) (alone (fed t) r (foundBy k c g))) (a .size)
       (subst₂ (λ (k lo : ℕ). Finishes g k d₁ mid last
       → Left (windowSize d) g (windowOf (step d c .arena) g (windowSize d)) (step d c .store) es
       → Unwritten g lo k es
-      → Same (windowSize d) g lo k (step (after d₁ mid) last) (alone t r (foundBy (windowSize d) c g))) n f by-row)
+      → Same (windowSize d) g lo k (step (after d₁ mid) last) (alone (fed t) r (foundBy (windowSize d) c g))) n f by-row)
 
   handed″ : (pre mid later rest : List Call) (c last x : Call) (g : ℕ) (r : Registers) → calls ≡ pre ++ c ∷ (mid ++ last ∷ (later ++ x ∷ rest))
       → Accepted (after d₀ pre) c g r
@@ -147,7 +148,7 @@ module _ (t : List ℕ) (arena store : ℕ) (calls : List Call) (passed : openOf
       → collects g (run (after (step (after d₀ pre) c .desk) (mid ++ last ∷ [])) later) ≡ 0
       → x .op ≡ collect g
       → (kindOf (step (after (step (after d₀ pre) c .desk) (mid ++ last ∷ later)) x .answer) ≡ refused → ⊥)
-      → step (after (step (after d₀ pre) c .desk) (mid ++ last ∷ later)) x .answer ≡ collected g (Given (alone t r (foundBy m c g) .registers))
+      → step (after (step (after d₀ pre) c .desk) (mid ++ last ∷ later)) x .answer ≡ collected g (Given (alone (fed t) r (foundBy m c g) .registers))
   handed″ pre mid later rest c last x g r e acc f z op u =
       let d : Desk = after d₀ pre in
       let d₁ : Desk = step d c .desk in
@@ -161,19 +162,19 @@ module _ (t : List ℕ) (arena store : ℕ) (calls : List Call) (passed : openOf
       let there : after d₁ (mid ++ last ∷ later) ≡ after (step (after d₁ mid) last .desk) later = after-at mid later last d₁ in
       let z′ : collects g (run (step (after d₁ mid) last .desk) later) ≡ 0
       = subst (λ (x : Desk). collects g (run x later) ≡ 0) (after-at mid [] last d₁ ∙ after-none (step (after d₁ mid) last .desk)) z in
-      subst (λ (y : Desk). (kindOf (step y x .answer) ≡ refused → ⊥) → step y x .answer ≡ collected g (Given (alone t r (foundBy m c g) .registers))) (sym there)
+      subst (λ (y : Desk). (kindOf (step y x .answer) ≡ refused → ⊥) → step y x .answer ≡ collected g (Given (alone (fed t) r (foundBy m c g) .registers))) (sym there)
       (subst (λ (k : ℕ). (kindOf (step (after (step (after d₁ mid) last .desk) later) x .answer) ≡ refused → ⊥)
-      → step (after (step (after d₁ mid) last .desk) later) x .answer ≡ collected g (Given (alone t r (foundBy k c g) .registers))) (a .size)
+      → step (after (step (after d₁ mid) last .desk) later) x .answer ≡ collected g (Given (alone (fed t) r (foundBy k c g) .registers))) (a .size)
       (handed′ d (a .inv) c g r acc (a .here) t (a .table) mid later last x o (subst (λ (k : ℕ). Finishes g k d₁ mid last) (sym n) f) z′ op)) u
 
   atOnce″ : (pre rest : List Call) (c : Call) (g : ℕ) (r x : Registers) → calls ≡ pre ++ c ∷ rest
       → c .op ≡ post g r
       → step (after d₀ pre) c .answer ≡ posted g (PostAnswered x)
-      → SameAtOnce m g (step (after d₀ pre) c) x (alone t r (foundBy m c g))
+      → SameAtOnce m g (step (after d₀ pre) c) x (alone (fed t) r (foundBy m c g))
   atOnce″ pre rest c g r x e op p =
       let d : Desk = after d₀ pre in
       let a = at pre rest c e in
-      subst (λ (k : ℕ). SameAtOnce k g (step d c) x (alone t r (foundBy k c g))) (a .size)
+      subst (λ (k : ℕ). SameAtOnce k g (step d c) x (alone (fed t) r (foundBy k c g))) (a .size)
       (at-once t d c g r x (step d c) (a .table) op p (view d (a .inv) c (a .here)))
 
   claim : Claim t d₀ m calls

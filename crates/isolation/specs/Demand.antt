@@ -10,6 +10,7 @@ use Rattle.memory.specs.Blocks.{blockLength}
 use Rattle.table.specs.declared.Table.{Table}
 use Rattle.int13.specs.declared.Registers.{Registers}
 use Rattle.int13.specs.Alone.{Memory, Served, asked, namedFrom, alone}
+use Rattle.int13.specs.Steps.{fed}
 use Rattle.desk.specs.declared.Stage.the-variants.{Finished}
 use Rattle.desk.specs.declared.Desk.{Desk}
 use Rattle.desk.specs.declared.OpenAnswer.the-variants.{Opened}
@@ -106,7 +107,7 @@ pub record Claim (t : List ℕ) (d₀ : Desk) (m : ℕ) (calls : List Call) : Ty
       → Finishes g (askedBy m c g r) (outAt d₀ pre c .desk) mid last
       → Left m g (windowOf (outAt d₀ pre c .arena) g m) (outAt d₀ pre c .store) (since d₀ pre c (mid ++ last ∷ []))
       → Unwritten g (firstBy (d₀ .table) m c g r) (askedBy m c g r) (since d₀ pre c (mid ++ last ∷ []))
-      → Same m g (firstBy (d₀ .table) m c g r) (askedBy m c g r) (outSince d₀ pre c mid last) (alone t r (foundBy m c g))
+      → Same m g (firstBy (d₀ .table) m c g r) (askedBy m c g r) (outSince d₀ pre c mid last) (alone (fed t) r (foundBy m c g))
   -- "the finished row's registers, which the guest's next collect not refused hands out", however much later; they need no condition
   pub handed : (pre mid more rest : List Call) (c last x : Call) (g : ℕ) (r : Registers) → calls ≡ pre ++ c ∷ (mid ++ last ∷ (more ++ x ∷ rest))
       → Accepted (after d₀ pre) c g r
@@ -114,12 +115,12 @@ pub record Claim (t : List ℕ) (d₀ : Desk) (m : ℕ) (calls : List Call) : Ty
       → collects g (later d₀ pre c (mid ++ last ∷ []) more) ≡ 0
       → x .op ≡ collect g
       → (kindOf (outSince d₀ pre c (mid ++ last ∷ more) x .answer) ≡ refused → ⊥)
-      → outSince d₀ pre c (mid ++ last ∷ more) x .answer ≡ collected g (Given (alone t r (foundBy m c g) .registers))
+      → outSince d₀ pre c (mid ++ last ∷ more) x .answer ≡ collected g (Given (alone (fed t) r (foundBy m c g) .registers))
   -- "What they answer at once, refusals included, it answers and writes as they say": so does the desk
   pub atOnce : (pre rest : List Call) (c : Call) (g : ℕ) (r x : Registers) → calls ≡ pre ++ c ∷ rest
       → c .op ≡ post g r
       → outAt d₀ pre c .answer ≡ posted g (Answered x)
-      → SameAtOnce m g (outAt d₀ pre c) x (alone t r (foundBy m c g))
+      → SameAtOnce m g (outAt d₀ pre c) x (alone (fed t) r (foundBy m c g))
   -- every call gets an acceptable desk and leaves one: none is answered 25
   pub acceptable : (pre rest : List Call) → calls ≡ pre ++ rest → accept (after d₀ pre) ≡ true
   pub never25 : (pre rest : List Call) (c : Call) → calls ≡ pre ++ c ∷ rest

@@ -10,7 +10,7 @@ use Rattle.int13.specs.declared.Registers.{Registers}
 use Rattle.int13.specs.declared.Outcome.{Outcome}
 use Rattle.int13.specs.declared.Outcome.the-variants.{Answered, Waits}
 use Rattle.int13.specs.Answers.{succeed, withdraw}
-use Rattle.int13.specs.Steps.{Checked, check}
+use Rattle.int13.specs.Steps.{Checked, fed, begin}
 use Rattle.desk.specs.declared.Request.{Request}
 use Rattle.desk.specs.declared.Stage.the-variants.{Waiting}
 use Rattle.desk.specs.declared.Desk.{Desk}
@@ -37,7 +37,7 @@ pub record Serves (x : TurnAnswer) : Type 0 where
   pub is : x ≡ Served guest moved
 
 pub record Single : Type 0 where
-  pub posted : (b : Table) (r : Registers) (w : List ℕ) → KeepsSegments r (check b r w .outcome)
+  pub posted : (b : Table) (r : Registers) (w : List ℕ) → KeepsSegments r (begin (fed b) r w .outcome)
   pub finished : (r : Registers) → SameSegments r (succeed r)
   pub withdrawn : (n : ℕ) (r : Registers) → SameSegments r (withdraw n r)
   -- idle cannot occur while a request waits: a turn that is not refused then serves one

@@ -534,7 +534,7 @@ pub fn drive_count(b: Table) -> usize
 }
 
 // The fields obey their rules, and the drive ends inside the store.
-fn obeys(d: Drive, store: u64) -> bool
+pub fn obeys(d: Drive, store: u64) -> bool
     ensures { λ r. ⌜ r ≡ both (fieldsOk d) (inStore d store) ⌝ }
 {
     logic::and(drive::fields_ok(d), drive::in_store(d, store))

@@ -119,7 +119,7 @@ fn packet_call(b: Table, ax: u16, start: u64, count: u16, window: &mut [u8]) {
         return;
     }
     put_packet(window, 0, PACKET_SIZE, start, count);
-    say_outcome(int13::check(b, registers(ax, 0, FIRST_DRIVE), window));
+    say_outcome(int13::begin(b, registers(ax, 0, FIRST_DRIVE), window));
 }
 
 // 02h from cylinder 0, head 0, sector 1.
@@ -127,7 +127,7 @@ fn sector_call(b: Table, al: u16, window: &mut [u8]) {
     if 255 < al {
         return;
     }
-    say_outcome(int13::check(b, registers(0x0200 + al, 0x0001, FIRST_DRIVE), window));
+    say_outcome(int13::begin(b, registers(0x0200 + al, 0x0001, FIRST_DRIVE), window));
 }
 
 fn say_result(asked: u16, r: Registers, out: &[u8]) {
@@ -151,7 +151,7 @@ fn result_call(b: Table, asked: u16, window: &mut [u8]) {
         return;
     }
     words::store16(window, 0, asked);
-    let outcome = int13::check(b, registers(0x4800, 0, FIRST_DRIVE), window);
+    let outcome = int13::begin(b, registers(0x4800, 0, FIRST_DRIVE), window);
     let Outcome::Answered(r) = outcome else {
         return;
     };
@@ -168,7 +168,7 @@ fn say_call(function: u16, drive: u16) {
 
 // 08h.
 fn geometry_call(b: Table, drive: u16, window: &mut [u8]) {
-    let outcome = int13::check(b, registers(0x0800, 0, drive), window);
+    let outcome = int13::begin(b, registers(0x0800, 0, drive), window);
     let Outcome::Answered(r) = outcome else {
         return;
     };
@@ -185,7 +185,7 @@ fn extensions_call(b: Table, drive: u16, bx: u16, window: &mut [u8]) {
         bx,
         ..registers(0x4100, 0, drive)
     };
-    let outcome = int13::check(b, asked, window);
+    let outcome = int13::begin(b, asked, window);
     let Outcome::Answered(r) = outcome else {
         return;
     };

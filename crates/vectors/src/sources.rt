@@ -43,7 +43,7 @@ fn size_call(b: Table, size: u16, window: &mut [u8]) {
     say(b"packet size ");
     io::print_decimal(OUTPUT, size as u64);
     say(b": ");
-    say_outcome(int13::check(b, registers(0x4200, 0, FIRST_DRIVE), window));
+    say_outcome(int13::begin(b, registers(0x4200, 0, FIRST_DRIVE), window));
 }
 
 // The count word of a packet at place 0, after the call.
@@ -108,7 +108,7 @@ fn verifies(b: Table, window: &mut [u8]) {
 fn plain_call(b: Table, ax: u16, drive: u16, window: &mut [u8]) {
     say_call(ax / 256, drive);
     say(b" ");
-    say_outcome(int13::check(b, registers(ax, 0, drive), window));
+    say_outcome(int13::begin(b, registers(ax, 0, drive), window));
 }
 
 fn unknown_functions(b: Table, window: &mut [u8]) {
@@ -172,7 +172,7 @@ fn result_case(t: &[u8; 72], from: usize, to: usize, window: &mut [u8]) {
     let reading = table::read_table(t, STORE_BLOCKS);
     let b = reading.table;
     words::store16(window, 0, 66);
-    let outcome = int13::check(b, registers(0x4800, 0, FIRST_DRIVE), window);
+    let outcome = int13::begin(b, registers(0x4800, 0, FIRST_DRIVE), window);
     let Outcome::Answered(_) = outcome else {
         return;
     };

@@ -1,7 +1,7 @@
 use mathlib.Core.Path.{sym}
 use native.Mathlib.Omega.{arith}
 use borrow.Author.Tests.{lt-ltb}
-use Rattle.int13.proofs.Steps.{past-rest}
+use Rattle.int13.proofs.StepLaws.{past-rest}
 use Prim.Native.Nat.{_+_}
 use Rattle.int13.proofs.ends_past.Statement.{statement}
 use Rattle.int13.proofs.ends_past.Tie as tie
