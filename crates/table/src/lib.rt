@@ -584,7 +584,7 @@ pub fn is_sound(b: Table, store: u64) -> bool
     ensures { λ r. ⌜ r ≡ isSound b store ⌝ }
 {
     let n = b.count;
-    if MOST_DRIVES <= n {
+    if MOST_DRIVES < n {
         return false;
     }
     let drives = b.drives;
