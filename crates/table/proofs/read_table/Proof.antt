@@ -6,12 +6,8 @@ use denote.Ref.{now}
 use lib.ListN.{length, length-set}
 use Rattle.table.specs.declared.Table.{Table}
 use Rattle.table.specs.Table.{mostRecords, readFrom, readTable}
-<<<<<<< HEAD
-use Rattle.table.proofs.TableLaws.{readFrom-advance, readFrom-next, readFrom-zero, reads-is}
-=======
 use Rattle.table.proofs.TableLaws.{refusal-room, readFrom-zero, reads-is}
 use Rattle.table.proofs.Runs.{Beside, beside-none, beside-more, among-is, read-done, read-refused, read-bad, read-more}
->>>>>>> a1-open
 use Rattle.table.proofs.read_table.Statement.{statement}
 use Rattle.table.proofs.read_table.Tie as tie
 use Rattle.table.proofs.read_table.Reads as reads
