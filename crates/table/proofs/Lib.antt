@@ -6,3 +6,4 @@ pub mod ReadWrite
 pub mod Needed
 pub mod Vectors
 pub mod Demand2
+pub mod Runs

@@ -17,6 +17,7 @@ use Rattle.table.specs.declared.Step.{Step}
 use Rattle.table.specs.declared.Step.the-variants.{Next, Done, Refused}
 use Rattle.table.specs.declared.Stepped.{Stepped}
 use Rattle.table.specs.declared.Cursor.{Cursor}
+use Rattle.table.specs.declared.Found.{Found}
 use Rattle.table.specs.declared.Answer.{Answer}
 use Rattle.table.specs.declared.Answer.the-variants.{Accepted, Refused as AnswerRefused}
 use Rattle.table.specs.declared.Reading.{Reading}
@@ -110,14 +111,18 @@ noDrive = record { cylinders = 0; heads = 0; sectors = 0; blocks = 0; first = 0;
 unfoldable pub overlapsAny : ℕ → List Drive → Drive → Bool
 overlapsAny n l d = someBelow n (λ i. overlap d (getD l i noDrive))
 
--- the refusal of a drive, or 0 where it is taken
-unfoldable pub refusal : Table → Drive → ℕ → ℕ
-refusal b d store =
-    pick (leb mostDrives (b .count)) ninthDrive
+-- the refusal of a drive after n others, which it overlaps or not; or 0 where it is taken
+abbrev pub refusalBy : ℕ → Bool → Drive → ℕ → ℕ
+refusalBy n overlaps d store =
+    pick (leb mostDrives n) ninthDrive
     (pick (not (fieldsOk d)) badField
     (pick (not (inStore d store)) pastStore
-    (pick (overlapsAny (b .count) (b .drives) d) overlapping
+    (pick overlaps overlapping
     0)))
+
+-- the refusal of a drive after those of a table
+unfoldable pub refusal : Table → Drive → ℕ → ℕ
+refusal b d store = refusalBy (b .count) (overlapsAny (b .count) (b .drives) d) d store
 
 -- the drives so far with one more
 abbrev pub more : Table → Drive → Table
@@ -200,6 +205,35 @@ mostRecords = 9
 -- the drives of a table's bytes, or the refusal with its place and the drives before it
 unfoldable pub readTable : List ℕ → ℕ → Reading
 readTable t store = readFrom mostRecords t store 0 emptyTable
+
+-- ---- "The drive table", a record as it is found, and a drive among the runs of blocks of those before it
+
+-- a record that ends the reading holds no drive
+abbrev pub foundEnd : Step → Found
+foundEnd s = record { step = s; drive = zeroDrive }
+
+-- by the header: its refusal, the end of the table or the byte that follows it, or the next place and the drive
+unfoldable pub foundOf : Header → List ℕ → ℕ → Found
+foundOf (Bad n) t at = foundEnd (Refused n at)
+foundOf (Whole kind size) t at =
+    pick (eqb kind endKind) (foundEnd (pick (ltb (at + size) (length t)) (Refused byteFollows (at + size)) Done))
+    (record { step = Next (at + size); drive = driveOf (part size t at) })
+
+-- the record at a place
+unfoldable pub foundAt : List ℕ → ℕ → Found
+foundAt t at = foundOf (headerAt t at) t at
+
+-- two runs of blocks share one, as two drives do
+unfoldable pub overlapRuns : ℕ → ℕ → ℕ → ℕ → Bool
+overlapRuns first blocks other others = pick (leb first other) (ltb other (first + blocks)) (ltb first (other + others))
+
+-- d shares one with one of the first n runs
+unfoldable pub overlapsRun : ℕ → List ℕ → List ℕ → Drive → Bool
+overlapsRun n firsts sizes d = someBelow n (λ i. overlapRuns (d .first) (d .blocks) (getD firsts i 0) (getD sizes i 0))
+
+-- the refusal of a drive after n others, of which it is given the runs
+unfoldable pub refusalAmong : ℕ → List ℕ → List ℕ → Drive → ℕ → ℕ
+refusalAmong n firsts sizes d store = refusalBy n (overlapsRun n firsts sizes d) d store
 
 -- ---- "The drive table", a list of drives that obeys the rules
 

@@ -6,7 +6,7 @@ ghost use lib.ListN.{length};
 ghost use lib.Seq.{sets};
 ghost use Rattle.drive.specs.Drive.{fieldsOk, inStore};
 ghost use Rattle.logic.specs.Logic.{both};
-ghost use Rattle.table.specs.Table.{isKind, lengthOk, headerAt, overlapsAny, refusal, more, endStep, driveRecord, stepAt, placeAfter, Advances, begun, zeroDrive, emptyTable, Reads, recordsOf, drivesOf, tableOf, writeAnswer, writeOut, writtenNumbers, writeNumbers, soundTo, blankTo, isSound};
+ghost use Rattle.table.specs.Table.{isKind, lengthOk, headerAt, overlapsAny, refusal, more, endStep, driveRecord, stepAt, placeAfter, Advances, begun, zeroDrive, emptyTable, Reads, recordsOf, drivesOf, tableOf, writeAnswer, writeOut, writtenNumbers, writeNumbers, soundTo, blankTo, isSound, foundEnd, foundAt, overlapRuns, overlapsRun, refusalAmong};
 
 // Document 01's refusals of a table, in the order of the checks.
 const CUT_OFF: u8 = 1;
@@ -138,28 +138,36 @@ fn header_at(t: &[u8], at: usize) -> Header
 
 // ---- a drive among those before it
 
-// d overlaps one of the drives so far. `refusal_of` has tested that there are at most eight.
-fn overlaps_any(b: Table, d: Drive) -> bool
-    requires { ⌜ b .count ≤ 8 ⌝ }
-    ensures { λ r. ⌜ r ≡ overlapsAny (b .count) (b .drives) d ⌝ }
+// Two runs of blocks share one. Tested by differences, as drives are.
+fn runs_overlap(first: u64, blocks: u64, other: u64, others: u64) -> bool
+    ensures { λ r. ⌜ r ≡ overlapRuns first blocks other others ⌝ }
 {
-    let drives = b.drives;
-    let n = b.count;
+    if first <= other {
+        other - first < blocks
+    } else {
+        first - other < others
+    }
+}
+
+// d overlaps one of n runs. Numbers are lent where drives would be copied, which is most of what a reading costs.
+fn overlaps_run(d: Drive, firsts: &[u64; 8], sizes: &[u64; 8], n: usize) -> bool
+    requires { ⌜ n ≤ 8 ⌝ }
+    ensures { λ r. ⌜ r ≡ overlapsRun n (now (firsts .entry)) (now (sizes .entry)) d ⌝ }
+{
     let mut found = false;
     let mut i = 0;
     while i < n {
-        let e = drives[i];
-        found = logic::or(drive::overlaps(d, e), found);
+        found = logic::or(runs_overlap(d.first, d.blocks, firsts[i], sizes[i]), found);
         i += 1;
     }
     found
 }
 
-// The refusal of a drive, or 0.
-fn refusal_of(b: Table, d: Drive, store: u64) -> u8
-    ensures { λ r. ⌜ r ≡ refusal b d store ⌝ }
+// The refusal of a drive among n runs, or 0.
+fn refusal_among(d: Drive, store: u64, firsts: &[u64; 8], sizes: &[u64; 8], n: usize) -> u8
+    ensures { λ r. ⌜ r ≡ refusalAmong n (now (firsts .entry)) (now (sizes .entry)) d store ⌝ }
 {
-    if MOST_DRIVES <= b.count {
+    if MOST_DRIVES <= n {
         return NINTH_DRIVE;
     }
     if !drive::fields_ok(d) {
@@ -168,10 +176,27 @@ fn refusal_of(b: Table, d: Drive, store: u64) -> u8
     if !drive::in_store(d, store) {
         return PAST_STORE;
     }
-    if overlaps_any(b, d) {
+    if overlaps_run(d, firsts, sizes, n) {
         return OVERLAPPING;
     }
     0
+}
+
+// The refusal of a drive after those of a table, or 0.
+fn refusal_of(b: Table, d: Drive, store: u64) -> u8
+    ensures { λ r. ⌜ r ≡ refusal b d store ⌝ }
+{
+    let drives = b.drives;
+    let mut firsts = [0u64; 8];
+    let mut sizes = [0u64; 8];
+    let mut i = 0;
+    while i < 8 {
+        let e = drives[i];
+        firsts[i] = e.first;
+        sizes[i] = e.blocks;
+        i += 1;
+    }
+    refusal_among(d, store, &firsts, &sizes, b.count)
 }
 
 // The drives so far with one more, which `refusal_of` has not refused as the ninth.
@@ -342,7 +367,7 @@ pub fn empty_table() -> Table
 }
 
 // Before the first record.
-fn start() -> Cursor
+pub fn start() -> Cursor
     ensures { λ r. ⌜ r ≡ begun ⌝ }
 {
     Cursor {
@@ -352,18 +377,71 @@ fn start() -> Cursor
     }
 }
 
-// All drives of a table, for a store of that many blocks.
+// What stands at a place, before it is tested among the drives so far: what ends the reading, or the next place and a drive.
+pub struct Found {
+    pub step: Step,
+    pub drive: Drive,
+}
+
+fn ended(step: Step) -> Found
+    ensures { λ r. ⌜ r ≡ foundEnd step ⌝ }
+{
+    Found {
+        step,
+        drive: zero_drive(),
+    }
+}
+
+fn found_at(t: &[u8], at: usize) -> Found
+    ensures { λ r. ⌜ r ≡ foundAt (now (t .entry)) at ⌝ }
+{
+    let h = header_at(t, at);
+    match h {
+        Header::Bad(n) => ended(Step::Refused(n, at)),
+        Header::Whole(kind, size) => {
+            let next = at + size;
+            if kind != END_KIND {
+                return Found {
+                    step: Step::Next(next),
+                    drive: drive::decode(&t[at..next]),
+                };
+            }
+            if next < t.len() {
+                return ended(Step::Refused(BYTE_FOLLOWS, next));
+            }
+            ended(Step::Done)
+        }
+    }
+}
+
+// All drives of a table, for a store of that many blocks. The runs of the drives so far stand beside them.
 pub fn read_table(t: &[u8], store: u64) -> Reading
     ensures { λ r. ⌜ Reads (now (t .entry)) store r ⌝ }
 {
-    let mut c = start();
+    let mut at = 0;
+    let mut b = empty_table();
+    let mut firsts = [0u64; 8];
+    let mut sizes = [0u64; 8];
     let mut left: usize = MOST_RECORDS;
     while 0 < left {
-        c = record_at(t, c, store);
-        let s = c.step;
-        let b = c.table;
+        let f = found_at(t, at);
+        let s = f.step;
+        let d = f.drive;
         match s {
-            Step::Next(_) => {
+            Step::Next(next) => {
+                let n = b.count;
+                let number = refusal_among(d, store, &firsts, &sizes, n);
+                if number != 0 {
+                    return Reading {
+                        answer: Answer::Refused(number, at),
+                        table: b,
+                    };
+                }
+                b.drives[n] = d;
+                b.count = n + 1;
+                firsts[n] = d.first;
+                sizes[n] = d.blocks;
+                at = next;
                 left -= 1;
             }
             Step::Done => {
@@ -380,9 +458,8 @@ pub fn read_table(t: &[u8], store: u64) -> Reading
             }
         }
     }
-    let b = c.table;
     Reading {
-        answer: Answer::Refused(NINTH_DRIVE, c.at),
+        answer: Answer::Refused(NINTH_DRIVE, at),
         table: b,
     }
 }
