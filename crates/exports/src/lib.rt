@@ -216,6 +216,7 @@ pub extern "C" fn edd_turn(
 ) -> u32
     ensures { λ r. ⌜ effect (r ∷ now (guest .exit) ∷ now (moved .exit) ∷ []) (now (desk .exit) ∷ now (arena .exit) ∷ now (store .exit) ∷ []) ≡ turnCall (now (desk .entry)) (now (arena .entry)) (now (store .entry)) (now (guest .entry)) (now (moved .entry)) ⌝ }
 {
+    // A turn names no guest: 0 passes that test.
     let number = number_at(desk, arena.len(), store.len(), 0);
     if number != 0 {
         return number as u32;
