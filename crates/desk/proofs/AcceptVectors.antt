@@ -17,7 +17,7 @@ use Rattle.memory.proofs.WindowLaws.{length-window}
 use Rattle.memory.specs.Blocks.{blocks}
 use Rattle.int13.specs.declared.Registers.{Registers}
 use Rattle.int13.specs.declared.Job.{Job}
-use Rattle.int13.specs.Steps.{isDrive, sectors, check}
+use Rattle.int13.specs.Steps.{isDrive, sectors, steps, begin}
 use Rattle.int13.specs.Alone.{moves}
 use Rattle.desk.specs.declared.Request.{Request}
 use Rattle.desk.specs.declared.Row.{Row}
@@ -34,7 +34,7 @@ use Rattle.desk.specs.declared.CollectAnswer.the-variants.{Given as Coll
 use Rattle.desk.specs.declared.WithdrawAnswer.{WithdrawAnswer}
 use Rattle.desk.specs.declared.WithdrawAnswer.the-variants.{Given as WithdrawGiven}
 use Rattle.desk.specs.Parts.{vacantRow}
-use Rattle.desk.specs.Acceptable.{jobOk, rowsOk, accept}
+use Rattle.desk.specs.Acceptable.{requestOk, rowsOk, accept}
 use Rattle.desk.specs.Calls.{done, openOf, writtenOf, writtenOut, postOf, firstWaiting, stageAfter, turnOf, collectOf, withdrawOf}
 
 -- ---- the table: two drives, of 4000 blocks from store block 5 and of 300 from 4010; C x H x S 459 and 280; the second is protected
@@ -229,7 +229,7 @@ pub acceptance : map (map accept) (pointers ∷ tables ∷ counts ∷ ranges ∷
     ≡ map (λ (n : ℕ). replicate n true) (8 ∷ 4 ∷ 2 ∷ 2 ∷ 2 ∷ [])
     ∷ map (λ (n : ℕ). replicate n false) (2 ∷ 8 ∷ 3 ∷ 3 ∷ 4 ∷ 5 ∷ 3 ∷ 4 ∷ 2 ∷ 6 ∷ [])
     ∷ []
-unfolding accept rowsOk jobOk isDrive isSound soundTo blankTo refusal overlapsAny overlap inStore fieldsOk geometryFits inLimits busOk interfaceOk isBlank blankNumbers blankNames same
+unfolding accept rowsOk requestOk isDrive isSound soundTo blankTo refusal overlapsAny overlap inStore fieldsOk geometryFits inLimits busOk interfaceOk isBlank blankNumbers blankNames same
 acceptance = refl
 
 -- ---- open: all rows vacant, the pointer 0, the table's drives in order, the two lengths each in its place
@@ -251,11 +251,11 @@ opening = refl
 -- ---- write: the bytes of the opening again, in a buffer that has room; bytes past them stay
 
 pub table-written : map (λ (room : ℕ). writtenNumbers (writtenOf (good 7) room)) (139 ∷ 140 ∷ 142 ∷ []) ≡ (19 ∷ []) ∷ (0 ∷ 140 ∷ []) ∷ (0 ∷ 140 ∷ []) ∷ []
-unfolding writtenOf writtenNumbers writeAnswer tableOf bytesOf recordsOf recordOf geometryBytes sizeBytes nameBytes leBytes accept rowsOk jobOk isDrive isSound soundTo blankTo refusal overlapsAny overlap inStore fieldsOk geometryFits inLimits busOk interfaceOk isBlank blankNumbers blankNames same
+unfolding writtenOf writtenNumbers writeAnswer tableOf bytesOf recordsOf recordOf geometryBytes sizeBytes nameBytes leBytes accept rowsOk requestOk isDrive isSound soundTo blankTo refusal overlapsAny overlap inStore fieldsOk geometryFits inLimits busOk interfaceOk isBlank blankNumbers blankNames same
 table-written = refl
 
 pub table-bytes : writtenOut (good 7) (replicate 142 9) ≡ tableBytes ++ (9 ∷ 9 ∷ [])
-unfolding writtenOut writeOut tableOf bytesOf recordsOf recordOf geometryBytes sizeBytes nameBytes leBytes accept rowsOk jobOk isDrive isSound soundTo blankTo refusal overlapsAny overlap inStore fieldsOk geometryFits inLimits busOk interfaceOk isBlank blankNumbers blankNames same
+unfolding writtenOut writeOut tableOf bytesOf recordsOf recordOf geometryBytes sizeBytes nameBytes leBytes accept rowsOk requestOk isDrive isSound soundTo blankTo refusal overlapsAny overlap inStore fieldsOk geometryFits inLimits busOk interfaceOk isBlank blankNumbers blankNames same
 table-bytes = refl
 
 -- ---- the calls, for every arena and store of those lengths
@@ -282,7 +282,7 @@ module _ (arena store : List ℕ) (la : length arena ≡ 560005) (ls : length st
   -- the turn at the pointer, and the number of blocks; the pointer goes to the guest after, from 7 to 0; all moved, the row is finished
   pub turns : map (λ (p : ℕ). turnOf (good p) arena store .answer) (0 ∷ 1 ∷ 2 ∷ 3 ∷ 4 ∷ 5 ∷ 6 ∷ 7 ∷ [])
       ≡ Served 0 16 ∷ Served 1 1 ∷ Served 2 16 ∷ Served 3 1 ∷ Served 6 2 ∷ Served 6 2 ∷ Served 6 2 ∷ Served 7 3 ∷ []
-  unfolding turnOf firstWaiting accept rowsOk jobOk isDrive isSound soundTo blankTo refusal overlapsAny overlap inStore fieldsOk geometryFits inLimits busOk interfaceOk isBlank blankNumbers blankNames same
+  unfolding turnOf firstWaiting accept rowsOk requestOk isDrive isSound soundTo blankTo refusal overlapsAny overlap inStore fieldsOk geometryFits inLimits busOk interfaceOk isBlank blankNumbers blankNames same
   turns = rw (la, ls)
 
   pub turn-desks : map (λ (p : ℕ). turnOf (good p) arena store .desk) (0 ∷ 1 ∷ 2 ∷ 3 ∷ 4 ∷ 7 ∷ [])
@@ -293,7 +293,7 @@ module _ (arena store : List ℕ) (la : length arena ≡ 560005) (ls : length st
       ∷ after 7 6 (Finished (success 0x000A))
       ∷ after 0 7 (Finished (success 0x000B))
       ∷ []
-  unfolding turnOf firstWaiting stageAfter accept rowsOk jobOk isDrive isSound soundTo blankTo refusal overlapsAny overlap inStore fieldsOk geometryFits inLimits busOk interfaceOk isBlank blankNumbers blankNames same
+  unfolding turnOf firstWaiting stageAfter accept rowsOk requestOk isDrive isSound soundTo blankTo refusal overlapsAny overlap inStore fieldsOk geometryFits inLimits busOk interfaceOk isBlank blankNumbers blankNames same
   turn-desks = rw (la, ls)
 
   -- reads: to buffer + 512 x moved, from 512 x (first + start + moved)
@@ -303,7 +303,7 @@ module _ (arena store : List ℕ) (la : length arena ≡ 560005) (ls : length st
       ∷ withWindow arena 6 70000 (blocks (windowOf arena 6 70000) 68976 store 2074112 2)
       ∷ withWindow arena 7 70000 (blocks (windowOf arena 7 70000) 68464 store 5120 3)
       ∷ []
-  unfolding turnOf firstWaiting moves accept rowsOk jobOk isDrive isSound soundTo blankTo refusal overlapsAny overlap inStore fieldsOk geometryFits inLimits busOk interfaceOk isBlank blankNumbers blankNames same
+  unfolding turnOf firstWaiting moves accept rowsOk requestOk isDrive isSound soundTo blankTo refusal overlapsAny overlap inStore fieldsOk geometryFits inLimits busOk interfaceOk isBlank blankNumbers blankNames same
   reads = rw (la, ls)
 
   -- writes: to 512 x (first + start + moved), from buffer + 512 x moved
@@ -312,24 +312,24 @@ module _ (arena store : List ℕ) (la : length arena ≡ 560005) (ls : length st
       ∷ blocks store 2050048 (windowOf arena 3 70000) 16393 1
       ∷ store
       ∷ []
-  unfolding turnOf firstWaiting moves accept rowsOk jobOk isDrive isSound soundTo blankTo refusal overlapsAny overlap inStore fieldsOk geometryFits inLimits busOk interfaceOk isBlank blankNumbers blankNames same
+  unfolding turnOf firstWaiting moves accept rowsOk requestOk isDrive isSound soundTo blankTo refusal overlapsAny overlap inStore fieldsOk geometryFits inLimits busOk interfaceOk isBlank blankNumbers blankNames same
   writes = rw (la, ls)
 
   -- withdrawals: AH 80h and carry set; 02h and 03h have the blocks moved in AL, 42h and 43h in the word at packet + 2
   pub withdrawals : map (λ (g : ℕ). withdrawOf (good 7) g arena store .answer) (0 ∷ 1 ∷ 2 ∷ 3 ∷ [])
       ≡ map (λ (ax : ℕ). WithdrawGiven (registers ax)) (0x8070 ∷ 0x8010 ∷ 0x8007 ∷ 0x8008 ∷ [])
-  unfolding withdrawOf accept rowsOk jobOk isDrive isSound soundTo blankTo refusal overlapsAny overlap inStore fieldsOk geometryFits inLimits busOk interfaceOk isBlank blankNumbers blankNames same
+  unfolding withdrawOf accept rowsOk requestOk isDrive isSound soundTo blankTo refusal overlapsAny overlap inStore fieldsOk geometryFits inLimits busOk interfaceOk isBlank blankNumbers blankNames same
   withdrawals = rw (la, ls)
 
   pub withdrawn-desks : map (λ (g : ℕ). withdrawOf (good 7) g arena store .desk) (1 ∷ 2 ∷ []) ≡ after 7 1 Vacant ∷ after 7 2 Vacant ∷ []
-  unfolding withdrawOf accept rowsOk jobOk isDrive isSound soundTo blankTo refusal overlapsAny overlap inStore fieldsOk geometryFits inLimits busOk interfaceOk isBlank blankNumbers blankNames same
+  unfolding withdrawOf accept rowsOk requestOk isDrive isSound soundTo blankTo refusal overlapsAny overlap inStore fieldsOk geometryFits inLimits busOk interfaceOk isBlank blankNumbers blankNames same
   withdrawn-desks = rw (la, ls)
 
   pub count-words : map (λ (g : ℕ). withdrawOf (good 7) g arena store .arena) (2 ∷ 3 ∷ [])
       ≡ withWindow arena 2 70000 (sets (windowOf arena 2 70000) 69986 (96 ∷ 0 ∷ []))
       ∷ withWindow arena 3 70000 (sets (windowOf arena 3 70000) 23 (32 ∷ 0 ∷ []))
       ∷ []
-  unfolding withdrawOf leBytes accept rowsOk jobOk isDrive isSound soundTo blankTo refusal overlapsAny overlap inStore fieldsOk geometryFits inLimits busOk interfaceOk isBlank blankNumbers blankNames same
+  unfolding withdrawOf leBytes accept rowsOk requestOk isDrive isSound soundTo blankTo refusal overlapsAny overlap inStore fieldsOk geometryFits inLimits busOk interfaceOk isBlank blankNumbers blankNames same
   count-words = rw (la, ls)
 
   -- a post of 02h: the block of 3/2/5 in 5/7/8, the buffer at ES:BX, 10010h + 123h; it waits with nothing moved, and carry is dropped
@@ -339,10 +339,10 @@ module _ (arena store : List ℕ) (la : length arena ≡ 560005) (ls : length st
 
   pub post-waits : (postOf (good 7) 5 call arena store .answer ≡ PostWaits)
       × (postOf (good 7) 5 call arena store .desk ≡ after 7 5 (Waiting (record { job = asked; moved = 0 })))
-  unfolding postOf check sectors blockOf isValid accept rowsOk jobOk isDrive isSound soundTo blankTo refusal overlapsAny overlap inStore fieldsOk geometryFits inLimits busOk interfaceOk isBlank blankNumbers blankNames same
+  unfolding postOf begin steps sectors blockOf isValid accept rowsOk requestOk isDrive isSound soundTo blankTo refusal overlapsAny overlap inStore fieldsOk geometryFits inLimits busOk interfaceOk isBlank blankNumbers blankNames same
   post-waits = (rw (window-5, la, ls), rw (window-5, la, ls))
 
 -- collect: the finished registers as they stand, and the row is vacant
 pub collected : collectOf (good 7) 4 [] [] ≡ done (after 7 4 Vacant) (CollectGiven (registers 0x4809)) [] []
-unfolding collectOf accept rowsOk jobOk isDrive isSound soundTo blankTo refusal overlapsAny overlap inStore fieldsOk geometryFits inLimits busOk interfaceOk isBlank blankNumbers blankNames same
+unfolding collectOf accept rowsOk requestOk isDrive isSound soundTo blankTo refusal overlapsAny overlap inStore fieldsOk geometryFits inLimits busOk interfaceOk isBlank blankNumbers blankNames same
 collected = refl
