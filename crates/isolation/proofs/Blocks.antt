@@ -339,11 +339,11 @@ never b c h e x =
     never-25 (deskOf b) c (house-25 (deskOf b) (w .held .inv) c) (sym (ap (λ (o : OutBlock). numberOf (o .answer)) (step-at b (deskOf b) c (w .size) refl)) ∙ x)
 
 -- an opening needs no desk
-openings : (b : List ℕ) (c : Call) (t : List ℕ) (a s : ℕ) → c .op ≡ openTable t a s → length b ≡ blockSize → numberOf (stepBlock b c .answer) ≡ 25 → ⊥
+openings : (b : List ℕ) (c : Call) (t : List ℕ) (a s : ℕ) → c .op ≡ openTable t a s → length b ≡ deskSize → numberOf (stepBlock b c .answer) ≡ 25 → ⊥
 unfolding stepBlock
 openings b c t a s e l x =
     by-answer (openOf t a s .answer) (opening-low t a s)
-    (sym (ap (λ (o : Op). numberOf (stepBlockOf b o (c .arena) (c .store) .answer)) e ∙ ap (λ (y : Bool). numberOf (pick y here (left25 b (openTable t a s) (c .arena) (c .store)) .answer)) (eq-eqb (length b) blockSize l)) ∙ x)
+    (sym (ap (λ (o : Op). numberOf (stepBlockOf b o (c .arena) (c .store) .answer)) e ∙ ap (λ (y : Bool). numberOf (pick y here (left25 b (openTable t a s) (c .arena) (c .store)) .answer)) (eq-eqb (length b) deskSize l)) ∙ x)
   where
     here : OutBlock
     here = outBlock b (stepOf (deskOf b) (openTable t a s) (c .arena) (c .store))

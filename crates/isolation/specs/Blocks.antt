@@ -168,6 +168,6 @@ pub record AtBlocks : Type 0 where
   pub otherSize : (b : List ℕ) (c : Call) → (length b ≡ deskSize → ⊥) → stepBlock b c ≡ left25 b (c .op) (c .arena) (c .store)
   pub never : (b : List ℕ) (c : Call) → Bytes b → accepted b ≡ true → numberOf (stepBlock b c .answer) ≡ notAcceptable → ⊥
   -- "a desk block of another size is 25, first": an opening of a block of the size has a table's number, or none
-  pub openings : (b : List ℕ) (c : Call) (t : List ℕ) (a s : ℕ) → c .op ≡ openTable t a s → length b ≡ blockSize
+  pub openings : (b : List ℕ) (c : Call) (t : List ℕ) (a s : ℕ) → c .op ≡ openTable t a s → length b ≡ deskSize
       → numberOf (stepBlock b c .answer) ≡ notAcceptable → ⊥
   pub kept : (b : List ℕ) (c : Call) → Bytes b → FitsOp (c .op) → accepted b ≡ true → accepted (stepBlock b c .block) ≡ true
