@@ -107,7 +107,7 @@ sectors-numbers known d r M =
     (through outcomeNumbers (ltb 128 (al r)) (refused 0x09 r)
     (through outcomeNumbers (both (isWrite (ah r)) (isProtected d)) (refused 0x03 r)
     (run-numbers d r M (blockNumber (geometryOf d) (addressIn (r .cx) (r .dx)))
-      (both (inLimits (geometryOf d)) (isValid (geometryOf d) (addressIn (r .cx) (r .dx))))))))
+    (both (inLimits (geometryOf d)) (isValid (geometryOf d) (addressIn (r .cx) (r .dx))))))))
 
 parameters-numbers : (known : Bool) (count : ℕ) (d : Drive) (r : Registers) → outcomeNumbers (parameters known count d r) ≡ parametersGiven known count d r
 unfolding parameters parametersGiven

@@ -49,7 +49,7 @@ sectorsGiven known d r M =
     (pick (ltb 128 (al r)) (refusedNumbers 0x09 r)
     (pick (both (isWrite (ah r)) (isProtected d)) (refusedNumbers 0x03 r)
     (pick (both (inLimits (geometryOf d)) (isValid (geometryOf d) (addressIn (r .cx) (r .dx))))
-      (runGiven d r M (number (geometryOf d) (addressIn (r .cx) (r .dx)))) (refusedNumbers 0x04 r)))))
+    (runGiven d r M (number (geometryOf d) (addressIn (r .cx) (r .dx)))) (refusedNumbers 0x04 r)))))
 
 -- ---- "Steps of each function", 08h
 
@@ -58,7 +58,7 @@ unfoldable pub parametersGiven : Bool → ℕ → Drive → Registers → List �
 parametersGiven known count d r =
     pick known
     (0 ∷ 0 ∷ r .bx ∷ (256 * ((d .c - 1) % 256) + (64 * ((d .c - 1) / 256 % 4) + d .s % 64)) ∷ (256 * ((d .h - 1) % 256) + count)
-      ∷ r .ds ∷ r .si ∷ r .es ∷ 0 ∷ [])
+    ∷ r .ds ∷ r .si ∷ r .es ∷ 0 ∷ [])
     (refusedNumbers 0x07 r)
 
 -- ---- "Steps of each function", 41h
@@ -88,7 +88,7 @@ unfoldable pub packetNumbersAt : Drive → Registers → List ℕ → ℕ → Li
 packetNumbersAt d r w place =
     pick (leb (place + 16) (length w))
     (pick (ltb (getD w place 0) 16) (refusedNumbers 0x01 r)
-      (packetTestsGiven d r (length w) (le 2 w (place + 2)) (16 * le 2 w (place + 6) + le 2 w (place + 4)) (le 8 w (place + 8))))
+    (packetTestsGiven d r (length w) (le 2 w (place + 2)) (16 * le 2 w (place + 6) + le 2 w (place + 4)) (le 8 w (place + 8))))
     (refusedNumbers 0x01 r)
 
 -- no drive 01h, AL of 43h 01h, then the packet at DS:SI
@@ -105,9 +105,9 @@ unfoldable pub seekGiven : Bool → Drive → Registers → List ℕ → List �
 seekGiven known d r w =
     pick (not known) (refusedNumbers 0x01 r)
     (pick (leb (16 * r .ds + r .si + 16) (length w))
-      (pick (ltb (getD w (16 * r .ds + r .si) 0) 16) (refusedNumbers 0x01 r)
-      (pick (leb (d .blocks) (le 8 w (16 * r .ds + r .si + 8))) (refusedNumbers 0x04 r)
-      (doneNumbers r)))
+    (pick (ltb (getD w (16 * r .ds + r .si) 0) 16) (refusedNumbers 0x01 r)
+    (pick (leb (d .blocks) (le 8 w (16 * r .ds + r .si + 8))) (refusedNumbers 0x04 r)
+    (doneNumbers r)))
     (refusedNumbers 0x01 r))
 
 -- ---- "Steps of each function", 48h
@@ -118,7 +118,7 @@ bufferGiven known d r w =
     pick (not known) (refusedNumbers 0x01 r)
     (pick (ltb (length w) (16 * r .ds + r .si + 2)) (refusedNumbers 0x01 r)
     (pick (both (leb 26 (le 2 w (16 * r .ds + r .si))) (leb (returnedSize (le 2 w (16 * r .ds + r .si))) (length (drop (16 * r .ds + r .si) w))))
-      (doneNumbers r) (refusedNumbers 0x01 r)))
+    (doneNumbers r) (refusedNumbers 0x01 r)))
 
 -- ---- "Steps of each function", every function by AH
 
