@@ -10,7 +10,7 @@ use borrow.Author.Tests.{ltb-true, lt-ltb, le-leb}
 use lib.Arith.{digits-lt}
 use lib.Dec.{ltb}
 use Rattle.logic.specs.Logic.{pick, both}
-use Rattle.logic.proofs.LogicLaws.{both-true, inRange-true}
+use Rattle.logic.proofs.LogicLaws.{both-true, inRange-true, impossible}
 use Rattle.chs.specs.declared.Geometry.{Geometry}
 use Rattle.chs.specs.declared.Address.{Address}
 use Rattle.chs.specs.declared.ToBlock.{ToBlock}
@@ -124,8 +124,8 @@ address-answered g n e = (e, ap addressNumbers e ∙ by-test (both (inLimits g) 
 pub blockNumbers-injective : (x y : ToBlock) → blockNumbers x ≡ blockNumbers y → x ≡ y
 unfolding blockNumbers
 blockNumbers-injective (Block m) (Block n) e = cc
-blockNumbers-injective (Block m) (NoBlock d) e = let z : _≡_ {A = ℕ} 0 1 = cc in absurd (omega arith)
-blockNumbers-injective (NoBlock c) (Block n) e = let z : _≡_ {A = ℕ} 0 1 = cc in absurd (omega arith)
+blockNumbers-injective (Block m) (NoBlock d) e = impossible (cc)
+blockNumbers-injective (NoBlock c) (Block n) e = impossible (cc)
 blockNumbers-injective (NoBlock c) (NoBlock d) e = cc
 
 pub addressNumbers-injective : (x y : ToAddress) → addressNumbers x ≡ addressNumbers y → x ≡ y
@@ -135,6 +135,6 @@ addressNumbers-injective (At a) (At b) e =
     let h : a .head ≡ b .head = cc in
     let s : a .sector ≡ b .sector = cc in
     λ i. At (record { cylinder = c i; head = h i; sector = s i })
-addressNumbers-injective (At a) (NoAddress d) e = let z : _≡_ {A = ℕ} 0 1 = cc in absurd (omega arith)
-addressNumbers-injective (NoAddress c) (At b) e = let z : _≡_ {A = ℕ} 0 1 = cc in absurd (omega arith)
+addressNumbers-injective (At a) (NoAddress d) e = impossible (cc)
+addressNumbers-injective (NoAddress c) (At b) e = impossible (cc)
 addressNumbers-injective (NoAddress c) (NoAddress d) e = cc

@@ -9,6 +9,7 @@ use native.Mathlib.Omega.{arith}
 use borrow.Author.Tests.{lt-ltb, le-leb, ltb-true}
 use lib.Arith.{digits-div, digits-mod}
 use lib.Dec.{ltb}
+use Rattle.logic.proofs.LogicLaws.{impossible}
 use Rattle.chs.specs.declared.Geometry.{Geometry}
 use Rattle.chs.specs.declared.Address.{Address}
 use Rattle.chs.specs.declared.ToBlock.the-variants.{Block, Refused as NoBlock}
@@ -53,16 +54,16 @@ to-address g a n true true l v e =
     let w = isValid-true g a v in
     let same : number g a ≡ n = cc (blockOf-valid g a l v) in
     rw (← same) (addressOf-below g (number g a) l (lt-ltb _ _ (number-below g a w)) ∙ ap At (split-number g a w))
-to-address g a n true false l v e = let z : _≡_ {A = ℕ} 0 1 = cc (blockOf-invalid g a l v) in absurd (omega arith)
-to-address g a n false v l f e = let z : _≡_ {A = ℕ} 0 1 = cc (blockOf-limits g a l) in absurd (omega arith)
+to-address g a n true false l v e = impossible (cc (blockOf-invalid g a l v))
+to-address g a n false v l f e = impossible (cc (blockOf-limits g a l))
 
 to-block : (g : Geometry) (a : Address) (n : ℕ) (l v : Bool) →
     inLimits g ≡ l → ltb n (size g) ≡ v → addressOf g n ≡ At a → blockOf g a ≡ Block n
 to-block g a n true true l v e =
     let same : split g n ≡ a = cc (addressOf-below g n l v) in
     rw (← same) (blockOf-valid g (split g n) l (split-valid g n l (ltb-true _ _ v)) ∙ ap Block (number-split g n))
-to-block g a n true false l v e = let z : _≡_ {A = ℕ} 0 1 = cc (addressOf-above g n l v) in absurd (omega arith)
-to-block g a n false v l f e = let z : _≡_ {A = ℕ} 0 1 = cc (addressOf-limits g n l) in absurd (omega arith)
+to-block g a n true false l v e = impossible (cc (addressOf-above g n l v))
+to-block g a n false v l f e = impossible (cc (addressOf-limits g n l))
 
 -- an address has the block n exactly when the block n has that address
 pub one-to-one : (g : Geometry) (a : Address) (n : ℕ) → (blockOf g a ≡ Block n) ↔ (addressOf g n ≡ At a)
@@ -73,12 +74,12 @@ one-to-one g a n = (to-address g a n (inLimits g) (isValid g a) refl refl, to-bl
 -- an address with a block is valid
 block-valid : (g : Geometry) (a : Address) (n : ℕ) (v : Bool) → inLimits g ≡ true → isValid g a ≡ v → blockOf g a ≡ Block n → Valid g a
 block-valid g a n true l v e = isValid-true g a v
-block-valid g a n false l v e = let z : _≡_ {A = ℕ} 0 1 = cc (blockOf-invalid g a l v) in absurd (omega arith)
+block-valid g a n false l v e = impossible (cc (blockOf-invalid g a l v))
 
 -- a block with an address is below the size
 address-below : (g : Geometry) (a : Address) (n : ℕ) (v : Bool) → inLimits g ≡ true → ltb n (size g) ≡ v → addressOf g n ≡ At a → n < size g
 address-below g a n true l v e = ltb-true _ _ v
-address-below g a n false l v e = let z : _≡_ {A = ℕ} 0 1 = cc (addressOf-above g n l v) in absurd (omega arith)
+address-below g a n false l v e = impossible (cc (addressOf-above g n l v))
 
 pub demand2 : Demand2
 demand2 g limits =

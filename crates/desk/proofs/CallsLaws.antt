@@ -12,7 +12,7 @@ use lib.ListN.{length}
 use lib.Dec.{ltb, eqb}
 use borrow.Author.Tests.{ltb-true, eqb-true}
 use Rattle.logic.specs.Logic.{pick, both}
-use Rattle.logic.proofs.LogicLaws.{both-true}
+use Rattle.logic.proofs.LogicLaws.{both-true, impossible}
 use Rattle.memory.specs.Window.{windowLength, windowOf, withWindow}
 use Rattle.table.specs.declared.Written.the-variants.{Refused as WriteRefused}
 use Rattle.table.specs.Table.{writeAnswer, writeOut}
@@ -194,7 +194,7 @@ module _ (d : Desk) (g : ℕ) (arena store : List ℕ) (p : Passed (accept d) (i
 
 pub seek-below : (rows : List Row) (k p g : ℕ) → p < 8 → firstWaiting rows k p ≡ Guest g → g < 8
 unfolding firstWaiting
-seek-below rows zero p g h e = let z : _≡_ {A = ℕ} 0 1 = cc in absurd (omega arith)
+seek-below rows zero p g h e = impossible (cc)
 seek-below rows (suc k) p g h e = by-row (isWaiting (stageIn rows p)) e (λ q. seek-below rows k (next p) g (omega arith) q)
   where
     by-row : (t : Bool) → pick t (Guest p) (firstWaiting rows k (next p)) ≡ Guest g → (firstWaiting rows k (next p) ≡ Guest g → g < 8) → g < 8

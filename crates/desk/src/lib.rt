@@ -166,16 +166,6 @@ pub fn house_number(acceptable: bool, lent: bool, guest: bool) -> u8
 
 // ---- acceptable desks
 
-// place + n is at most end, with no sum that wraps.
-fn ends_by(place: u64, n: u64, end: u64) -> bool
-    ensures { λ r. ⌜ r ≡ leb (place + n) end ⌝ }
-{
-    if end < place {
-        return false;
-    }
-    n <= end - place
-}
-
 // n blocks of bytes from a place end at most at end.
 fn blocks_end_by(place: u64, n: u64, end: u64) -> bool
     ensures { λ r. ⌜ r ≡ leb (place + blockLength * n) end ⌝ }
@@ -201,15 +191,18 @@ fn packet_ok(sectors: bool, place: u64, m: u64) -> bool
     if sectors {
         return place == 0;
     }
-    ends_by(place, PACKET_LENGTH, m)
+    logic::ends_by(place, PACKET_LENGTH, m)
 }
 
 fn range_ok(d: Drive, sectors: bool, start: u64, count: u64) -> bool
     ensures { λ r. ⌜ r ≡ both (leb (start + count) (d .blocks)) (pick sectors (leb (start + count) (size (geometryOf d))) true) ⌝ }
 {
-    let inside = ends_by(start, count, d.blocks);
+    let inside = logic::ends_by(start, count, d.blocks);
     if sectors {
-        return logic::and(inside, ends_by(start, count, drive::geometry_size(d)));
+        return logic::and(
+            inside,
+            logic::ends_by(start, count, drive::geometry_size(d)),
+        );
     }
     logic::and(inside, true)
 }

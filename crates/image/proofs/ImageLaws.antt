@@ -10,6 +10,7 @@ use lib.ListN.{length, take, drop, getD, replicate, length-append, length-drop, 
 use lib.Seq.{getD-append-add, length-take-le, take-all}
 use lib.Dec.{eqb}
 use borrow.Author.Tests.{eq-eqb, eqb-true}
+use Rattle.logic.proofs.LogicLaws.{impossible}
 use Rattle.logic.specs.Logic.{pick, both}
 use Rattle.words.specs.Words.{Bytes, le, leBytes, part}
 use Rattle.words.proofs.WordsLaws.{le-lt, le-ext, read-write, write-read, leBytes-append, length-leBytes, bytes-leBytes, bytes-part}
@@ -368,7 +369,7 @@ pub not-closed : accept (closed 0 0) ≡ true → ⊥
 not-closed e = absurd (let z : _≡_ {A = Bool} true false = sym e ∙ closed-refused 0 0 in apart z)
   where
     apart : _≡_ {A = Bool} true false → ⊥
-    apart z = let n : _≡_ {A = ℕ} 0 1 = cc in omega arith
+    apart z = impossible (cc)
 
 only : (b : List ℕ) → Bytes b → accepted b ≡ true → ImageOf b (deskOf b)
 unfolding accepted deskOf isImage

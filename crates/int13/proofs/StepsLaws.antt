@@ -8,9 +8,9 @@ use native.Mathlib.Omega.{arith}
 use lib.ListN.{length, getD, take, drop, length-append, length-take, length-drop, drop-of-length-le}
 use lib.Seq.{take-all, length-sets}
 use lib.Dec.{leb, ltb, eqb}
-use borrow.Author.Tests.{leb-true, ltb-true, ltb-false, lt-ltb, le-ltb}
+use borrow.Author.Tests.{leb-true, leb-false, ltb-true, ltb-false, lt-ltb, le-ltb}
 use Rattle.logic.specs.Logic.{pick, both, either}
-use Rattle.logic.proofs.LogicLaws.{both-true}
+use Rattle.logic.proofs.LogicLaws.{both-true, impossible}
 use Rattle.drive.specs.declared.Drive.{Drive}
 use Rattle.table.specs.declared.Table.{Table}
 use Rattle.table.specs.Table.{noDrive}
@@ -43,13 +43,13 @@ drive-in b n l e =
 
 -- ---- ranges
 
--- a sum is compared by difference
-pub past-rest : (end start count : ℕ) → count ≤ end → ltb (end - count) start ≡ ltb end (start + count)
-past-rest end start count h = by-test (ltb (end - count) start) refl
+-- "not at most" is "below"
+pub not-leb : (m n : ℕ) → not (leb m n) ≡ ltb n m
+not-leb m n = by-test (leb m n) refl
   where
-    by-test : (t : Bool) → ltb (end - count) start ≡ t → ltb (end - count) start ≡ ltb end (start + count)
-    by-test true e = e ∙ sym (lt-ltb end (start + count) (omega (arith, ltb-true (end - count) start e)))
-    by-test false e = e ∙ sym (le-ltb end (start + count) (omega (arith, ltb-false (end - count) start e)))
+    by-test : (t : Bool) → leb m n ≡ t → not t ≡ ltb n m
+    by-test true e = sym (le-ltb n m (leb-true m n e))
+    by-test false e = sym (lt-ltb n m (leb-false m n e))
 
 -- ---- 42h, 43h, 44h
 
@@ -62,9 +62,9 @@ plan-clear known d r w code h = by-tests known (both (isWrite (ah r)) (not (veri
         → pick (not known) (Refuse badParameter) (pick verify (Refuse badParameter)
         (packetRead d r (length w) (pick inside (Whole (packetAt w (packetPlace r))) (NoPacket badParameter)))) ≡ Clear code
         → packetPlace r + packetLength ≤ length w
-    by-tests false verify inside e q = let z : _≡_ {A = ℕ} 0 1 = cc in absurd (omega arith)
-    by-tests true true inside e q = let z : _≡_ {A = ℕ} 0 1 = cc in absurd (omega arith)
-    by-tests true false false e q = let z : _≡_ {A = ℕ} 0 1 = cc in absurd (omega arith)
+    by-tests false verify inside e q = impossible (cc)
+    by-tests true true inside e q = impossible (cc)
+    by-tests true false false e q = impossible (cc)
     by-tests true false true e q = leb-true (packetPlace r + packetLength) (length w) e
 
 -- ---- 48h: the window from a place to its end, lent and put back

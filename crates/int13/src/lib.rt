@@ -220,14 +220,11 @@ pub fn drive_at(b: Table, n: u8) -> Drive
     drives[place]
 }
 
-// start + count is above the end. Tested by difference, since a guest's start may be any 64-bit number.
+// start + count is above the end, a sum that does not wrap: a guest's start may be any 64-bit number.
 fn ends_past(end: u64, start: u64, count: u64) -> bool
     ensures { λ r. ⌜ r ≡ ltb end (start + count) ⌝ }
 {
-    if end < count {
-        return true;
-    }
-    end - count < start
+    !logic::ends_by(start, count, end)
 }
 
 // Bytes of a block.

@@ -10,7 +10,7 @@ use lib.Dec.{leb, eqb}
 use lib.ListN.{length, getD, List·getD-eq-default}
 use borrow.Author.Tests.{eq-eqb, ne-eqb, eqb-true, leb-true}
 use Rattle.logic.specs.Logic.{pick}
-use Rattle.logic.proofs.LogicLaws.{both-true, pick-cases, lt-or-le}
+use Rattle.logic.proofs.LogicLaws.{both-true, pick-cases, lt-or-le, impossible}
 use Rattle.words.specs.Words.{Bytes}
 use Rattle.memory.specs.Window.{guests, windowLength}
 use Rattle.drive.proofs.DriveLaws.{Arrays}
@@ -32,7 +32,7 @@ use Rattle.isolation.proofs.Accept.{Facts, accept-facts, Inv, inv-accep
 use Rattle.isolation.proofs.View.{Did, same, idle, answer, accepting, serving, giving, withdrawing, Quiet, refusing, writing, view}
 use Rattle.isolation.proofs.Keep.{inv-step}
 use Rattle.isolation.proofs.Bound.{opens-front}
-use Rattle.isolation.proofs.Posts.{different, never as never-did}
+use Rattle.isolation.proofs.Posts.{never as never-did}
 use Rattle.isolation.proofs.Fits.{fits-opened, by-opening, opening-case, fits-step}
 use Rattle.isolation.proofs.Theorem.{demand}
 use Rattle.isolation.proofs.Refusals.{LowOpening, opening-low}
@@ -84,7 +84,7 @@ opens-block b t a s arena store =
     let y : blockAfter b (openedDesk (deskOf b) (openOf t a s .desk) (openOf t a s .answer)) (kindOf (opening (openOf t a s .answer))) ≡ laid b (openOf t a s .desk)
     = ap (λ (y : OpenAnswer). blockAfter b (openedDesk (deskOf b) (openOf t a s .desk) y) (kindOf (opening y))) x in
     record { passed = x; block = y ∙ laid-image b (openOf t a s .desk) (eqb-true (length b) deskSize l) })
-    (λ l e. different cc)
+    (λ l e. impossible cc)
 
 opens-first : (b t : List ℕ) (a s : ℕ) (c : Call) → c .op ≡ openTable t a s → stepBlock b c .answer ≡ opening Opened → Opens t a s (stepBlock b c)
 unfolding stepBlock

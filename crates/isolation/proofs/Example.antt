@@ -42,7 +42,7 @@ use Rattle.isolation.specs.Lists.{Op, post, turn, Call, posted, turned, 
 use Rattle.isolation.specs.Words.{serves, NoneOpens, Accepted, Waits as WaitsOn, Finishes, moved, Named, Writes, Unwritten, Left}
 use Rattle.isolation.specs.Demand.{foundBy, firstBy, Taken, Same, Claim}
 use Rattle.isolation.proofs.Moves.{moves-size}
-use Rattle.logic.proofs.LogicLaws.{both-intro}
+use Rattle.logic.proofs.LogicLaws.{both-intro, impossible}
 use Rattle.isolation.proofs.View.{window-length}
 use Rattle.isolation.proofs.Fate.{same-request}
 use Rattle.isolation.proofs.Theorem.{demand}
@@ -137,9 +137,6 @@ unfolding accept isSound soundTo refusal fieldsOk geometryFits inLimits busOk in
 ok₄ = refl
 
 -- ---- a post that is accepted, and a turn that serves
-
-differ : {A : Type 0} → _≡_ {A = ℕ} 0 1 → A
-differ e = absurd (omega arith)
 
 post-accepted : (d : Desk) (g : ℕ) (r : Registers) (arena store : List ℕ) (j : Job) → accept d ≡ true → isLent d arena store ≡ true → ltb g guests ≡ true → stageAt d g ≡ Vacant
     → begin (fed (d .table)) r (windowOf arena g (windowSize d)) .outcome ≡ Waits j → begin (fed (d .table)) r (windowOf arena g (windowSize d)) .window ≡ windowOf arena g (windowSize d)
@@ -286,7 +283,7 @@ module _ (a s : List ℕ) where
 
     -- the conditions
     pub closed : NoneOpens (run d₀ calls)
-    closed = subst NoneOpens (sym whole) ((λ e. differ cc), ((λ e. differ cc), ((λ e. differ cc), ((λ e. differ cc), ((λ e. differ cc), tt)))))
+    closed = subst NoneOpens (sym whole) ((λ e. impossible cc), ((λ e. impossible cc), ((λ e. impossible cc), ((λ e. impossible cc), ((λ e. impossible cc), tt)))))
 
     claimed : Claim table₁ d₀ 8704 calls
     claimed = subst (λ (o : Opening). NoneOpens (run (o .desk) calls) → Claim table₁ (o .desk) 8704 calls) opening
@@ -326,7 +323,7 @@ module _ (a s : List ℕ) where
     unwritten = subst (λ (n : ℕ). Unwritten 2 n 17 (run (step d₀ c₁ .desk) (c₂ ∷ c₃ ∷ c₄ ∷ c₅ ∷ []))) (sym first-is)
         (subst (λ (o : Out). Unwritten 2 0 17 (run (o .desk) (c₂ ∷ c₃ ∷ c₄ ∷ c₅ ∷ []))) (sym e₁)
         (subst (Unwritten 2 0 17) (sym upto) (
-          (λ h k b q e. differ cc),
+          (λ h k b q e. impossible cc),
           (
             (λ h k b q e ne. let hh : 2 ≡ h = cc in absurd (ne (sym hh))),
             (

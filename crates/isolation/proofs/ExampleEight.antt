@@ -7,7 +7,7 @@ use mathlib.Core.Bool.{true, false}
 use mathlib.Core.List.{List, [], _∷_, _++_}
 use native.Mathlib.Omega.{arith}
 use lib.ListN.{length, getD, replicate, length-replicate}
-use Rattle.logic.proofs.LogicLaws.{true≢false}
+use Rattle.logic.proofs.LogicLaws.{true≢false, impossible}
 use Rattle.words.specs.Words.{le}
 use Rattle.layout.specs.declared.Packet.{Packet}
 use Rattle.layout.specs.declared.PacketRead.{PacketRead}
@@ -32,7 +32,6 @@ use Rattle.isolation.specs.Demand.{foundBy, askedBy, firstBy, Taken, End
 use Rattle.isolation.proofs.Accept.{Inv}
 use Rattle.isolation.proofs.Bound.{after-none}
 use Rattle.isolation.proofs.Equal.{request}
-use Rattle.isolation.proofs.Posts.{different}
 use Rattle.isolation.proofs.Trace.{call, lent, window-lent, waitsOut, servedTo, storeAfter, arenaAfter, idleOut, post-waits, turn-writes, turn-reads, turn-idle, length-store, length-arena, entry, goes-on, one, none, goes, passesIn, none-opens, found, also, own-turn, other-turn}
 use Rattle.isolation.proofs.ExampleDesk.{tableBytes, arenaLength, M, storeLength, plain, table, d₀, inv₀, claimed, read-packet, windowWith, length-window-with, filled, length-filled, window-filled}
 
@@ -384,119 +383,119 @@ module _ (a s : List ℕ) where
         (check₂ (windowOf a 2 M) (window-lent d₀ a 2 la (omega arith)) h₂)
 
     i₁ : Inv d₁
-    i₁ = goes-on d₀ c₁ o₁ inv₀ e₁ (λ e. different cc)
+    i₁ = goes-on d₀ c₁ o₁ inv₀ e₁ (λ e. impossible cc)
 
     e₂ : step d₁ c₂ ≡ o₂
     unfolding firstWaiting stageAfter
     e₂ = turn-writes d₁ i₁ a s 2 q₂ (Waiting q₂′) (lent d₁ a s la ls) refl refl refl refl
 
     i₂ : Inv d₂
-    i₂ = goes-on d₁ c₂ o₂ i₁ e₂ (λ e. different cc)
+    i₂ = goes-on d₁ c₂ o₂ i₁ e₂ (λ e. impossible cc)
 
     e₃ : step d₂ c₃ ≡ o₃
     e₃ = post-waits d₂ i₂ a s₂ 3 reads (packetJob reads p₃) (lent d₂ a s₂ la ls₂) (omega arith) refl
         (check₃ (windowOf a 3 M) (window-lent d₂ a 3 la (omega arith)) h₃)
 
     i₃ : Inv d₃
-    i₃ = goes-on d₂ c₃ o₃ i₂ e₃ (λ e. different cc)
+    i₃ = goes-on d₂ c₃ o₃ i₂ e₃ (λ e. impossible cc)
 
     e₄ : step d₃ c₄ ≡ o₄
     e₄ = post-waits d₃ i₃ a s₂ 4 reads (packetJob reads p₄) (lent d₃ a s₂ la ls₂) (omega arith) refl
         (check₄ (windowOf a 4 M) (window-lent d₃ a 4 la (omega arith)) h₄)
 
     i₄ : Inv d₄
-    i₄ = goes-on d₃ c₄ o₄ i₃ e₄ (λ e. different cc)
+    i₄ = goes-on d₃ c₄ o₄ i₃ e₄ (λ e. impossible cc)
 
     e₅ : step d₄ c₅ ≡ o₅
     e₅ = post-waits d₄ i₄ a s₂ 5 writes (packetJob writes p₅) (lent d₄ a s₂ la ls₂) (omega arith) refl
         (check₅ (windowOf a 5 M) (window-lent d₄ a 5 la (omega arith)) h₅)
 
     i₅ : Inv d₅
-    i₅ = goes-on d₄ c₅ o₅ i₄ e₅ (λ e. different cc)
+    i₅ = goes-on d₄ c₅ o₅ i₄ e₅ (λ e. impossible cc)
 
     e₆ : step d₅ c₆ ≡ o₆
     e₆ = post-waits d₅ i₅ a s₂ 6 reads (packetJob reads p₆) (lent d₅ a s₂ la ls₂) (omega arith) refl
         (check₆ (windowOf a 6 M) (window-lent d₅ a 6 la (omega arith)) h₆)
 
     i₆ : Inv d₆
-    i₆ = goes-on d₅ c₆ o₆ i₅ e₆ (λ e. different cc)
+    i₆ = goes-on d₅ c₆ o₆ i₅ e₆ (λ e. impossible cc)
 
     e₇ : step d₆ c₇ ≡ o₇
     e₇ = post-waits d₆ i₆ a s₂ 7 reads (packetJob reads p₇) (lent d₆ a s₂ la ls₂) (omega arith) refl
         (check₇ (windowOf a 7 M) (window-lent d₆ a 7 la (omega arith)) h₇)
 
     i₇ : Inv d₇
-    i₇ = goes-on d₆ c₇ o₇ i₆ e₇ (λ e. different cc)
+    i₇ = goes-on d₆ c₇ o₇ i₆ e₇ (λ e. impossible cc)
 
     e₈ : step d₇ c₈ ≡ o₈
     e₈ = post-waits d₇ i₇ a s₂ 0 writes (packetJob writes p₀) (lent d₇ a s₂ la ls₂) (omega arith) refl
         (check₀ (windowOf a 0 M) (window-lent d₇ a 0 la (omega arith)) h₀)
 
     i₈ : Inv d₈
-    i₈ = goes-on d₇ c₈ o₈ i₇ e₈ (λ e. different cc)
+    i₈ = goes-on d₇ c₈ o₈ i₇ e₈ (λ e. impossible cc)
 
     e₉ : step d₈ c₉ ≡ o₉
     e₉ = post-waits d₈ i₈ a s₂ 1 reads (packetJob reads p₁) (lent d₈ a s₂ la ls₂) (omega arith) refl
         (check₁ (windowOf a 1 M) (window-lent d₈ a 1 la (omega arith)) h₁)
 
     i₉ : Inv d₉
-    i₉ = goes-on d₈ c₉ o₉ i₈ e₉ (λ e. different cc)
+    i₉ = goes-on d₈ c₉ o₉ i₈ e₉ (λ e. impossible cc)
 
     e₁₀ : step d₉ c₁₀ ≡ o₁₀
     unfolding firstWaiting stageAfter
     e₁₀ = turn-reads d₉ i₉ a s₂ 3 q₃ (Finished (succeed reads)) (lent d₉ a s₂ la ls₂) refl refl refl refl
 
     i₁₀ : Inv d₁₀
-    i₁₀ = goes-on d₉ c₁₀ o₁₀ i₉ e₁₀ (λ e. different cc)
+    i₁₀ = goes-on d₉ c₁₀ o₁₀ i₉ e₁₀ (λ e. impossible cc)
 
     e₁₁ : step d₁₀ c₁₁ ≡ o₁₁
     unfolding firstWaiting stageAfter
     e₁₁ = turn-reads d₁₀ i₁₀ a₁₀ s₂ 4 q₄ (Finished (succeed reads)) (lent d₁₀ a₁₀ s₂ la₁₀ ls₂) refl refl refl refl
 
     i₁₁ : Inv d₁₁
-    i₁₁ = goes-on d₁₀ c₁₁ o₁₁ i₁₀ e₁₁ (λ e. different cc)
+    i₁₁ = goes-on d₁₀ c₁₁ o₁₁ i₁₀ e₁₁ (λ e. impossible cc)
 
     e₁₂ : step d₁₁ c₁₂ ≡ o₁₂
     unfolding firstWaiting stageAfter
     e₁₂ = turn-writes d₁₁ i₁₁ a₁₁ s₂ 5 q₅ (Finished (succeed writes)) (lent d₁₁ a₁₁ s₂ la₁₁ ls₂) refl refl refl refl
 
     i₁₂ : Inv d₁₂
-    i₁₂ = goes-on d₁₁ c₁₂ o₁₂ i₁₁ e₁₂ (λ e. different cc)
+    i₁₂ = goes-on d₁₁ c₁₂ o₁₂ i₁₁ e₁₂ (λ e. impossible cc)
 
     e₁₃ : step d₁₂ c₁₃ ≡ o₁₃
     unfolding firstWaiting stageAfter
     e₁₃ = turn-reads d₁₂ i₁₂ a₁₁ s₁₂ 6 q₆ (Finished (succeed reads)) (lent d₁₂ a₁₁ s₁₂ la₁₁ ls₁₂) refl refl refl refl
 
     i₁₃ : Inv d₁₃
-    i₁₃ = goes-on d₁₂ c₁₃ o₁₃ i₁₂ e₁₃ (λ e. different cc)
+    i₁₃ = goes-on d₁₂ c₁₃ o₁₃ i₁₂ e₁₃ (λ e. impossible cc)
 
     e₁₄ : step d₁₃ c₁₄ ≡ o₁₄
     unfolding firstWaiting stageAfter
     e₁₄ = turn-reads d₁₃ i₁₃ a₁₃ s₁₂ 7 q₇ (Finished (succeed reads)) (lent d₁₃ a₁₃ s₁₂ la₁₃ ls₁₂) refl refl refl refl
 
     i₁₄ : Inv d₁₄
-    i₁₄ = goes-on d₁₃ c₁₄ o₁₄ i₁₃ e₁₄ (λ e. different cc)
+    i₁₄ = goes-on d₁₃ c₁₄ o₁₄ i₁₃ e₁₄ (λ e. impossible cc)
 
     e₁₅ : step d₁₄ c₁₅ ≡ o₁₅
     unfolding firstWaiting stageAfter
     e₁₅ = turn-writes d₁₄ i₁₄ a₁₄ s₁₂ 0 q₀ (Finished (succeed writes)) (lent d₁₄ a₁₄ s₁₂ la₁₄ ls₁₂) refl refl refl refl
 
     i₁₅ : Inv d₁₅
-    i₁₅ = goes-on d₁₄ c₁₅ o₁₅ i₁₄ e₁₅ (λ e. different cc)
+    i₁₅ = goes-on d₁₄ c₁₅ o₁₅ i₁₄ e₁₅ (λ e. impossible cc)
 
     e₁₆ : step d₁₅ c₁₆ ≡ o₁₆
     unfolding firstWaiting stageAfter
     e₁₆ = turn-reads d₁₅ i₁₅ a₁₄ s₁₅ 1 q₁ (Finished (succeed reads)) (lent d₁₅ a₁₄ s₁₅ la₁₄ ls₁₅) refl refl refl refl
 
     i₁₆ : Inv d₁₆
-    i₁₆ = goes-on d₁₅ c₁₆ o₁₆ i₁₅ e₁₆ (λ e. different cc)
+    i₁₆ = goes-on d₁₅ c₁₆ o₁₆ i₁₅ e₁₆ (λ e. impossible cc)
 
     e₁₇ : step d₁₆ c₁₇ ≡ o₁₇
     unfolding firstWaiting stageAfter
     e₁₇ = turn-writes d₁₆ i₁₆ a₁₆ s₁₅ 2 q₂′ (Finished (succeed verifies)) (lent d₁₆ a₁₆ s₁₅ la₁₆ ls₁₅) refl refl refl refl
 
     i₁₇ : Inv d₁₇
-    i₁₇ = goes-on d₁₆ c₁₇ o₁₇ i₁₆ e₁₇ (λ e. different cc)
+    i₁₇ = goes-on d₁₆ c₁₇ o₁₇ i₁₆ e₁₇ (λ e. impossible cc)
 
     e₁₈ : step d₁₇ c₁₈ ≡ idleOut d₁₇ a₁₆ s₁₇
     unfolding firstWaiting
@@ -640,8 +639,8 @@ module _ (a s : List ℕ) where
         (subst (λ (o : Out). Unwritten 2 29 17 (run (o .desk) ((posts ++ stretch) ++ c₁₇ ∷ []))) (sym e₁)
         (subst (Unwritten 2 29 17) (sym upto)
         (also (own-turn 2 29 17 16 d₁)
-        (also (λ h k b q e. different cc) (also (λ h k b q e. different cc) (also (λ h k b q e. different cc)
-        (also (λ h k b q e. different cc) (also (λ h k b q e. different cc) (also (λ h k b q e. different cc) (also (λ h k b q e. different cc)
+        (also (λ h k b q e. impossible cc) (also (λ h k b q e. impossible cc) (also (λ h k b q e. impossible cc)
+        (also (λ h k b q e. impossible cc) (also (λ h k b q e. impossible cc) (also (λ h k b q e. impossible cc) (also (λ h k b q e. impossible cc)
         (also (other-turn 2 29 17 3 16 d₉ q₃ refl (λ b w m. reads-no w))
         (also (other-turn 2 29 17 4 2 d₁₀ q₄ refl (λ b w m. reads-no w))
         (also (other-turn 2 29 17 5 1 d₁₁ q₅ refl (λ b w m. omega (arith, w .1 .0, w .1 .1, m .0, m .1)))

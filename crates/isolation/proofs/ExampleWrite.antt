@@ -7,6 +7,7 @@ use mathlib.Core.Bool.{true, false}
 use mathlib.Core.List.{List, [], _∷_, _++_}
 use native.Mathlib.Omega.{arith}
 use lib.ListN.{length, replicate, length-replicate}
+use Rattle.logic.proofs.LogicLaws.{impossible}
 use Rattle.words.specs.Words.{le}
 use Rattle.chs.specs.Chs.{inLimits, isValid, blockOf}
 use Rattle.layout.specs.declared.Packet.{Packet}
@@ -33,7 +34,6 @@ use Rattle.isolation.specs.Demand.{foundBy, firstBy, Taken, Same, SameAt
 use Rattle.isolation.proofs.Accept.{Inv}
 use Rattle.isolation.proofs.Bound.{after-none}
 use Rattle.isolation.proofs.Equal.{request}
-use Rattle.isolation.proofs.Posts.{different}
 use Rattle.isolation.proofs.Trace.{call, lent, window-lent, collectedTo, waitsOut, answeredOut, servedTo, storeAfter, withdrawnTo, idleOut, turn24Out, post-waits, post-answered, turn-writes, turn-idle, turn-24, withdraw-sectors, collect-gives, length-store, entry, goes-on, one, none, goes, passesIn, none-opens, found, also, own-turn, other-turn}
 use Rattle.isolation.proofs.ExampleDesk.{tableBytes, arenaLength, M, storeLength, guarded, plain, table, d₀, inv₀, claimed, read-packet, windowWith, length-window-with, filled, length-filled, window-filled}
 
@@ -230,20 +230,20 @@ module _ (a s : List ℕ) where
     e₁ = post-waits d₀ inv₀ a s 2 saved saveJob (lent d₀ a s la ls) (omega arith) refl (check-save (windowOf a 2 M) (window-lent d₀ a 2 la (omega arith)))
 
     i₁ : Inv d₁
-    i₁ = goes-on d₀ c₁ o₁ inv₀ e₁ (λ e. different cc)
+    i₁ = goes-on d₀ c₁ o₁ inv₀ e₁ (λ e. impossible cc)
 
     e₂ : step d₁ c₂ ≡ o₂
     e₂ = post-waits d₁ i₁ a s 5 wrote writeJob (lent d₁ a s la ls) (omega arith) refl (check-write (windowOf a 5 M) (window-lent d₁ a 5 la (omega arith)))
 
     i₂ : Inv d₂
-    i₂ = goes-on d₁ c₂ o₂ i₁ e₂ (λ e. different cc)
+    i₂ = goes-on d₁ c₂ o₂ i₁ e₂ (λ e. impossible cc)
 
     e₃ : step d₂ c₃ ≡ o₃
     unfolding firstWaiting stageAfter
     e₃ = turn-writes d₂ i₂ a s 2 (request saveJob 0) (Waiting (request saveJob 16)) (lent d₂ a s la ls) refl refl refl refl
 
     i₃ : Inv d₃
-    i₃ = goes-on d₂ c₃ o₃ i₂ e₃ (λ e. different cc)
+    i₃ = goes-on d₂ c₃ o₃ i₂ e₃ (λ e. impossible cc)
 
     e₄ : step d₃ c₄ ≡ o₄
     e₄ = turn-24 d₃ i₃ [] [] refl
@@ -252,7 +252,7 @@ module _ (a s : List ℕ) where
     e₅ = withdraw-sectors d₃ i₃ a s₃ 5 (request writeJob 0) (lent d₃ a s₃ la ls₃) (omega arith) refl refl
 
     i₅ : Inv d₅
-    i₅ = goes-on d₃ c₅ o₅ i₃ e₅ (λ e. different cc)
+    i₅ = goes-on d₃ c₅ o₅ i₃ e₅ (λ e. impossible cc)
 
     e₆ : step d₅ c₆ ≡ o₆
     unfolding step openOf readTable readFrom stepAt tableStepOf headerAt headerOf
@@ -266,27 +266,27 @@ module _ (a s : List ℕ) where
     e₈ = post-waits d₅ i₅ a₇ s₃ 5 wrote writeJob (lent d₅ a₇ s₃ la₇ ls₃) (omega arith) refl (check-write (windowOf a₇ 5 M) (window-lent d₅ a₇ 5 la₇ (omega arith)))
 
     i₈ : Inv d₈
-    i₈ = goes-on d₅ c₈ o₈ i₅ e₈ (λ e. different cc)
+    i₈ = goes-on d₅ c₈ o₈ i₅ e₈ (λ e. impossible cc)
 
     e₉ : step d₈ c₉ ≡ o₉
     unfolding firstWaiting stageAfter
     e₉ = turn-writes d₈ i₈ a₇ s₃ 5 (request writeJob 0) (Finished (succeed wrote)) (lent d₈ a₇ s₃ la₇ ls₃) refl refl refl refl
 
     i₉ : Inv d₉
-    i₉ = goes-on d₈ c₉ o₉ i₈ e₉ (λ e. different cc)
+    i₉ = goes-on d₈ c₉ o₉ i₈ e₉ (λ e. impossible cc)
 
     e₁₀ : step d₉ c₁₀ ≡ o₁₀
     unfolding firstWaiting stageAfter
     e₁₀ = turn-writes d₉ i₉ a₇ s₉ 2 (request saveJob 16) (Finished (succeed (postedRegisters saved))) (lent d₉ a₇ s₉ la₇ ls₉) refl refl refl refl
 
     i₁₀ : Inv d₁₀
-    i₁₀ = goes-on d₉ c₁₀ o₁₀ i₉ e₁₀ (λ e. different cc)
+    i₁₀ = goes-on d₉ c₁₀ o₁₀ i₉ e₁₀ (λ e. impossible cc)
 
     e₁₁ : step d₁₀ c₁₁ ≡ o₁₁
     e₁₁ = collect-gives d₁₀ i₁₀ [] [] 5 (succeed wrote) (omega arith) refl
 
     i₁₁ : Inv d₁₁
-    i₁₁ = goes-on d₁₀ c₁₁ o₁₁ i₁₀ e₁₁ (λ e. different cc)
+    i₁₁ = goes-on d₁₀ c₁₁ o₁₁ i₁₀ e₁₁ (λ e. impossible cc)
 
     e₁₂ : step d₁₁ c₁₂ ≡ o₁₂
     unfolding firstWaiting
@@ -350,10 +350,10 @@ module _ (a s : List ℕ) where
     unwritten = subst (λ (n : ℕ). Unwritten 2 n 17 (run (step d₀ c₁ .desk) (between ++ c₁₀ ∷ []))) (sym first-is)
         (subst (λ (o : Out). Unwritten 2 56 17 (run (o .desk) (between ++ c₁₀ ∷ []))) (sym e₁)
         (subst (Unwritten 2 56 17) (sym upto)
-        (also (λ h k b q e. different cc)
+        (also (λ h k b q e. impossible cc)
         (also (own-turn 2 56 17 16 d₂)
-        (also (λ h k b q e. different cc) (also (λ h k b q e. different cc) (also (λ h k b q e. different cc)
-        (also (λ h k b q e. different cc) (also (λ h k b q e. different cc)
+        (also (λ h k b q e. impossible cc) (also (λ h k b q e. impossible cc) (also (λ h k b q e. impossible cc)
+        (also (λ h k b q e. impossible cc) (also (λ h k b q e. impossible cc)
         (also (other-turn 2 56 17 5 1 d₈ (request writeJob 0) refl (λ b w n. omega (arith, w .1 .0, n .1)))
         (also (own-turn 2 56 17 1 d₉) tt)))))))))))
 
@@ -382,7 +382,7 @@ module _ (a s : List ℕ) where
         ≡ collected 2 (CollectGiven (alone (fed tableBytes) saved (foundBy M c₁ 2) .registers))
     unfolding after taken
     handed = claim .handed taken between (c₁₁ ∷ c₁₂ ∷ []) [] c₁₀ c₁₃ refl finishes no-collect refl
-        (λ x. let z : hands 2 (succeed (postedRegisters saved)) ≡ refused = sym (ap (λ (o : Out). kindOf (o .answer)) given) ∙ x in different cc)
+        (λ x. let z : hands 2 (succeed (postedRegisters saved)) ≡ refused = sym (ap (λ (o : Out). kindOf (o .answer)) given) ∙ x in impossible cc)
 
     -- guest 6 was refused at once as served alone is, the packet's count word included
     there : after d₀ (c₁ ∷ c₂ ∷ c₃ ∷ c₄ ∷ c₅ ∷ c₆ ∷ []) ≡ d₅

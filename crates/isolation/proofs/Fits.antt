@@ -11,7 +11,7 @@ use lib.Seq.{getD-set-same, getD-set-other, length-take-le}
 use lib.Dec.{leb, ltb, eqb}
 use borrow.Author.Tests.{leb-true, ltb-true, eqb-true}
 use Rattle.logic.specs.Logic.{pick}
-use Rattle.logic.proofs.LogicLaws.{both-true, pick-cases}
+use Rattle.logic.proofs.LogicLaws.{both-true, pick-cases, impossible}
 use Rattle.words.specs.Words.{Bytes, part}
 use Rattle.words.proofs.WordsLaws.{bytes-part}
 use Rattle.drive.specs.declared.Drive.{Drive}
@@ -48,7 +48,6 @@ use Rattle.isolation.specs.Blocks.{FitsOp}
 use Rattle.isolation.proofs.Accept.{Inv, opened-desk, all-vacant}
 use Rattle.isolation.proofs.View.{Did, same, idle, answer, accepting, serving, giving, withdrawing, view}
 use Rattle.isolation.proofs.Keep.{stage-same, stage-other, inv-did}
-use Rattle.isolation.proofs.Posts.{different}
 
 -- ---- the drives that are read
 
@@ -230,19 +229,19 @@ fits-did d c o inv f t (withdrawing g q e b l v) i = fits-set d g Vacant (d .poi
 -- an answer is that of an opening that passed, or none such
 pub by-opening : {A : Type 0} (x : Answer) → (x ≡ opening Opened → A) → ((kindOf x ≡ opens → ⊥) → A) → A
 by-opening (opening Opened) f g = f refl
-by-opening (opening (OpenRefused n place)) f g = g (λ e. different cc)
-by-opening (postedTo h (PostAnswered r)) f g = g (λ e. different cc)
-by-opening (postedTo h PostWaits) f g = g (λ e. different cc)
-by-opening (postedTo h (PostRefused n)) f g = g (λ e. different cc)
-by-opening (turned (Served h k)) f g = g (λ e. different cc)
-by-opening (turned Idle) f g = g (λ e. different cc)
-by-opening (turned (TurnRefused n)) f g = g (λ e. different cc)
-by-opening (collected h (CollectGiven r)) f g = g (λ e. different cc)
-by-opening (collected h (CollectRefused n)) f g = g (λ e. different cc)
-by-opening (withdrawn h (WithdrawGiven r)) f g = g (λ e. different cc)
-by-opening (withdrawn h (WithdrawRefused n)) f g = g (λ e. different cc)
-by-opening (written (WrittenBytes n) out) f g = g (λ e. different cc)
-by-opening (written (WriteRefused n) out) f g = g (λ e. different cc)
+by-opening (opening (OpenRefused n place)) f g = g (λ e. impossible cc)
+by-opening (postedTo h (PostAnswered r)) f g = g (λ e. impossible cc)
+by-opening (postedTo h PostWaits) f g = g (λ e. impossible cc)
+by-opening (postedTo h (PostRefused n)) f g = g (λ e. impossible cc)
+by-opening (turned (Served h k)) f g = g (λ e. impossible cc)
+by-opening (turned Idle) f g = g (λ e. impossible cc)
+by-opening (turned (TurnRefused n)) f g = g (λ e. impossible cc)
+by-opening (collected h (CollectGiven r)) f g = g (λ e. impossible cc)
+by-opening (collected h (CollectRefused n)) f g = g (λ e. impossible cc)
+by-opening (withdrawn h (WithdrawGiven r)) f g = g (λ e. impossible cc)
+by-opening (withdrawn h (WithdrawRefused n)) f g = g (λ e. impossible cc)
+by-opening (written (WrittenBytes n) out) f g = g (λ e. impossible cc)
+by-opening (written (WriteRefused n) out) f g = g (λ e. impossible cc)
 
 -- a call that is answered as an opening that passed leaves the desk of that opening
 pub opening-case : (P : Desk → Type 0) (d : Desk) (o : Op) (arena store : List ℕ)
@@ -251,11 +250,11 @@ pub opening-case : (P : Desk → Type 0) (d : Desk) (o : Op) (arena store : List
 opening-case P d (openTable t a s) arena store f e =
     let x : openOf t a s .answer ≡ Opened = cc in
     subst (λ (y : OpenAnswer). P (openedDesk d (openOf t a s .desk) y)) (sym x) (f t a s refl x)
-opening-case P d (post g r) arena store f e = different cc
-opening-case P d turn arena store f e = different cc
-opening-case P d (collect g) arena store f e = different cc
-opening-case P d (withdraw g) arena store f e = different cc
-opening-case P d (write out) arena store f e = different cc
+opening-case P d (post g r) arena store f e = impossible cc
+opening-case P d turn arena store f e = impossible cc
+opening-case P d (collect g) arena store f e = impossible cc
+opening-case P d (withdraw g) arena store f e = impossible cc
+opening-case P d (write out) arena store f e = impossible cc
 
 -- every call leaves a desk that fits
 pub fits-step : (d : Desk) → Inv d → FitsDesk d → (c : Call) → FitsOp (c .op) → FitsDesk (step d c .desk)

@@ -31,7 +31,7 @@ use Rattle.isolation.specs.Words.{opens, kindOf, NoneOpens, serviceIn, i
 use Rattle.desk.proofs.AcceptableLaws.{waiting-ok}
 use Rattle.isolation.proofs.Turn.{next-lt, vacant≢waiting}
 use Rattle.isolation.proofs.Moves.{moves-size}
-use Rattle.logic.proofs.LogicLaws.{pick-cases, both-intro, lt-or-le}
+use Rattle.logic.proofs.LogicLaws.{pick-cases, both-intro, lt-or-le, impossible}
 use Rattle.isolation.proofs.Check.{Fresh}
 use Rattle.isolation.proofs.Accept.{Inv, Ready, ready, waiting-job}
 use Rattle.isolation.proofs.View.{Lent, Did, same, idle, answer, accepting, serving, giving, withdrawing, view, windowIn, window-length, span-lent}
@@ -154,13 +154,13 @@ pub record Spared (d : Desk) (c : Call) (o : Out) (h : ℕ) : Type 0 where
   pub window : windowOf (o .arena) h (windowSize d) ≡ windowOf (c .arena) h (windowSize d)
 
 turn≢post : {A : Type 0} {g : ℕ} {r : Registers} → turn ≡ post g r → A
-turn≢post e = let z : _≡_ {A = ℕ} 0 1 = cc in absurd (omega arith)
+turn≢post e = impossible (cc)
 
 turn≢collect : {A : Type 0} {g : ℕ} → turn ≡ collect g → A
-turn≢collect e = let z : _≡_ {A = ℕ} 0 1 = cc in absurd (omega arith)
+turn≢collect e = impossible (cc)
 
 turn≢withdraw : {A : Type 0} {g : ℕ} → turn ≡ withdraw g → A
-turn≢withdraw e = let z : _≡_ {A = ℕ} 0 1 = cc in absurd (omega arith)
+turn≢withdraw e = impossible (cc)
 
 pub same-guest : (g n : ℕ) → ifSame g g n ≡ n
 same-guest g n = rw (eq-eqb g g refl)

@@ -8,6 +8,7 @@ use mathlib.Core.Bool.{true}
 use mathlib.Core.List.{List, [], _∷_, _++_, map}
 use native.Mathlib.Omega.{arith}
 use lib.ListN.{length, getD, replicate}
+use Rattle.logic.proofs.LogicLaws.{impossible}
 use Rattle.words.specs.Words.{le, leBytes}
 use Rattle.chs.specs.Chs.{inLimits, isValid, blockOf, blockNumbers}
 use Rattle.drive.specs.declared.Drive.{Drive}
@@ -40,7 +41,6 @@ use Rattle.isolation.proofs.Accept.{Inv, inv-accept, inv-opened}
 use Rattle.isolation.proofs.Keep.{inv-step, Fixed, fixed-step}
 use Rattle.isolation.proofs.Bound.{after-none}
 use Rattle.isolation.proofs.Equal.{request}
-use Rattle.isolation.proofs.Posts.{different}
 use Rattle.isolation.proofs.Trace.{call, lent, window-lent, post-waits, turn-serves, waitsOut, goes-on, goes}
 
 abbrev pub flat : List (List ℕ) → List ℕ
@@ -210,9 +210,9 @@ unfolding turnOf
 turn-bare d inv arena store l = rw (inv-accept d inv, l) (next-bare d (firstWaiting (d .rows) guests (d .pointer)) arena store)
 
 turn-no-opening : (x : TurnAnswer) → kindOf (turned x) ≡ opens → ⊥
-turn-no-opening (Served g k) e = different cc
-turn-no-opening Idle e = different cc
-turn-no-opening (TurnRefused n) e = different cc
+turn-no-opening (Served g k) e = impossible cc
+turn-no-opening Idle e = impossible cc
+turn-no-opening (TurnRefused n) e = impossible cc
 
 turn-inv : (d : Desk) → Inv d → (arena store : List ℕ) → Inv (turnOf d arena store .desk)
 unfolding step
@@ -262,7 +262,7 @@ module _ (a s : ℕ → List ℕ) (la : (i : ℕ) → length (a i) ≡ arenaLeng
   posted-at : (d : Desk) (i g : ℕ) → At d → g < guests → stageAt d g ≡ Vacant → At (withStage d g waiting)
   posted-at d i g t b v =
       record {
-        inv = goes-on d (posting a s i g) (waitsOut d (a i) (s i) g job) (t .inv) (posts d i g t b v) (λ e. different cc);
+        inv = goes-on d (posting a s i g) (waitsOut d (a i) (s i) g job) (t .inv) (posts d i g t b v) (λ e. impossible cc);
         arena = t .arena;
         store = t .store;
         table = t .table;
@@ -323,7 +323,7 @@ module _ (a s : ℕ → List ℕ) (la : (i : ℕ) → length (a i) ≡ arenaLeng
   unfolding stageAfter
   x₂ =
       record {
-        inv = goes-on t₁ (turning a s 1) (outOf turned (serve t₁ 0 (request job 0) (a 1) (s 1))) (x₁ .inv) served (λ e. different cc);
+        inv = goes-on t₁ (turning a s 1) (outOf turned (serve t₁ 0 (request job 0) (a 1) (s 1))) (x₁ .inv) served (λ e. impossible cc);
         arena = refl;
         store = refl;
         table = refl;

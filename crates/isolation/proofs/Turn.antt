@@ -8,7 +8,7 @@ use mathlib.Core.List.{List}
 use native.Mathlib.Omega.{arith}
 use lib.Dec.{ltb}
 use borrow.Author.Tests.{ltb-true, ltb-false}
-use Rattle.logic.proofs.LogicLaws.{lt-or-le}
+use Rattle.logic.proofs.LogicLaws.{lt-or-le, impossible}
 use Rattle.logic.specs.Logic.{pick}
 use Rattle.int13.specs.declared.Registers.{Registers}
 use Rattle.desk.specs.declared.Request.{Request}
@@ -81,13 +81,13 @@ pub record Found (rows : List Row) (p g : ℕ) : Type 0 where
   pub nearest : (h : ℕ) (q : Request) → h < 8 → stageIn rows h ≡ Waiting q → dist p g ≤ dist p h
 
 nobody≢guest : (g : ℕ) → Nobody ≡ Guest g → ⊥
-nobody≢guest g e = let z : _≡_ {A = ℕ} 0 1 = cc in omega arith
+nobody≢guest g e = impossible (cc)
 
 pub vacant≢waiting : {q : Request} → Vacant ≡ Waiting q → ⊥
-vacant≢waiting e = let z : _≡_ {A = ℕ} 0 1 = cc in omega arith
+vacant≢waiting e = impossible (cc)
 
 pub finished≢waiting : {q : Request} {r : Registers} → Finished r ≡ Waiting q → ⊥
-finished≢waiting e = let z : _≡_ {A = ℕ} 0 1 = cc in omega arith
+finished≢waiting e = impossible (cc)
 
 -- the row at the pointer does not wait, and the rest of the search found g
 past : (rows : List Row) (p g : ℕ) → p < 8 → ((q : Request) → stageIn rows p ≡ Waiting q → ⊥) → Found rows (next p) g → Found rows p g

@@ -10,7 +10,7 @@ use lib.Seq.{take-all, take-at, drop-at, drop-drop, getD-drop}
 use lib.Dec.{leb, ltb}
 use borrow.Author.Tests.{leb-true, ltb-true, ltb-false}
 use Rattle.logic.specs.Logic.{pick, both}
-use Rattle.logic.proofs.LogicLaws.{both-true}
+use Rattle.logic.proofs.LogicLaws.{both-true, impossible}
 use Rattle.words.specs.Words.{le, leBytes, part}
 use Rattle.words.proofs.WordsLaws.{read-write}
 use Rattle.memory.specs.Blocks.{blockLength}
@@ -177,7 +177,7 @@ sized d asked n room = by-test (both (leb leastSize asked) (leb (returnedSize as
         let b = both-true (leb leastSize asked) (leb (returnedSize asked) room) t in
         let same : n ≡ returnedSize asked = cc in
         record { least = leb-true leastSize asked (b .0); returned = same; inside = rw same (leb-true (returnedSize asked) room (b .1)) }
-    by-test false t e = let z : _≡_ {A = ℕ} 0 1 = cc in absurd (omega arith)
+    by-test false t e = impossible (cc)
 
 -- the returned size by the two tests
 returned : (asked n : ℕ) → n ≡ returnedSize asked

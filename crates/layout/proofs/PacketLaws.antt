@@ -8,6 +8,7 @@ use native.Mathlib.Omega.{arith}
 use lib.ListN.{length, getD}
 use lib.Dec.{leb}
 use borrow.Author.Tests.{le-leb, lt-leb}
+use Rattle.logic.proofs.LogicLaws.{impossible}
 use Rattle.logic.specs.Logic.{pick}
 use Rattle.words.specs.Words.{le}
 use Rattle.layout.specs.declared.PacketRead.{PacketRead}
@@ -42,6 +43,6 @@ packetNumbers-injective (Whole p) (Whole q) e =
     let buffer : p .buffer ≡ q .buffer = cc in
     let start : p .start ≡ q .start = cc in
     λ i. Whole (record { size = size i; count = count i; buffer = buffer i; start = start i })
-packetNumbers-injective (Whole p) (Refused d) e = let z : _≡_ {A = ℕ} 0 1 = cc in absurd (omega arith)
-packetNumbers-injective (Refused c) (Whole q) e = let z : _≡_ {A = ℕ} 0 1 = cc in absurd (omega arith)
+packetNumbers-injective (Whole p) (Refused d) e = impossible (cc)
+packetNumbers-injective (Refused c) (Whole q) e = impossible (cc)
 packetNumbers-injective (Refused c) (Refused d) e = cc

@@ -12,7 +12,7 @@ use lib.Seq.{sets, take-all, take-at, take-suc, drop-at, length-take-le}
 use lib.Dec.{leb, ltb}
 use borrow.Author.Tests.{le-leb, lt-leb, leb-true}
 use Rattle.logic.specs.Logic.{pick, both}
-use Rattle.logic.proofs.LogicLaws.{both-true}
+use Rattle.logic.proofs.LogicLaws.{both-true, impossible}
 use Rattle.words.specs.Words.{leBytes, part}
 use Rattle.words.proofs.WordsLaws.{sets-append, sets-front, sets-whole, length-leBytes}
 use Rattle.drive.specs.declared.Drive.{Drive}
@@ -212,8 +212,8 @@ module _ (d : Drive) (p : Pointer) (asked : ℕ) (out : List ℕ) where
 pub resultNumbers-injective : (x y : ResultAnswer) → resultNumbers x ≡ resultNumbers y → x ≡ y
 unfolding resultNumbers
 resultNumbers-injective (Written m) (Written n) e = cc
-resultNumbers-injective (Written m) (Refused d) e = let z : _≡_ {A = ℕ} 0 1 = cc in absurd (omega arith)
-resultNumbers-injective (Refused c) (Written n) e = let z : _≡_ {A = ℕ} 0 1 = cc in absurd (omega arith)
+resultNumbers-injective (Written m) (Refused d) e = impossible (cc)
+resultNumbers-injective (Refused c) (Written n) e = impossible (cc)
 resultNumbers-injective (Refused c) (Refused d) e = cc
 
 -- as many bytes after the answer as before it

@@ -3,7 +3,7 @@ use Rattle.desk.proofs.packet_ok.Statement.{statement}
 use Rattle.desk.proofs.packet_ok.Tie as tie
 use Rattle.desk.proofs.packet_ok.Reads as reads
 use Rattle.desk.proofs.packet_ok.Lts as lts
-use Rattle.desk.proofs.ends_by.Reads as ends-by-reads
+use Rattle.logic.proofs.ends_by.Reads as ends-by-reads
 
 returns : tie.Need-returns
 returns c = rw (c .if1 .taken)

@@ -3,7 +3,7 @@ use Rattle.desk.proofs.range_ok.Statement.{statement}
 use Rattle.desk.proofs.range_ok.Tie as tie
 use Rattle.desk.proofs.range_ok.Reads as reads
 use Rattle.desk.proofs.range_ok.Lts as lts
-use Rattle.desk.proofs.ends_by.Reads as ends-by-reads
+use Rattle.logic.proofs.ends_by.Reads as ends-by-reads
 use Rattle.drive.proofs.geometry_size.Reads as geometry-size-reads
 use Rattle.logic.proofs.and.Reads as and-reads
 
