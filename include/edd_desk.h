@@ -1,70 +1,93 @@
 /*
- * edd_desk.h - the INT 13h disk service as a desk: a guest posts, the host gives turns, the guest collects.
+ * edd_desk.h - an INT 13h disk service as a desk: a guest posts its registers, the host gives turns, the guest collects.
  *
- * Link libexports.a. C11 and C++17, on 64-bit hosts only. "Document 01" is the paper of rules; this header says what a
- * caller needs of it.
+ * Link with -ledd_desk. For C11 and C++17, on 64-bit hosts only. EDD_VERSION is the version of this interface.
  *
  *
  * The parts
  *
  *   desk    EDD_DESK_SIZE bytes that hold the whole state of one service: the drives, one row for each guest, the turn
- *           pointer, and the arena and store length of the opening. To the host they are opaque (docs/BLOCK.md names
- *           every word, for a debugger). They hold no address, so a block may be copied and put back while the same library
- *           is linked. A block is for the library that wrote it, and not for a file that outlives it.
- *   arena   the memory of all guests. Guest g, 0 to 7, has the window that starts at g * M, M = arena length / 8 rounded
- *           down (edd_window). Every segment:offset address of a guest counts from the start of its window: 16 * segment
- *           + offset, never wrapped. Up to seven bytes at the end of the arena belong to nobody.
- *   store   the blocks of all drives, 512 bytes each. Which drive has which blocks stands in the drive table.
- *   table   the drive table, records as document 01 has them: 0 to 8 drives, numbered 80h upward in table order.
+ *           pointer, and the lengths of arena and store given at the opening. To the host these bytes are opaque. They
+ *           contain no address, so a block may be copied and put back as long as the same library is linked. A block
+ *           belongs to the version of the library that wrote it: do not keep it in a file for a later one.
+ *   arena   the memory of all guests. Guest g, 0 to 7, has the window that starts at g * M, where M is the arena's length
+ *           divided by 8, rounded down (edd_window). Every segment:offset address of a guest counts from the start of its
+ *           window: 16 * segment + offset, never wrapped. Up to seven bytes at the end of the arena belong to nobody.
+ *   store   the blocks of all drives, 512 bytes each. The drive table says which drive has which blocks.
+ *   table   the drive table: 0 to 8 drives, numbered from 80h upward in table order. See "The drive table" below.
  *
  *
  * What every call keeps to
  *
- *   All input has an answer. Registers, packets, tables and desk blocks may hold anything, a guest's number and the two
- *   lengths of edd_open too. A slice may have any length, but it must be that of its memory. The result is EDD_DONE (0), a
- *   number that says why the call was refused, or EDD_NOTHING_YET (256) where there is nothing to hand out yet.
+ *   All input has an answer. Registers, packets, tables and desk blocks may hold anything; a guest's number and the two
+ *   lengths of edd_open may be any number. A slice may have any length, provided that its memory really is that long. The
+ *   result is EDD_DONE (0), a number that says why the call was refused, or EDD_NOTHING_YET (256) where there is nothing
+ *   to hand out yet.
  *
- *   A refusal changes nothing, and neither does 256 behind any pointer but the desk's: there a post keeps the request
- *   that waits. No register, count or byte of arena, store or buffer is written. The one exception is *place of edd_open,
- *   which is written when the table is refused (1 to 8) and at no other time.
+ *   A refused call changes nothing: no register, no result and no byte of desk, arena, store or buffer is written. The one
+ *   exception is *place of edd_open, which is written when the table is refused (1 to 8) and at no other time. A call that
+ *   answers 256 changes nothing either, except that a post stores the waiting request in the desk.
  *
  *   The caller owns everything. The library keeps no pointer after a call returns, allocates nothing, starts nothing, and
- *   has no variable of its own: no static record, no cache, no errno. A call takes up to some 11 KiB of stack.
+ *   has no variable of its own: no static record, no cache, no errno. A call uses at most EDD_STACK_MAX bytes of stack, which
+ *   is tested and not proved.
  *
  *   What may run at the same time. All calls on one desk, its arena and its store run one at a time, under the host's own
- *   lock. Calls with different desks, arenas and stores need no lock and may run on any threads: since the library has
- *   nothing of its own that they could share, no request can meet another's scratch data.
+ *   lock. Calls with different desks, arenas and stores need no lock and may run on any threads: the library has nothing
+ *   of its own that they could share, so no request can meet another's scratch data.
  *
- *   What is proved speaks of the bytes at a call's beginning and at its end. It holds if nobody else writes the desk block,
- *   the window of the guest that is posted, served or withdrawn, or the blocks moved while the call runs. Of the rest of
- *   arena and store a call uses the lengths only: a post or a withdrawal touches no window but its guest's, and a turn none
- *   but that of the guest that it serves, which is one whose request waits; a turn touches the blocks that it moves, and no
- *   other call touches a block. That is tested with protected pages (host/touch, host/diff) and not proved. So a guest with
- *   no request waiting may run on in its own window, without the lock, while calls for other guests run.
+ *   What is proved is about the bytes at the beginning and at the end of a call. It holds if nobody else writes, while the
+ *   call runs, the desk block, the window of the guest that is posted, served or withdrawn, or the blocks that are moved.
+ *   Of the rest of arena and store a call uses only the lengths: a post or a withdrawal touches no window but its guest's;
+ *   a turn touches no window but that of the guest it serves, whose request was waiting, and no block but those it moves;
+ *   no other call touches a block. This is tested with protected pages and not proved. So a guest that has no request
+ *   waiting may go on running in its own window, without the lock, while calls for other guests run.
  *
- *   A guest whose request waits leaves its buffer alone until the request has ended: a turn may be reading or writing it. It
- *   may overwrite its packet, of which a withdrawal writes two bytes.
+ *   A guest whose request is waiting leaves its buffer alone until the request has ended, because a turn may be reading or
+ *   writing it. It may overwrite its packet, but a withdrawal writes two bytes there.
  *
- *   What is lent to one call must not overlap: desk, arena, store, table and buffer among each other, the places of the
- *   results, and the register pointers among each other too. This is the caller's duty and is not tested.
+ *   What is lent to one call must not overlap: desk, arena, store, table and buffer must not overlap each other, nor the
+ *   places of the results, and no two result or register pointers may be the same. This is the caller's duty and is not
+ *   tested.
  *
  *   Pointers. A slice is a pointer and its length in bytes. NULL with length 0 is an empty slice. No other pointer may be
- *   NULL: not a slice of length above 0, and not the place of a result or a register. No alignment is asked of a slice;
- *   the places of results and registers are aligned as their types ask.
+ *   NULL: neither that of a slice longer than 0 nor that of a result or a register. A slice needs no alignment; results
+ *   and registers are aligned as their types require.
  *
- *   The interface may grow by change request. What stays are the names of these ten calls, and the order and types of their
- *   parameters; a call that needs more arguments comes under a new name. The sizes (EDD_DESK_SIZE, EDD_TABLE_SIZE_MAX), the
- *   form of the block, the refusals and what a turn may answer can change with a version of the library: compile with the
- *   header that came with it.
+ *   The interface may grow by change request. The names of these eleven calls and the order and types of their parameters
+ *   stay; a call that needs more arguments comes under a new name. Everything else can change from one version to the
+ *   next: the sizes (EDD_DESK_SIZE, EDD_TABLE_SIZE_MAX, EDD_STACK_MAX), the form of the block, the refusals, and what a
+ *   turn may answer. Compile with the header that came with the library; edd_version() == EDD_VERSION says whether you did.
  *
  *
  * What is proved of every list of calls at one desk after an opening
  *
- *   A request that waits is served in at least one of any eight successive turns not refused. So, unless withdrawn, it
- *   finishes within 8 * ceil(n / 16) such turns, n being its number of blocks. A turn changes no other guest's row or
- *   window. Registers, window and blocks of a finished request are those of the same request served alone when it was
- *   posted, whatever the other guests posted, as long as the host leaves that window and the store alone meanwhile and no
- *   other guest writes a block that the request names.
+ *   A request that waits is served in at least one of any eight successive turns that are not refused. So, unless it is
+ *   withdrawn, it finishes within 8 * ceil(n / 16) such turns, n being its number of blocks. A turn changes no other
+ *   guest's row or window. The registers, window and blocks of a finished request are those of the same request served
+ *   alone at the time of its post, whatever the other guests posted, as long as the host leaves that window and the store
+ *   alone meanwhile and no other guest writes a block that the request names.
+ *
+ *
+ * The drive table
+ *
+ *   Records, one after the other, every number little-endian. A record starts with its length in bytes (2 bytes), which
+ *   counts the whole record, and its kind (2 bytes). The end record, length 4 and kind 0, comes last. A drive has length
+ *   68 and kind 1:
+ *
+ *      4  4 bytes each: physical cylinders, heads, sectors; any numbers, handed out by 48h
+ *     16  8 bytes: the drive's number of blocks, at least 1
+ *     24  8 bytes: its first block in the store
+ *     32  2 bytes: information flags for 48h; bits 7 to 15 are zero
+ *     34  2 bytes: cylinders, 1 to 1024
+ *     36  2 bytes: heads, 1 to 255
+ *     38  1 byte: sectors, 1 to 63; cylinders * heads * sectors is at most the number of blocks
+ *     39  1 byte: 1 for a protected drive, otherwise 0
+ *     40  4 bytes: host bus, "ISA" or "PCI"; the rest is filled with NUL
+ *     44  8 bytes: interface, "ATA", "ATAPI", "SCSI", "USB", "1394" or "FIBRE"; the rest is filled with NUL
+ *     52  8 bytes each: interface path, device path; any bytes, handed out by 48h
+ *
+ *   Each drive lies inside the store, and no two drives share a block.
  *
  *
  * Example: one block of drive 80h to 0000:0200 of guest 2. The result is 0, AH of a BIOS refusal, or -1.
@@ -104,6 +127,22 @@
 #error "edd_desk.h is for 64-bit hosts only: the library takes a size_t of 64 bits"
 #endif
 
+/* The version of this header. Each change request raises it by 1; edd_version() answers that of the library. */
+#define EDD_VERSION 1
+
+/* Asks the compiler to warn where the result of a call is ignored. Define it yourself, as nothing, to switch that off. */
+#ifndef EDD_NODISCARD
+#if defined(__cplusplus) && __cplusplus >= 201703L
+#define EDD_NODISCARD [[nodiscard]]
+#elif defined(__STDC_VERSION__) && __STDC_VERSION__ >= 202311L
+#define EDD_NODISCARD [[nodiscard]]
+#elif defined(__GNUC__)
+#define EDD_NODISCARD __attribute__((warn_unused_result))
+#else
+#define EDD_NODISCARD
+#endif
+#endif
+
 #ifdef __cplusplus
 extern "C" {
 #endif
@@ -116,40 +155,41 @@ extern "C" {
 #define EDD_DRIVES 8           /* drives of a table, at most */
 #define EDD_TABLE_SIZE_MAX 548 /* bytes of the longest table: eight drives of 68 and the end record of 4 */
 #define EDD_TURN_BLOCKS 16     /* blocks that one turn moves, at most */
+#define EDD_STACK_MAX 12288    /* bytes of stack that a call uses, at most */
 
 /* ---- results of every call */
 
 #define EDD_DONE 0
 #define EDD_NOTHING_YET 256 /* edd_post: the request waits for turns. edd_turn: no request waits. */
 
-/* Refusals of a drive table, by edd_open. *place says where: the start of the record, for 8 the first byte too many. */
+/* Refusals of a drive table, by edd_open. *place says where: the start of the record, or for 8 the first byte too many. */
 #define EDD_TABLE_CUT_OFF 1     /* the table stops inside a record or before the end record: lend all of it */
-#define EDD_TABLE_LENGTH 2      /* the record's length is wrong for its kind: mend its word 0 (68, end record 4) */
+#define EDD_TABLE_LENGTH 2      /* the record's length is wrong for its kind: it must be 68, or 4 for the end record */
 #define EDD_TABLE_KIND 3        /* unknown kind of record: this library knows drives (1) and the end (0) */
 #define EDD_TABLE_NINTH_DRIVE 4 /* more than eight drives: use a second desk */
-#define EDD_TABLE_FIELD 5       /* a field of the drive breaks its rule: mend the record */
-#define EDD_TABLE_STORE 6       /* first + blocks is past the store: lend a longer store or mend the record */
-#define EDD_TABLE_OVERLAP 7     /* the drive shares a block with an earlier one: mend its first block */
+#define EDD_TABLE_FIELD 5       /* a field of the drive breaks its rule: correct the record */
+#define EDD_TABLE_STORE 6       /* the drive ends past the store: lend a longer store or correct the record */
+#define EDD_TABLE_OVERLAP 7     /* the drive shares a block with an earlier one: correct its first block */
 #define EDD_TABLE_TRAILING 8    /* a byte follows the end record: lend the table without it */
 
 /* House refusals. Where several apply the order is 25, 24, 20, then 19, 21, 22 or 23. */
 #define EDD_BUFFER_SHORT 19      /* edd_write: the buffer is shorter than the table: EDD_TABLE_SIZE_MAX is always enough */
-#define EDD_NO_SUCH_GUEST 20     /* guest is 8 or more: a fault of the host */
-#define EDD_ROW_NOT_VACANT 21    /* edd_post: the guest's row waits or is finished: give turns and collect, or withdraw */
+#define EDD_NO_SUCH_GUEST 20     /* the guest's number is 8 or more: an error of the host */
+#define EDD_ROW_NOT_VACANT 21    /* edd_post: the guest's last request waits or is finished: collect or withdraw it first */
 #define EDD_NOT_FINISHED 22      /* edd_collect: nothing to collect: post, or give more turns */
 #define EDD_NOT_WAITING 23       /* edd_withdraw: no request waits: if it has finished, collect it */
 #define EDD_LENGTH_DIFFERS 24    /* arena or store is not as long as at the opening: lend the same, or open again */
-#define EDD_DESK_NOT_ACCEPTED 25 /* the block has another size, or is not the image of an acceptable desk: open it */
+#define EDD_DESK_NOT_ACCEPTED 25 /* the block has another size, or its bytes are not those of an acceptable desk: open it */
 
 /*
- * 25 does not find every block that was never opened, nor every damage: a block of zeros, for one, is the image of a desk
- * without drives and with lengths 0. Open a block before anything else.
+ * 25 does not detect every block that was never opened, nor all damage: a block of zeros, for example, is that of a desk
+ * without drives and with both lengths 0. Open a block before you do anything else with it.
  */
 
 /* Refusal of edd_block and edd_address: outside the geometry, or the geometry outside its limits. It is 04h of INT 13h. */
 #define EDD_OUTSIDE 4
 
-/* ---- AH when carry is set, in registers that edd_post, edd_collect or edd_withdraw hand out. They are the guest's. */
+/* ---- AH when carry is set, in registers that edd_post, edd_collect or edd_withdraw hand out for the guest */
 
 #define EDD_AH_BAD_PARAMETER 0x01   /* unknown function or drive, or a bad parameter */
 #define EDD_AH_WRITE_PROTECTED 0x03 /* write to a protected drive */
@@ -161,141 +201,149 @@ extern "C" {
 /* ---- the calls */
 
 /*
- * The size of a desk block, EDD_DESK_SIZE. A host that loads the library at run time compares the two.
+ * The version of the library, EDD_VERSION of the header that came with it.
  */
-uint64_t edd_desk_size(void);
+EDD_NODISCARD uint32_t edd_version(void);
+
+/*
+ * The size of a desk block, EDD_DESK_SIZE. A host that loads the library at run time compares both numbers first.
+ */
+EDD_NODISCARD uint64_t edd_desk_size(void);
 
 /*
  * Opens a desk: reads the drive table, keeps the two lengths, makes all rows vacant and the turn pointer 0.
  *
- *   desk, desk_len    the block to write. Only its size is looked at: any bytes may stand in it, also those of a desk in
- *                     use, whose requests are then gone.
- *   table, table_len  the drive table, whole and with nothing behind it
+ *   desk, desk_len    the block to write. Only its size is looked at. It may hold any bytes, even those of a desk in use;
+ *                     the requests of that desk are then lost.
+ *   table, table_len  the whole drive table, with nothing after it
  *   arena_length      length in bytes of the arena that later calls will be lent; any number
- *   store_length      length in bytes of the store that later calls will be lent; any number. It has store_length / 512
- *                     blocks, rounded down.
+ *   store_length      length in bytes of the store that later calls will be lent; any number. The store has
+ *                     store_length / 512 blocks, rounded down.
  *   place             where the table is refused
  *
- * 0         done: the whole block is written. *place is not.
- * 1 to 8    table refused: *place is written, nothing else.
- * 25        desk_len is not EDD_DESK_SIZE. Tested first. Nothing is written, *place neither.
+ * 0         done: the whole block is written; *place is not.
+ * 1 to 8    the table is refused: only *place is written.
+ * 25        desk_len is not EDD_DESK_SIZE; tested first. Nothing is written, not even *place.
  */
-uint32_t edd_open(uint8_t *desk, size_t desk_len, const uint8_t *table, size_t table_len, uint64_t arena_length,
-                  uint64_t store_length, uint64_t *place);
+EDD_NODISCARD uint32_t edd_open(uint8_t *desk, size_t desk_len, const uint8_t *table, size_t table_len,
+                                uint64_t arena_length, uint64_t store_length, uint64_t *place);
 
 /*
  * Writes the desk's drives as a table again: byte for byte the one that was opened.
  *
- *   desk, desk_len  is only read
- *   out, out_len    the buffer for the table. Bytes past the table stay.
+ *   desk, desk_len  only read
+ *   out, out_len    the buffer for the table. Bytes after the table are left as they are.
  *   written         the length of the table in bytes
  *
- * 0         done: the table stands at the start of the buffer, *written is its length.
- * 25, 19    refused, in this order of tests. Nothing is written.
+ * 0         done: the table is at the start of the buffer, and *written is its length.
+ * 25, 19    refused, tested in this order. Nothing is written.
  */
-uint32_t edd_write(const uint8_t *desk, size_t desk_len, uint8_t *out, size_t out_len, uint64_t *written);
+EDD_NODISCARD uint32_t edd_write(const uint8_t *desk, size_t desk_len, uint8_t *out, size_t out_len, uint64_t *written);
 
 /*
- * Posts a guest's INT 13h registers. The function is AH. 02h, 03h, 08h, 41h, 42h, 43h, 44h, 47h and 48h are known.
- * 02h and 03h, and 42h and 43h with a count above 0, wait for turns if every test of their parameters passes. All else
- * is answered at once, and leaves the row vacant: there is nothing to collect.
+ * Posts a guest's INT 13h registers. AH is the function: 02h, 03h, 08h, 41h, 42h, 43h, 44h, 47h and 48h are known.
+ * 02h and 03h, and 42h and 43h with a count above 0, wait for turns if their parameters pass every test. Everything else
+ * is answered at once and leaves the row vacant: then there is nothing to collect.
  *
- *   desk, desk_len         changed when the request waits
- *   arena, arena_len       the whole arena. Only the guest's window is read. A 48h that succeeds writes its result there;
- *                          a 42h, 43h or 44h refused by the BIOS rules after its packet's size byte was found good writes
- *                          0 to the packet's count word. Nothing else is written.
+ *   desk, desk_len         changed only when the request waits
+ *   arena, arena_len       the whole arena. Only the guest's window is read. It is written in two cases: a 48h that
+ *                          succeeds writes its result, and a 42h, 43h or 44h that is refused with a BIOS number, after the
+ *                          size byte of its packet was found good, writes 0 to the packet's count word.
  *   store, store_len       the whole store. Only the length is looked at.
  *   guest                  0 to 7
- *   ax, bx, cx, dx, carry  read (but for carry, whose value on the way in is never looked at) and, on 0, written
+ *   ax, bx, cx, dx, carry  read, and written on 0. The value of carry on the way in does not matter.
  *   ds, si, es             read. No answer changes them.
  *
- * 0               answered at once: the registers are the guest's. Carry is 0, or 1 with the reason in AH.
- * 256             the row waits: give turns, then collect. No register is written, carry neither.
- * 25, 24, 20, 21  refused, in this order of tests. Nothing is written.
+ * 0               answered at once: the registers are those to give the guest. Carry is 0, or 1 with the reason in AH.
+ * 256             the request waits: give turns, then collect. No register is written, nor is carry.
+ * 25, 24, 20, 21  refused, tested in this order. Nothing is written.
  *
- * The packet is read here and never again: the guest may overwrite it from now on. Where it lay is kept: a withdrawal
- * writes its count word there. The buffer the guest leaves alone until the request has ended.
+ * The packet is read here and never again, so from now on the guest may overwrite it. Its place is remembered: a
+ * withdrawal writes the count word there. The guest leaves the buffer alone until the request has ended.
  */
-uint32_t edd_post(uint8_t *desk, size_t desk_len, uint8_t *arena, size_t arena_len, const uint8_t *store,
-                  size_t store_len, uint64_t guest, uint16_t *ax, uint16_t *bx, uint16_t *cx, uint16_t *dx, uint16_t ds,
-                  uint16_t si, uint16_t es, uint16_t *carry);
+EDD_NODISCARD uint32_t edd_post(uint8_t *desk, size_t desk_len, uint8_t *arena, size_t arena_len, const uint8_t *store,
+                                size_t store_len, uint64_t guest, uint16_t *ax, uint16_t *bx, uint16_t *cx,
+                                uint16_t *dx, uint16_t ds, uint16_t si, uint16_t es, uint16_t *carry);
 
 /*
  * Gives one turn: serves the first waiting row at or after the turn pointer, counting cyclically. It moves that request's
  * next 16 blocks, or what remains if fewer, in ascending order; then the pointer is the served guest plus 1, modulo 8.
- * When all blocks are moved the row is finished, and the guest can collect.
+ * When all blocks have been moved the row is finished, and the guest can collect.
  *
  *   desk, desk_len    the served row and the pointer change
  *   arena, arena_len  the whole arena. A read (02h, 42h) writes the blocks into the served guest's window.
  *   store, store_len  the whole store. A write (03h, 43h) writes the blocks.
- *   guest, moved      whom the turn served, 0 to 7, and how many blocks were moved, 1 to 16
+ *   guest, moved      which guest was served, 0 to 7, and how many blocks were moved, 1 to 16
  *
  * 0         a request was served.
- * 256       idle: no row waits. Nothing is written, the pointer stays.
- * 25, 24    refused, in this order of tests. Nothing is written.
+ * 256       idle: no row waits. Nothing is written, and the pointer stays where it is.
+ * 25, 24    refused, tested in this order. Nothing is written.
  */
-uint32_t edd_turn(uint8_t *desk, size_t desk_len, uint8_t *arena, size_t arena_len, uint8_t *store, size_t store_len,
-                  uint64_t *guest, uint64_t *moved);
+EDD_NODISCARD uint32_t edd_turn(uint8_t *desk, size_t desk_len, uint8_t *arena, size_t arena_len, uint8_t *store,
+                                size_t store_len, uint64_t *guest, uint64_t *moved);
 
 /*
- * Hands out a finished request's registers, once, and makes the guest's row vacant.
+ * Hands out the registers of a finished request, once, and makes the guest's row vacant.
  *
  *   desk, desk_len  the guest's row changes
  *   guest           0 to 7
- *   ax to carry     written only. Carry is 0 or 1.
+ *   ax to carry     only written. Carry is 0 or 1.
  *
  * 0           done. A request that was served to its end has the posted registers with carry 0 and AH 0.
- * 25, 20, 22  refused, in this order of tests. Nothing is written.
+ * 25, 20, 22  refused, tested in this order. Nothing is written.
  */
-uint32_t edd_collect(uint8_t *desk, size_t desk_len, uint64_t guest, uint16_t *ax, uint16_t *bx, uint16_t *cx,
-                     uint16_t *dx, uint16_t *ds, uint16_t *si, uint16_t *es, uint16_t *carry);
+EDD_NODISCARD uint32_t edd_collect(uint8_t *desk, size_t desk_len, uint64_t guest, uint16_t *ax, uint16_t *bx,
+                                   uint16_t *cx, uint16_t *dx, uint16_t *ds, uint16_t *si, uint16_t *es,
+                                   uint16_t *carry);
 
 /*
- * Ends a request that waits. Blocks that turns have moved stay moved. The row is vacant at once: there is nothing to
- * collect.
+ * Ends a request that waits. Blocks that turns have already moved stay moved. The row is vacant at once: there is nothing
+ * to collect.
  *
  *   desk, desk_len    the guest's row changes
- *   arena, arena_len  the whole arena. For 42h and 43h the number of blocks moved is written to the packet's count word,
- *                     at the place of the post, over whatever lies there now.
+ *   arena, arena_len  the whole arena. For 42h and 43h the number of blocks moved is written to the packet's count word:
+ *                     where the packet was at the post, over whatever is there now.
  *   store, store_len  the whole store. Only the length is looked at.
  *   guest             0 to 7
- *   ax to carry       written only: the posted registers with carry 1 and AH 80h; for 02h and 03h AL is the number of
+ *   ax to carry       only written: the posted registers with carry 1 and AH 80h; for 02h and 03h AL is the number of
  *                     blocks moved
  *
  * 0               done.
- * 25, 24, 20, 23  refused, in this order of tests. Nothing is written.
+ * 25, 24, 20, 23  refused, tested in this order. Nothing is written.
  */
-uint32_t edd_withdraw(uint8_t *desk, size_t desk_len, uint8_t *arena, size_t arena_len, const uint8_t *store,
-                      size_t store_len, uint64_t guest, uint16_t *ax, uint16_t *bx, uint16_t *cx, uint16_t *dx,
-                      uint16_t *ds, uint16_t *si, uint16_t *es, uint16_t *carry);
+EDD_NODISCARD uint32_t edd_withdraw(uint8_t *desk, size_t desk_len, uint8_t *arena, size_t arena_len,
+                                    const uint8_t *store, size_t store_len, uint64_t guest, uint16_t *ax, uint16_t *bx,
+                                    uint16_t *cx, uint16_t *dx, uint16_t *ds, uint16_t *si, uint16_t *es,
+                                    uint16_t *carry);
 
 /*
  * Where a guest's window lies in an arena of that length: bytes *start to *start + *length - 1. For a guest of 8 or more
  * both are 0. Needs no desk.
  *
- * 0         always. *start and *length are written.
+ * 0         always, so the result may be ignored. *start and *length are written.
  */
 uint32_t edd_window(uint64_t arena_length, uint64_t guest, uint64_t *start, uint64_t *length);
 
 /*
- * The block of a cylinder, head and sector in a geometry of C cylinders, H heads and S sectors:
- * (cylinder * H + head) * S + sector - 1. Needs no desk.
+ * The block of a cylinder, head and sector in a geometry of so many cylinders, heads and sectors:
+ * (cylinder * heads + head) * sectors + sector - 1. Needs no desk.
  *
  * 0         done: *block is written.
- * 4         C is not 1 to 1024, H not 1 to 255, S not 1 to 63, or the address is not cylinder < C, head < H, sector 1 to
- *           S. Nothing is written.
+ * 4         cylinders is not 1 to 1024, heads not 1 to 255 or sectors not 1 to 63; or the address is outside: cylinder is
+ *           not below cylinders, head not below heads, or sector not 1 to sectors. Nothing is written.
  */
-uint32_t edd_block(uint32_t C, uint32_t H, uint32_t S, uint32_t cylinder, uint32_t head, uint32_t sector,
-                   uint32_t *block);
+EDD_NODISCARD uint32_t edd_block(uint32_t cylinders, uint32_t heads, uint32_t sectors, uint32_t cylinder, uint32_t head,
+                                 uint32_t sector, uint32_t *block);
 
 /*
  * The reverse: the one address that gives the block. Needs no desk.
  *
  * 0         done: *cylinder, *head and *sector are written.
- * 4         C, H or S outside the limits above, or the block is not below C * H * S. Nothing is written.
+ * 4         cylinders, heads or sectors outside the limits above, or the block is not below cylinders * heads * sectors.
+ *           Nothing is written.
  */
-uint32_t edd_address(uint32_t C, uint32_t H, uint32_t S, uint64_t block, uint32_t *cylinder, uint32_t *head,
-                     uint32_t *sector);
+EDD_NODISCARD uint32_t edd_address(uint32_t cylinders, uint32_t heads, uint32_t sectors, uint64_t block,
+                                   uint32_t *cylinder, uint32_t *head, uint32_t *sector);
 
 #ifdef __cplusplus
 }

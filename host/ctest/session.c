@@ -100,11 +100,13 @@ static void put_packet(machine *m, uint64_t guest, uint8_t count, uint8_t start)
     m->arena[at + 8] = start;
 }
 
+/* rule: exports::edd_desk_size exports::edd_open exports::edd_write */
 static void opening_and_table(machine *m)
 {
     uint64_t place = 77, written = 77;
     uint8_t *before = bytes(EDD_DESK_SIZE, 1);
 
+    CHECK(edd_version() == EDD_VERSION);
     CHECK(edd_desk_size() == EDD_DESK_SIZE);
     memcpy(m->desk, before, EDD_DESK_SIZE);
     CHECK(edd_open(m->desk, EDD_DESK_SIZE - 1, paper_table, 72, ARENA, STORE, &place) == EDD_DESK_NOT_ACCEPTED);
@@ -139,6 +141,7 @@ static uint32_t refused_at(size_t byte, uint8_t value, size_t length, uint64_t *
     return number;
 }
 
+/* rule: exports::edd_open readTable */
 static void table_refusals(void)
 {
     uint64_t place = 77;
@@ -159,6 +162,7 @@ static void table_refusals(void)
     free(desk);
 }
 
+/* rule: exports::edd_post exports::edd_turn exports::edd_collect */
 /* twenty blocks from guest 5's window to the store, in two parts; another guest reads in between */
 static void two_guests(machine *m)
 {
@@ -189,6 +193,7 @@ static void two_guests(machine *m)
     CHECK(collect(m, 6, &out) == EDD_NOT_FINISHED && same(out, expected));
 }
 
+/* rule: exports::edd_withdraw */
 static void withdrawal(machine *m)
 {
     uint64_t guest, moved;
@@ -204,6 +209,7 @@ static void withdrawal(machine *m)
     CHECK(withdraw(m, 1, &out) == EDD_NOT_WAITING);
 }
 
+/* rule: exports::edd_post */
 /* what is answered at once, by success and by BIOS refusal */
 static void at_once(machine *m)
 {
@@ -226,6 +232,7 @@ static void at_once(machine *m)
     CHECK(post(m, 0, &out) == EDD_DONE && same(out, expected));
 }
 
+/* rule: exports::edd_post */
 /* a drive that is protected takes no block */
 static void protected_drive(machine *m)
 {
@@ -242,6 +249,7 @@ static void protected_drive(machine *m)
     free(table);
 }
 
+/* rule: exports::edd_write exports::edd_post exports::edd_turn exports::edd_collect exports::edd_withdraw */
 static void house_refusals(machine *m)
 {
     registers given = set(0x4100, 0x55AA, 2, 0x0080, 6, 7, 8), r = given;
@@ -263,6 +271,7 @@ static void house_refusals(machine *m)
     free(desk);
 }
 
+/* rule: exports::edd_window exports::edd_block exports::edd_address */
 static void numbers(void)
 {
     uint64_t start = 77, length = 77;

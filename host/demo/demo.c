@@ -3,7 +3,7 @@
  *
  * Every guest works on its own disk, keeps its own copy of what its memory and its disk must hold, and compares after each
  * request: the registers, what it laid down, what it read, and the blocks of the store that it named. At the end the whole
- * store is compared with those copies. monitor.c is the part to copy for a monitor of your own.
+ * store is compared with those copies. For a monitor of your own, copy host/example, not this.
  *
  *   demo [-r requests] [-s seed] [-p pause]
  */

@@ -71,7 +71,7 @@ static void set_al(struct registers *r, unsigned al)
     r->ax = (uint16_t)((r->ax & 0xff00) | al);
 }
 
-/* An address of the window as one of its many segment:offset pairs. */
+/* One of the many segment:offset pairs of an address in the window. */
 static void as_pair(struct guest *g, uint64_t address, uint16_t *segment, uint16_t *offset)
 {
     uint64_t paragraphs = address >> 4;
@@ -80,7 +80,7 @@ static void as_pair(struct guest *g, uint64_t address, uint16_t *segment, uint16
     *offset = (uint16_t)(16 * moved + (address & 15));
 }
 
-/* Blocks that say who wrote them and when, and never the same twice. */
+/* Blocks that say who wrote them and when; no two are the same. */
 static void fill_blocks(struct guest *g, uint8_t *at, uint64_t blocks)
 {
     for (uint64_t i = 0; i < blocks; i++, at += EDD_BLOCK_SIZE) {
@@ -102,7 +102,7 @@ struct part {
 struct request {
     struct registers given;
     struct registers wanted;  /* what must come back, if it is not withdrawn */
-    struct part laid[2];      /* what the guest has written in its memory for this request */
+    struct part laid[2];      /* what the guest has put into its memory for this request */
     unsigned parts;
     uint64_t packet;          /* where the packet lies; 0 for none */
     int clears_count;         /* the refusal writes 0 to the packet's count word */
@@ -124,7 +124,7 @@ static void lay(struct request *q, uint64_t at, uint64_t length)
     q->parts++;
 }
 
-/* Registers with any values, so that one that is not named in an answer is seen to stay. Carry on the way in is not read. */
+/* Registers with arbitrary values, so that a change to one that the answer does not name shows. Carry on the way in is not read. */
 static struct request begin(struct guest *g, unsigned function)
 {
     struct request q;
@@ -148,7 +148,7 @@ static void want(struct request *q, unsigned code)
     q->wanted.carry = code != 0;
 }
 
-/* Does a part of the window, as far as the window goes, hold what the guest's copy has? */
+/* Compares a part of the window, up to the end of the window, with the guest's copy. */
 static void compare(struct guest *g, const uint8_t *window, uint64_t at, uint64_t length, const char *what)
 {
     if (length > WINDOW_SIZE - at)
@@ -164,9 +164,10 @@ static void lay_down(struct guest *g, const struct request *q, uint8_t *window)
         memcpy(window + q->laid[i].at, g->memory + q->laid[i].at, q->laid[i].length);
 }
 
-/* What the request has done to the guest's memory and disk, on the guest's own copies. */
-static void follow(struct guest *g, struct request *q, enum ending ending, uint64_t moved)
+/* Repeats on the guest's own copies what the request has done to its memory and its disk. */
+static void follow(struct guest *g, struct request *q, struct outcome outcome)
 {
+    uint64_t moved = outcome.moved;
     if (moved > q->blocks)
         moved = q->blocks; /* check_answer finds that */
     if (q->write && q->disk)
@@ -177,7 +178,7 @@ static void follow(struct guest *g, struct request *q, enum ending ending, uint6
         put_word(g->memory + q->packet + 2, 2, 0);
     if (q->result_length)
         memcpy(g->memory + q->laid[0].at, q->result, q->result_length);
-    if (ending == WITHDRAWN) {
+    if (outcome.ending == WITHDRAWN) {
         want(q, EDD_AH_WITHDRAWN);
         if (q->packet)
             put_word(g->memory + q->packet + 2, 2, moved);
@@ -186,22 +187,25 @@ static void follow(struct guest *g, struct request *q, enum ending ending, uint6
     }
 }
 
-/* The number moved, and the registers. */
-static void check_answer(struct guest *g, const struct request *q, const struct registers *r, enum ending ending,
-                         uint64_t moved)
+/*
+ * The number moved, and the registers. The guest, unlike the monitor, knows how many blocks it asked for: each turn moves
+ * sixteen of them, and only the last may move fewer.
+ */
+static void check_answer(struct guest *g, const struct request *q, const struct registers *r, struct outcome o)
 {
-    int good = ending == FINISHED    ? moved == q->blocks
-               : ending == WITHDRAWN ? moved < q->blocks && moved % EDD_TURN_BLOCKS == 0
-                                     : moved == 0 && (q->blocks == 0 || q->wanted.carry);
+    uint64_t turns = (q->blocks + EDD_TURN_BLOCKS - 1) / EDD_TURN_BLOCKS;
+    int good = o.ending == FINISHED    ? q->blocks != 0 && o.moved == q->blocks && o.services == turns
+               : o.ending == WITHDRAWN ? o.moved < q->blocks && o.moved == o.services * EDD_TURN_BLOCKS
+                                       : o.moved == 0 && (q->blocks == 0 || q->wanted.carry);
     if (!good)
-        fail(g, "AH=%02x: %llu blocks moved of %llu", q->given.ax >> 8, (unsigned long long)moved,
-             (unsigned long long)q->blocks);
+        fail(g, "AH=%02x: %llu blocks moved of %llu in %llu turns", q->given.ax >> 8, (unsigned long long)o.moved,
+             (unsigned long long)q->blocks, (unsigned long long)o.services);
     if (memcmp(r, &q->wanted, sizeof *r) != 0)
         fail(g, "AH=%02x: AX %04x carry %u, not AX %04x carry %u, or another register changed", q->given.ax >> 8, r->ax,
              r->carry, q->wanted.ax, q->wanted.carry);
 }
 
-/* Do the blocks that the request names hold in the store what they must? What it has not moved must be as before. */
+/* Compares the blocks that the request names with what the store must hold. Those that it has not moved must be as before. */
 static void compare_disk(struct guest *g, const struct request *q)
 {
     if (q->blocks && memcmp(g->monitor->store + q->first * EDD_BLOCK_SIZE, q->contents, q->blocks * EDD_BLOCK_SIZE) != 0)
@@ -218,12 +222,11 @@ static void make(struct guest *g, struct request *q)
     struct monitor *m = g->monitor;
     uint8_t *window = monitor_window(m, g->number);
     struct registers r = q->given;
-    uint64_t moved;
 
     lay_down(g, q, window);
     monitor_lock(m);
-    enum ending ending = monitor_int13(m, g->number, &r, q->blocks, q->patience, &moved);
-    follow(g, q, ending, moved);
+    struct outcome outcome = monitor_int13(m, g->number, &r, q->patience);
+    follow(g, q, outcome);
     compare_disk(g, q);
     int all = m->guest[g->number].requests % 256 == 0;
     monitor_unlock(m);
@@ -235,7 +238,7 @@ static void make(struct guest *g, struct request *q)
         compare(g, window, q->buffer - 16, q->blocks * EDD_BLOCK_SIZE + 32, "what it read");
     if (all)
         compare(g, window, 0, WINDOW_SIZE, "its memory");
-    check_answer(g, q, &r, ending, moved);
+    check_answer(g, q, &r, outcome);
 }
 
 /* ---- the parts of a request */
@@ -365,8 +368,8 @@ static void packet_transfer(struct guest *g, int write, unsigned drive)
     q.write = write;
     q.patience = pick_patience(g, blocks);
     q.packet = low_place(g);
-    /* A read may lay its data over its own packet: that was read at the post, and not again. A withdrawal then writes the
-     * number moved over the data. */
+    /* A read may put its data over its own packet, because the packet was read at the post and is not read again. A withdrawal
+     * then writes the number moved over the data. */
     if (!write && blocks && between(g, 1, 8) == 1)
         q.packet = buffer + between(g, 0, EDD_BLOCK_SIZE * blocks - 16);
     transfer(g, &q, drive, start, blocks, buffer);

@@ -7,8 +7,8 @@
 #include "tsan.h"
 
 /*
- * 19 to 25 say that the monitor itself called wrongly: a guest can cause none of them. There is nothing sensible to go on
- * with, so say which call it was and stop.
+ * A refusal, 19 to 25, says that the monitor itself made a mistake: no guest can cause one. There is no sensible way to go
+ * on, so say which call it was and stop.
  */
 static void refused(const char *call, uint32_t number)
 {
@@ -17,10 +17,9 @@ static void refused(const char *call, uint32_t number)
 }
 
 /* An answer that the header does not allow. To go on would mean to sleep for ever, or to use a wrong number. */
-static void impossible(const char *call, const char *what, uint64_t guest, uint64_t number)
+static void impossible(const char *call, const char *what, uint64_t guest)
 {
-    fprintf(stderr, "monitor: %s: %s (guest %llu, %llu blocks)\n", call, what, (unsigned long long)guest,
-            (unsigned long long)number);
+    fprintf(stderr, "monitor: %s: %s (guest %llu)\n", call, what, (unsigned long long)guest);
     abort();
 }
 
@@ -28,8 +27,8 @@ uint32_t monitor_open(struct monitor *m, const uint8_t *table, size_t table_leng
                       uint8_t *store, size_t store_length, uint64_t *place)
 {
     memset(m, 0, sizeof *m);
-    if (edd_desk_size() != sizeof m->desk) {
-        fprintf(stderr, "monitor: the library has another desk size than its header\n");
+    if (edd_version() != EDD_VERSION || edd_desk_size() != sizeof m->desk) {
+        fprintf(stderr, "monitor: the library is of another version than its header\n");
         abort();
     }
     pthread_mutex_init(&m->lock, NULL);
@@ -105,12 +104,7 @@ static uint32_t withdraw(struct monitor *m, unsigned guest, struct registers *r)
 
 /* ---- what the monitor notes */
 
-static uint64_t bound(uint64_t blocks)
-{
-    return 8 * ((blocks + EDD_TURN_BLOCKS - 1) / EDD_TURN_BLOCKS);
-}
-
-/* A request has waited so many turns and is over. A withdrawn one has waited one turn less than its bound at most. */
+/* A request has waited so many turns and has ended. */
 static void note_wait(struct record *n, uint64_t waited, uint64_t limit)
 {
     if (waited > limit)
@@ -121,50 +115,45 @@ static void note_wait(struct record *n, uint64_t waited, uint64_t limit)
     }
 }
 
-static enum ending note_ending(struct record *n, const struct registers *r, enum ending ending, uint64_t *moved)
+static struct outcome note_ending(struct record *n, const struct registers *r, enum ending ending)
 {
+    struct outcome outcome = { ending, n->services, n->moved };
     n->requests++;
+    n->open = 0;
     if (ending == WITHDRAWN)
         n->withdrawn++;
     else if (r->carry)
         n->refused++;
-    *moved = ending == ANSWERED ? 0 : n->moved;
-    return ending;
+    return outcome;
 }
 
 /* ---- a guest's part */
 
-enum ending monitor_int13(struct monitor *m, unsigned guest, struct registers *r, uint64_t blocks, int patience,
-                          uint64_t *moved)
+struct outcome monitor_int13(struct monitor *m, unsigned guest, struct registers *r, int patience)
 {
     struct record *n = &m->guest[guest];
 
+    n->services = n->moved = 0;
     if (post(m, guest, r) == EDD_DONE)
-        return note_ending(n, r, ANSWERED, moved);
+        return note_ending(n, r, ANSWERED);
 
-    if (blocks == 0)
-        impossible("edd_post", "a request waits that must be answered at once", guest, blocks);
+    n->open = 1;
+    n->must_have_ended = 0;
     n->accepted = n->served = m->turns;
-    n->moved = 0;
-    n->left = blocks;
     pthread_cond_signal(&m->posted);
 
     /* A wake-up may come for no reason; then edd_collect answers that the row has not finished, and the guest sleeps on. */
-    uint64_t services = n->turns;
     while (collect(m, guest, r) == EDD_NOT_FINISHED) {
-        if (n->left == 0)
-            impossible("edd_collect", "all blocks are moved and the row has not finished", guest, blocks);
-        if (patience >= 0 && n->turns - services >= (uint64_t)patience && withdraw(m, guest, r) == EDD_DONE) {
-            n->left = 0;
-            note_wait(n, m->turns - n->accepted, bound(blocks) - 1);
-            return note_ending(n, r, WITHDRAWN, moved);
+        if (n->must_have_ended)
+            impossible("edd_collect", "a turn was idle, and a request still waits", guest);
+        if (patience >= 0 && n->services >= (uint64_t)patience && withdraw(m, guest, r) == EDD_DONE) {
+            note_wait(n, m->turns - n->accepted, 8 * (n->services + 1) - 1); /* not yet the turn that had to serve it */
+            return note_ending(n, r, WITHDRAWN);
         }
         pthread_cond_wait(&m->served[guest], &m->lock);
     }
-    if (n->left != 0)
-        impossible("edd_collect", "the row has finished and blocks are not moved", guest, n->left);
-    note_wait(n, n->served - n->accepted, bound(blocks));
-    return note_ending(n, r, FINISHED, moved);
+    note_wait(n, n->served - n->accepted, 8 * n->services);
+    return note_ending(n, r, FINISHED);
 }
 
 void monitor_leave(struct monitor *m)
@@ -177,22 +166,26 @@ void monitor_leave(struct monitor *m)
 
 /* ---- the host's part */
 
-/* An idle turn is right only if the monitor knows of no request that waits. */
-static void check_idle(const struct monitor *m)
+/* No row waits, so every request that is still open has ended: wake its guest, which collects it or finds the mistake. */
+static void wake_all(struct monitor *m)
 {
-    for (unsigned g = 0; g < EDD_GUESTS; g++)
-        if (m->guest[g].left != 0)
-            impossible("edd_turn", "idle while a request waits", g, m->guest[g].left);
+    for (unsigned g = 0; g < EDD_GUESTS; g++) {
+        if (m->guest[g].open) {
+            m->guest[g].must_have_ended = 1;
+            pthread_cond_signal(&m->served[g]);
+        }
+    }
 }
 
 /* The numbers that a turn hands out, before anything is done with them. */
 static void check_served(const struct monitor *m, uint64_t guest, uint64_t moved)
 {
     if (guest >= EDD_GUESTS)
-        impossible("edd_turn", "there is no such guest", guest, moved);
-    uint64_t left = m->guest[guest].left;
-    if (moved == 0 || moved != (left < EDD_TURN_BLOCKS ? left : EDD_TURN_BLOCKS))
-        impossible("edd_turn", "another number of blocks than the guest's request has next", guest, moved);
+        impossible("edd_turn", "there is no such guest", guest);
+    if (!m->guest[guest].open)
+        impossible("edd_turn", "a guest was served that has no request", guest);
+    if (moved > EDD_TURN_BLOCKS)
+        impossible("edd_turn", "more blocks were moved than a turn may move", guest);
 }
 
 int monitor_turn(struct monitor *m)
@@ -206,7 +199,7 @@ int monitor_turn(struct monitor *m)
         number = edd_turn(m->desk, sizeof m->desk, m->arena, m->arena_length, m->store, m->store_length, &guest, &moved);
         if (number != EDD_NOTHING_YET)
             break;
-        check_idle(m);
+        wake_all(m);
         if (m->running == 0)
             break;
         pthread_cond_wait(&m->posted, &m->lock);
@@ -226,8 +219,8 @@ int monitor_turn(struct monitor *m)
         n->longest_gap = m->turns - n->served;
     n->served = m->turns;
     n->turns++;
+    n->services++;
     n->moved += moved;
-    n->left -= moved;
     n->blocks += moved;
     pthread_cond_signal(&m->served[guest]);
     monitor_unlock(m);

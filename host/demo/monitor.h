@@ -1,17 +1,19 @@
 /*
- * monitor.h - what a monitor keeps around one desk: the desk with its arena and store, one lock, and the three things that
- * are done under it. A guest's thread calls monitor_int13; one other thread calls monitor_turn again and again.
+ * monitor.h - the demo's monitor around one desk: the desk with its arena and store, one lock, and what is done under it. A
+ * guest's thread calls monitor_int13; one other thread calls monitor_turn again and again. It goes by the answers of the
+ * calls: it does not know how many blocks a request has, and a request may end sooner or later than its guest thinks. What
+ * it counts is for the demo's table and checks. A monitor to copy, without all this, is host/example.
  *
  * The lock. All calls on the desk, its arena and its store run one at a time, under this one lock, and so does whatever
  * else looks at the desk or the store (edd_desk.h, "What may run at the same time"). A guest with no request waiting uses
- * its own window without the lock, also while a call works for another guest: a call touches no other window, which
+ * its own window without the lock, even while a call works for another guest: a call touches no other window, which
  * host/touch tests. A guest whose request waits leaves its buffer alone until the request has ended; here it sleeps, and
- * leaves its whole window alone. OpenMP's own locks cannot wait for an event; a guest must wait until its blocks have
- * moved, so this is a pthread mutex with conditions.
+ * so leaves its whole window alone. A guest must be able to sleep until its blocks have moved. OpenMP's own locks cannot
+ * wait for an event, so the lock is a pthread mutex with conditions.
  *
  * The order. A guest posts. If the request waits, the guest sleeps until a turn has served it and then tries to collect;
- * edd_collect says itself whether all blocks are moved. Its row is then vacant, and it may post again. It may withdraw
- * instead of waiting on; where the last turn came first, edd_withdraw says so and there is something to collect.
+ * edd_collect itself says whether the request has ended. After that its row is vacant, and it may post again. Instead of
+ * waiting on, it may withdraw; if the last turn came first, edd_withdraw says so and there is something to collect.
  */
 #ifndef MONITOR_H
 #define MONITOR_H
@@ -26,7 +28,7 @@ struct registers {
     uint16_t ax, bx, cx, dx, ds, si, es, carry;
 };
 
-/* What the monitor notes of a guest. Changed under the lock only. None of it is needed by the library. */
+/* What the monitor notes of a guest. Changed under the lock only. The library needs none of it. */
 struct record {
     uint64_t requests;        /* posts that got an answer, at once or after turns */
     uint64_t refused;         /* of these, answered with carry set, but for the withdrawn ones */
@@ -34,14 +36,16 @@ struct record {
     uint64_t blocks;          /* blocks moved by turns for this guest */
     uint64_t turns;           /* turns that served this guest */
     uint64_t longest;         /* turns from the post to the end of the request that waited longest */
-    uint64_t longest_bound;   /* and the bound of that request, 8 * ceil(n / 16) */
+    uint64_t longest_bound;   /* and the bound of that request, eight turns for each that served it */
     uint64_t longest_gap;     /* most turns from one service to the next, or from the post to the first; the bound is 8 */
     uint64_t over;            /* requests that waited longer than their bound: the theorem says none */
 
-    uint64_t accepted;        /* the request that waits now: monitor->turns at its post, */
-    uint64_t served;          /* at its last service, or at the post, */
-    uint64_t moved;           /* its blocks moved so far */
-    uint64_t left;            /* and its blocks that have still to be moved; 0 also when no request waits */
+    int open;                 /* a request was answered with 256 and is neither collected nor withdrawn. Of this request: */
+    int must_have_ended;      /* a turn was idle since its post, so it cannot be waiting any more */
+    uint64_t accepted;        /* monitor->turns at its post */
+    uint64_t served;          /* monitor->turns at its last service, or at its post */
+    uint64_t services;        /* turns that served it */
+    uint64_t moved;           /* blocks that they moved */
 };
 
 struct monitor {
@@ -58,8 +62,12 @@ struct monitor {
     struct record guest[EDD_GUESTS];
 };
 
-/* How a request ended. */
+/* How a request ended: at once, after turns, or withdrawn; how many turns served it, and how many blocks they moved. */
 enum ending { ANSWERED, FINISHED, WITHDRAWN };
+struct outcome {
+    enum ending ending;
+    uint64_t services, moved;
+};
 
 /*
  * Opens the desk. The arena and the store are the caller's and stay lent until monitor_close. The result is edd_open's.
@@ -75,19 +83,15 @@ void monitor_unlock(struct monitor *m);
  * One INT 13h of a guest, from the registers it gives to the registers it gets. Call it with the lock held; it returns with
  * the lock held, and has let others in while the request waited.
  *
- *   blocks    how many blocks the guest asks for: turns must move just these, and within the bound; 0 for a request that
- *             must be answered at once
  *   patience  withdraw after so many services, if the request still waits; 0 withdraws right after the post, a negative
  *             number never withdraws
- *   *moved    the blocks that turns have moved
  */
-enum ending monitor_int13(struct monitor *m, unsigned guest, struct registers *r, uint64_t blocks, int patience,
-                          uint64_t *moved);
+struct outcome monitor_int13(struct monitor *m, unsigned guest, struct registers *r, int patience);
 
 /*
  * One turn. Returns the guest that was served, or -1 when no guest will post any more. With no row waiting it sleeps until
- * there is one. Call it without the lock. An idle turn while a request is known to wait, or a turn for a guest that has
- * none, would let guests sleep for ever: then the program is stopped with a message.
+ * there is one. Call it without the lock. An idle turn while a request still waits, or a turn for a guest that has no
+ * request, would let guests sleep for ever: then the program is stopped with a message.
  */
 int monitor_turn(struct monitor *m);
 

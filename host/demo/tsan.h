@@ -1,11 +1,11 @@
 /*
  * tsan.h - tells ThreadSanitizer what a call of the library touches. It sees only code that was compiled for it, and the
- * library was not: a call without the lock, or a guest that writes its buffer while a call moves blocks there, would not
- * be noticed. So, in that build only, the caller itself touches what the call may touch (edd_desk.h, "What may run at the
- * same time"), next to the call and under the same lock: every byte of the desk; of the window of the guest that is posted,
- * served or withdrawn one byte of each 512, so that no transfer of a block can miss one; and one of each 64 KiB of the
- * store. Whom a turn serves is known after it, so that window is touched then. In every other build this is nothing. A
- * monitor needs none of it.
+ * library was not: a call without the lock, or a guest that writes its buffer while a call moves blocks there, would go
+ * unnoticed. So, in that build only, the caller itself touches what the call may touch (edd_desk.h, "What may run at the
+ * same time"), next to the call and under the same lock: every byte of the desk; one byte in 512 of the window of the guest
+ * that is posted, served or withdrawn, so that no transfer of a block can miss them all; and one byte in 64 KiB of the
+ * store. Which guest a turn serves is known only after it, so its window is touched then. In every other build this is
+ * empty. A monitor needs none of it.
  */
 #ifndef TSAN_H
 #define TSAN_H

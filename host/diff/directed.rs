@@ -41,7 +41,7 @@ struct Stand<'a> {
 
 type Snapshot = (Vec<u8>, Vec<u8>, Vec<u8>);
 
-/// What the places of results hold before a call, so that one sees whether they were written.
+/// What the places of results hold before a call, so that a write to them shows.
 const UNWRITTEN: u64 = 0xDEAD_BEEF_5EED;
 const STALE: Registers = Registers { ax: 0x1111, bx: 0x2222, cx: 0x3333, dx: 0x4444, ds: 0x5555, si: 0x6666, es: 0x7777, carry: 0x8888 };
 
@@ -253,6 +253,7 @@ fn small_drive(first: u64, blocks: u64) -> Drive {
 
 // ---- a: refusals
 
+// rule: postOf turnOf collectOf withdrawOf writtenOf
 fn a1_order_of_house_numbers(service: &dyn Service) {
     let mut stand = Stand::paper(service, 1024);
     stand.arena = Lent::holding(&[0; 100], Place::END);
@@ -279,6 +280,7 @@ fn a1_order_of_house_numbers(service: &dyn Service) {
     assert_eq!(stand.collect(7), (22, STALE));
 }
 
+// rule: postOf turnOf withdrawOf
 fn a2_store_length_alone(service: &dyn Service) {
     let mut stand = Stand::paper(service, 1024);
     assert_eq!(stand.post_packet(3, 0x42, 1, 0).0, NOTHING_YET);
@@ -295,6 +297,7 @@ fn a2_store_length_alone(service: &dyn Service) {
     }
 }
 
+// rule: postOf turnOf withdrawOf
 fn a2_arena_length_alone(service: &dyn Service) {
     let mut stand = Stand::paper(service, 1024);
     assert_eq!(stand.post_packet(3, 0x42, 1, 0).0, NOTHING_YET);
@@ -308,6 +311,7 @@ fn a2_arena_length_alone(service: &dyn Service) {
     }
 }
 
+// rule: openCall opened exports::edd_open
 fn a3_open_over_anything(service: &dyn Service) {
     let table = drives::table(&[paper_drive()]);
     let mut clean = Stand::paper(service, 1024);
@@ -321,6 +325,7 @@ fn a3_open_over_anything(service: &dyn Service) {
     assert_eq!(stand.turn().0, NOTHING_YET);
 }
 
+// rule: openCall exports::edd_open
 fn a3_table_refused(service: &dyn Service) {
     let mut stand = Stand::paper(service, 1024);
     assert_eq!(stand.post_packet(3, 0x42, 1, 0).0, NOTHING_YET);
@@ -334,6 +339,7 @@ fn a3_table_refused(service: &dyn Service) {
     assert_eq!(stand.turn(), (DONE, 3, 1), "the desk goes on");
 }
 
+// rule: openCall exports::edd_open
 fn a3_wrong_size_first(service: &dyn Service) {
     let good = drives::table(&[paper_drive()]);
     for size in [0, 1, DESK_SIZE - 1, DESK_SIZE + 1, 2 * DESK_SIZE] {
@@ -347,6 +353,7 @@ fn a3_wrong_size_first(service: &dyn Service) {
     }
 }
 
+// rule: turnOf exports::edd_turn
 fn a4_idle(service: &dyn Service) {
     let mut stand = Stand::paper(service, 1024);
     assert_eq!(stand.post_packet(4, 0x42, 1, 0).0, NOTHING_YET);
@@ -359,6 +366,7 @@ fn a4_idle(service: &dyn Service) {
     assert_eq!(stand.turn(), (24, UNWRITTEN, UNWRITTEN), "lengths come before idle");
 }
 
+// rule: postOf exports::edd_post
 fn a5_a6_busy_row(service: &dyn Service) {
     let mut stand = Stand::paper(service, 1024);
     assert_eq!(stand.post_packet(4, 0x42, 1, 0).0, NOTHING_YET);
@@ -375,6 +383,7 @@ fn a5_a6_busy_row(service: &dyn Service) {
     }
 }
 
+// rule: refuse exports::edd_post
 fn a7_unknown_function(service: &dyn Service) {
     let mut stand = Stand::paper(service, 1024);
     let before = stand.all();
@@ -387,6 +396,7 @@ fn a7_unknown_function(service: &dyn Service) {
     assert!(stand.all() == before, "something changed");
 }
 
+// rule: isDrive
 fn a8_drive_numbers(service: &dyn Service) {
     for count in [0u8, 1, 8] {
         let drives: Vec<Drive> = (0..count).map(|i| small_drive(u64::from(i), 1)).collect();
@@ -410,6 +420,7 @@ fn a8_drive_numbers(service: &dyn Service) {
     }
 }
 
+// rule: given postCall
 fn a9_carry_is_not_read(service: &dyn Service) {
     let mut blocks = Vec::new();
     for carry in [0, 1, 65535] {
@@ -431,6 +442,7 @@ fn a9_carry_is_not_read(service: &dyn Service) {
     assert!(blocks.iter().all(|block| *block == blocks[0]), "the block shows the carry that was given");
 }
 
+// rule: accepted
 fn a9_waiting_row_with_carry_1(service: &dyn Service) {
     let mut stand = Stand::paper(service, 1024);
     assert_eq!(stand.post_packet(3, 0x42, 1, 0).0, NOTHING_YET);
@@ -440,6 +452,7 @@ fn a9_waiting_row_with_carry_1(service: &dyn Service) {
     assert_eq!(stand.collect(3), (DONE, succeeded(by_packet(0x42, 0))), "finished with carry clear");
 }
 
+// rule: exports::edd_open exports::edd_write exports::edd_post exports::edd_turn exports::edd_collect exports::edd_withdraw
 fn a10_empty_slices(service: &dyn Service) {
     let table = drives::table(&[]);
     let (mut desk, mut none) = (vec![0; DESK_SIZE], []);
@@ -484,6 +497,7 @@ fn a10_empty_slices(service: &dyn Service) {
 
 // ---- b: functions
 
+// rule: packetPlan packetTests
 fn b1_order_by_packet(service: &dyn Service) {
     // a protected drive; each line has one fault and all later ones
     let mut stand = Stand::open(service, &[protected(paper_drive())], 8 * 1024, 2048 * 512);
@@ -521,6 +535,7 @@ fn b1_order_by_packet(service: &dyn Service) {
     }
 }
 
+// rule: packetTests
 fn b2_count_zero(service: &dyn Service) {
     let mut stand = Stand::open(service, &[protected(paper_drive()), Drive { first: 2048, ..paper_drive() }], 8 * 1024, 4096 * 512);
     // function, drive, start, buffer, code
@@ -544,6 +559,7 @@ fn b2_count_zero(service: &dyn Service) {
     }
 }
 
+// rule: packetTests
 fn b3_verify_moves_nothing(service: &dyn Service) {
     let mut stand = Stand::open(service, &[protected(paper_drive())], 8 * 1024, 2048 * 512);
     stand.packet(0, 0, 127, (0xFFFF, 0xFFFF), 2048 - 127);
@@ -557,6 +573,7 @@ fn b3_verify_moves_nothing(service: &dyn Service) {
     assert_eq!(stand.window(0)[2..4], [0, 0]);
 }
 
+// rule: seekRead
 fn b4_seek(service: &dyn Service) {
     let mut stand = Stand::paper(service, 1024);
     for (count, start, code) in [(65535, 2047, 0), (0, 2047, 0), (0, 2048, 4), (65535, 2048, 4), (1, u64::MAX, 4)] {
@@ -571,6 +588,7 @@ fn b4_seek(service: &dyn Service) {
     assert_eq!(stand.post(0, by_packet(0x47, 0)).1.ah(), 0x01);
 }
 
+// rule: packetAt
 fn b5_packet(service: &dyn Service) {
     let mut stand = Stand::paper(service, 1024);
     // always sixteen bytes, whatever the size byte says
@@ -591,6 +609,7 @@ fn b5_packet(service: &dyn Service) {
     assert_eq!(stand.post(0, by_packet(0x42, 0)).1.ah(), 9, "FFFF:FFFF is an address");
 }
 
+// rule: linear readPacket
 fn b6_addresses_never_wrap(service: &dyn Service) {
     let last = 0x10_FFEF;
     for (window, waits) in [(last + 512, true), (last + 511, false)] {
@@ -618,6 +637,7 @@ fn b6_addresses_never_wrap(service: &dyn Service) {
     }
 }
 
+// rule: packetTests
 fn b7_start_and_count_never_wrap(service: &dyn Service) {
     let mut stand = Stand::paper(service, 2048);
     for (count, start) in [(0, u64::MAX), (1, u64::MAX), (2, u64::MAX), (2, u64::MAX - 1), (3, u64::MAX - 2), (1, 2048), (1, 1 << 32)] {
@@ -628,6 +648,7 @@ fn b7_start_and_count_never_wrap(service: &dyn Service) {
     }
 }
 
+// rule: verifyOk
 fn b8_write_with_verify(service: &dyn Service) {
     let with_bit_3 = Drive { first: 2048, flags: 0x08, ..paper_drive() };
     let mut stand = Stand::open(service, &[paper_drive(), with_bit_3], 8 * 1024, 4096 * 512);
@@ -646,6 +667,7 @@ fn b8_write_with_verify(service: &dyn Service) {
     }
 }
 
+// rule: sectors sectorRun
 fn b9_sectors(service: &dyn Service) {
     let mut stand = Stand::open(service, &[protected(paper_drive())], 8 * 70_000, 2048 * 512);
     for (al, cylinder, code) in [(0, 9, 0x01), (129, 9, 0x09), (1, 9, 0x03), (128, 0, 0x03)] {
@@ -686,6 +708,7 @@ fn b9_sectors(service: &dyn Service) {
     assert_eq!(stand.post(0, both), (DONE, refused_sectors(both, 0x04)), "the address comes before the buffer");
 }
 
+// rule: parameters geometryGiven
 fn b10_drive_parameters(service: &dyn Service) {
     let drives = [small_drive(0, 5), small_drive(5, 5), Drive { cylinders: 3, heads: 2, sectors: 1, ..small_drive(10, 6) }];
     let mut stand = Stand::open(service, &drives, 80, 16 * 512);
@@ -700,6 +723,7 @@ fn b10_drive_parameters(service: &dyn Service) {
     assert_eq!(stand.post(0, given), (DONE, Registers { ax: 0, cx: 0xFFFF, dx: 0xFE01, ..given }));
 }
 
+// rule: extensions extensionsGiven
 fn b11_check_extensions(service: &dyn Service) {
     let mut stand = Stand::paper(service, 0);
     let given = Registers { bx: 0x55AA, ..registers(0x41, 0x99, 0x80) };
@@ -709,6 +733,7 @@ fn b11_check_extensions(service: &dyn Service) {
     }
 }
 
+// rule: returnedSize resultAnswer
 fn b12_result_sizes(service: &dyn Service) {
     let mut stand = Stand::paper(service, 1024);
     for asked in [0u16, 25, 26, 29, 30, 65, 66, 65535] {
@@ -740,6 +765,7 @@ fn b12_result_sizes(service: &dyn Service) {
     }
 }
 
+// rule: wholeResult checksum
 fn b13_result_bytes(service: &dyn Service) {
     let mut stand = Stand::paper(service, 1024);
     stand.window(3)[8..10].copy_from_slice(&200u16.to_le_bytes());
@@ -758,6 +784,7 @@ fn b13_result_bytes(service: &dyn Service) {
     assert!(arena[..from] == before.1[..from] && arena[from + 66..] == before.1[from + 66..], "every other byte stays");
 }
 
+// rule: blockOf addressOf exports::edd_block exports::edd_address
 fn b14_addresses(service: &dyn Service) {
     let of = |c, h, s| Geometry { cylinders: c, heads: h, sectors: s };
     let block = |g, cylinder, head, sector| {
@@ -815,6 +842,7 @@ fn opened(service: &dyn Service, table: &[u8], store_blocks: u64) -> (u32, u64) 
     (service.open(desk.bytes_mut(), table.bytes(), 0, 512 * store_blocks, &mut place), place)
 }
 
+// rule: readTable refusal
 fn c1_order_of_checks(service: &dyn Service) {
     let good = small_drive(0, 4);
     let record = good.record();
@@ -844,6 +872,7 @@ fn c1_order_of_checks(service: &dyn Service) {
     assert_eq!(opened(service, &after, 3), (6, 0), "a drive is judged before what follows the end");
 }
 
+// rule: readTable
 fn c2_places(service: &dyn Service) {
     let record = small_drive(0, 4).record();
     assert_eq!(opened(service, &[], 9), (1, 0));
@@ -853,6 +882,7 @@ fn c2_places(service: &dyn Service) {
     assert_eq!(opened(service, &[record, vec![4, 0]].concat(), 9), (1, 68));
 }
 
+// rule: fieldsOk
 fn c3_fields(service: &dyn Service) {
     let good = Drive { blocks: 2048, ..paper_drive() };
     let cases: [(&str, Drive, u32); 27] = [
@@ -890,6 +920,7 @@ fn c3_fields(service: &dyn Service) {
     }
 }
 
+// rule: inStore overlap
 fn c4_c5_ranges(service: &dyn Service) {
     let at = |first, blocks| Drive { first, ..small_drive(first, blocks) };
     let one = |first, blocks, store| opened(service, &drives::table(&[at(first, blocks)]), store).0;
@@ -911,6 +942,7 @@ fn c4_c5_ranges(service: &dyn Service) {
     assert_eq!(service.open(&mut desk, &drives::table(&[]), 0, 511, &mut 0), DONE);
 }
 
+// rule: tableOf writeOut exports::edd_write
 fn c7_written_back(service: &dyn Service) {
     let mut chance = Chance::new(77);
     for round in 0..60 {
@@ -946,6 +978,7 @@ fn mixed(service: &dyn Service) -> Stand<'_> {
     stand
 }
 
+// rule: accept accepted
 fn d1_accepted_though_unreachable(service: &dyn Service) {
     let mut stand = mixed(service);
     let ax = stand.word(row(0, 1));
@@ -985,6 +1018,7 @@ fn d1_accepted_though_unreachable(service: &dyn Service) {
     assert_eq!(stand.turn().0, 24, "zeros, and an arena with bytes");
 }
 
+// rule: accept jobOk rangeOk movedOk
 fn d1_refused_by_one_word(service: &dyn Service) {
     let mut stand = mixed(service);
     stand.refused_with("pointer", POINTER, 8);
@@ -1014,6 +1048,7 @@ fn d1_refused_by_one_word(service: &dyn Service) {
     stand.refused_with("carry 2", row(0, 8), 2);
 }
 
+// rule: countOk
 fn d1_limits_of_the_counts(service: &dyn Service) {
     let mut stand = Stand::paper(service, 70_000);
     assert_eq!(stand.post_packet(0, 0x42, 127, 0).0, NOTHING_YET);
@@ -1026,6 +1061,7 @@ fn d1_limits_of_the_counts(service: &dyn Service) {
     stand.refused_with("128 of 128 moved", row(1, 14), 128);
 }
 
+// rule: isTransfer
 fn d2_function_of_a_row(service: &dyn Service) {
     let mut stand = mixed(service);
     stand.set_word(row(0, 13), 8);
@@ -1040,6 +1076,7 @@ fn d2_function_of_a_row(service: &dyn Service) {
     stand.refused_with("count 0", row(2, 11), 0);
 }
 
+// rule: packetOk
 fn d3_packet_of_02h_and_03h(service: &dyn Service) {
     let mut stand = mixed(service);
     stand.refused_with("02h with packet 1", row(2, 13), 1);
@@ -1052,6 +1089,7 @@ fn d3_packet_of_02h_and_03h(service: &dyn Service) {
     stand.refused_with("42h, packet one byte past the window", row(2, 13), 12_000 - 15);
 }
 
+// rule: isImage
 fn d4_words_that_a_stage_does_not_use(service: &dyn Service) {
     let mut stand = mixed(service);
     for value in [1, 1 << 63, u64::MAX] {
@@ -1084,6 +1122,7 @@ fn d4_words_that_a_stage_does_not_use(service: &dyn Service) {
     }
 }
 
+// rule: isSound
 fn d5_table_in_the_block(service: &dyn Service) {
     let mut stand = mixed(service);
     // widths
@@ -1112,6 +1151,7 @@ fn d5_table_in_the_block(service: &dyn Service) {
     stand.refused_with("overlap", drive_word(1, 4), 0);
 }
 
+// rule: jobOk rangeOk
 fn d6_words_that_wrap(service: &dyn Service) {
     let mut stand = mixed(service);
     for guest in [0, 2] {
@@ -1131,6 +1171,7 @@ fn d6_words_that_wrap(service: &dyn Service) {
     stand.accepted_with("an arena just long enough", ARENA_LENGTH, 8 * (0x200 + 20 * 512));
 }
 
+// rule: openOf
 fn d7_absurd_lengths(service: &dyn Service) {
     let mut stand = Stand::paper(service, 1024);
     let table = drives::table(&[paper_drive()]);
@@ -1157,6 +1198,7 @@ fn d7_absurd_lengths(service: &dyn Service) {
     assert_eq!(stand.open_again(&drives::table(&[Drive { blocks: blocks + 1, ..paper_drive() }]), 0, u64::MAX), (6, 0));
 }
 
+// rule: isImage openCall
 fn d9_wrong_size(service: &dyn Service) {
     let mut stand = mixed(service);
     let good = stand.desk.bytes().to_vec();
@@ -1170,10 +1212,12 @@ fn d9_wrong_size(service: &dyn Service) {
         assert!(stand.all() == before);
     }
     assert_eq!(service.desk_size(), DESK_SIZE as u64);
+    assert_eq!(service.version(), model::version());
 }
 
 // ---- e: windows, turns, collects, withdrawals
 
+// rule: windowLength spanStart spanLength exports::edd_window
 fn e1_windows(service: &dyn Service) {
     let window = |arena_length, guest| {
         let (mut start, mut length) = (UNWRITTEN, UNWRITTEN);
@@ -1190,6 +1234,7 @@ fn e1_windows(service: &dyn Service) {
     }
 }
 
+// rule: windowLength inStore
 fn e2_odd_arenas(service: &dyn Service) {
     let edges = [1, 2, 25, 26, 29, 30, 65, 66].map(|m| 8 * m + 3);
     for arena_length in [0, 7, 8, 127, 128, 8 * 511, 4096 + 7, 8 * 512 + 7].into_iter().chain(edges) {
@@ -1233,6 +1278,7 @@ fn e2_odd_arenas(service: &dyn Service) {
     }
 }
 
+// rule: turnOf exports::edd_turn
 fn e4_turn_order(service: &dyn Service) {
     let mut stand = Stand::paper(service, 1024 + 16 * 512);
     stand.set_word(POINTER, 7);
@@ -1248,6 +1294,7 @@ fn e4_turn_order(service: &dyn Service) {
     assert_eq!(stand.turn(), (DONE, 5, 1));
 }
 
+// rule: moves exports::edd_turn
 fn e5_what_moves(service: &dyn Service) {
     for (ah, drive) in [(0x42, 0), (0x43, 0), (0x42, 1), (0x43, 1), (0x02, 0), (0x03, 0)] {
         let other = Drive { first: 2053, ..small_drive(2053, 60) };
@@ -1283,6 +1330,7 @@ fn e5_what_moves(service: &dyn Service) {
     }
 }
 
+// rule: moves
 fn e5_places_above_4_gib(service: &dyn Service) {
     // the largest geometry, and windows of 640 MiB: guest 7's starts at 4.375 GiB
     const WINDOW: usize = 640 << 20;
@@ -1307,6 +1355,7 @@ fn e5_places_above_4_gib(service: &dyn Service) {
     assert_eq!(stand.post(5, Registers { ax: 0x0202, ..given }).1.ah(), 0x04);
 }
 
+// rule: packetJob moves
 fn e6_packet_is_read_once(service: &dyn Service) {
     let mut stand = Stand::paper(service, 21_000);
     // the read lays data over its own packet, and the guest writes other values there between the turns
@@ -1323,6 +1372,7 @@ fn e6_packet_is_read_once(service: &dyn Service) {
     assert_eq!(stand.collect(1), (DONE, succeeded(given)));
 }
 
+// rule: withdrawOf withdrawnWindow exports::edd_withdraw
 fn e7_withdrawal(service: &dyn Service) {
     let mut stand = Stand::paper(service, 21_000);
     // nothing moved: 0
@@ -1356,6 +1406,7 @@ fn e7_withdrawal(service: &dyn Service) {
     assert_eq!(stand.post_packet(1, 0x42, 1, 0).0, NOTHING_YET, "the row is vacant at once");
 }
 
+// rule: collectOf exports::edd_collect
 fn e8_collect_once(service: &dyn Service) {
     let mut stand = Stand::paper(service, 2048);
     assert_eq!(stand.post_packet(6, 0x42, 2, 0).0, NOTHING_YET);
@@ -1371,6 +1422,7 @@ fn e8_collect_once(service: &dyn Service) {
 
 // ---- g: sums, the paper's own cases, threads
 
+// rule: blockOf parameters checksum turnOf
 fn g1_sums(service: &dyn Service) {
     let g = Geometry { cylinders: 1024, heads: 16, sectors: 63 };
     let block = |cylinder, head, sector| {
@@ -1399,6 +1451,7 @@ fn g1_sums(service: &dyn Service) {
     assert_eq!(turns, [1, 2, 3, 4, 5, 6, 7, 0]);
 }
 
+// rule: packetTests sectors
 fn g2_run_by_program(service: &dyn Service) {
     let mut stand = Stand::paper(service, 66_100);
     assert_eq!(stand.post_packet(0, 0x42, 1, 2047).0, NOTHING_YET);
@@ -1412,8 +1465,9 @@ fn g2_run_by_program(service: &dyn Service) {
     assert_eq!(stand.post_packet(0, 0x43, 1, 2048).1.ah(), 0x03, "protected and out of range");
 }
 
+// rule: exports::edd_post exports::edd_turn
 /// A call touches the window of its own guest and the blocks that it moves, and nothing else of arena and store: it does not even read
-/// there. So another guest may run on in its own window meanwhile. While a call runs all other pages are taken away.
+/// there. So another guest may go on running in its own window. While a call runs, all other pages are made inaccessible.
 fn g5_no_other_memory_is_touched(service: &dyn Service) {
     const WINDOW: usize = 16 * 4096;
     let drive = Drive { first: 16, blocks: 256, cylinders: 4, heads: 1, sectors: 63, ..paper_drive() };
@@ -1458,8 +1512,9 @@ fn g5_no_other_memory_is_touched(service: &dyn Service) {
     }
 }
 
-/// Every handled function with every AL and DL, and every unknown one: what is answered at once leaves the block as it was.
+/// Every known function with every AL and DL, and every unknown one: what is answered at once leaves the block as it was.
 fn g3_answered_at_once_leaves_the_desk(service: &dyn Service) {
+    // rule: postOf exports::edd_post
     let mut stand = Stand::paper(service, 1024);
     stand.packet(4, 0x100, 0, (0, 0), 0);
     let desk = stand.desk.bytes().to_vec();
@@ -1542,6 +1597,7 @@ pub fn doing() -> Option<&'static str> {
     CASES.get(CASE.load(Ordering::Relaxed)).map(|case| case.0)
 }
 
+// rule: exports::edd_post exports::edd_turn
 /// Different desks, arenas and stores on different threads at the same time, each compared with the model call by call.
 fn g5_desks_on_threads() -> Result<(), String> {
     let threads: Vec<_> = (0..8).map(|i| std::thread::spawn(move || Run::new(1000 + i, 3000).run().map(|_| ()))).collect();

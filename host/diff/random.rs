@@ -1,6 +1,6 @@
 //! Random calls, library against model, call by call: the answer, every value behind a pointer, and every byte of desk, arena, store and
-//! buffer must be the same. The calls go to worlds, each an arena, a store and a desk opened over them; most calls are good enough that
-//! requests wait, are served in parts, finish, are collected or withdrawn, with eight guests in between each other.
+//! buffer must be the same. The calls go to worlds, each with an arena, a store and a desk opened over them. Most calls are good, so that
+//! requests wait, are served in parts, finish, and are collected or withdrawn, with the calls of eight guests interleaved.
 
 use crate::chance::Chance;
 use crate::demand::Watch;
@@ -12,11 +12,11 @@ use model::parts::{Desk, Row};
 use model::{Registers, DESK_SIZE};
 use std::sync::atomic::{AtomicU64, Ordering};
 
-/// For the message when the machine stops a call: see `main`. Where several runs go on at the same time it is one of theirs.
+/// For the message when the machine stops a call: see `main`. If several runs are active at the same time, it names one of them.
 pub static SEED: AtomicU64 = AtomicU64::new(0);
 pub static CALL: AtomicU64 = AtomicU64::new(0);
 
-/// A call with its arguments, but for the slices that it is lent.
+/// A call with its arguments, except for the slices that it is lent.
 #[derive(Clone, Debug)]
 pub enum Call {
     Open { arena_length: u64, store_length: u64 },
@@ -109,11 +109,11 @@ struct World {
     watch: Watch,
     /// A calm world has no hostile blocks, so that demand 3 can be followed over a long list.
     calm: bool,
-    /// The desk is for now not the one that was opened; the watch waits until it is back.
+    /// For now the desk is not the one that was opened; the watch pauses until that one is back.
     suspended: bool,
 }
 
-/// Slices for one call, and the one thing of the library that is a choice of the caller.
+/// Slices for one call, and the library with the choice that its caller has: how an empty slice is passed.
 struct Spare {
     desk: Lent,
     arena: Lent,
@@ -738,7 +738,7 @@ impl Run {
         set_word_at(bytes, at, value);
     }
 
-    /// One word of a waiting row set to the last value that is allowed there, or to the first that is not, as far as the others say.
+    /// Sets one word of a waiting row to the last value that the other words allow there, or to the first that they do not.
     fn change_to_edge(&mut self, bytes: &mut [u8], row: usize) {
         let get = |word: usize| word_at(bytes, row + word);
         let (ax, number, start, count, buffer, moved) = (get(1), get(9), get(10), get(11), get(12), get(14));

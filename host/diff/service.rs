@@ -6,6 +6,7 @@ use std::cell::Cell;
 use std::ffi::c_void;
 
 pub trait Service {
+    fn version(&self) -> u32;
     fn desk_size(&self) -> u64;
     fn open(&self, desk: &mut [u8], table: &[u8], arena_length: u64, store_length: u64, place: &mut u64) -> u32;
     fn write(&self, desk: &[u8], out: &mut [u8], written: &mut u64) -> u32;
@@ -24,6 +25,9 @@ pub trait Service {
 pub struct Model;
 
 impl Service for Model {
+    fn version(&self) -> u32 {
+        model::version()
+    }
     fn desk_size(&self) -> u64 {
         model::desk_size()
     }
@@ -58,8 +62,9 @@ impl Service for Model {
 
 // ---- the library
 
-#[link(name = "exports", kind = "static")]
+#[link(name = "edd_desk", kind = "static")]
 extern "C" {
+    fn edd_version() -> u32;
     fn edd_desk_size() -> u64;
     fn edd_open(
         desk: *mut u8,
@@ -133,7 +138,7 @@ extern "C" {
     fn edd_address(c: u32, h: u32, s: u32, block: u64, cylinder: *mut u32, head: *mut u32, sector: *mut u32) -> u32;
 }
 
-/// The proved library. With `null_for_empty` an empty slice goes over as a null pointer, else as its own address.
+/// The proved library. With `null_for_empty` an empty slice is passed as a null pointer, otherwise as its own address.
 #[derive(Default)]
 pub struct Library {
     pub null_for_empty: Cell<bool>,
@@ -194,6 +199,9 @@ fn take_registers(places: &Places<u16, 8>) -> Registers {
 }
 
 impl Service for Library {
+    fn version(&self) -> u32 {
+        unsafe { edd_version() }
+    }
     fn desk_size(&self) -> u64 {
         unsafe { edd_desk_size() }
     }
@@ -341,7 +349,7 @@ pub struct Lent {
     pages: usize,
     start: usize,
     length: usize,
-    /// Pages are taken away, the margins among them.
+    /// Some pages are inaccessible, and the margins are among them.
     partly: Cell<bool>,
 }
 
@@ -366,7 +374,7 @@ impl Lent {
         Some(lent)
     }
 
-    /// A slice of zeros of which only the pages that are touched take memory; none if the machine gives no address space for it.
+    /// A slice of zeros of which only the pages that are touched take memory; `None` if the machine has no address space for it.
     pub fn vast(length: usize) -> Option<Lent> {
         let mut lent = Lent::mapped(length)?;
         lent.set_length(length, Place::END);
@@ -405,12 +413,12 @@ impl Lent {
         assert_eq!(done, 0, "mprotect");
     }
 
-    /// While it is only read, a write to it is stopped by the machine.
+    /// While it is read-only, the machine stops a write to it.
     pub fn set_read_only(&self, on: bool) {
         self.protect(if on { READ } else { READ_WRITE });
     }
 
-    /// Takes everything but a part of the slice away, or gives it all back. Slice and part begin and end with pages.
+    /// Makes everything but a part of the slice inaccessible, or makes all of it accessible again. Slice and part begin and end with pages.
     pub fn keep_only(&self, part: Option<std::ops::Range<usize>>) {
         self.partly.set(part.is_some());
         let Some(part) = part else { return self.protect(READ_WRITE) };

@@ -22,13 +22,13 @@ impl Geometry {
         (1..=1024).contains(&self.cylinders) && (1..=255).contains(&self.heads) && (1..=63).contains(&self.sectors)
     }
 
-    /// Block = (cylinder x H + head) x S + sector - 1; none is 04h.
+    /// Block = (cylinder x H + head) x S + sector - 1; `None` means 04h.
     pub fn block(&self, at: Address) -> Option<u32> {
         let valid = self.within_limits() && at.cylinder < self.cylinders && at.head < self.heads && (1..=self.sectors).contains(&at.sector);
         valid.then(|| (at.cylinder * self.heads + at.head) * self.sectors + at.sector - 1)
     }
 
-    /// The one valid address that gives the block; none is 04h.
+    /// The one valid address that gives the block; `None` means 04h.
     pub fn address(&self, block: u64) -> Option<Address> {
         if !self.within_limits() || block >= u64::from(self.cylinders * self.heads * self.sectors) {
             return None;

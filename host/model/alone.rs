@@ -13,7 +13,7 @@ pub struct Named {
 }
 
 /// What a post comes to for the machine: its registers, and the blocks it names if it is not answered at once. Window and store are
-/// its state. None: the table is none.
+/// its state. `None` if the bytes are not a table.
 pub fn served_alone(table: &[u8], posted: Registers, window: &mut [u8], store: &mut [u8]) -> Option<(Registers, Option<Named>)> {
     let drives = table::read(table, store.len() as u64 / BLOCK_SIZE).ok()?;
     let request = match steps(&drives, window, posted) {

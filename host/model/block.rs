@@ -38,7 +38,7 @@ fn all_zero(words: &[u64]) -> bool {
     words.iter().fold(0, |or, word| or | word) == 0
 }
 
-// ---- reading: none is a block that is the image of no desk, or of one that is not acceptable (25)
+// ---- reading: `None` for a block that is not the image of a desk, or whose desk is not acceptable (25)
 
 /// The desk of an acceptable block.
 pub fn read(bytes: &[u8]) -> Option<Desk> {

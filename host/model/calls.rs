@@ -52,6 +52,11 @@ fn number(call: impl FnOnce() -> Result<u32, u32>) -> u32 {
 
 // ---- the calls
 
+/// The header's EDD_VERSION; each change request raises both.
+pub fn version() -> u32 {
+    1
+}
+
 pub fn desk_size() -> u64 {
     block::DESK_SIZE as u64
 }

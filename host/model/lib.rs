@@ -22,5 +22,5 @@ pub mod steps;
 pub mod table;
 
 pub use block::DESK_SIZE;
-pub use calls::{address, block_number, collect, desk_size, open, post, turn, window, withdraw, write};
+pub use calls::{address, block_number, collect, desk_size, open, post, turn, version, window, withdraw, write};
 pub use parts::Registers;

@@ -106,7 +106,7 @@ pub fn fields_obey(drive: &Drive) -> bool {
         && INTERFACE_TYPES.contains(&drive.interface_type)
 }
 
-/// 6 "first + blocks above the store", turned round.
+/// 6 "first + blocks above the store", negated, and without a sum that could wrap.
 pub fn lies_in_store(drive: &Drive, store_blocks: u64) -> bool {
     inside(drive.first, drive.blocks, store_blocks)
 }
@@ -156,7 +156,7 @@ pub fn length(drives: &Drives) -> usize {
     DRIVE.1 * drives.count + END.1
 }
 
-/// Lays the drives out as a table again; the caller has seen to the room.
+/// Lays the drives out as a table again; the caller has made sure that there is room.
 pub fn write(drives: &Drives, out: &mut [u8]) {
     let mut place = 0;
     for drive in drives.known() {

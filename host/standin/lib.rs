@@ -1,5 +1,5 @@
 //! The model behind the C interface of include/edd_desk.h, as a library of the same name. It stands in for the proved library when
-//! the test program itself is to be tried: host/standin/try_faults builds it once with each fault below and expects every one to be found.
+//! the tests themselves are to be tried: host/standin/try_faults builds it once with each fault below and expects every one to be found.
 //!
 //! A fault is chosen with `--cfg fault="NAME"`. Without one the stand-in is the model.
 
@@ -33,6 +33,11 @@ mod words {
     pub fn set(desk: &mut [u8], word: usize, value: u64) {
         desk[8 * word..8 * word + 8].copy_from_slice(&value.to_le_bytes());
     }
+}
+
+#[no_mangle]
+pub extern "C" fn edd_version() -> u32 {
+    model::version()
 }
 
 #[no_mangle]

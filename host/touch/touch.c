@@ -1,14 +1,14 @@
 /*
- * touch - which bytes of arena and store a call touches, told by the processor: everything but what the call may touch is made
- * unreadable before it, so that a single read elsewhere ends the program.
+ * touch - which bytes of arena and store a call touches, as the processor tells us: before the call everything that it may not touch
+ * is made inaccessible, so that a single read elsewhere ends the program.
  *
  *   post, withdraw   the window of their guest, and no byte of the store
  *   turn             the window of the guest that it serves and the store blocks that it moves. A read only reads the blocks, a write
  *                    only reads the window.
  *
- * This is tested, not proved: a promise says what memory holds before and after a call, not which bytes are looked at meanwhile. On it
- * rests what edd_desk.h allows, "What may run at the same time": a guest with no request waiting runs on in its own window, without
- * the lock, while calls for other guests run.
+ * This is tested, not proved: a promise says what memory holds before and after a call, not which bytes are read in between. What
+ * edd_desk.h allows under "What may run at the same time" depends on it: a guest that has no request waiting goes on running in its own
+ * window, without the lock, while calls for other guests run.
  */
 #include <signal.h>
 #include <stdio.h>
@@ -181,6 +181,7 @@ static void withdraw(unsigned guest)
 
 /* ---- what is run */
 
+/* rule: exports::edd_post exports::edd_turn exports::edd_collect exports::edd_withdraw */
 /* Every request of every guest by itself. */
 static void one_by_one(void)
 {
@@ -197,6 +198,7 @@ static void one_by_one(void)
     }
 }
 
+/* rule: exports::edd_turn */
 /* All eight wait, and all are served by turns; then they are withdrawn. */
 static void together(const struct request *q)
 {

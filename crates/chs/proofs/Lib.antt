@@ -1,3 +1,4 @@
-pub mod Chs
+pub mod ChsLaws
 pub mod OneToOne
 pub mod Sums
+pub mod Vectors

@@ -9,12 +9,14 @@ use native.Mathlib.Omega.{arith}
 use borrow.Author.Tests.{lt-ltb, le-leb, ltb-true}
 use lib.Arith.{digits-div, digits-mod}
 use lib.Dec.{ltb}
+use Rattle.logic.proofs.LogicLaws.{impossible}
 use Rattle.chs.specs.declared.Geometry.{Geometry}
 use Rattle.chs.specs.declared.Address.{Address}
 use Rattle.chs.specs.declared.ToBlock.the-variants.{Block, Refused as NoBlock}
 use Rattle.chs.specs.declared.ToAddress.the-variants.{At, Refused as NoAddress}
 use Rattle.chs.specs.Chs.{outside, unpack, isValid, number, size, split, inLimits, blockOf, addressOf, pack}
-use Rattle.chs.proofs.Chs.{Valid, inLimits-true, isValid-true, number-digits, sector-below, number-below, blockOf-limits, blockOf-invalid, blockOf-valid, addressOf-limits, addressOf-above, addressOf-below}
+use Rattle.chs.specs.Demand2.{Valid, OneToOne, Demand2}
+use Rattle.chs.proofs.ChsLaws.{inLimits-true, isValid-true, limits-inLimits, valid-isValid, number-digits, sector-below, number-below, blockOf-limits, blockOf-invalid, blockOf-valid, addressOf-limits, addressOf-above, addressOf-below}
 
 -- ---- the arithmetic
 
@@ -52,20 +54,43 @@ to-address g a n true true l v e =
     let w = isValid-true g a v in
     let same : number g a ≡ n = cc (blockOf-valid g a l v) in
     rw (← same) (addressOf-below g (number g a) l (lt-ltb _ _ (number-below g a w)) ∙ ap At (split-number g a w))
-to-address g a n true false l v e = let z : _≡_ {A = ℕ} 0 1 = cc (blockOf-invalid g a l v) in absurd (omega arith)
-to-address g a n false v l f e = let z : _≡_ {A = ℕ} 0 1 = cc (blockOf-limits g a l) in absurd (omega arith)
+to-address g a n true false l v e = impossible (cc (blockOf-invalid g a l v))
+to-address g a n false v l f e = impossible (cc (blockOf-limits g a l))
 
 to-block : (g : Geometry) (a : Address) (n : ℕ) (l v : Bool) →
     inLimits g ≡ l → ltb n (size g) ≡ v → addressOf g n ≡ At a → blockOf g a ≡ Block n
 to-block g a n true true l v e =
     let same : split g n ≡ a = cc (addressOf-below g n l v) in
     rw (← same) (blockOf-valid g (split g n) l (split-valid g n l (ltb-true _ _ v)) ∙ ap Block (number-split g n))
-to-block g a n true false l v e = let z : _≡_ {A = ℕ} 0 1 = cc (addressOf-above g n l v) in absurd (omega arith)
-to-block g a n false v l f e = let z : _≡_ {A = ℕ} 0 1 = cc (addressOf-limits g n l) in absurd (omega arith)
+to-block g a n true false l v e = impossible (cc (addressOf-above g n l v))
+to-block g a n false v l f e = impossible (cc (addressOf-limits g n l))
 
 -- an address has the block n exactly when the block n has that address
 pub one-to-one : (g : Geometry) (a : Address) (n : ℕ) → (blockOf g a ≡ Block n) ↔ (addressOf g n ≡ At a)
 one-to-one g a n = (to-address g a n (inLimits g) (isValid g a) refl refl, to-block g a n (inLimits g) (ltb n (size g)) refl refl)
+
+-- ---- demand 2
+
+-- an address with a block is valid
+block-valid : (g : Geometry) (a : Address) (n : ℕ) (v : Bool) → inLimits g ≡ true → isValid g a ≡ v → blockOf g a ≡ Block n → Valid g a
+block-valid g a n true l v e = isValid-true g a v
+block-valid g a n false l v e = impossible (cc (blockOf-invalid g a l v))
+
+-- a block with an address is below the size
+address-below : (g : Geometry) (a : Address) (n : ℕ) (v : Bool) → inLimits g ≡ true → ltb n (size g) ≡ v → addressOf g n ≡ At a → n < size g
+address-below g a n true l v e = ltb-true _ _ v
+address-below g a n false l v e = impossible (cc (addressOf-above g n l v))
+
+pub demand2 : Demand2
+demand2 g limits =
+    let l : inLimits g ≡ true = limits-inLimits g limits in
+    record {
+      has-block = λ a v. (number g a, blockOf-valid g a l (valid-isValid g a v), number-below g a v);
+      has-address = λ n h. (split g n, addressOf-below g n l (lt-ltb _ _ h), isValid-true g (split g n) (split-valid g n l h));
+      same = λ a n. one-to-one g a n;
+      only-valid = λ a n e. block-valid g a n (isValid g a) l refl e;
+      only-below = λ a n e. address-below g a n (ltb n (size g)) l refl e;
+    }
 
 -- each undoes the other
 pub addressOf-blockOf : (g : Geometry) (a : Address) (n : ℕ) → blockOf g a ≡ Block n → addressOf g n ≡ At a

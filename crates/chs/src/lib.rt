@@ -4,10 +4,10 @@ use logic::and;
 use logic::in_range;
 ghost use mathlib.Core.Path.{_≡_};
 ghost use mathlib.Core.Bool.{true};
-ghost use Rattle.chs.specs.Chs.{unpack, addressIn, isValid, number, size, split, inLimits, blockOf, addressOf, pack};
+ghost use Rattle.chs.specs.Chs.{unpack, addressIn, isValid, number, size, split, inLimits, blockOf, addressOf, blockNumbers, addressNumbers, blockGiven, addressGiven, pack};
 
 // AH 04h: blocks outside the drive or geometry.
-const OUTSIDE: u8 = 4;
+const OUTSIDE: u8 = 0x04;
 
 // The table's limits of C, H and S, each from 1.
 const MOST_CYLINDERS: u64 = 1024;
@@ -91,7 +91,7 @@ fn number(g: Geometry, a: Address) -> u32
 
 // The block of an address. Refused: a geometry outside the limits, first, or an address that is not valid in it.
 pub fn block_of(g: Geometry, a: Address) -> ToBlock
-    ensures { λ r. ⌜ r ≡ blockOf g a ⌝ }
+    ensures { λ r. ⌜ (r ≡ blockOf g a) × (blockNumbers r ≡ blockGiven g a) ⌝ }
 {
     if !in_limits(g) {
         return ToBlock::Refused(OUTSIDE);
@@ -118,7 +118,7 @@ fn split(g: Geometry, n: u32) -> Address
 // The one valid address of a block. Refused: a geometry outside the limits, first, or a block at or past its end.
 // The block is compared in 64 bits and divided in 32, so that block 2^32 is refused and not taken for block 0.
 pub fn address_of(g: Geometry, n: u64) -> ToAddress
-    ensures { λ r. ⌜ r ≡ addressOf g n ⌝ }
+    ensures { λ r. ⌜ (r ≡ addressOf g n) × (addressNumbers r ≡ addressGiven g n) ⌝ }
 {
     if !in_limits(g) {
         return ToAddress::Refused(OUTSIDE);

@@ -1,5 +1,7 @@
 pub mod Searches
-pub mod Acceptances
-pub mod Callings
+pub mod AcceptableLaws
+pub mod CallsLaws
+pub mod NumbersLaws
 pub mod Transfers
 pub mod Vectors
+pub mod AcceptVectors

@@ -8,31 +8,26 @@ use native.Mathlib.Nat.{add-assoc}
 use native.Mathlib.Omega.{arith}
 use lib.ListN.{length}
 use Rattle.logic.specs.Logic.{pick}
-use Rattle.drive.specs.declared.Drive.{Drive}
-use Rattle.table.specs.declared.Table.{Table}
 use Rattle.memory.specs.Window.{windowLength, spanLength, windowOf, withWindow}
 use Rattle.memory.specs.Blocks.{blocks}
-use Rattle.memory.proofs.Windows.{span-in, with-window-same}
+use Rattle.memory.proofs.WindowLaws.{span-in, with-window-same}
 use lib.Dec.{leb}
 use borrow.Author.Tests.{leb-true}
 use Rattle.int13.specs.Answers.{ah, isSectors, isWrite}
-use Rattle.int13.specs.Steps.{driveAt}
-use Rattle.int13.specs.Alone.{Memory, storeBlock, moves}
+use Rattle.int13.specs.Alone.{Memory, moves}
 use Rattle.desk.specs.declared.Request.{Request}
 use Rattle.desk.specs.Acceptable.{InRange, packetOk}
-use Rattle.desk.specs.Calls.{quota}
+use Rattle.desk.specs.Calls.{Copied, Transferred}
 
-pub store-fits : {b : Table} {q : Request} {g a s : ℕ} {d : Drive} → InRange b q g a s → d ≡ driveAt b (q .job .drive) → 512 * (d .first + q .job .start + q .moved) < 2 ^ 64
-store-fits r e = let f = ap (λ (x : Drive). x .first) e in omega (arith, r .blocks, r .moved, r .store, f)
+pub store-fits : {first k g a s : ℕ} {q : Request} → InRange first q k g a s → 512 * (first + q .job .start + q .moved) < 2 ^ 64
+store-fits r = omega (arith, r .blocks, r .part, r .store)
 
-pub ranges : {b : Table} {q : Request} {g a s k at place : ℕ} {d : Drive} → InRange b q g a s → d ≡ driveAt b (q .job .drive) → k ≡ quota q
-    → at ≡ q .job .buffer + 512 * q .moved → place ≡ 512 * (d .first + q .job .start + q .moved)
+pub ranges : {first k g a s at place : ℕ} {q : Request} → InRange first q k g a s
+    → at ≡ q .job .buffer + 512 * q .moved → place ≡ 512 * (first + q .job .start + q .moved)
     → (at + 512 * k ≤ spanLength a g (windowLength a)) × (place + 512 * k ≤ s)
-ranges {b} {q} {g} {a} {s} {k} r e ek ea ep =
-    let f = ap (λ (x : Drive). x .first) e in
+ranges {first} {k} {g} {a} r ea ep =
     let w : spanLength a g (windowLength a) ≡ windowLength a = span-in a g (windowLength a) (omega arith) (r .guest) .1 in
-    let n : q .moved + k ≤ q .job .count = omega (arith, r .moved) in
-    (rw w (omega (arith, r .buffer, n)), omega (arith, r .blocks, n, f))
+    (rw w (omega (arith, r .buffer, r .part)), omega (arith, r .blocks, r .part))
 
 -- a write leaves the window as it was, a read the store
 either-way : (t : Bool) (arena store : List ℕ) (g m at place k : ℕ)
@@ -43,18 +38,14 @@ either-way : (t : Bool) (arena store : List ℕ) (g m at place k : ℕ)
 either-way true arena store g m at place k = (sym (with-window-same arena g m), refl)
 either-way false arena store g m at place k = (refl, refl)
 
-pub moved-blocks : {d : Drive} {k at place : ℕ} {write : Bool} {arena′ store′ : List ℕ} (b : Table) (q : Request) (g : ℕ) (arena store : List ℕ)
-    → d ≡ driveAt b (q .job .drive) → k ≡ quota q → at ≡ q .job .buffer + 512 * q .moved → place ≡ 512 * (d .first + q .job .start + q .moved)
-    → write ≡ isWrite (ah (q .job .registers))
-    → arena′ ≡ pick write arena (withWindow arena g (windowLength (length arena)) (blocks (windowOf arena g (windowLength (length arena))) at store place k))
-    → store′ ≡ pick write (blocks store place (windowOf arena g (windowLength (length arena))) at k) store
-    → (arena′ ≡ withWindow arena g (windowLength (length arena)) (moves (q .job) (storeBlock b (q .job)) (q .moved) (quota q) (record { window = windowOf arena g (windowLength (length arena)); store = store }) .window))
-    × (store′ ≡ moves (q .job) (storeBlock b (q .job)) (q .moved) (quota q) (record { window = windowOf arena g (windowLength (length arena)); store = store }) .store)
+pub moved-blocks : {at place : ℕ} {write : Bool} {arena′ store′ : List ℕ} (first : ℕ) (q : Request) (k g : ℕ) (arena store : List ℕ)
+    → at ≡ q .job .buffer + 512 * q .moved → place ≡ 512 * (first + q .job .start + q .moved) → write ≡ isWrite (ah (q .job .registers))
+    → Copied write g at place k arena store arena′ store′ → Transferred first q k g arena store arena′ store′
 unfolding moves
-moved-blocks b q g arena store ed ek ea ep ew e₁ e₂ =
+moved-blocks first q k g arena store ea ep ew c =
     let at : ℕ = q .job .buffer + 512 * q .moved in
-    let place : ℕ = 512 * (driveAt b (q .job .drive) .first + q .job .start + q .moved) in
-    rw (e₁, e₂, ew, ep, ea, ek, ed) (either-way (isWrite (ah (q .job .registers))) arena store g (windowLength (length arena)) at place (quota q))
+    let place : ℕ = 512 * (first + q .job .start + q .moved) in
+    rw (c .0, c .1, ew, ep, ea) (either-way (isWrite (ah (q .job .registers))) arena store g (windowLength (length arena)) at place k)
 
 -- ---- the count word of a withdrawal
 

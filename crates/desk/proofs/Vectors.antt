@@ -16,7 +16,7 @@ use Rattle.words.specs.Words.{le}
 use Rattle.int13.specs.declared.Registers.{Registers}
 use Rattle.int13.specs.declared.Outcome.{Outcome}
 use Rattle.int13.specs.declared.Outcome.the-variants.{Answered, Waits}
-use Rattle.int13.specs.Steps.{isDrive, parameters, extensions, packetPlan, seek as seekSteps, sectors, result, check}
+use Rattle.int13.specs.Steps.{isDrive, fed, parameters, extensions, packetPlan, seek as seekSteps, sectors, result, steps, begin}
 use Rattle.desk.specs.declared.Request.{Request}
 use Rattle.desk.specs.declared.Row.{Row}
 use Rattle.desk.specs.declared.Stage.{Stage}
@@ -25,8 +25,8 @@ use Rattle.desk.specs.declared.Desk.{Desk}
 use Rattle.desk.specs.declared.Next.{Next}
 use Rattle.desk.specs.declared.Next.the-variants.{Guest, Nobody}
 use Rattle.desk.specs.Parts.{vacantRow}
-use Rattle.desk.specs.Acceptable.{jobOk, rowsOk, accept}
-use Rattle.desk.specs.Calls.{openOf, writtenOf, writtenOut, postRow, postOf, seek, turnOf, collectStage, collectOf, withdrawStage, withdrawOf}
+use Rattle.desk.specs.Acceptable.{requestOk, rowsOk, accept}
+use Rattle.desk.specs.Calls.{openOf, writtenOf, writtenOut, postRow, postOf, firstWaiting, turnOf, collectStage, collectOf, withdrawStage, withdrawOf}
 use Rattle.desk.specs.Numbers.{openNumbers, postNumbers, turnNumbers, collectNumbers, withdrawNumbers}
 
 -- 41h of drive 80h
@@ -63,7 +63,7 @@ pub order : houses (desk Vacant 8) 8 [] arena []
     ∷ ((20 ∷ []) ∷ (256 ∷ []) ∷ (20 ∷ []) ∷ (20 ∷ []) ∷ (19 ∷ []) ∷ [])
     ∷ ((0 ∷ 0x0107 ∷ 0x55AA ∷ 3 ∷ 0x80 ∷ 4 ∷ 5 ∷ 6 ∷ 1 ∷ []) ∷ (256 ∷ []) ∷ (22 ∷ []) ∷ (23 ∷ []) ∷ (0 ∷ 4 ∷ []) ∷ [])
     ∷ []
-unfolding postOf turnOf collectOf withdrawOf writtenOf postNumbers turnNumbers collectNumbers withdrawNumbers writtenNumbers writeAnswer tableOf bytesOf recordsOf leBytes accept rowsOk isSound soundTo blankTo isBlank blankNumbers blankNames same seek check isDrive parameters extensions
+unfolding postOf turnOf collectOf withdrawOf writtenOf postNumbers turnNumbers collectNumbers withdrawNumbers writtenNumbers writeAnswer tableOf bytesOf recordsOf leBytes accept rowsOk isSound soundTo blankTo isBlank blankNumbers blankNames same firstWaiting begin steps isDrive parameters extensions
 order = refl
 
 -- a finished row refuses a post (21) and a withdrawal (23), and is collected once; any registers may stand in it
@@ -84,9 +84,9 @@ abbrev waiting : Row
 waiting = row (Waiting (record { job = record { registers = registers; drive = 0x80; start = 0; count = 1; buffer = 0; packet = 0 }; moved = 0 }))
 
 -- the search begins at the pointer, that row included, and goes round; a finished row is passed over
-pub searches : map (seek (set (set (set (replicate 8 vacantRow) 0 waiting) 7 waiting) 3 (row (Finished registers))) 8) (7 ∷ 0 ∷ 1 ∷ 3 ∷ [])
+pub searches : map (firstWaiting (set (set (set (replicate 8 vacantRow) 0 waiting) 7 waiting) 3 (row (Finished registers))) 8) (7 ∷ 0 ∷ 1 ∷ 3 ∷ [])
     ≡ Guest 7 ∷ Guest 0 ∷ Guest 7 ∷ Guest 7 ∷ []
-unfolding seek
+unfolding firstWaiting
 searches = refl
 
 -- openings: a table of no drives with the largest lengths; a table that is refused, whose place counts from its first byte
@@ -155,7 +155,7 @@ abbrev firstNumber : Outcome → ℕ
 firstNumber (Answered r) = r .ax
 firstNumber (Waits j) = 0xFFFF
 
-pub no-window : map (λ (ax : ℕ). firstNumber (check (readTable tableBytes 17 .table) (call ax) [] .outcome)) (0x0201 ∷ 0x4200 ∷ 0x4700 ∷ 0x4800 ∷ 0x0800 ∷ 0x4100 ∷ [])
+pub no-window : map (λ (ax : ℕ). firstNumber (begin (fed (readTable tableBytes 17 .table)) (call ax) [] .outcome)) (0x0201 ∷ 0x4200 ∷ 0x4700 ∷ 0x4800 ∷ 0x0800 ∷ 0x4100 ∷ [])
     ≡ 0x0900 ∷ 0x0100 ∷ 0x0100 ∷ 0x0100 ∷ 0x0000 ∷ 0x3000 ∷ []
-unfolding check sectors packetPlan seekSteps result parameters extensions isDrive blockOf isValid readPacket le leBytes inLimits driveOf same busOk interfaceOk geometryFits fieldsOk inStore overlap headerOf headerAt overlapsAny refusal driveStep endStep stepOf stepAt readFrom readTable
+unfolding begin steps sectors packetPlan seekSteps result parameters extensions isDrive blockOf isValid readPacket le leBytes inLimits driveOf same busOk interfaceOk geometryFits fieldsOk inStore overlap headerOf headerAt overlapsAny refusal driveStep endStep stepOf stepAt readFrom readTable
 no-window = refl

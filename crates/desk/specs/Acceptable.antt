@@ -7,6 +7,7 @@ use mathlib.Core.List.{List}
 use lib.Dec.{leb, ltb, eqb}
 use Rattle.logic.specs.Logic.{pick, both, either}
 use Rattle.chs.specs.Chs.{size}
+use Rattle.drive.specs.declared.Drive.{Drive}
 use Rattle.drive.specs.Drive.{geometryOf, isProtected}
 use Rattle.table.specs.declared.Table.{Table}
 use Rattle.table.specs.Table.{isSound}
@@ -15,7 +16,6 @@ use Rattle.memory.specs.Window.{guests, windowLength}
 use Rattle.memory.specs.Blocks.{blockLength}
 use Rattle.int13.specs.declared.Job.{Job}
 use Rattle.int13.specs.Answers.{ah, isSectors, isWrite}
-use Rattle.int13.specs.Alone.{storeBlock}
 use Rattle.int13.specs.Steps.{isDrive, driveAt, mostBlocks, mostRun}
 use Rattle.desk.specs.declared.Request.{Request}
 use Rattle.desk.specs.declared.Stage.{Stage}
@@ -25,8 +25,8 @@ use Rattle.desk.specs.declared.Desk.{Desk}
 use Rattle.desk.specs.Parts.{windowSize, storeBlocks, stageIn}
 
 -- the blocks that a turn moves at most
-abbrev pub part : ℕ
-part = 16
+abbrev pub turnBlocks : ℕ
+turnBlocks = 16
 
 -- the functions that wait
 abbrev pub isTransfer : ℕ → Bool
@@ -37,32 +37,39 @@ abbrev pub countOk : ℕ → ℕ → Bool
 countOk f n = leb n (pick (isSectors f) mostRun mostBlocks)
 
 -- a block range inside that drive, and the geometry for 02h and 03h
-abbrev pub rangeOk : Table → ℕ → Job → Bool
-rangeOk b f j =
-    both (leb (j .start + j .count) (driveAt b (j .drive) .blocks))
-    (pick (isSectors f) (leb (j .start + j .count) (size (geometryOf (driveAt b (j .drive))))) true)
+abbrev pub rangeOk : Drive → ℕ → Job → Bool
+rangeOk d f j = both (leb (j .start + j .count) (d .blocks)) (pick (isSectors f) (leb (j .start + j .count) (size (geometryOf d))) true)
 
 -- any packet inside the window; 02h and 03h have none, and keep 0 in its place
 abbrev pub packetOk : ℕ → ℕ → ℕ → Bool
 packetOk f place M = pick (isSectors f) (eqb place 0) (leb (place + packetLength) M)
 
-unfoldable pub jobOk : Table → ℕ → Job → Bool
-jobOk b M j =
-    both (isDrive b (j .drive))
-    (both (isTransfer (ah (j .registers)))
+-- what is asked of a job on its drive; a write needs one that is not protected
+abbrev pub jobRules : Drive → ℕ → Job → Bool
+jobRules d M j =
+    both (isTransfer (ah (j .registers)))
     (both (countOk (ah (j .registers)) (j .count))
-    (both (rangeOk b (ah (j .registers)) j)
+    (both (rangeOk d (ah (j .registers)) j)
     (both (leb (j .buffer + blockLength * j .count) M)
     (both (packetOk (ah (j .registers)) (j .packet) M)
-    (not (both (isWrite (ah (j .registers))) (isProtected (driveAt b (j .drive))))))))))
+    (not (both (isWrite (ah (j .registers))) (isProtected d)))))))
+
+-- the same of a job that names its drive by number
+unfoldable pub jobOk : Table → ℕ → Job → Bool
+jobOk b M j = both (isDrive b (j .drive)) (jobRules (driveAt b (j .drive)) M j)
 
 -- a moved number that is a multiple of 16 below the count
 abbrev pub movedOk : ℕ → ℕ → Bool
-movedOk moved count = both (eqb (moved % part) 0) (ltb moved count)
+movedOk moved count = both (eqb (moved % turnBlocks) 0) (ltb moved count)
 
+-- all that is asked of a waiting request on its drive, in windows of M bytes
+unfoldable pub requestOk : Drive → ℕ → Request → Bool
+requestOk d M q = both (jobRules d M (q .job)) (movedOk (q .moved) (q .job .count))
+
+-- a waiting row has a known drive, and a request as above; the other stages hold nothing to ask about
 abbrev pub stageOk : Table → ℕ → Stage → Bool
 stageOk b M Vacant = true
-stageOk b M (Waiting q) = both (jobOk b M (q .job)) (movedOk (q .moved) (q .job .count))
+stageOk b M (Waiting q) = both (isDrive b (q .job .drive)) (requestOk (driveAt b (q .job .drive)) M q)
 stageOk b M (Finished r) = true
 
 -- the first n rows
@@ -74,12 +81,11 @@ rowsOk (suc n) rows b M = both (stageOk b M (stageIn rows n)) (rowsOk n rows b M
 unfoldable pub accept : Desk → Bool
 accept d = both (isSound (d .table) (storeBlocks d)) (both (ltb (d .pointer) guests) (rowsOk guests (d .rows) (d .table) (windowSize d)))
 
--- what acceptance says of the row that a turn serves, for an arena of a bytes and a store of s
-pub record InRange (b : Table) (q : Request) (g a s : ℕ) : Type 0 where
+-- what acceptance says of the row that a turn serves, for k blocks of it, its drive's first store block, an arena of a bytes and a store of s
+pub record InRange (first : ℕ) (q : Request) (k g a s : ℕ) : Type 0 where
   pub guest : g < guests
-  pub drive : isDrive b (q .job .drive) ≡ true
-  pub moved : q .moved < q .job .count
+  pub part : q .moved + k ≤ q .job .count
   pub buffer : q .job .buffer + blockLength * q .job .count ≤ windowLength a
-  pub blocks : blockLength * (storeBlock b (q .job) + q .job .count) ≤ s
+  pub blocks : blockLength * (first + q .job .start + q .job .count) ≤ s
   pub arena : a < 2 ^ 64
   pub store : s < 2 ^ 64

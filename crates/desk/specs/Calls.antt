@@ -1,13 +1,14 @@
 -- Document 01, "Calls the host makes" and "Numbers given back": what each call answers, and the desk, arena and store it leaves.
 -- Assumes nothing.
 use Prim.Native.Nat.{ℕ, zero, suc, _+_, _-_, _/_, min}
+use mathlib.Core.Path.{_≡_}
 use mathlib.Core.Bool.{Bool, true, false, not}
 use mathlib.Core.List.{List, [], _∷_}
 use lib.ListN.{length, replicate}
 use lib.Dec.{leb, ltb, eqb}
 use Rattle.logic.specs.Logic.{pick, both}
 use Rattle.memory.specs.Window.{guests, windowOf, withWindow}
-use Rattle.memory.specs.Blocks.{blockLength}
+use Rattle.memory.specs.Blocks.{blockLength, blocks}
 use Rattle.table.specs.declared.Table.{Table}
 use Rattle.table.specs.declared.Answer.{Answer}
 use Rattle.table.specs.declared.Answer.the-variants.{Accepted, Refused as TableRefused}
@@ -20,13 +21,14 @@ use Rattle.int13.specs.declared.Job.{Job}
 use Rattle.int13.specs.declared.Outcome.{Outcome}
 use Rattle.int13.specs.declared.Outcome.the-variants.{Answered, Waits}
 use Rattle.int13.specs.Answers.{ah, isSectors, succeed, withdraw}
-use Rattle.int13.specs.Steps.{Checked, withCount, check}
+use Rattle.int13.specs.Steps.{Checked, withCount, fed, begin}
 use Rattle.int13.specs.Alone.{Memory, storeBlock, moves}
 use Rattle.desk.specs.declared.Request.{Request}
 use Rattle.desk.specs.declared.Stage.{Stage}
 use Rattle.desk.specs.declared.Stage.the-variants.{Vacant, Waiting, Finished}
 use Rattle.desk.specs.declared.Row.{Row}
 use Rattle.desk.specs.declared.Desk.{Desk}
+use Rattle.desk.specs.declared.Service.{Service}
 use Rattle.desk.specs.declared.Next.{Next}
 use Rattle.desk.specs.declared.Next.the-variants.{Guest, Nobody}
 use Rattle.desk.specs.declared.OpenAnswer.{OpenAnswer}
@@ -40,28 +42,46 @@ use Rattle.desk.specs.declared.CollectAnswer.{CollectAnswer}
 use Rattle.desk.specs.declared.CollectAnswer.the-variants.{Given as CollectGiven, Refused as CollectRefused}
 use Rattle.desk.specs.declared.WithdrawAnswer.{WithdrawAnswer}
 use Rattle.desk.specs.declared.WithdrawAnswer.the-variants.{Given as WithdrawGiven, Refused as WithdrawRefused}
-use Rattle.desk.specs.Parts.{windowSize, vacantRow, stageIn, stageAt, withStage, isWaiting, next, withPointer}
-use Rattle.desk.specs.Acceptable.{part, accept}
+use Rattle.desk.specs.Parts.{windowSize, ownWindow, withOwn, vacantRow, stageIn, stageAt, withStage, isWaiting, next, withPointer}
+use Rattle.desk.specs.Acceptable.{turnBlocks, accept}
 
--- ---- house numbers, in their order: 25, 24, 20, then the row or 19
+-- ---- "Numbers given back": the house numbers, and the tests that come before the row's in every call
 
+-- house number 25: desk block not acceptable
 abbrev pub notAcceptable : ℕ
 notAcceptable = 25
 
+-- house number 24: arena or store length differs from the opening
 abbrev pub otherLength : ℕ
 otherLength = 24
 
+-- house number 20: guest is 8 or more
 abbrev pub noGuest : ℕ
 noGuest = 20
 
+-- house number 21: post to a row that is not vacant
 abbrev pub notVacant : ℕ
 notVacant = 21
 
+-- house number 22: collect, row not finished
 abbrev pub notFinished : ℕ
 notFinished = 22
 
+-- house number 23: withdraw, row not waiting
 abbrev pub notWaiting : ℕ
 notWaiting = 23
+
+-- 25, then 24, then 20: the first test that fails is the answer. A call that is lent no arena and store, or names no guest, passes that test
+abbrev pub houseTests : {A : Type 0} → Bool → Bool → Bool → (ℕ → A) → A → A
+houseTests acceptable lent guest refused passed =
+    pick (not acceptable) (refused notAcceptable)
+    (pick (not lent) (refused otherLength)
+    (pick (not guest) (refused noGuest)
+    passed))
+
+-- the number that they give, 0 where all pass
+unfoldable pub houseNumber : Bool → Bool → Bool → ℕ
+houseNumber acceptable lent guest = houseTests acceptable lent guest (λ n. n) 0
 
 -- arena and store have the lengths of the opening
 abbrev pub isLent : Desk → List ℕ → List ℕ → Bool
@@ -88,14 +108,17 @@ opened b arena store = record { rows = replicate guests vacantRow; pointer = 0; 
 abbrev pub closed : ℕ → ℕ → Desk
 closed arena store = record { rows = replicate guests vacantRow; pointer = guests; table = emptyTable; arena = arena; store = store }
 
+-- a table that is accepted gives an opened desk; a refused one gives a desk that is of no use
 abbrev pub openDesk : Answer → Table → ℕ → ℕ → Desk
 openDesk Accepted b arena store = opened b arena store
 openDesk (TableRefused n place) b arena store = closed arena store
 
+-- opened, or the table's number with the place of the record
 abbrev pub openAnswer : Answer → OpenAnswer
 openAnswer Accepted = Opened
 openAnswer (TableRefused n place) = OpenRefused n place
 
+-- open takes table bytes, arena length and store length; the table is read for a store of floor(length / 512) blocks
 unfoldable pub openOf : List ℕ → ℕ → ℕ → Opening
 openOf t arena store =
     record {
@@ -105,11 +128,13 @@ openOf t arena store =
 
 -- ---- write
 
+-- write: 25, then the table's own answer, which is its length or 19
 unfoldable pub writtenOf : Desk → ℕ → Written
-writtenOf d room = pick (not (accept d)) (WriteRefused notAcceptable) (writeAnswer (d .table) room)
+writtenOf d room = houseTests (accept d) true true (λ n. WriteRefused n) (writeAnswer (d .table) room)
 
+-- the buffer after a write; a refusal leaves it as it was
 unfoldable pub writtenOut : Desk → List ℕ → List ℕ
-writtenOut d out = pick (not (accept d)) out (writeOut (d .table) out)
+writtenOut d out = houseTests (accept d) true true (λ n. out) (writeOut (d .table) out)
 
 -- ---- post
 
@@ -119,33 +144,37 @@ postChecked d g arena store (Answered r) w = record { desk = d; answer = PostAns
 postChecked d g arena store (Waits j) w =
     record { desk = withStage d g (Waiting (record { job = j; moved = 0 })); answer = PostWaits; arena = withWindow arena g (windowSize d) w; store = store }
 
+-- a post to a vacant row goes through the steps, on the table and the guest's own window
 abbrev pub postVacant : Desk → ℕ → Registers → List ℕ → List ℕ → Done PostAnswer
 postVacant d g r arena store =
-    postChecked d g arena store (check (d .table) r (windowOf arena g (windowSize d)) .outcome) (check (d .table) r (windowOf arena g (windowSize d)) .window)
+    postChecked d g arena store (begin (fed (d .table)) r (windowOf arena g (windowSize d)) .outcome) (begin (fed (d .table)) r (windowOf arena g (windowSize d)) .window)
 
+-- 21 for a row that is not vacant, whatever the function
 abbrev pub postRow : Desk → ℕ → Registers → List ℕ → List ℕ → Stage → Done PostAnswer
 postRow d g r arena store Vacant = postVacant d g r arena store
 postRow d g r arena store (Waiting q) = done d (PostRefused notVacant) arena store
 postRow d g r arena store (Finished x) = done d (PostRefused notVacant) arena store
 
+-- post, in the order of the house numbers: 25, 24, 20, then the row
 unfoldable pub postOf : Desk → ℕ → Registers → List ℕ → List ℕ → Done PostAnswer
 postOf d g r arena store =
-    pick (not (accept d)) (done d (PostRefused notAcceptable) arena store)
-    (pick (not (isLent d arena store)) (done d (PostRefused otherLength) arena store)
-    (pick (not (ltb g guests)) (done d (PostRefused noGuest) arena store)
-    (postRow d g r arena store (stageAt d g))))
+    houseTests (accept d) (isLent d arena store) (ltb g guests) (λ n. done d (PostRefused n) arena store)
+    (postRow d g r arena store (stageAt d g))
 
 -- ---- turn
 
 -- the first waiting row among k, from guest g on
-unfoldable pub seek : List Row → ℕ → ℕ → Next
-seek rows zero g = Nobody
-seek rows (suc k) g = pick (isWaiting (stageIn rows g)) (Guest g) (seek rows k (next g))
+unfoldable pub firstWaiting : List Row → ℕ → ℕ → Next
+firstWaiting rows zero g = Nobody
+firstWaiting rows (suc k) g = pick (isWaiting (stageIn rows g)) (Guest g) (firstWaiting rows k (next g))
+
+-- ---- what a turn does to a request
 
 -- the next 16 blocks, or what remains if fewer
 abbrev pub quota : Request → ℕ
-quota q = min part (q .job .count - q .moved)
+quota q = min turnBlocks (q .job .count - q .moved)
 
+-- the request with k more blocks moved
 abbrev pub later : Request → ℕ → Request
 later q k = record { job = q .job; moved = q .moved + k }
 
@@ -153,38 +182,67 @@ later q k = record { job = q .job; moved = q .moved + k }
 unfoldable pub stageAfter : Request → Stage
 stageAfter q = pick (ltb (q .moved + quota q) (q .job .count)) (Waiting (later q (quota q))) (Finished (succeed (q .job .registers)))
 
+-- the blocks that it moves now, and the stage of the row after it
+abbrev pub serviceOf : Request → Service
+serviceOf q = record { moved = quota q; stage = stageAfter q }
+
+-- what it writes in the window beside the data: nothing
+abbrev pub beside : Request → List ℕ → List ℕ
+beside q w = w
+
+-- what a turn works on: the served guest's window and the store
 abbrev pub memoryOf : Desk → ℕ → List ℕ → List ℕ → Memory
 memoryOf d g arena store = record { window = windowOf arena g (windowSize d); store = store }
 
+-- window and store after the turn has moved its blocks
 abbrev pub movedBy : Desk → ℕ → Request → List ℕ → List ℕ → Memory
-movedBy d g q arena store = moves (q .job) (storeBlock (d .table) (q .job)) (q .moved) (quota q) (memoryOf d g arena store)
+movedBy d g q arena store = moves (q .job) (storeBlock (d .table) (q .job)) (q .moved) (serviceOf q .moved) (memoryOf d g arena store)
 
+-- k blocks between a place of guest g's window and a place of the store: what arena and store hold then
+abbrev pub Copied : Bool → ℕ → ℕ → ℕ → ℕ → List ℕ → List ℕ → List ℕ → List ℕ → Type 0
+Copied write g at place k arena store arena′ store′ =
+    (arena′ ≡ pick write arena (withOwn arena g (blocks (ownWindow arena g) at store place k)))
+    × (store′ ≡ pick write (blocks store place (ownWindow arena g) at k) store)
+
+-- the next k blocks of a request on a drive whose first store block is `first`: what arena and store hold then
+abbrev pub movedFrom : ℕ → Request → ℕ → ℕ → List ℕ → List ℕ → Memory
+movedFrom first q k g arena store = moves (q .job) (first + q .job .start) (q .moved) k (record { window = ownWindow arena g; store = store })
+
+-- what a transfer leaves: the guest's window in the arena, and the store, after k blocks have moved
+abbrev pub Transferred : ℕ → Request → ℕ → ℕ → List ℕ → List ℕ → List ℕ → List ℕ → Type 0
+Transferred first q k g arena store arena′ store′ =
+    (arena′ ≡ withOwn arena g (movedFrom first q k g arena store .window)) × (store′ ≡ movedFrom first q k g arena store .store)
+
+-- a turn that serves guest g: it moves the next blocks, answers the guest and their number, and the pointer becomes g plus 1, modulo 8
 abbrev pub serve : Desk → ℕ → Request → List ℕ → List ℕ → Done TurnAnswer
 serve d g q arena store =
     record {
-      desk = withPointer (withStage d g (stageAfter q)) (next g);
-      answer = Served g (quota q);
-      arena = withWindow arena g (windowSize d) (movedBy d g q arena store .window);
+      desk = withPointer (withStage d g (serviceOf q .stage)) (next g);
+      answer = Served g (serviceOf q .moved);
+      arena = withWindow arena g (windowSize d) (beside q (movedBy d g q arena store .window));
       store = movedBy d g q arena store .store;
     }
 
+-- only a waiting row is served; the search finds no other, so the other two clauses are never met
 abbrev pub serveStage : Desk → ℕ → Stage → List ℕ → List ℕ → Done TurnAnswer
 serveStage d g Vacant arena store = done d Idle arena store
 serveStage d g (Waiting q) arena store = serve d g q arena store
 serveStage d g (Finished r) arena store = done d Idle arena store
 
+-- with no row waiting a turn answers idle, and nothing changes
 abbrev pub turnNext : Desk → Next → List ℕ → List ℕ → Done TurnAnswer
 turnNext d Nobody arena store = done d Idle arena store
 turnNext d (Guest g) arena store = serveStage d g (stageAt d g) arena store
 
+-- turn: 25, 24, then the first waiting row at or after the pointer
 unfoldable pub turnOf : Desk → List ℕ → List ℕ → Done TurnAnswer
 turnOf d arena store =
-    pick (not (accept d)) (done d (TurnRefused notAcceptable) arena store)
-    (pick (not (isLent d arena store)) (done d (TurnRefused otherLength) arena store)
-    (turnNext d (seek (d .rows) guests (d .pointer)) arena store))
+    houseTests (accept d) (isLent d arena store) true (λ n. done d (TurnRefused n) arena store)
+    (turnNext d (firstWaiting (d .rows) guests (d .pointer)) arena store)
 
 -- ---- collect
 
+-- a finished row hands out its registers and becomes vacant; any other row is 22
 abbrev pub collectStage : Desk → ℕ → Stage → List ℕ → List ℕ → Done CollectAnswer
 collectStage d g Vacant arena store = done d (CollectRefused notFinished) arena store
 collectStage d g (Waiting q) arena store = done d (CollectRefused notFinished) arena store
@@ -193,9 +251,8 @@ collectStage d g (Finished r) arena store = done (withStage d g Vacant) (Collect
 -- it is lent no arena and no store, which stay whatever they are
 unfoldable pub collectOf : Desk → ℕ → List ℕ → List ℕ → Done CollectAnswer
 collectOf d g arena store =
-    pick (not (accept d)) (done d (CollectRefused notAcceptable) arena store)
-    (pick (not (ltb g guests)) (done d (CollectRefused noGuest) arena store)
-    (collectStage d g (stageAt d g) arena store))
+    houseTests (accept d) true (ltb g guests) (λ n. done d (CollectRefused n) arena store)
+    (collectStage d g (stageAt d g) arena store)
 
 -- ---- withdraw
 
@@ -203,6 +260,7 @@ collectOf d g arena store =
 abbrev pub withdrawnWindow : Request → List ℕ → List ℕ
 withdrawnWindow q w = pick (isSectors (ah (q .job .registers))) w (withCount w (q .job .packet) (q .moved))
 
+-- a waiting request ends with carry set and AH = 80h, and its row becomes vacant; any other row is 23
 abbrev pub withdrawStage : Desk → ℕ → Stage → List ℕ → List ℕ → Done WithdrawAnswer
 withdrawStage d g Vacant arena store = done d (WithdrawRefused notWaiting) arena store
 withdrawStage d g (Waiting q) arena store =
@@ -214,9 +272,8 @@ withdrawStage d g (Waiting q) arena store =
     }
 withdrawStage d g (Finished r) arena store = done d (WithdrawRefused notWaiting) arena store
 
+-- withdraw: 25, 24, 20, then the row
 unfoldable pub withdrawOf : Desk → ℕ → List ℕ → List ℕ → Done WithdrawAnswer
 withdrawOf d g arena store =
-    pick (not (accept d)) (done d (WithdrawRefused notAcceptable) arena store)
-    (pick (not (isLent d arena store)) (done d (WithdrawRefused otherLength) arena store)
-    (pick (not (ltb g guests)) (done d (WithdrawRefused noGuest) arena store)
-    (withdrawStage d g (stageAt d g) arena store)))
+    houseTests (accept d) (isLent d arena store) (ltb g guests) (λ n. done d (WithdrawRefused n) arena store)
+    (withdrawStage d g (stageAt d g) arena store)

@@ -15,17 +15,19 @@ ghost use lib.ListN.{length};
 ghost use Rattle.logic.specs.Logic.{pick, both};
 ghost use Rattle.chs.specs.Chs.{size};
 ghost use Rattle.drive.specs.Drive.{geometryOf};
-ghost use Rattle.desk.specs.Parts.{isWaiting, withPointer};
-ghost use Rattle.desk.specs.Acceptable.{packetOk, movedOk, jobOk, stageOk, rowsOk, accept, InRange};
+ghost use Rattle.desk.specs.Parts.{ownWindow, withOwn, withStage, isWaiting, next, withPointer};
+ghost use Rattle.desk.specs.Acceptable.{packetOk, movedOk, jobRules, requestOk, stageOk, rowsOk, accept, InRange};
 ghost use mathlib.Core.List.{List, []};
+ghost use Rattle.table.specs.Table.{writtenNumbers};
 ghost use Rattle.layout.specs.Packet.{packetLength};
-ghost use Rattle.memory.specs.Window.{guests, windowLength, spanLength, windowOf, withWindow};
-ghost use Rattle.memory.specs.Blocks.{blockLength, blocks};
-ghost use Rattle.int13.specs.Answers.{ah};
+ghost use Rattle.memory.specs.Window.{guests, windowLength, spanLength};
+ghost use Rattle.memory.specs.Blocks.{blockLength};
+ghost use Rattle.int13.specs.Answers.{ah, withdraw};
 ghost use Rattle.int13.specs.Steps.{mostBlocks, mostRun};
-ghost use Rattle.int13.specs.Alone.{storeBlock, moves};
 ghost use Rattle.desk.specs.declared.Stage.the-variants.{Waiting};
-ghost use Rattle.desk.specs.Calls.{done, opened, openOf, writtenOf, writtenOut, postChecked, postOf, seek, quota, stageAfter, serve, turnOf, collectOf, withdrawnWindow, withdrawStage, withdrawOf};
+ghost use Rattle.desk.specs.declared.TurnAnswer.the-variants.{Served};
+ghost use Rattle.desk.specs.Calls.{houseNumber, done, opened, openOf, writtenOf, writtenOut, postChecked, postOf, firstWaiting, quota, serviceOf, Copied, Transferred, turnOf, collectOf, withdrawnWindow, withdrawStage, withdrawOf};
+ghost use Rattle.desk.specs.Numbers.{openNumbers, postNumbers, turnNumbers, collectNumbers, withdrawNumbers, openGiven, writeGiven, postGiven, turnGiven, collectGiven, withdrawGiven};
 
 // A request with the number of blocks that have moved.
 pub struct Request {
@@ -51,6 +53,12 @@ pub struct Desk {
     pub table: Table,
     pub arena: u64,
     pub store: u64,
+}
+
+// What a turn does to a request: the blocks that it moves, and the stage of the row after it.
+pub struct Service {
+    pub moved: u64,
+    pub stage: Stage,
 }
 
 // The answers. Refused holds a house number; an opening's also a table number with its place.
@@ -116,11 +124,11 @@ pub enum Next {
 // Document 01's house numbers.
 const NO_GUEST: u8 = 20;
 
-const NOT_VACANT: u8 = 21;
+pub const NOT_VACANT: u8 = 21;
 
-const NOT_FINISHED: u8 = 22;
+pub const NOT_FINISHED: u8 = 22;
 
-const NOT_WAITING: u8 = 23;
+pub const NOT_WAITING: u8 = 23;
 
 const OTHER_LENGTH: u8 = 24;
 
@@ -138,17 +146,25 @@ const MOST_RUN: u64 = 128;
 
 const MOST_BLOCKS: u64 = 127;
 
-// ---- acceptable desks
+// ---- the tests before the row's
 
-// place + n is at most end, with no sum that wraps.
-fn ends_by(place: u64, n: u64, end: u64) -> bool
-    ensures { λ r. ⌜ r ≡ leb (place + n) end ⌝ }
+// The first house number that a call comes to, 0 where it passes: the only place that knows their order.
+pub fn house_number(acceptable: bool, lent: bool, guest: bool) -> u8
+    ensures { λ r. ⌜ r ≡ houseNumber acceptable lent guest ⌝ }
 {
-    if end < place {
-        return false;
+    if !acceptable {
+        return NOT_ACCEPTABLE;
     }
-    n <= end - place
+    if !lent {
+        return OTHER_LENGTH;
+    }
+    if !guest {
+        return NO_GUEST;
+    }
+    0
 }
+
+// ---- acceptable desks
 
 // n blocks of bytes from a place end at most at end.
 fn blocks_end_by(place: u64, n: u64, end: u64) -> bool
@@ -175,15 +191,18 @@ fn packet_ok(sectors: bool, place: u64, m: u64) -> bool
     if sectors {
         return place == 0;
     }
-    ends_by(place, PACKET_LENGTH, m)
+    logic::ends_by(place, PACKET_LENGTH, m)
 }
 
 fn range_ok(d: Drive, sectors: bool, start: u64, count: u64) -> bool
     ensures { λ r. ⌜ r ≡ both (leb (start + count) (d .blocks)) (pick sectors (leb (start + count) (size (geometryOf d))) true) ⌝ }
 {
-    let inside = ends_by(start, count, d.blocks);
+    let inside = logic::ends_by(start, count, d.blocks);
     if sectors {
-        return logic::and(inside, ends_by(start, count, drive::geometry_size(d)));
+        return logic::and(
+            inside,
+            logic::ends_by(start, count, drive::geometry_size(d)),
+        );
     }
     logic::and(inside, true)
 }
@@ -194,14 +213,9 @@ fn moved_ok(moved: u64, count: u64) -> bool
     logic::and(moved % PART == 0, moved < count)
 }
 
-fn job_ok(b: Table, m: u64, j: Job) -> bool
-    ensures { λ r. ⌜ r ≡ jobOk b m j ⌝ }
+fn job_ok(d: Drive, m: u64, j: Job) -> bool
+    ensures { λ r. ⌜ r ≡ jobRules d m j ⌝ }
 {
-    let n = j.drive;
-    if !int13::is_drive(b, n) {
-        return false;
-    }
-    let d = int13::drive_at(b, n);
     let f = int13::function_of(j.registers);
     let sectors = int13::is_sectors(f);
     let transfer = logic::or(sectors, logic::or(f == 0x42, f == 0x43));
@@ -214,13 +228,25 @@ fn job_ok(b: Table, m: u64, j: Job) -> bool
     logic::and(transfer, logic::and(count_ok(sectors, j.count), blocks))
 }
 
+// What is asked of a waiting request on its drive, in windows of m bytes.
+pub fn request_ok(d: Drive, m: u64, q: Request) -> bool
+    ensures { λ r. ⌜ r ≡ requestOk d m q ⌝ }
+{
+    logic::and(job_ok(d, m, q.job), moved_ok(q.moved, q.job.count))
+}
+
 fn stage_ok(b: Table, m: u64, stage: Stage) -> bool
     ensures { λ r. ⌜ r ≡ stageOk b m stage ⌝ }
 {
     let Stage::Waiting(q) = stage else {
         return true;
     };
-    logic::and(job_ok(b, m, q.job), moved_ok(q.moved, q.job.count))
+    let n = q.job.drive;
+    if !int13::is_drive(b, n) {
+        return false;
+    }
+    let d = int13::drive_at(b, n);
+    request_ok(d, m, q)
 }
 
 fn rows_ok(rows: [Row; 8], b: Table, m: u64) -> bool
@@ -265,7 +291,7 @@ fn waits(stage: Stage) -> bool
 // The first waiting row at or after the pointer, which `accept` has found below 8.
 fn next_waiting(rows: [Row; 8], pointer: usize) -> Next
     requires { ⌜ pointer < guests ⌝ }
-    ensures { λ r. ⌜ r ≡ seek rows guests pointer ⌝ }
+    ensures { λ r. ⌜ r ≡ firstWaiting rows guests pointer ⌝ }
 {
     let mut guest = pointer;
     let mut left: usize = 8;
@@ -281,28 +307,36 @@ fn next_waiting(rows: [Row; 8], pointer: usize) -> Next
     Next::Nobody
 }
 
-// The blocks that the next turn moves, of a request with blocks left.
+// ---- what a turn does to a request
+
+// The blocks that the next turn moves.
 fn quota_of(q: Request) -> u64
-    requires { ⌜ q .moved ≤ q .job .count ⌝ }
     ensures { λ r. ⌜ r ≡ quota q ⌝ }
 {
+    if q.job.count < q.moved {
+        return 0;
+    }
     let left = q.job.count - q.moved;
     if left < PART { left } else { PART }
 }
 
-// The stage of a row after its next turn.
-fn stage_after(q: Request) -> Stage
-    requires { ⌜ q .moved ≤ q .job .count ⌝ }
-    ensures { λ r. ⌜ r ≡ stageAfter q ⌝ }
+pub fn service_of(q: Request) -> Service
+    ensures { λ r. ⌜ r ≡ serviceOf q ⌝ }
 {
     let k = quota_of(q);
     let moved = q.moved + k;
     let job = q.job;
     if moved < job.count {
-        return Stage::Waiting(Request { job, moved });
+        return Service {
+            moved: k,
+            stage: Stage::Waiting(Request { job, moved }),
+        };
     }
     let registers = job.registers;
-    Stage::Finished(int13::succeed(registers))
+    Service {
+        moved: k,
+        stage: Stage::Finished(int13::succeed(registers)),
+    }
 }
 
 // Where the next blocks of a request stand in the window and in the store, in bytes. The request is in range, so that neither wraps.
@@ -331,7 +365,7 @@ fn move_blocks(
     store: &mut [u8],
 )
     requires { ⌜ (at + blockLength * k ≤ spanLength (length (now arena)) guest (windowLength (length (now arena)))) × (place + blockLength * k ≤ length (now store)) ⌝ }
-    ensures { λ _. ⌜ (now (arena .exit) ≡ pick write (now (arena .entry)) (withWindow (now (arena .entry)) guest (windowLength (length (now (arena .entry)))) (blocks (windowOf (now (arena .entry)) guest (windowLength (length (now (arena .entry))))) at (now (store .entry)) place k))) × (now (store .exit) ≡ pick write (blocks (now (store .entry)) place (windowOf (now (arena .entry)) guest (windowLength (length (now (arena .entry))))) at k) (now (store .entry))) ⌝ }
+    ensures { λ _. ⌜ Copied write guest at place k (now (arena .entry)) (now (store .entry)) (now (arena .exit)) (now (store .exit)) ⌝ }
 {
     let m = memory::window_length(arena.len());
     if write {
@@ -341,17 +375,15 @@ fn move_blocks(
     memory::load(arena, guest, m, at, &store[..], place, k);
 }
 
-// The next blocks of a request move between the window and the store. `turn` serves only rows that `accept` has found in range.
-fn transfer(b: Table, q: Request, guest: usize, arena: &mut [u8], store: &mut [u8])
-    requires { ⌜ InRange b q guest (length (now arena)) (length (now store)) ⌝ }
-    ensures { λ _. ⌜ (now (arena .exit) ≡ withWindow (now (arena .entry)) guest (windowLength (length (now (arena .entry)))) (moves (q .job) (storeBlock b (q .job)) (q .moved) (quota q) (record { window = windowOf (now (arena .entry)) guest (windowLength (length (now (arena .entry)))); store = now (store .entry) }) .window)) × (now (store .exit) ≡ moves (q .job) (storeBlock b (q .job)) (q .moved) (quota q) (record { window = windowOf (now (arena .entry)) guest (windowLength (length (now (arena .entry)))); store = now (store .entry) }) .store) ⌝ }
+// The next k blocks of a request move between the window and the store; `first` is the first store block of its drive. A turn serves only
+// rows that acceptance has found in range.
+pub fn transfer(first: u64, q: Request, k: u64, guest: usize, arena: &mut [u8], store: &mut [u8])
+    requires { ⌜ InRange first q k guest (length (now arena)) (length (now store)) ⌝ }
+    ensures { λ _. ⌜ Transferred first q k guest (now (arena .entry)) (now (store .entry)) (now (arena .exit)) (now (store .exit)) ⌝ }
 {
     let job = q.job;
-    let n = job.drive;
-    let d = int13::drive_at(b, n);
-    let k = quota_of(q);
     let at = window_place(job.buffer, q.moved);
-    let place = store_place(d.first, job.start, q.moved);
+    let place = store_place(first, job.start, q.moved);
     let registers = job.registers;
     let write = int13::is_write(int13::function_of(registers));
     move_blocks(write, guest, at, place, k as usize, arena, store);
@@ -365,11 +397,13 @@ fn count_place(packet: u64) -> usize
     (packet + 2) as usize
 }
 
-// The blocks moved go to the packet's count word; for 02h and 03h, which have no packet, they go to AL alone. `accept` has found the
+// ---- what a withdrawal gives back
+
+// The blocks moved go to the packet's count word; for 02h and 03h, which have no packet, they go to AL alone. Acceptance has found the
 // packet inside the window.
-fn report_moved(q: Request, guest: usize, arena: &mut [u8])
+pub fn report_moved(q: Request, guest: usize, arena: &mut [u8])
     requires { ⌜ (guest < guests) × (packetOk (ah (q .job .registers)) (q .job .packet) (windowLength (length (now arena))) ≡ true) × (q .moved < mostRun) ⌝ }
-    ensures { λ _. ⌜ now (arena .exit) ≡ withWindow (now (arena .entry)) guest (windowLength (length (now (arena .entry)))) (withdrawnWindow q (windowOf (now (arena .entry)) guest (windowLength (length (now (arena .entry)))))) ⌝ }
+    ensures { λ _. ⌜ now (arena .exit) ≡ withOwn (now (arena .entry)) guest (withdrawnWindow q (ownWindow (now (arena .entry)) guest)) ⌝ }
 {
     let job = q.job;
     let registers = job.registers;
@@ -380,6 +414,17 @@ fn report_moved(q: Request, guest: usize, arena: &mut [u8])
     let at = count_place(job.packet);
     memory::put_word_in(arena, guest, m, at, q.moved as u16);
 }
+
+pub fn given_back(q: Request) -> Registers
+    requires { ⌜ q .moved < mostRun ⌝ }
+    ensures { λ r. ⌜ r ≡ withdraw (q .moved) (q .job .registers) ⌝ }
+{
+    let job = q.job;
+    let registers = job.registers;
+    int13::withdraw(q.moved as u8, registers)
+}
+
+// ---- the desk by value
 
 // A desk with all rows vacant.
 fn vacant(pointer: usize, b: Table, arena: u64, store: u64) -> Desk
@@ -407,7 +452,7 @@ impl Desk {
 
     // Reads the table; a desk with all rows vacant, or the table's refusal with its place and a desk at which every call is 25.
     pub fn open(t: &[u8], arena: u64, store: u64) -> Opening
-        ensures { λ r. ⌜ r ≡ openOf (now (t .entry)) arena store ⌝ }
+        ensures { λ r. ⌜ (r ≡ openOf (now (t .entry)) arena store) × (openNumbers (r .answer) ≡ openGiven (now (t .entry)) store) ⌝ }
     {
         let reading = table::read_table(t, store / BLOCK_LENGTH);
         let answer = reading.answer;
@@ -431,10 +476,11 @@ impl Desk {
 
     // Lays the drives out as a table again.
     pub fn write(self, out: &mut [u8]) -> Written
-        ensures { λ r. ⌜ (r ≡ writtenOf self (length (now (out .entry)))) × (now (out .exit) ≡ writtenOut self (now (out .entry))) ⌝ }
+        ensures { λ r. ⌜ (r ≡ writtenOf self (length (now (out .entry)))) × (now (out .exit) ≡ writtenOut self (now (out .entry))) × (writtenNumbers r ≡ writeGiven self (length (now (out .entry)))) ⌝ }
     {
-        if !self.accept() {
-            return Written::Refused(NOT_ACCEPTABLE);
+        let number = house_number(self.accept(), true, true);
+        if number != 0 {
+            return Written::Refused(number);
         }
         let b = self.table;
         table::write_table(b, out)
@@ -465,24 +511,17 @@ impl Desk {
 
     // A guest's call: answered at once, or the row waits.
     pub fn post(self, guest: usize, registers: Registers, arena: &mut [u8], store: &[u8]) -> Posted
-        ensures { λ r. ⌜ done (r .desk) (r .answer) (now (arena .exit)) (now (store .entry)) ≡ postOf self guest registers (now (arena .entry)) (now (store .entry)) ⌝ }
+        ensures { λ r. ⌜ (done (r .desk) (r .answer) (now (arena .exit)) (now (store .entry)) ≡ postOf self guest registers (now (arena .entry)) (now (store .entry))) × (postNumbers (r .answer) ≡ postGiven self guest registers (now (arena .entry)) (now (store .entry))) ⌝ }
     {
-        if !self.accept() {
+        let number = house_number(
+            self.accept(),
+            self.is_lent(arena.len(), store.len()),
+            guest < 8,
+        );
+        if number != 0 {
             return Posted {
                 desk: self,
-                answer: PostAnswer::Refused(NOT_ACCEPTABLE),
-            };
-        }
-        if !self.is_lent(arena.len(), store.len()) {
-            return Posted {
-                desk: self,
-                answer: PostAnswer::Refused(OTHER_LENGTH),
-            };
-        }
-        if 8 <= guest {
-            return Posted {
-                desk: self,
-                answer: PostAnswer::Refused(NO_GUEST),
+                answer: PostAnswer::Refused(number),
             };
         }
         let row = self.rows[guest];
@@ -498,40 +537,34 @@ impl Desk {
         let start = span.start;
         let end = span.end;
         let b = self.table;
-        let outcome = int13::check(b, registers, &mut arena[start..end]);
+        let outcome = int13::begin(b, registers, &mut arena[start..end]);
         self.posted(guest, outcome)
     }
 
     // The desk after the blocks of a turn have moved.
-    fn served(self, guest: usize, q: Request) -> Turned
-        requires { ⌜ (guest < guests) × (q .moved ≤ q .job .count) ⌝ }
-        ensures { λ r. ⌜ (r .desk ≡ serve self guest q [] [] .desk) × (r .answer ≡ serve self guest q [] [] .answer) ⌝ }
+    fn served(self, guest: usize, service: Service) -> Turned
+        requires { ⌜ guest < guests ⌝ }
+        ensures { λ r. ⌜ (r .desk ≡ withPointer (withStage self guest (service .stage)) (next guest)) × (r .answer ≡ Served guest (service .moved)) ⌝ }
     {
-        let k = quota_of(q);
-        let stage = stage_after(q);
+        let stage = service.stage;
         let mut next = self;
         next.rows[guest] = Row { stage };
         next.pointer = (guest + 1) % 8;
         Turned {
             desk: next,
-            answer: TurnAnswer::Served(guest, k),
+            answer: TurnAnswer::Served(guest, service.moved),
         }
     }
 
     // Serves the first waiting row at or after the pointer.
     pub fn turn(self, arena: &mut [u8], store: &mut [u8]) -> Turned
-        ensures { λ r. ⌜ done (r .desk) (r .answer) (now (arena .exit)) (now (store .exit)) ≡ turnOf self (now (arena .entry)) (now (store .entry)) ⌝ }
+        ensures { λ r. ⌜ (done (r .desk) (r .answer) (now (arena .exit)) (now (store .exit)) ≡ turnOf self (now (arena .entry)) (now (store .entry))) × (turnNumbers (r .answer) ≡ turnGiven self (now (arena .entry)) (now (store .entry))) ⌝ }
     {
-        if !self.accept() {
+        let number = house_number(self.accept(), self.is_lent(arena.len(), store.len()), true);
+        if number != 0 {
             return Turned {
                 desk: self,
-                answer: TurnAnswer::Refused(NOT_ACCEPTABLE),
-            };
-        }
-        if !self.is_lent(arena.len(), store.len()) {
-            return Turned {
-                desk: self,
-                answer: TurnAnswer::Refused(OTHER_LENGTH),
+                answer: TurnAnswer::Refused(number),
             };
         }
         let rows = self.rows;
@@ -551,13 +584,15 @@ impl Desk {
             };
         };
         let b = self.table;
-        transfer(b, q, guest, arena, store);
-        self.served(guest, q)
+        let d = int13::drive_at(b, q.job.drive);
+        let service = service_of(q);
+        transfer(d.first, q, service.moved, guest, arena, store);
+        self.served(guest, service)
     }
 
     // A turn over a desk that is lent for change.
     pub fn turn_lent(&mut self, arena: &mut [u8], store: &mut [u8]) -> TurnAnswer
-        ensures { λ r. ⌜ done (now (self .exit)) r (now (arena .exit)) (now (store .exit)) ≡ turnOf (now (self .entry)) (now (arena .entry)) (now (store .entry)) ⌝ }
+        ensures { λ r. ⌜ (done (now (self .exit)) r (now (arena .exit)) (now (store .exit)) ≡ turnOf (now (self .entry)) (now (arena .entry)) (now (store .entry))) × (turnNumbers r ≡ turnGiven (now (self .entry)) (now (arena .entry)) (now (store .entry))) ⌝ }
     {
         let d = *self;
         let t = d.turn(arena, store);
@@ -567,18 +602,13 @@ impl Desk {
 
     // Hands the finished registers out and vacates the row.
     pub fn collect(self, guest: usize) -> Collected
-        ensures { λ r. ⌜ ((arena store : List ℕ) → done (r .desk) (r .answer) arena store ≡ collectOf self guest arena store) ⌝ }
+        ensures { λ r. ⌜ ((arena store : List ℕ) → done (r .desk) (r .answer) arena store ≡ collectOf self guest arena store) × (collectNumbers (r .answer) ≡ collectGiven self guest) ⌝ }
     {
-        if !self.accept() {
+        let number = house_number(self.accept(), true, guest < 8);
+        if number != 0 {
             return Collected {
                 desk: self,
-                answer: CollectAnswer::Refused(NOT_ACCEPTABLE),
-            };
-        }
-        if 8 <= guest {
-            return Collected {
-                desk: self,
-                answer: CollectAnswer::Refused(NO_GUEST),
+                answer: CollectAnswer::Refused(number),
             };
         }
         let row = self.rows[guest];
@@ -604,9 +634,7 @@ impl Desk {
         requires { ⌜ (guest < guests) × (q .moved < mostRun) ⌝ }
         ensures { λ r. ⌜ (r .desk ≡ withdrawStage self guest (Waiting q) [] [] .desk) × (r .answer ≡ withdrawStage self guest (Waiting q) [] [] .answer) ⌝ }
     {
-        let job = q.job;
-        let registers = job.registers;
-        let given = int13::withdraw(q.moved as u8, registers);
+        let given = given_back(q);
         let mut next = self;
         next.rows[guest] = Row {
             stage: Stage::Vacant,
@@ -619,24 +647,17 @@ impl Desk {
 
     // Ends a waiting request.
     pub fn withdraw(self, guest: usize, arena: &mut [u8], store: &[u8]) -> Withdrawn
-        ensures { λ r. ⌜ done (r .desk) (r .answer) (now (arena .exit)) (now (store .entry)) ≡ withdrawOf self guest (now (arena .entry)) (now (store .entry)) ⌝ }
+        ensures { λ r. ⌜ (done (r .desk) (r .answer) (now (arena .exit)) (now (store .entry)) ≡ withdrawOf self guest (now (arena .entry)) (now (store .entry))) × (withdrawNumbers (r .answer) ≡ withdrawGiven self guest (now (arena .entry)) (now (store .entry))) ⌝ }
     {
-        if !self.accept() {
+        let number = house_number(
+            self.accept(),
+            self.is_lent(arena.len(), store.len()),
+            guest < 8,
+        );
+        if number != 0 {
             return Withdrawn {
                 desk: self,
-                answer: WithdrawAnswer::Refused(NOT_ACCEPTABLE),
-            };
-        }
-        if !self.is_lent(arena.len(), store.len()) {
-            return Withdrawn {
-                desk: self,
-                answer: WithdrawAnswer::Refused(OTHER_LENGTH),
-            };
-        }
-        if 8 <= guest {
-            return Withdrawn {
-                desk: self,
-                answer: WithdrawAnswer::Refused(NO_GUEST),
+                answer: WithdrawAnswer::Refused(number),
             };
         }
         let row = self.rows[guest];

@@ -1,1 +1,3 @@
-pub mod Drives
+pub mod DriveLaws
+pub mod Demand2
+pub mod Vectors

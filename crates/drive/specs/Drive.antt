@@ -12,12 +12,13 @@ use Rattle.chs.specs.declared.Geometry.{Geometry}
 use Rattle.chs.specs.Chs.{inLimits, size}
 use Rattle.drive.specs.declared.Drive.{Drive}
 
--- ---- the record, by the paper's offsets
+-- ---- "The drive table", the record of a drive by its offsets
 
--- kind 1, and its length
+-- a drive is kind 1
 abbrev pub driveKind : ℕ
 driveKind = 1
 
+-- and its record is 68 bytes
 abbrev pub driveLength : ℕ
 driveLength = 68
 
@@ -72,7 +73,7 @@ pub record Fits (d : Drive) : Type 0 where
   pub path : length (d .path) ≡ 8
   pub device : length (d .device) ≡ 8
 
--- ---- the rules of the fields (refusal 5)
+-- ---- "The drive table", the rules of the fields (refusal 5)
 
 -- two lists are the same
 unfoldable pub same : List ℕ → List ℕ → Bool
@@ -81,35 +82,43 @@ same [] (y ∷ ys) = false
 same (x ∷ xs) [] = false
 same (x ∷ xs) (y ∷ ys) = both (eqb x y) (same xs ys)
 
--- the four bytes of a host bus: ISA, PCI
+-- host bus ISA, four bytes padded with NUL
 abbrev pub isa : List ℕ
 isa = 73 ∷ 83 ∷ 65 ∷ 0 ∷ []
 
+-- host bus PCI
 abbrev pub pci : List ℕ
 pci = 80 ∷ 67 ∷ 73 ∷ 0 ∷ []
 
+-- the host bus is ISA or PCI
 unfoldable pub busOk : List ℕ → Bool
 busOk b = either (same b isa) (same b pci)
 
--- the eight bytes of an interface type: ATA, ATAPI, SCSI, USB, 1394, FIBRE
+-- interface type ATA, eight bytes padded with NUL
 abbrev pub ata : List ℕ
 ata = 65 ∷ 84 ∷ 65 ∷ 0 ∷ 0 ∷ 0 ∷ 0 ∷ 0 ∷ []
 
+-- interface type ATAPI
 abbrev pub atapi : List ℕ
 atapi = 65 ∷ 84 ∷ 65 ∷ 80 ∷ 73 ∷ 0 ∷ 0 ∷ 0 ∷ []
 
+-- interface type SCSI
 abbrev pub scsi : List ℕ
 scsi = 83 ∷ 67 ∷ 83 ∷ 73 ∷ 0 ∷ 0 ∷ 0 ∷ 0 ∷ []
 
+-- interface type USB
 abbrev pub usb : List ℕ
 usb = 85 ∷ 83 ∷ 66 ∷ 0 ∷ 0 ∷ 0 ∷ 0 ∷ 0 ∷ []
 
+-- interface type 1394
 abbrev pub ieee1394 : List ℕ
 ieee1394 = 49 ∷ 51 ∷ 57 ∷ 52 ∷ 0 ∷ 0 ∷ 0 ∷ 0 ∷ []
 
+-- interface type FIBRE
 abbrev pub fibre : List ℕ
 fibre = 70 ∷ 73 ∷ 66 ∷ 82 ∷ 69 ∷ 0 ∷ 0 ∷ 0 ∷ []
 
+-- the interface type is one of the six
 unfoldable pub interfaceOk : List ℕ → Bool
 interfaceOk b =
     either (same b ata) (either (same b atapi) (either (same b scsi) (either (same b usb) (either (same b ieee1394) (same b fibre)))))
@@ -131,7 +140,7 @@ fieldsOk d =
     (both (leb (d .protection) 1)
     (both (busOk (d .bus)) (interfaceOk (d .interface))))))
 
--- ---- the rules of the store (refusals 6 and 7)
+-- ---- "The drive table", the rules of the store (refusals 6 and 7)
 
 -- first + blocks is at most the store's blocks, a sum that never wraps
 unfoldable pub inStore : Drive → ℕ → Bool
@@ -145,13 +154,13 @@ Holds d n = (d .first ≤ n) × (n < d .first + d .blocks)
 unfoldable pub overlap : Drive → Drive → Bool
 overlap a b = pick (leb (a .first) (b .first)) (ltb (b .first) (a .first + a .blocks)) (ltb (a .first) (b .first + b .blocks))
 
--- ---- what other layers ask of a drive
+-- ---- "Steps of each function" and "Calls the host makes", what other layers ask of a drive
 
 -- byte 39 says that the drive is protected
 abbrev pub isProtected : Drive → Bool
 isProtected d = eqb (d .protection) 1
 
--- every field is zero, as in a place of the table that holds no drive
+-- every number is zero, as in a place of the table that holds no drive
 unfoldable pub blankNumbers : Drive → Bool
 blankNumbers d =
     both (both (eqb (d .cylinders) 0) (both (eqb (d .heads) 0) (eqb (d .sectors) 0)))
@@ -159,10 +168,12 @@ blankNumbers d =
     (both (both (eqb (d .flags) 0) (both (eqb (d .c) 0) (eqb (d .h) 0)))
     (both (eqb (d .s) 0) (eqb (d .protection) 0))))
 
+-- every byte of the names and paths is zero
 unfoldable pub blankNames : Drive → Bool
 blankNames d =
     both (same (d .bus) (replicate 4 0))
     (both (same (d .interface) (replicate 8 0)) (both (same (d .path) (replicate 8 0)) (same (d .device) (replicate 8 0))))
 
+-- every field is zero: a place that holds no drive
 unfoldable pub isBlank : Drive → Bool
 isBlank d = both (blankNumbers d) (blankNames d)

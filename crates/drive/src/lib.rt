@@ -31,9 +31,10 @@ pub struct Drive {
     pub device: [u8; 8],
 }
 
-const DRIVE_KIND: u16 = 1;
+// A drive's record: its kind, and how long it is.
+pub const DRIVE_KIND: u16 = 1;
 
-const DRIVE_LENGTH: u16 = 68;
+pub const DRIVE_LENGTH: u16 = 68;
 
 // ---- the record
 
@@ -200,17 +201,14 @@ pub fn fields_ok(d: Drive) -> bool
 
 // ---- the rules of the store
 
-// The drive ends inside a store of that many blocks. Tested by difference, since first + blocks may not fit a word.
+// The drive ends inside a store of that many blocks.
 pub fn in_store(d: Drive, store: u64) -> bool
     ensures { λ r. ⌜ r ≡ inStore d store ⌝ }
 {
-    if store < d.first {
-        return false;
-    }
-    d.blocks <= store - d.first
+    logic::ends_by(d.first, d.blocks, store)
 }
 
-// The two drives share a block, by differences again.
+// The two drives share a block. Tested by differences, since first + blocks may not fit a word.
 pub fn overlaps(a: Drive, b: Drive) -> bool
     ensures { λ r. ⌜ r ≡ overlap a b ⌝ }
 {

@@ -28,7 +28,13 @@ use Rattle.desk.specs.declared.WithdrawAnswer.{WithdrawAnswer}
 use Rattle.desk.specs.declared.WithdrawAnswer.the-variants.{Given as WithdrawGiven, Refused as WithdrawRefused}
 use Rattle.desk.specs.Calls.{Done, notAcceptable, openOf, writtenOf, writtenOut, postOf, turnOf, collectOf, withdrawOf}
 use Rattle.desk.specs.Numbers.{openNumbers, postNumbers, turnNumbers, collectNumbers, withdrawNumbers}
-use Rattle.image.specs.Image.{blockSize, deskOf, laid}
+use Rattle.image.specs.Image.{deskSize, deskOf, laid}
+
+-- ---- the version, ours and in no paper: a block is for the library of its version, since a change request may give it another form
+
+-- 1 is the base; each change request adds 1
+abbrev pub version : ℕ
+version = 1
 
 -- what a call leaves: the number that it returns and the values behind its pointers, in the order of its parameters; and the bytes of each
 -- slice that was lent for change, in that order
@@ -36,6 +42,7 @@ pub record Effect : Type 0 where
   pub numbers : List ℕ
   pub slices : List (List ℕ)
 
+-- the two lists of an effect
 abbrev pub effect : List ℕ → List (List ℕ) → Effect
 effect numbers slices = record { numbers = numbers; slices = slices }
 
@@ -47,13 +54,15 @@ over (n ∷ ns) (x ∷ xs) = n ∷ over ns xs
 
 -- ---- open: "a desk block of another size is 25, first"; "Refused, it changes nothing", and only a table's refusal has a place
 
+-- an opening that passed lays its desk out in the block; refused, it changes nothing
 abbrev pub openBlock : List ℕ → Desk → OpenAnswer → List ℕ
 openBlock b d Opened = laid b d
 openBlock b d (OpenRefused n place) = b
 
+-- open: 25 for a block of another size, before the table is looked at; the place is written only where the table is refused
 unfoldable pub openCall : List ℕ → List ℕ → ℕ → ℕ → ℕ → Effect
 openCall b t arena store place =
-    pick (eqb (length b) blockSize)
+    pick (eqb (length b) deskSize)
     (effect
     (over (openNumbers (openOf t arena store .answer)) (0 ∷ place ∷ []))
     (openBlock b (openOf t arena store .desk) (openOf t arena store .answer) ∷ []))
@@ -61,12 +70,14 @@ openCall b t arena store place =
 
 -- ---- write
 
+-- write at the desk of the block: the length written where it was done, and the buffer
 unfoldable pub writeCall : List ℕ → List ℕ → ℕ → Effect
 writeCall b out written =
     effect (over (writtenNumbers (writtenOf (deskOf b) (length out))) (0 ∷ written ∷ [])) (writtenOut (deskOf b) out ∷ [])
 
 -- ---- post: the block changes only where the row waits
 
+-- the block after a post: only a row that waits changes it
 abbrev pub postBlock : List ℕ → Done PostAnswer → PostAnswer → List ℕ
 postBlock b o (Answered r) = b
 postBlock b o Waits = laid b (o .desk)
@@ -80,57 +91,71 @@ given ax bx cx dx ds si es = record { ax = ax; bx = bx; cx = cx; dx = dx; ds = d
 abbrev pub changed : List ℕ → ℕ → ℕ → ℕ → ℕ → ℕ → List ℕ
 changed ns ax bx cx dx carry = getD ns 0 0 ∷ getD ns 1 ax ∷ getD ns 2 bx ∷ getD ns 3 cx ∷ getD ns 4 dx ∷ getD ns 8 carry ∷ []
 
+-- a post leaves the answer's registers where there is an answer, the block and the arena
 abbrev pub postEffect : List ℕ → Done PostAnswer → ℕ → ℕ → ℕ → ℕ → ℕ → Effect
 postEffect b o ax bx cx dx carry = effect (changed (postNumbers (o .answer)) ax bx cx dx carry) (postBlock b o (o .answer) ∷ o .arena ∷ [])
 
+-- post at the desk of the block, with the registers as C gives them
 unfoldable pub postCall : List ℕ → List ℕ → List ℕ → ℕ → ℕ → ℕ → ℕ → ℕ → ℕ → ℕ → ℕ → ℕ → Effect
 postCall b arena store guest ax bx cx dx ds si es carry =
     postEffect b (postOf (deskOf b) guest (given ax bx cx dx ds si es) arena store) ax bx cx dx carry
 
 -- ---- turn: the block changes only where a row is served
 
+-- the block after a turn: only a served row changes it
 abbrev pub turnBlock : List ℕ → Done TurnAnswer → TurnAnswer → List ℕ
 turnBlock b o (Served guest moved) = laid b (o .desk)
 turnBlock b o Idle = b
 turnBlock b o (TurnRefused n) = b
 
+-- a turn leaves the guest and the number moved where a row was served, the block, the arena and the store
 abbrev pub turnEffect : List ℕ → Done TurnAnswer → ℕ → ℕ → Effect
 turnEffect b o guest moved = effect (over (turnNumbers (o .answer)) (0 ∷ guest ∷ moved ∷ [])) (turnBlock b o (o .answer) ∷ o .arena ∷ o .store ∷ [])
 
+-- turn at the desk of the block
 unfoldable pub turnCall : List ℕ → List ℕ → List ℕ → ℕ → ℕ → Effect
 turnCall b arena store guest moved = turnEffect b (turnOf (deskOf b) arena store) guest moved
 
 -- ---- collect: lent no arena and no store
 
+-- the block after a collect: only registers handed out change it
 abbrev pub collectBlock : List ℕ → Done CollectAnswer → CollectAnswer → List ℕ
 collectBlock b o (CollectGiven r) = laid b (o .desk)
 collectBlock b o (CollectRefused n) = b
 
+-- a collect leaves the eight registers where they were handed out, and the block
 abbrev pub collectEffect : List ℕ → Done CollectAnswer → List ℕ → Effect
 collectEffect b o stood = effect (over (collectNumbers (o .answer)) (0 ∷ stood)) (collectBlock b o (o .answer) ∷ [])
 
+-- collect at the desk of the block; it is lent no arena and no store
 unfoldable pub collectCall : List ℕ → ℕ → List ℕ → Effect
 collectCall b guest stood = collectEffect b (collectOf (deskOf b) guest [] []) stood
 
 -- ---- withdraw
 
+-- the block after a withdrawal: only one that was done changes it
 abbrev pub withdrawBlock : List ℕ → Done WithdrawAnswer → WithdrawAnswer → List ℕ
 withdrawBlock b o (WithdrawGiven r) = laid b (o .desk)
 withdrawBlock b o (WithdrawRefused n) = b
 
+-- a withdrawal leaves the eight registers where it was done, the block and the arena
 abbrev pub withdrawEffect : List ℕ → Done WithdrawAnswer → List ℕ → Effect
 withdrawEffect b o stood = effect (over (withdrawNumbers (o .answer)) (0 ∷ stood)) (withdrawBlock b o (o .answer) ∷ o .arena ∷ [])
 
+-- withdraw at the desk of the block
 unfoldable pub withdrawCall : List ℕ → List ℕ → List ℕ → ℕ → List ℕ → Effect
 withdrawCall b arena store guest stood = withdrawEffect b (withdrawOf (deskOf b) guest arena store) stood
 
 -- ---- the window of a guest in an arena of that length, and CHS addresses
 
+-- start and length of a guest's window in an arena of that length; always 0
 unfoldable pub windowCall : ℕ → ℕ → Effect
 windowCall arena guest = effect (0 ∷ spanStart arena guest (windowLength arena) ∷ spanLength arena guest (windowLength arena) ∷ []) []
 
+-- 0 and the block of an address, or 4, which is 04h
 unfoldable pub blockCall : Geometry → Address → ℕ → Effect
 blockCall g a block = effect (over (blockNumbers (blockOf g a)) (0 ∷ block ∷ [])) []
 
+-- 0 and the address of a block, or 4, which is 04h
 unfoldable pub addressCall : Geometry → ℕ → ℕ → ℕ → ℕ → Effect
 addressCall g block cylinder head sector = effect (over (addressNumbers (addressOf g block)) (0 ∷ cylinder ∷ head ∷ sector ∷ [])) []

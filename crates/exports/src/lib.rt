@@ -1,24 +1,32 @@
-// The calls for C, which include/edd_desk.h declares. Each reads the desk from its block, calls the desk, and lays the next desk out
-// where the call changed it. Nothing is kept between calls.
+// The calls for C, which include/edd_desk.h declares. Each makes sure that its block is that of an acceptable desk, reads the row or the
+// table that it needs, does what the desk's method of the same name does, by the same functions, and writes the words that changed. Nothing
+// is kept between calls.
 use chs::Address;
 use chs::Geometry;
 use chs::ToAddress;
 use chs::ToBlock;
-use desk::CollectAnswer;
 use desk::Desk;
+use desk::Next;
 use desk::OpenAnswer;
-use desk::PostAnswer;
-use desk::TurnAnswer;
-use desk::WithdrawAnswer;
+use desk::Request;
+use desk::Stage;
+use int13::Outcome;
 use int13::Registers;
 use table::Written;
 ghost use mathlib.Core.Path.{_≡_};
 ghost use mathlib.Core.List.{List, [], _∷_};
-ghost use Prim.Native.Nat.{_+_};
-ghost use Rattle.logic.specs.Logic.{pick};
-ghost use Rattle.desk.specs.Numbers.{registerNumbers};
-ghost use Rattle.image.specs.Image.{blockSize};
-ghost use Rattle.exports.specs.Exports.{effect, openCall, writeCall, postCall, turnCall, collectCall, withdrawCall, windowCall, blockCall, addressCall};
+ghost use Prim.Native.Nat.{_+_, _<_};
+ghost use lib.Dec.{ltb, eqb};
+ghost use lib.ListN.{length};
+ghost use Rattle.logic.specs.Logic.{pick, both};
+ghost use Rattle.memory.specs.Window.{guests};
+ghost use Rattle.int13.specs.Steps.{fed, begin};
+ghost use Rattle.desk.specs.Parts.{ownWindow, withOwn, next};
+ghost use Rattle.desk.specs.Acceptable.{accept};
+ghost use Rattle.desk.specs.Calls.{houseNumber};
+ghost use Rattle.int13.specs.Answers.{registerNumbers};
+ghost use Rattle.image.specs.Image.{deskSize, readDesk, deskOf, putStage, putPointer};
+ghost use Rattle.exports.specs.Exports.{version, effect, openCall, writeCall, postCall, turnCall, collectCall, withdrawCall, windowCall, blockCall, addressCall};
 
 // There is nothing to hand out yet.
 const NOTHING_YET: u32 = 256;
@@ -26,9 +34,26 @@ const NOTHING_YET: u32 = 256;
 // House number of a block of another size.
 const NOT_ACCEPTABLE: u32 = 25;
 
+// House numbers of a row in another stage.
+const NOT_VACANT: u32 = desk::NOT_VACANT as u32;
+
+const NOT_FINISHED: u32 = desk::NOT_FINISHED as u32;
+
+const NOT_WAITING: u32 = desk::NOT_WAITING as u32;
+
+// The version of the interface and of the block's form: 1 is the base, and each change request adds 1.
+const VERSION: u32 = 1;
+
+#[no_mangle]
+pub extern "C" fn edd_version() -> u32
+    ensures { λ r. ⌜ r ≡ version ⌝ }
+{
+    VERSION
+}
+
 #[no_mangle]
 pub extern "C" fn edd_desk_size() -> u64
-    ensures { λ r. ⌜ r ≡ blockSize ⌝ }
+    ensures { λ r. ⌜ r ≡ deskSize ⌝ }
 {
     image::SIZE as u64
 }
@@ -64,8 +89,12 @@ pub extern "C" fn edd_open(
 pub extern "C" fn edd_write(desk: &[u8], out: &mut [u8], written: &mut u64) -> u32
     ensures { λ r. ⌜ effect (r ∷ now (written .exit) ∷ []) (now (out .exit) ∷ []) ≡ writeCall (now (desk .entry)) (now (out .entry)) (now (written .entry)) ⌝ }
 {
-    let d = image::decode(desk);
-    let answer = d.write(out);
+    let number = desk::house_number(image::acceptable(desk), true, true);
+    if number != 0 {
+        return number as u32;
+    }
+    let b = image::table_of(desk);
+    let answer = table::write_table(b, out);
     match answer {
         Written::Bytes(n) => {
             *written = n as u64;
@@ -73,6 +102,40 @@ pub extern "C" fn edd_write(desk: &[u8], out: &mut [u8], written: &mut u64) -> u
         }
         Written::Refused(n) => n as u32,
     }
+}
+
+// The house number that a call comes to before it looks at a row, 0 where it passes.
+fn number_at(desk: &[u8], arena: usize, store: usize, guest: u64) -> u8
+    ensures { λ r. ⌜ r ≡ houseNumber (accept (deskOf (now (desk .entry)))) (both (eqb arena (deskOf (now (desk .entry)) .arena)) (eqb store (deskOf (now (desk .entry)) .store))) (ltb guest guests) ⌝ }
+{
+    if !image::acceptable(desk) {
+        return desk::house_number(false, false, false);
+    }
+    desk::house_number(true, image::is_lent(desk, arena, store), guest < 8)
+}
+
+// The steps of a post over the one drive that DL names.
+fn steps_at(desk: &[u8], r: Registers, window: &mut [u8]) -> Outcome
+    requires { ⌜ length (now desk) ≡ deskSize ⌝ }
+    ensures { λ o. ⌜ (o ≡ begin (fed (readDesk (now (desk .entry)) .table)) r (now (window .entry)) .outcome) × (now (window .exit) ≡ begin (fed (readDesk (now (desk .entry)) .table)) r (now (window .entry)) .window) ⌝ }
+{
+    let n = int13::dl(r);
+    let known = image::is_drive(desk, n);
+    let count = image::count_of(desk);
+    let d = image::drive_named(desk, n);
+    int13::steps(known, count, d, r, window)
+}
+
+// The same in the guest's window of the arena.
+fn begun(desk: &[u8], guest: usize, r: Registers, arena: &mut [u8]) -> Outcome
+    requires { ⌜ length (now desk) ≡ deskSize ⌝ }
+    ensures { λ o. ⌜ (o ≡ begin (fed (readDesk (now (desk .entry)) .table)) r (ownWindow (now (arena .entry)) guest) .outcome) × (now (arena .exit) ≡ withOwn (now (arena .entry)) guest (begin (fed (readDesk (now (desk .entry)) .table)) r (ownWindow (now (arena .entry)) guest) .window)) ⌝ }
+{
+    let m = memory::window_length(arena.len());
+    let span = memory::span_of(arena.len(), guest, m);
+    let start = span.start;
+    let end = span.end;
+    steps_at(desk, r, &mut arena[start..end])
 }
 
 fn bit(carry: bool) -> u16
@@ -108,11 +171,18 @@ pub extern "C" fn edd_post(
         es,
         carry: false,
     };
-    let d = image::decode(desk);
-    let posted = d.post(guest as usize, registers, arena, store);
-    let answer = posted.answer;
-    match answer {
-        PostAnswer::Answered(r) => {
+    let number = number_at(desk, arena.len(), store.len(), guest);
+    if number != 0 {
+        return number as u32;
+    }
+    let g = guest as usize;
+    let stage = image::stage_of(desk, g);
+    let Stage::Vacant = stage else {
+        return NOT_VACANT;
+    };
+    let outcome = begun(desk, g, registers, arena);
+    match outcome {
+        Outcome::Answered(r) => {
             *ax = r.ax;
             *bx = r.bx;
             *cx = r.cx;
@@ -120,12 +190,20 @@ pub extern "C" fn edd_post(
             *carry = bit(r.carry);
             0
         }
-        PostAnswer::Waits => {
-            image::encode(posted.desk, desk);
+        Outcome::Waits(job) => {
+            image::put_stage(desk, g, Stage::Waiting(Request { job, moved: 0 }));
             NOTHING_YET
         }
-        PostAnswer::Refused(n) => n as u32,
     }
+}
+
+// The served row and the pointer behind it.
+fn put_served(desk: &mut [u8], guest: usize, stage: Stage)
+    requires { ⌜ (length (now desk) ≡ deskSize) × (guest < guests) ⌝ }
+    ensures { λ _. ⌜ now (desk .exit) ≡ putPointer (putStage (now (desk .entry)) guest stage) (next guest) ⌝ }
+{
+    image::put_stage(desk, guest, stage);
+    image::put_pointer(desk, (guest + 1) % 8);
 }
 
 #[no_mangle]
@@ -138,19 +216,27 @@ pub extern "C" fn edd_turn(
 ) -> u32
     ensures { λ r. ⌜ effect (r ∷ now (guest .exit) ∷ now (moved .exit) ∷ []) (now (desk .exit) ∷ now (arena .exit) ∷ now (store .exit) ∷ []) ≡ turnCall (now (desk .entry)) (now (arena .entry)) (now (store .entry)) (now (guest .entry)) (now (moved .entry)) ⌝ }
 {
-    let d = image::decode(desk);
-    let turned = d.turn(arena, store);
-    let answer = turned.answer;
-    match answer {
-        TurnAnswer::Served(g, n) => {
-            image::encode(turned.desk, desk);
-            *guest = g as u64;
-            *moved = n;
-            0
-        }
-        TurnAnswer::Idle => NOTHING_YET,
-        TurnAnswer::Refused(n) => n as u32,
+    // A turn names no guest: 0 passes that test.
+    let number = number_at(desk, arena.len(), store.len(), 0);
+    if number != 0 {
+        return number as u32;
     }
+    let found = image::next_of(desk);
+    let Next::Guest(g) = found else {
+        return NOTHING_YET;
+    };
+    let stage = image::stage_of(desk, g);
+    let Stage::Waiting(q) = stage else {
+        return NOTHING_YET;
+    };
+    let d = image::drive_named(desk, q.job.drive);
+    let service = desk::service_of(q);
+    desk::transfer(d.first, q, service.moved, g, arena, store);
+    let after = service.stage;
+    put_served(desk, g, after);
+    *guest = g as u64;
+    *moved = service.moved;
+    0
 }
 
 // The eight registers behind their pointers.
@@ -192,17 +278,18 @@ pub extern "C" fn edd_collect(
 ) -> u32
     ensures { λ r. ⌜ effect (r ∷ now (ax .exit) ∷ now (bx .exit) ∷ now (cx .exit) ∷ now (dx .exit) ∷ now (ds .exit) ∷ now (si .exit) ∷ now (es .exit) ∷ now (carry .exit) ∷ []) (now (desk .exit) ∷ []) ≡ collectCall (now (desk .entry)) guest (now (ax .entry) ∷ now (bx .entry) ∷ now (cx .entry) ∷ now (dx .entry) ∷ now (ds .entry) ∷ now (si .entry) ∷ now (es .entry) ∷ now (carry .entry) ∷ []) ⌝ }
 {
-    let d = image::decode(desk);
-    let collected = d.collect(guest as usize);
-    let answer = collected.answer;
-    match answer {
-        CollectAnswer::Given(r) => {
-            image::encode(collected.desk, desk);
-            hand(r, ax, bx, cx, dx, ds, si, es, carry);
-            0
-        }
-        CollectAnswer::Refused(n) => n as u32,
+    let number = desk::house_number(image::acceptable(desk), true, guest < 8);
+    if number != 0 {
+        return number as u32;
     }
+    let g = guest as usize;
+    let stage = image::stage_of(desk, g);
+    let Stage::Finished(r) = stage else {
+        return NOT_FINISHED;
+    };
+    image::put_stage(desk, g, Stage::Vacant);
+    hand(r, ax, bx, cx, dx, ds, si, es, carry);
+    0
 }
 
 #[no_mangle]
@@ -222,17 +309,20 @@ pub extern "C" fn edd_withdraw(
 ) -> u32
     ensures { λ r. ⌜ effect (r ∷ now (ax .exit) ∷ now (bx .exit) ∷ now (cx .exit) ∷ now (dx .exit) ∷ now (ds .exit) ∷ now (si .exit) ∷ now (es .exit) ∷ now (carry .exit) ∷ []) (now (desk .exit) ∷ now (arena .exit) ∷ []) ≡ withdrawCall (now (desk .entry)) (now (arena .entry)) (now (store .entry)) guest (now (ax .entry) ∷ now (bx .entry) ∷ now (cx .entry) ∷ now (dx .entry) ∷ now (ds .entry) ∷ now (si .entry) ∷ now (es .entry) ∷ now (carry .entry) ∷ []) ⌝ }
 {
-    let d = image::decode(desk);
-    let withdrawn = d.withdraw(guest as usize, arena, store);
-    let answer = withdrawn.answer;
-    match answer {
-        WithdrawAnswer::Given(r) => {
-            image::encode(withdrawn.desk, desk);
-            hand(r, ax, bx, cx, dx, ds, si, es, carry);
-            0
-        }
-        WithdrawAnswer::Refused(n) => n as u32,
+    let number = number_at(desk, arena.len(), store.len(), guest);
+    if number != 0 {
+        return number as u32;
     }
+    let g = guest as usize;
+    let stage = image::stage_of(desk, g);
+    let Stage::Waiting(q) = stage else {
+        return NOT_WAITING;
+    };
+    desk::report_moved(q, g, arena);
+    image::put_stage(desk, g, Stage::Vacant);
+    let given = desk::given_back(q);
+    hand(given, ax, bx, cx, dx, ds, si, es, carry);
+    0
 }
 
 // ---- calls without a desk

@@ -5,21 +5,17 @@ use native.Mathlib.Nat.{add-assoc, zero-add, mul-zero}
 use native.Mathlib.Numerals.{add-one}
 use native.Mathlib.Omega.{arith}
 use mathlib.Core.Path.{_≡_, refl, sym, _∙_, ap, subst}
-use mathlib.Core.Bool.{Bool, true, false}
 use mathlib.Core.List.{List, [], _∷_, _++_, append-assoc, append-nil}
-use lib.ListN.{length, take, drop, getD, length-append, drop-of-length-le, List·getD-append}
-use lib.Seq.{sets, take-suc, length-take-le, drop-cons, getD-append-add}
-use lib.Dec.{eqb}
-use Rattle.logic.specs.Logic.{both}
+use lib.ListN.{length, take, getD, length-append}
+use lib.Seq.{sets, take-suc, length-take-le}
 use Rattle.words.specs.Words.{leBytes}
-use Rattle.words.proofs.Words.{length-leBytes, sets-append, sets-front}
-use Rattle.drive.specs.Drive.{same}
+use Rattle.words.proofs.WordsLaws.{length-leBytes, sets-append, sets-whole}
 use Rattle.drive.specs.declared.Drive.{Drive}
 use Rattle.desk.specs.declared.Stage.{Stage}
 use Rattle.desk.specs.declared.Stage.the-variants.{Vacant, Waiting, Finished}
 use Rattle.desk.specs.declared.Row.{Row}
 use Rattle.desk.specs.declared.Desk.{Desk}
-use Rattle.image.specs.Image.{each, flat, stageWords, rowWords, driveWords, tailWords, deskWords, image}
+use Rattle.image.specs.Image.{each, flat, stageWords, rowWords, rowsWords, driveWords, placesWords, tailWords, deskWords, image, rowAt, placeAt, tailAt, deskSize}
 
 module _ {A : Type 0} (f : A → List ℕ) where
   pub each-append : (xs ys : List A) → each f (xs ++ ys) ≡ each f xs ++ each f ys
@@ -48,10 +44,6 @@ module _ {A : Type 0} (f : A → List ℕ) where
 pub sets-next : (s : List ℕ) (at n : ℕ) (a b : List ℕ) → length a ≡ n → sets (sets s at a) (at + n) b ≡ sets s at (a ++ b)
 sets-next s at n a b e = subst (λ (m : ℕ). sets (sets s at a) (at + m) b ≡ sets s at (a ++ b)) e (sym (sets-append s at a b))
 
--- a whole list is stored
-pub sets-all : (s a : List ℕ) → length a ≡ length s → sets s 0 a ≡ a
-sets-all s a e = sets-front s a (omega arith) ∙ ap (λ (l : List ℕ). a ++ l) (drop-of-length-le s {i = length a} (omega arith)) ∙ append-nil a
-
 pub length-flat : (ws : List ℕ) → length (flat ws) ≡ 8 * length ws
 length-flat ws = length-each (leBytes 8) 8 (length-leBytes 8) ws
 
@@ -64,21 +56,15 @@ word-more s at w j h =
 
 -- one member more, of n words
 module _ {A : Type 0} (f : A → List ℕ) (n : ℕ) (wide : (x : A) → length (f x) ≡ n) where
-  pub length-part : (xs : List A) (k : ℕ) → k ≤ length xs → length (flat (each f (take k xs))) ≡ 8 * (n * k)
-  length-part xs k h =
+  pub length-members : (xs : List A) (k : ℕ) → k ≤ length xs → length (flat (each f (take k xs))) ≡ 8 * (n * k)
+  length-members xs k h =
       length-flat (each f (take k xs)) ∙ ap (λ (m : ℕ). 8 * m) (length-each f n wide (take k xs) ∙ ap (λ (m : ℕ). n * m) (length-take-le k xs h))
 
   pub part-more : (s : List ℕ) (at place : ℕ) (xs : List A) (k : ℕ) (e : A) → k < length xs → place ≡ at + 8 * (n * k)
       → sets (sets s at (flat (each f (take k xs)))) place (flat (f (getD xs k e))) ≡ sets s at (flat (each f (take (k + 1) xs)))
   part-more s at place xs k e h p =
       rw (p, each-take f xs k e h, each-append (leBytes 8))
-      (sets-next s at (8 * (n * k)) (flat (each f (take k xs))) (flat (f (getD xs k e))) (length-part xs k (omega arith)))
-
--- two lists compared from the left
-pub same-step : (a b : List ℕ) (i : ℕ) → i < length a → i < length b
-    → same (drop i a) (drop i b) ≡ both (eqb (getD a i 0) (getD b i 0)) (same (drop (i + 1) a) (drop (i + 1) b))
-unfolding same
-same-step a b i ha hb = rw (add-one, drop-cons a i 0, drop-cons b i 0)
+      (sets-next s at (8 * (n * k)) (flat (each f (take k xs))) (flat (f (getD xs k e))) (length-members xs k (omega arith)))
 
 -- the words of a row and of a drive
 pub length-row : (r : Row) → length (rowWords r) ≡ 23
@@ -92,23 +78,28 @@ length-row r = go (r .stage)
 pub length-drive : (d : Drive) → length (driveWords d) ≡ 14
 length-drive d = refl
 
--- rows, drives and the last words, laid one after the other
-pub laid-out : (s : List ℕ) (d : Desk) → length s ≡ 2400 → length (d .rows) ≡ 8 → length (d .table .drives) ≡ 8
-    → sets (sets (sets s 0 (flat (each rowWords (d .rows)))) 1472 (flat (each driveWords (d .table .drives)))) 2368 (flat (tailWords d)) ≡ image d
+-- the bytes of the sections
+module _ (rows : List Row) (drives : List Drive) (r : length rows ≡ 8) (t : length drives ≡ 8) where
+  pub length-rows : length (flat (rowsWords rows)) ≡ rowAt 8
+  length-rows = length-flat (rowsWords rows) ∙ ap (λ (m : ℕ). 8 * m) (length-each rowWords 23 length-row rows ∙ ap (λ (m : ℕ). 23 * m) r)
+
+  pub length-places : length (flat (placesWords drives)) ≡ 8 * (14 * 8)
+  length-places = length-flat (placesWords drives) ∙ ap (λ (m : ℕ). 8 * m) (length-each driveWords 14 length-drive drives ∙ ap (λ (m : ℕ). 14 * m) t)
+
+-- the sections, laid one after the other
+pub laid-out : (s : List ℕ) (d : Desk) → length s ≡ deskSize → length (d .rows) ≡ 8 → length (d .table .drives) ≡ 8
+    → sets (sets (sets s (rowAt 0) (flat (rowsWords (d .rows)))) (placeAt 0) (flat (placesWords (d .table .drives)))) (tailAt 0) (flat (tailWords d)) ≡ image d
 unfolding image deskWords
 laid-out s d n r t =
-    let R = flat (each rowWords (d .rows)) in
-    let D = flat (each driveWords (d .table .drives)) in
+    let R = flat (rowsWords (d .rows)) in
+    let D = flat (placesWords (d .table .drives)) in
     let T = flat (tailWords d) in
-    let lr : length R ≡ 1472 = length-flat (each rowWords (d .rows)) ∙ ap (λ (m : ℕ). 8 * m) (length-each rowWords 23 length-row (d .rows) ∙ ap (λ (m : ℕ). 23 * m) r) in
-    let ld : length D ≡ 896 =
-    length-flat (each driveWords (d .table .drives)) ∙ ap (λ (m : ℕ). 8 * m) (length-each driveWords 14 length-drive (d .table .drives) ∙ ap (λ (m : ℕ). 14 * m) t) in
-    let lt : length T ≡ 32 = length-flat (tailWords d) in
-    let l1 : length (R ++ D) ≡ 2368 = length-append R D ∙ omega arith in
-    let l2 : length ((R ++ D) ++ T) ≡ length s = length-append (R ++ D) T ∙ omega arith in
-    ap (λ (l : List ℕ). sets l 2368 T) (sets-next s 0 1472 R D lr)
-    ∙ sets-next s 0 2368 (R ++ D) T l1
-    ∙ sets-all s ((R ++ D) ++ T) l2
+    let lr : length R ≡ placeAt 0 = length-rows (d .rows) (d .table .drives) r t in
+    let ld : length (R ++ D) ≡ tailAt 0 = length-append R D ∙ omega (arith, length-places (d .rows) (d .table .drives) r t) in
+    let lt : length ((R ++ D) ++ T) ≡ length s = length-append (R ++ D) T ∙ omega (arith, length-flat (tailWords d)) in
+    ap (λ (l : List ℕ). sets l (tailAt 0) T) (sets-next s 0 (placeAt 0) R D lr)
+    ∙ sets-next s 0 (tailAt 0) (R ++ D) T ld
+    ∙ sets-whole s ((R ++ D) ++ T) (sym lt)
     ∙ append-assoc R D T
-    ∙ sym (each-append (leBytes 8) (each rowWords (d .rows)) (each driveWords (d .table .drives) ++ tailWords d)
-    ∙ ap (λ (l : List ℕ). R ++ l) (each-append (leBytes 8) (each driveWords (d .table .drives)) (tailWords d)))
+    ∙ sym (each-append (leBytes 8) (rowsWords (d .rows)) (placesWords (d .table .drives) ++ tailWords d)
+    ∙ ap (λ (l : List ℕ). R ++ l) (each-append (leBytes 8) (placesWords (d .table .drives)) (tailWords d)))

@@ -6,6 +6,7 @@ use mathlib.Core.Path.{_≡_}
 use mathlib.Core.Bool.{Bool, true, false}
 use mathlib.Core.List.{List, [], _∷_, _++_}
 use lib.ListN.{length, getD, replicate}
+use lib.Seq.{sets}
 use lib.Dec.{eqb}
 use Rattle.logic.specs.Logic.{pick, both}
 use Rattle.words.specs.Words.{Bytes, le, leBytes, part}
@@ -21,11 +22,11 @@ use Rattle.desk.specs.declared.Stage.the-variants.{Vacant, Waiting, Finished}
 use Rattle.desk.specs.declared.Row.{Row}
 use Rattle.desk.specs.declared.Desk.{Desk}
 use Rattle.desk.specs.Parts.{stageAt}
-use Rattle.desk.specs.Numbers.{registerNumbers}
+use Rattle.int13.specs.Answers.{registerNumbers}
 use Rattle.desk.specs.Acceptable.{accept}
 use Rattle.desk.specs.Calls.{closed}
 
--- ---- words
+-- ---- "Calls the host makes", the desk block: words of eight bytes
 
 -- what the members of a list give, one after the other
 unfoldable pub each : {A : Type 0} → (A → List ℕ) → List A → List ℕ
@@ -36,7 +37,12 @@ each f (x ∷ xs) = f x ++ each f xs
 abbrev pub flat : List ℕ → List ℕ
 flat words = each (leBytes 8) words
 
--- ---- the words of a desk
+-- what f gives for n numbers from i on
+abbrev pub listed : {A : Type 0} → (ℕ → A) → ℕ → ℕ → List A
+listed f i zero = []
+listed f i (suc n) = f i ∷ listed f (suc i) n
+
+-- ---- "Calls the host makes", the desk block: the words of a desk
 
 -- what the job asks, and the blocks moved
 abbrev pub requestWords : Request → List ℕ
@@ -50,8 +56,13 @@ stageWords Vacant = 0 ∷ (replicate 14 0 ++ replicate 8 0)
 stageWords (Waiting q) = 1 ∷ (requestWords q ++ replicate 8 0)
 stageWords (Finished r) = 2 ∷ (replicate 14 0 ++ registerNumbers r)
 
+-- a row has the words of its stage
 abbrev pub rowWords : Row → List ℕ
 rowWords r = stageWords (r .stage)
+
+-- the section of the rows
+abbrev pub rowsWords : List Row → List ℕ
+rowsWords rows = each rowWords rows
 
 -- 14 words; of a name its bytes in their order
 abbrev pub driveWords : Drive → List ℕ
@@ -59,40 +70,75 @@ driveWords d =
     d .cylinders ∷ d .heads ∷ d .sectors ∷ d .blocks ∷ d .first ∷ d .flags ∷ d .c ∷ d .h ∷ d .s ∷ d .protection
     ∷ le 4 (d .bus) 0 ∷ le 8 (d .interface) 0 ∷ le 8 (d .path) 0 ∷ le 8 (d .device) 0 ∷ []
 
--- the number of drives, the turn pointer, the lengths of the opening
+-- the section of the places of the table
+abbrev pub placesWords : List Drive → List ℕ
+placesWords drives = each driveWords drives
+
+-- the section of the last words: the number of drives, the turn pointer, the lengths of the opening
 abbrev pub tailWords : Desk → List ℕ
 tailWords d = d .table .count ∷ d .pointer ∷ d .arena ∷ d .store ∷ []
 
+-- the sections one after the other; one that is added later goes behind them, so that none of these moves
 unfoldable pub deskWords : Desk → List ℕ
-deskWords d = each rowWords (d .rows) ++ (each driveWords (d .table .drives) ++ tailWords d)
+deskWords d = rowsWords (d .rows) ++ (placesWords (d .table .drives) ++ tailWords d)
 
 -- the image of a desk
 unfoldable pub image : Desk → List ℕ
 image d = flat (deskWords d)
 
--- ---- where they stand: eight rows of 23 words, eight places of the table of 14, and four words
+-- ---- "Calls the host makes", the desk block: where its words stand
 
+-- a row of 23 words, in bytes
 abbrev pub rowSize : ℕ
 rowSize = 8 * 23
 
+-- a place of the table, of 14
 abbrev pub placeSize : ℕ
 placeSize = 8 * 14
 
+-- guest g's row: the eight rows come first
 abbrev pub rowAt : ℕ → ℕ
 rowAt g = rowSize * g
 
+-- place i of the table, behind them; drive 80h + i stands there
 abbrev pub placeAt : ℕ → ℕ
 placeAt i = rowAt 8 + placeSize * i
 
+-- last word j, behind the eight places
 abbrev pub tailAt : ℕ → ℕ
 tailAt j = placeAt 8 + 8 * j
 
--- 2400
-abbrev pub blockSize : ℕ
-blockSize = tailAt 4
+-- the whole block, 2400 bytes
+abbrev pub deskSize : ℕ
+deskSize = tailAt 4
 
--- ---- the desk that bytes say, each field by its own width, whatever the rest of its word is
+-- the number of drives
+abbrev pub countAt : ℕ
+countAt = tailAt 0
 
+-- the turn pointer
+abbrev pub pointerAt : ℕ
+pointerAt = tailAt 1
+
+-- the arena's length at the opening
+abbrev pub arenaAt : ℕ
+arenaAt = tailAt 2
+
+-- the store's length at the opening
+abbrev pub storeAt : ℕ
+storeAt = tailAt 3
+
+-- in a row that begins at i, the words of a request
+abbrev pub requestPlace : ℕ → ℕ
+requestPlace i = i + 8
+
+-- and those of the finished registers, behind them
+abbrev pub finishedPlace : ℕ → ℕ
+finishedPlace i = i + 8 * 15
+
+-- ---- "Calls the host makes", the desk block: the desk that it says, each field by its own width, whatever the rest of its word is
+
+-- the registers that eight words say
 abbrev pub registersAt : List ℕ → ℕ → Registers
 registersAt b i = record {
   ax = le 2 b i;
@@ -105,6 +151,7 @@ registersAt b i = record {
   carry = eqb (getD b (i + 56) 0) 1;
 }
 
+-- the request that fourteen words say
 abbrev pub requestAt : List ℕ → ℕ → Request
 requestAt b i = record {
   job = record {
@@ -120,11 +167,14 @@ requestAt b i = record {
 
 -- by the number of the stage; any but 1 and 2 says vacant
 unfoldable pub readStage : List ℕ → ℕ → Stage
-readStage b i = pick (eqb (getD b i 0) 1) (Waiting (requestAt b (i + 8))) (pick (eqb (getD b i 0) 2) (Finished (registersAt b (i + 120))) Vacant)
+readStage b i =
+    pick (eqb (getD b i 0) 1) (Waiting (requestAt b (requestPlace i))) (pick (eqb (getD b i 0) 2) (Finished (registersAt b (finishedPlace i))) Vacant)
 
+-- the row that 23 words say
 abbrev pub readRow : List ℕ → ℕ → Row
 readRow b i = record { stage = readStage b i }
 
+-- the drive that a place says
 unfoldable pub readDrive : List ℕ → ℕ → Drive
 readDrive b i = record {
   cylinders = le 4 b i;
@@ -143,27 +193,27 @@ readDrive b i = record {
   device = part 8 b (i + 104);
 }
 
+-- the section of the rows, read
 abbrev pub readRows : List ℕ → List Row
-readRows b =
-    readRow b (rowAt 0) ∷ readRow b (rowAt 1) ∷ readRow b (rowAt 2) ∷ readRow b (rowAt 3)
-    ∷ readRow b (rowAt 4) ∷ readRow b (rowAt 5) ∷ readRow b (rowAt 6) ∷ readRow b (rowAt 7) ∷ []
+readRows b = listed (λ g. readRow b (rowAt g)) 0 8
 
+-- the section of the places, read
+abbrev pub readPlaces : List ℕ → List Drive
+readPlaces b = listed (λ i. readDrive b (placeAt i)) 0 8
+
+-- the table: its places, and the number of drives among the last words
 abbrev pub blockTable : List ℕ → Table
-blockTable b = record {
-  drives =
-      readDrive b (placeAt 0) ∷ readDrive b (placeAt 1) ∷ readDrive b (placeAt 2) ∷ readDrive b (placeAt 3)
-      ∷ readDrive b (placeAt 4) ∷ readDrive b (placeAt 5) ∷ readDrive b (placeAt 6) ∷ readDrive b (placeAt 7) ∷ [];
-  count = le 8 b (tailAt 0);
-}
+blockTable b = record { drives = readPlaces b; count = le 8 b countAt }
 
+-- the desk that the sections say
 unfoldable pub readDesk : List ℕ → Desk
-readDesk b = record { rows = readRows b; pointer = le 8 b (tailAt 1); table = blockTable b; arena = le 8 b (tailAt 2); store = le 8 b (tailAt 3) }
+readDesk b = record { rows = readRows b; pointer = le 8 b pointerAt; table = blockTable b; arena = le 8 b arenaAt; store = le 8 b storeAt }
 
--- ---- the desk of a block
+-- ---- "Calls the host makes", the desk block: which blocks are accepted
 
 -- it has the size, and what it says makes the same bytes again: so no byte of it says anything else
 unfoldable pub isImage : List ℕ → Bool
-isImage b = both (eqb (length b) blockSize) (same b (image (readDesk b)))
+isImage b = both (eqb (length b) deskSize) (same b (image (readDesk b)))
 
 -- the desk whose image it is; of any other block a desk at which every call is 25
 unfoldable pub deskOf : List ℕ → Desk
@@ -175,10 +225,21 @@ accepted b = accept (deskOf b)
 
 -- a desk laid out in a block; a block of another size stays
 unfoldable pub laid : List ℕ → Desk → List ℕ
-laid b d = pick (eqb (length b) blockSize) (image d) b
+laid b d = pick (eqb (length b) deskSize) (image d) b
 
--- ---- what the types of its fields say of a desk: each number fits its width, each array has its length
+-- ---- "Calls the host makes", the desk block: what a call changes in it
 
+-- the words of one row
+unfoldable pub putStage : List ℕ → ℕ → Stage → List ℕ
+putStage b g s = sets b (rowAt g) (flat (stageWords s))
+
+-- the pointer's word
+unfoldable pub putPointer : List ℕ → ℕ → List ℕ
+putPointer b pointer = sets b pointerAt (leBytes 8 pointer)
+
+-- ---- "Calls the host makes", the desk block: each number of a desk fits its width, each array has its length, as the types say
+
+-- registers of two bytes
 pub record FitsRegisters (r : Registers) : Type 0 where
   pub ax : r .ax < 256 ^ 2
   pub bx : r .bx < 256 ^ 2
@@ -188,6 +249,7 @@ pub record FitsRegisters (r : Registers) : Type 0 where
   pub si : r .si < 256 ^ 2
   pub es : r .es < 256 ^ 2
 
+-- a request's registers, its drive's number of one byte, and five numbers of eight
 pub record FitsRequest (q : Request) : Type 0 where
   pub registers : FitsRegisters (q .job .registers)
   pub drive : q .job .drive < 256
@@ -197,11 +259,13 @@ pub record FitsRequest (q : Request) : Type 0 where
   pub packet : q .job .packet < 256 ^ 8
   pub moved : q .moved < 256 ^ 8
 
+-- what a stage holds
 unfoldable pub FitsStage : Stage → Type 0
 FitsStage Vacant = Unit {0}
 FitsStage (Waiting q) = FitsRequest q
 FitsStage (Finished r) = FitsRegisters r
 
+-- a drive's numbers and the bytes of its names
 pub record FitsDrive (d : Drive) : Type 0 where
   pub numbers : Fits d
   pub s : d .s < 256
@@ -211,11 +275,13 @@ pub record FitsDrive (d : Drive) : Type 0 where
   pub path : Bytes (d .path)
   pub device : Bytes (d .device)
 
+-- eight places, and a number of drives
 pub record FitsTable (b : Table) : Type 0 where
   pub eight : length (b .drives) ≡ 8
   pub each : (i : ℕ) → i < 8 → FitsDrive (getD (b .drives) i noDrive)
   pub count : b .count < 256 ^ 8
 
+-- eight rows, and the other numbers
 pub record FitsDesk (d : Desk) : Type 0 where
   pub eight : length (d .rows) ≡ 8
   pub each : (g : ℕ) → g < 8 → FitsStage (stageAt d g)
@@ -224,7 +290,7 @@ pub record FitsDesk (d : Desk) : Type 0 where
   pub arena : d .arena < 256 ^ 8
   pub store : d .store < 256 ^ 8
 
--- ---- the two ways round, of which one is about every block and the other about every desk
+-- ---- "Calls the host makes", the desk block: the two ways round, of which one is about every block and the other about every desk
 
 -- a block is accepted exactly when it is the image of an acceptable desk, which is then the desk that it is read as; its length and bytes
 -- are those that it is written back with
@@ -233,6 +299,7 @@ pub record ImageOf (b : List ℕ) (d : Desk) : Type 0 where
   pub acceptable : accept d ≡ true
   pub image : image d ≡ b
 
+-- both ways
 pub record Exact : Type 0 where
   pub only : (b : List ℕ) → Bytes b → accepted b ≡ true → ImageOf b (deskOf b)
   pub every : (b : List ℕ) (d : Desk) → ImageOf b d → (accepted b ≡ true) × (deskOf b ≡ d)

@@ -1,6 +1,7 @@
-// The desk block: a desk laid out in bytes that the host owns, and read from them. A block is read by fields, laid out again and
-// compared, so that no padding byte and no width is tested by hand.
+// The desk block: a desk laid out in bytes that the host owns. A call judges the block on its words, reads the row or the drive that it
+// needs, and writes the words that it changed; no desk is made of it.
 use desk::Desk;
+use desk::Next;
 use desk::Request;
 use desk::Row;
 use desk::Stage;
@@ -9,31 +10,47 @@ use int13::Job;
 use int13::Registers;
 use table::Table;
 ghost use mathlib.Core.Path.{_≡_};
-ghost use mathlib.Core.List.{List, _++_};
-ghost use Prim.Native.Nat.{_+_, _*_, _≤_};
-ghost use lib.ListN.{length, take, drop};
+ghost use Prim.Native.Nat.{_+_, _*_, _≤_, _<_};
+ghost use lib.ListN.{length};
 ghost use lib.Seq.{sets};
 ghost use lib.Dec.{eqb};
 ghost use Rattle.logic.specs.Logic.{pick, both};
-ghost use Rattle.drive.specs.Drive.{same};
-ghost use Rattle.desk.specs.Numbers.{registerNumbers};
+ghost use Rattle.table.specs.Table.{mostDrives};
 ghost use Rattle.desk.specs.declared.Stage.the-variants.{Waiting, Finished};
-ghost use Rattle.desk.specs.Calls.{closed};
-ghost use Rattle.image.specs.Image.{rowSize, placeSize, placeAt, blockSize, each, flat, stageWords, rowWords, driveWords, image, registersAt, requestAt, readStage, readRow, readDrive, readRows, blockTable, readDesk, deskOf, laid};
+ghost use Rattle.desk.specs.Parts.{stageAt};
+ghost use Rattle.desk.specs.Calls.{firstWaiting};
+ghost use Rattle.memory.specs.Window.{guests};
+ghost use Rattle.int13.specs.Steps.{firstDrive, driveCount, isDrive, driveAt};
+ghost use Rattle.image.specs.Image.{rowSize, placeSize, placeAt, deskSize, each, flat, stageWords, rowWords, driveWords, image, registersAt, requestAt, readStage, readDrive, readDesk, accepted, laid, putStage, putPointer};
+ghost use Rattle.image.specs.Judged.{below, areRegisters, isRequest, isPlace, driveGood, drivesGood, restZero, firstIn, blocksIn, apart, aloneTo, drivesApart, follows, ascending, waitingGood, finishedGood, rowGood, rowsGood, tableGood};
+
+// Bytes of a row, of 23 words, and of a place of the table, of 14; where the places and the last words stand.
+const ROW: usize = 8 * 23;
+
+const PLACE: usize = 8 * 14;
+
+const PLACES: usize = ROW * 8;
+
+const TAIL: usize = PLACES + PLACE * 8;
+
+// The last words: the number of drives, the turn pointer, the lengths of the opening.
+const COUNT: usize = TAIL;
+
+const POINTER: usize = TAIL + 8;
+
+const ARENA: usize = TAIL + 16;
+
+const STORE: usize = TAIL + 24;
 
 // Bytes of a block.
-pub const SIZE: usize = 2400;
+pub const SIZE: usize = TAIL + 32;
 
-// Bytes of a row and of a place of the table; where the places and the last words stand.
-const ROW: usize = 184;
+// The BIOS number of the first drive; bytes of a block of the store.
+const FIRST_DRIVE: u8 = 128;
 
-const PLACE: usize = 112;
+const BLOCK_LENGTH: u64 = 512;
 
-const PLACES: usize = 1472;
-
-const TAIL: usize = 2368;
-
-// ---- the desk that bytes say. Every place is inside a block of the right size, which `decode` has tested.
+// ---- what bytes say. Every place is inside a block of the right size, which `acceptable` has tested.
 
 fn registers_at(b: &[u8], i: usize) -> Registers
     requires { ⌜ i + 8 * 8 ≤ length (now b) ⌝ }
@@ -89,15 +106,6 @@ fn stage_at(b: &[u8], i: usize) -> Stage
     Stage::Vacant
 }
 
-fn row_at(b: &[u8], i: usize) -> Row
-    requires { ⌜ i + rowSize ≤ length (now b) ⌝ }
-    ensures { λ r. ⌜ r ≡ readRow (now (b .entry)) i ⌝ }
-{
-    Row {
-        stage: stage_at(b, i),
-    }
-}
-
 fn drive_at(b: &[u8], i: usize) -> Drive
     requires { ⌜ i + placeSize ≤ length (now b) ⌝ }
     ensures { λ r. ⌜ r ≡ readDrive (now (b .entry)) i ⌝ }
@@ -120,25 +128,9 @@ fn drive_at(b: &[u8], i: usize) -> Drive
     }
 }
 
-fn rows_of(b: &[u8]) -> [Row; 8]
-    requires { ⌜ length (now b) ≡ blockSize ⌝ }
-    ensures { λ r. ⌜ r ≡ readRows (now (b .entry)) ⌝ }
-{
-    [
-        row_at(b, 0),
-        row_at(b, ROW),
-        row_at(b, 2 * ROW),
-        row_at(b, 3 * ROW),
-        row_at(b, 4 * ROW),
-        row_at(b, 5 * ROW),
-        row_at(b, 6 * ROW),
-        row_at(b, 7 * ROW),
-    ]
-}
-
-fn table_of(b: &[u8]) -> Table
-    requires { ⌜ length (now b) ≡ blockSize ⌝ }
-    ensures { λ r. ⌜ r ≡ blockTable (now (b .entry)) ⌝ }
+pub fn table_of(b: &[u8]) -> Table
+    requires { ⌜ length (now b) ≡ deskSize ⌝ }
+    ensures { λ r. ⌜ r ≡ readDesk (now (b .entry)) .table ⌝ }
 {
     let drives = [
         drive_at(b, PLACES),
@@ -152,21 +144,309 @@ fn table_of(b: &[u8]) -> Table
     ];
     Table {
         drives,
-        count: words::get64(b, TAIL) as usize,
+        count: words::get64(b, COUNT) as usize,
     }
 }
 
-fn read(b: &[u8]) -> Desk
-    requires { ⌜ length (now b) ≡ blockSize ⌝ }
-    ensures { λ r. ⌜ r ≡ readDesk (now (b .entry)) ⌝ }
+// ---- fields of a block that has been found acceptable, of which a call reads those that it needs
+
+// Arena and store have the lengths of the opening.
+pub fn is_lent(b: &[u8], arena: usize, store: usize) -> bool
+    requires { ⌜ length (now b) ≡ deskSize ⌝ }
+    ensures { λ r. ⌜ r ≡ both (eqb arena (readDesk (now (b .entry)) .arena)) (eqb store (readDesk (now (b .entry)) .store)) ⌝ }
 {
-    Desk {
-        rows: rows_of(b),
-        pointer: words::get64(b, TAIL + 8) as usize,
-        table: table_of(b),
-        arena: words::get64(b, TAIL + 16),
-        store: words::get64(b, TAIL + 24),
+    let same = arena as u64 == words::get64(b, ARENA);
+    logic::and(same, store as u64 == words::get64(b, STORE))
+}
+
+// What a guest's row holds.
+pub fn stage_of(b: &[u8], guest: usize) -> Stage
+    requires { ⌜ (length (now b) ≡ deskSize) × (guest < guests) ⌝ }
+    ensures { λ r. ⌜ r ≡ stageAt (readDesk (now (b .entry))) guest ⌝ }
+{
+    stage_at(b, ROW * guest)
+}
+
+// The first waiting row at or after the pointer, by the numbers of the stages.
+pub fn next_of(b: &[u8]) -> Next
+    requires { ⌜ (length (now b) ≡ deskSize) × (readDesk (now b) .pointer < guests) ⌝ }
+    ensures { λ r. ⌜ r ≡ firstWaiting (readDesk (now (b .entry)) .rows) guests (readDesk (now (b .entry)) .pointer) ⌝ }
+{
+    let mut guest = words::get64(b, POINTER) as usize;
+    let mut left: usize = 8;
+    while 0 < left {
+        if b[ROW * guest] == 1 {
+            return Next::Guest(guest);
+        }
+        guest = (guest + 1) % 8;
+        left -= 1;
     }
+    Next::Nobody
+}
+
+// How many drives the table holds, at most eight.
+pub fn count_of(b: &[u8]) -> u8
+    requires { ⌜ length (now b) ≡ deskSize ⌝ }
+    ensures { λ r. ⌜ (r ≡ driveCount (readDesk (now (b .entry)) .table)) × (r ≤ 8) ⌝ }
+{
+    let count = words::get64(b, COUNT);
+    if count < 8 { count as u8 } else { 8 }
+}
+
+// Whether the table has a drive of that BIOS number.
+pub fn is_drive(b: &[u8], n: u8) -> bool
+    requires { ⌜ length (now b) ≡ deskSize ⌝ }
+    ensures { λ r. ⌜ r ≡ isDrive (readDesk (now (b .entry)) .table) n ⌝ }
+{
+    let end = FIRST_DRIVE + count_of(b);
+    logic::and(FIRST_DRIVE <= n, n < end)
+}
+
+// The drive of a BIOS number, or the first where the number is not known: a caller that has not tested the number asks nothing of it.
+pub fn drive_named(b: &[u8], n: u8) -> Drive
+    requires { ⌜ length (now b) ≡ deskSize ⌝ }
+    ensures { λ d. ⌜ d ≡ driveAt (readDesk (now (b .entry)) .table) (pick (isDrive (readDesk (now (b .entry)) .table) n) n firstDrive) ⌝ }
+{
+    if is_drive(b, n) {
+        let place = (n - FIRST_DRIVE) as usize;
+        return drive_at(b, PLACES + PLACE * place);
+    }
+    drive_at(b, PLACES)
+}
+
+// ---- a block judged on its words: no desk is made of it, and every width is a test of a word
+
+// Whether n words from a place are below end; below 1 they are zero.
+fn below(b: &[u8], at: usize, n: usize, end: u64) -> bool
+    requires { ⌜ at + 8 * n ≤ length (now b) ⌝ }
+    ensures { λ r. ⌜ r ≡ below n end (now (b .entry)) at ⌝ }
+{
+    let mut good = true;
+    let mut j = 0;
+    while j < n {
+        good = logic::and(words::get64(b, at + 8 * j) < end, good);
+        j += 1;
+    }
+    good
+}
+
+// Seven words of two bytes, and the carry bit.
+fn are_registers(b: &[u8], i: usize) -> bool
+    requires { ⌜ i + 8 * 8 ≤ length (now b) ⌝ }
+    ensures { λ r. ⌜ r ≡ areRegisters (now (b .entry)) i ⌝ }
+{
+    logic::and(words::get64(b, i + 56) < 2, below(b, i, 7, 65536))
+}
+
+fn is_request(b: &[u8], i: usize) -> bool
+    requires { ⌜ i + 8 * 14 ≤ length (now b) ⌝ }
+    ensures { λ r. ⌜ r ≡ isRequest (now (b .entry)) i ⌝ }
+{
+    logic::and(words::get64(b, i + 64) < 256, are_registers(b, i))
+}
+
+fn is_place(b: &[u8], i: usize) -> bool
+    requires { ⌜ i + placeSize ≤ length (now b) ⌝ }
+    ensures { λ r. ⌜ r ≡ isPlace (now (b .entry)) i ⌝ }
+{
+    let numbers = logic::and(below(b, i + 40, 3, 65536), below(b, i, 3, 4294967296));
+    let bytes = logic::and(below(b, i + 64, 2, 256), numbers);
+    logic::and(words::get64(b, i + 80) < 4294967296, bytes)
+}
+
+fn drive_good(b: &[u8], i: usize, store: u64) -> bool
+    requires { ⌜ i + placeSize ≤ length (now b) ⌝ }
+    ensures { λ r. ⌜ r ≡ driveGood (now (b .entry)) store i ⌝ }
+{
+    logic::and(is_place(b, i), table::obeys(drive_at(b, i), store))
+}
+
+// Every caller has found at most eight drives.
+fn drives_good(b: &[u8], n: usize, store: u64) -> bool
+    requires { ⌜ (length (now b) ≡ deskSize) × (n ≤ mostDrives) ⌝ }
+    ensures { λ r. ⌜ r ≡ drivesGood n (now (b .entry)) store ⌝ }
+{
+    let mut good = true;
+    let mut i = 0;
+    while i < n {
+        good = logic::and(drive_good(b, PLACES + PLACE * i, store), good);
+        i += 1;
+    }
+    good
+}
+
+fn rest_zero(b: &[u8], n: usize) -> bool
+    requires { ⌜ (length (now b) ≡ deskSize) × (n ≤ mostDrives) ⌝ }
+    ensures { λ r. ⌜ r ≡ restZero mostDrives n (now (b .entry)) ⌝ }
+{
+    let mut good = true;
+    let mut i = n;
+    while i < 8 {
+        good = logic::and(below(b, PLACES + PLACE * i, 14, 1), good);
+        i += 1;
+    }
+    good
+}
+
+// Two runs of blocks share none, found by differences, so that no sum wraps.
+fn are_apart(first: u64, blocks: u64, other: u64, others: u64) -> bool
+    ensures { λ r. ⌜ r ≡ apart first blocks other others ⌝ }
+{
+    if first <= other {
+        return logic::ends_by(first, blocks, other);
+    }
+    logic::ends_by(other, others, first)
+}
+
+fn first_in(b: &[u8], i: usize) -> u64
+    requires { ⌜ (length (now b) ≡ deskSize) × (i < mostDrives) ⌝ }
+    ensures { λ r. ⌜ r ≡ firstIn (now (b .entry)) i ⌝ }
+{
+    words::get64(b, PLACES + PLACE * i + 32)
+}
+
+fn blocks_in(b: &[u8], i: usize) -> u64
+    requires { ⌜ (length (now b) ≡ deskSize) × (i < mostDrives) ⌝ }
+    ensures { λ r. ⌜ r ≡ blocksIn (now (b .entry)) i ⌝ }
+{
+    words::get64(b, PLACES + PLACE * i + 24)
+}
+
+// The drive of a place shares no block with one before it.
+fn is_alone(b: &[u8], i: usize) -> bool
+    requires { ⌜ (length (now b) ≡ deskSize) × (i < mostDrives) ⌝ }
+    ensures { λ r. ⌜ r ≡ aloneTo i (now (b .entry)) i ⌝ }
+{
+    let first = first_in(b, i);
+    let blocks = blocks_in(b, i);
+    let mut good = true;
+    let mut j = 0;
+    while j < i {
+        good = logic::and(
+            are_apart(first, blocks, first_in(b, j), blocks_in(b, j)),
+            good,
+        );
+        j += 1;
+    }
+    good
+}
+
+fn next_follows(b: &[u8], i: usize) -> bool
+    requires { ⌜ (length (now b) ≡ deskSize) × (i + 1 < mostDrives) ⌝ }
+    ensures { λ r. ⌜ r ≡ follows (now (b .entry)) i ⌝ }
+{
+    let first = first_in(b, i);
+    let next = first_in(b, i + 1);
+    logic::and(first < next, logic::ends_by(first, blocks_in(b, i), next))
+}
+
+fn is_ascending(b: &[u8], n: usize) -> bool
+    requires { ⌜ (length (now b) ≡ deskSize) × (n ≤ mostDrives) ⌝ }
+    ensures { λ r. ⌜ r ≡ ascending n (now (b .entry)) ⌝ }
+{
+    let mut good = true;
+    let mut i = 0;
+    while i + 1 < n {
+        good = logic::and(next_follows(b, i), good);
+        i += 1;
+    }
+    good
+}
+
+// No two of the first n drives share a block. A table in the order of the store, as most are, needs no pairs.
+fn drives_apart(b: &[u8], n: usize) -> bool
+    requires { ⌜ (length (now b) ≡ deskSize) × (n ≤ mostDrives) ⌝ }
+    ensures { λ r. ⌜ r ≡ drivesApart n (now (b .entry)) ⌝ }
+{
+    if is_ascending(b, n) {
+        return true;
+    }
+    let mut good = true;
+    let mut i = 0;
+    while i < n {
+        good = logic::and(is_alone(b, i), good);
+        i += 1;
+    }
+    good
+}
+
+fn table_good(b: &[u8]) -> bool
+    requires { ⌜ length (now b) ≡ deskSize ⌝ }
+    ensures { λ r. ⌜ r ≡ tableGood (now (b .entry)) ⌝ }
+{
+    let count = words::get64(b, COUNT);
+    if 8 < count {
+        return false;
+    }
+    let n = count as usize;
+    if !drives_good(b, n, words::get64(b, STORE) / BLOCK_LENGTH) {
+        return false;
+    }
+    logic::and(rest_zero(b, n), drives_apart(b, n))
+}
+
+fn waiting_good(b: &[u8], i: usize, m: u64) -> bool
+    requires { ⌜ (length (now b) ≡ deskSize) × (i + rowSize ≤ deskSize) ⌝ }
+    ensures { λ r. ⌜ r ≡ waitingGood (now (b .entry)) m i ⌝ }
+{
+    let q = request_at(b, i + 8);
+    let n = q.job.drive;
+    if !is_drive(b, n) {
+        return false;
+    }
+    let fits = logic::and(is_request(b, i + 8), below(b, i + 120, 8, 1));
+    logic::and(fits, desk::request_ok(drive_named(b, n), m, q))
+}
+
+fn finished_good(b: &[u8], i: usize) -> bool
+    requires { ⌜ i + rowSize ≤ length (now b) ⌝ }
+    ensures { λ r. ⌜ r ≡ finishedGood (now (b .entry)) i ⌝ }
+{
+    logic::and(below(b, i + 8, 14, 1), are_registers(b, i + 120))
+}
+
+fn row_good(b: &[u8], i: usize, m: u64) -> bool
+    requires { ⌜ (length (now b) ≡ deskSize) × (i + rowSize ≤ deskSize) ⌝ }
+    ensures { λ r. ⌜ r ≡ rowGood (now (b .entry)) m i ⌝ }
+{
+    let stage = words::get64(b, i);
+    if stage == 0 {
+        return below(b, i + 8, 22, 1);
+    }
+    if stage == 1 {
+        return waiting_good(b, i, m);
+    }
+    if stage == 2 {
+        return finished_good(b, i);
+    }
+    false
+}
+
+fn rows_good(b: &[u8], m: u64) -> bool
+    requires { ⌜ length (now b) ≡ deskSize ⌝ }
+    ensures { λ r. ⌜ r ≡ rowsGood guests (now (b .entry)) m ⌝ }
+{
+    let mut good = true;
+    let mut g = 0;
+    while g < 8 {
+        good = logic::and(row_good(b, ROW * g, m), good);
+        g += 1;
+    }
+    good
+}
+
+// Whether a block is the image of an acceptable desk.
+pub fn acceptable(b: &[u8]) -> bool
+    ensures { λ r. ⌜ r ≡ accepted (now (b .entry)) ⌝ }
+{
+    if b.len() != SIZE {
+        return false;
+    }
+    if !table_good(b) {
+        return false;
+    }
+    let rows = rows_good(b, words::get64(b, ARENA) / 8);
+    logic::and(words::get64(b, POINTER) < 8, rows)
 }
 
 // ---- the words of a desk, laid out
@@ -287,7 +567,7 @@ fn put_words(out: &mut [u8], at: usize, w: &[u64])
 }
 
 fn put_rows(out: &mut [u8], rows: [Row; 8])
-    requires { ⌜ length (now out) ≡ blockSize ⌝ }
+    requires { ⌜ length (now out) ≡ deskSize ⌝ }
     ensures { λ _. ⌜ now (out .exit) ≡ sets (now (out .entry)) 0 (flat (each rowWords rows)) ⌝ }
 {
     let mut k = 0;
@@ -301,7 +581,7 @@ fn put_rows(out: &mut [u8], rows: [Row; 8])
 }
 
 fn put_drives(out: &mut [u8], drives: [Drive; 8])
-    requires { ⌜ length (now out) ≡ blockSize ⌝ }
+    requires { ⌜ length (now out) ≡ deskSize ⌝ }
     ensures { λ _. ⌜ now (out .exit) ≡ sets (now (out .entry)) (placeAt 0) (flat (each driveWords drives)) ⌝ }
 {
     let mut k = 0;
@@ -313,9 +593,26 @@ fn put_drives(out: &mut [u8], drives: [Drive; 8])
     }
 }
 
-// Lays a desk out in a block of its size, which both callers have made sure of.
+// What a guest's row holds from now on: only the row's words are written.
+pub fn put_stage(b: &mut [u8], guest: usize, stage: Stage)
+    requires { ⌜ (length (now b) ≡ deskSize) × (guest < guests) ⌝ }
+    ensures { λ _. ⌜ now (b .exit) ≡ putStage (now (b .entry)) guest stage ⌝ }
+{
+    let w = stage_words(stage);
+    put_words(b, ROW * guest, &w);
+}
+
+// Where the next search begins: only the pointer's word is written.
+pub fn put_pointer(b: &mut [u8], pointer: usize)
+    requires { ⌜ length (now b) ≡ deskSize ⌝ }
+    ensures { λ _. ⌜ now (b .exit) ≡ putPointer (now (b .entry)) pointer ⌝ }
+{
+    words::store64(b, POINTER, pointer as u64);
+}
+
+// Lays a desk out in a block of its size.
 fn lay(d: Desk, out: &mut [u8])
-    requires { ⌜ length (now out) ≡ blockSize ⌝ }
+    requires { ⌜ length (now out) ≡ deskSize ⌝ }
     ensures { λ _. ⌜ now (out .exit) ≡ image d ⌝ }
 {
     let rows = d.rows;
@@ -334,54 +631,4 @@ pub fn encode(d: Desk, block: &mut [u8])
     if block.len() == SIZE {
         lay(d, block);
     }
-}
-
-// ---- a block read
-
-// Whether two slices of one length hold the same bytes. No early exit, so that it runs many bytes at a time.
-fn same(a: &[u8], b: &[u8]) -> bool
-    requires { ⌜ length (now a) ≡ length (now b) ⌝ }
-    ensures { λ r. ⌜ r ≡ same (now (a .entry)) (now (b .entry)) ⌝ }
-{
-    let mut bad: u8 = 0;
-    let mut i = 0;
-    while i < a.len() {
-        if a[i] != b[i] {
-            bad = 1;
-        }
-        i += 1;
-    }
-    bad == 0
-}
-
-// A desk at which every call is 25.
-fn no_desk() -> Desk
-    ensures { λ d. ⌜ d ≡ closed 0 0 ⌝ }
-{
-    let row = Row {
-        stage: Stage::Vacant,
-    };
-    Desk {
-        rows: [row; 8],
-        pointer: 8,
-        table: table::empty_table(),
-        arena: 0,
-        store: 0,
-    }
-}
-
-// The desk whose image a block is, or one at which every call is 25.
-pub fn decode(block: &[u8]) -> Desk
-    ensures { λ d. ⌜ d ≡ deskOf (now (block .entry)) ⌝ }
-{
-    if block.len() != SIZE {
-        return no_desk();
-    }
-    let d = read(block);
-    let mut again = [0u8; SIZE];
-    lay(d, &mut again);
-    if same(block, &again) {
-        return d;
-    }
-    no_desk()
 }

@@ -9,18 +9,21 @@ use lib.ListN.{take, replicate}
 use Rattle.words.specs.Words.{le, leBytes}
 use Rattle.chs.specs.Chs.{inLimits, isValid, blockOf}
 use Rattle.drive.specs.declared.Drive.{Drive}
-use Rattle.drive.specs.Drive.{driveOf, same, busOk, interfaceOk, geometryFits, fieldsOk, inStore, overlap}
+use Rattle.drive.specs.Drive.{driveOf as driveRead, same, busOk, interfaceOk, geometryFits, fieldsOk, inStore, overlap}
 use Rattle.table.specs.declared.Table.{Table}
 use Rattle.table.specs.Table.{headerOf, headerAt, overlapsAny, refusal, driveStep, endStep, stepOf, stepAt, zeroDrive, emptyTable, readFrom, readTable}
 use Rattle.layout.specs.Packet.{packetAt, readPacket}
 use Rattle.layout.specs.ResultBuffer.{returnedSize, parameterBytes, blockBytes, interfaceBytes, pathBytes, sum, wholeResult, resultBytes, resultAnswer}
 use Rattle.int13.specs.declared.Registers.{Registers}
+use Rattle.int13.specs.declared.Job.{Job}
 use Rattle.int13.specs.declared.Outcome.{Outcome}
 use Rattle.int13.specs.declared.Outcome.the-variants.{Answered, Waits}
 use Rattle.int13.specs.declared.Plan.{Plan}
 use Rattle.int13.specs.declared.Plan.the-variants.{Refuse, Clear, Finish, Wait}
-use Rattle.int13.specs.Answers.{succeed, withdraw, posted}
-use Rattle.int13.specs.Steps.{Checked, isDrive, verifyOk, packetTests, packetPlan, seek, sectors, parameters, extensions, result, check}
+use Rattle.int13.specs.Answers.{dl, succeed, withdraw, posted, outcomeNumbers}
+use Rattle.int13.specs.Steps.{Checked, fed, isDrive, driveAt, driveIn, driveNamed, verifyOk, packetTests, packetPlan, seek, sectors, parameters, extensions, result, steps, begin}
+use Rattle.int13.specs.Alone.{asked, namedFrom, storeBlock}
+use Rattle.int13.specs.AloneBytes.{askedBuffer}
 
 -- ---- tables
 
@@ -93,7 +96,7 @@ bytes = 68 ∷ 0 ∷ 1 ∷ 0 ∷ 2 ∷ 0 ∷ 0 ∷ 0 ∷ 16 ∷ 0 ∷ 0 ∷ 0 �
 
 -- they are read as the drive above
 pub worked-table : readTable bytes 4294967296 .table ≡ plain
-unfolding le leBytes inLimits driveOf same busOk interfaceOk geometryFits fieldsOk inStore overlap headerOf headerAt overlapsAny refusal driveStep endStep stepOf stepAt readFrom readTable
+unfolding le leBytes inLimits driveRead same busOk interfaceOk geometryFits fieldsOk inStore overlap headerOf headerAt overlapsAny refusal driveStep endStep stepOf stepAt readFrom readTable
 worked-table = refl
 
 -- ---- calls
@@ -105,6 +108,18 @@ call ax dx = record { ax = ax; bx = 0x1111; cx = 0x2222; dx = dx; ds = 0; si = 0
 -- AX, CX and DX, with the buffer ES:BX at the window's start
 abbrev run : ℕ → ℕ → ℕ → Registers
 run ax cx dx = record { ax = ax; bx = 0; cx = cx; dx = dx; ds = 0; si = 0; es = 0; carry = true }
+
+-- 41h with BX and DX
+abbrev asks41 : ℕ → ℕ → Registers
+asks41 bx dx = record { ax = 0x4155; bx = bx; cx = 0x2222; dx = dx; ds = 0; si = 0; es = 0x3333; carry = true }
+
+-- 48h with the result at place 4
+abbrev result4 : Registers
+result4 = record { ax = 0x4800; bx = 0; cx = 0; dx = 0x80; ds = 0; si = 4; es = 0; carry = true }
+
+-- 02h and 03h at a table, in a window of that many bytes
+abbrev sectorsOf : Table → Registers → ℕ → Outcome
+sectorsOf b r M = sectors (isDrive b (dl r)) (driveNamed b r) r M
 
 -- size byte, count, offset and segment of the buffer, start; byte 1 is A5h, which nobody reads
 abbrev packet : ℕ → ℕ → ℕ → ℕ → ℕ → List ℕ
@@ -134,16 +149,6 @@ abbrev whole : Outcome → List ℕ
 whole (Answered r) = registers r
 whole (Waits j) = j .drive ∷ registers (j .registers)
 
--- what a call comes to, and the window after it
-abbrev shown : Checked → List (List ℕ)
-shown c = short (c .outcome) ∷ c .window ∷ []
-
-abbrev answers : List Checked → List (List ℕ)
-answers = map (λ (c : Checked). short (c .outcome))
-
-abbrev wholes : List Checked → List (List ℕ)
-wholes = map (λ (c : Checked). whole (c .outcome))
-
 -- a plan: refused 0, refused with the count word set to 0 1, at once 2, waiting 3
 abbrev planned : Plan → List ℕ
 planned (Refuse code) = 0 ∷ code ∷ []
@@ -151,540 +156,592 @@ planned (Clear code) = 1 ∷ code ∷ []
 planned Finish = 2 ∷ []
 planned (Wait j) = 3 ∷ j .start ∷ j .count ∷ j .buffer ∷ j .packet ∷ []
 
--- ---- "Numbers given back": which registers an answer changes; BX 1111h, CX 2222h, ES 3333h and carry were given
+-- the registers of `call` after an answer that changes AX and carry only
+abbrev kept : ℕ → ℕ → ℕ → List ℕ
+kept ax dx carry = ax ∷ 0x1111 ∷ 0x2222 ∷ dx ∷ 0 ∷ 0 ∷ 0x3333 ∷ carry ∷ []
 
--- 02h and 03h: AL stays on success, which is given at the end; a refusal sets AL to 0, for an unknown drive too
---   02h finished: AX 0005h
---   03h finished: AX 0005h
---   02h withdrawn after 16 blocks: AX 8010h
---   03h withdrawn after none: AX 8000h
---   42h withdrawn after 16 blocks: AX 8055h
---   43h withdrawn after none: AX 8001h
-pub registers-sectors : map registers
-    ((succeed (posted (call 0x0205 0x80)))
-    ∷ (succeed (posted (call 0x0305 0x80)))
-    ∷ (withdraw 16 (posted (call 0x0220 0x80)))
-    ∷ (withdraw 0 (posted (call 0x0320 0x80)))
-    ∷ (withdraw 16 (posted (call 0x4255 0x80)))
-    ∷ (withdraw 0 (posted (call 0x4301 0x80)))
-    ∷ [])
-    ≡ (0x0005 ∷ 0x1111 ∷ 0x2222 ∷ 0x80 ∷ 0 ∷ 0 ∷ 0x3333 ∷ 0 ∷ [])
-    ∷ (0x0005 ∷ 0x1111 ∷ 0x2222 ∷ 0x80 ∷ 0 ∷ 0 ∷ 0x3333 ∷ 0 ∷ [])
-    ∷ (0x8010 ∷ 0x1111 ∷ 0x2222 ∷ 0x80 ∷ 0 ∷ 0 ∷ 0x3333 ∷ 1 ∷ [])
-    ∷ (0x8000 ∷ 0x1111 ∷ 0x2222 ∷ 0x80 ∷ 0 ∷ 0 ∷ 0x3333 ∷ 1 ∷ [])
-    ∷ (0x8055 ∷ 0x1111 ∷ 0x2222 ∷ 0x80 ∷ 0 ∷ 0 ∷ 0x3333 ∷ 1 ∷ [])
-    ∷ (0x8001 ∷ 0x1111 ∷ 0x2222 ∷ 0x80 ∷ 0 ∷ 0 ∷ 0x3333 ∷ 1 ∷ [])
-    ∷ []
-registers-sectors = refl
+-- ---- cases: what came of a call, and what must come
 
--- every function: success changes what the paper names, a refusal AH and carry, and AL for 02h and 03h
---   02h, drive 81h of one: AX 0100h
---   03h, drive 81h of one: AX 0100h
---   03h, protected: AX 0300h
---   08h: AX 0, CX 013Fh, DX 0F01h
---   08h, drive 81h of one: AX 0755h
---   42h, count 0: AX 0055h
---   42h, start 2049: AX 0455h
---   43h, AL 1, count 0: AX 0001h
---   43h, AL 1, protected: AX 0301h
---   44h: AX 0055h
---   44h, start 2049: AX 0455h
---   47h: AX 0055h
---   47h, start 2048: AX 0455h
---   48h, size 26: AX 0055h
---   48h, size 25: AX 0155h
-pub registers-answered : wholes
-    ((check plain (call 0x0205 0x81) ([]))
-    ∷ (check plain (call 0x0305 0x81) ([]))
-    ∷ (check guarded (call 0x0305 0x80) ([]))
-    ∷ (check plain (call 0x0855 0x80) ([]))
-    ∷ (check plain (call 0x0855 0x81) ([]))
-    ∷ (check plain (call 0x4255 0x80) (packet 16 0 16 0 0))
-    ∷ (check plain (call 0x4255 0x80) (packet 16 0 16 0 2049))
-    ∷ (check plain (call 0x4301 0x80) (packet 16 0 16 0 0))
-    ∷ (check guarded (call 0x4301 0x80) (packet 16 0 16 0 0))
-    ∷ (check plain (call 0x4455 0x80) (packet 16 1 16 0 0))
-    ∷ (check plain (call 0x4455 0x80) (packet 16 0 16 0 2049))
-    ∷ (check plain (call 0x4755 0x80) (packet 16 0 16 0 0))
-    ∷ (check plain (call 0x4755 0x80) (packet 16 0 16 0 2048))
-    ∷ (check plain (call 0x4855 0x80) (26 ∷ replicate 25 0))
-    ∷ (check plain (call 0x4855 0x80) (25 ∷ replicate 25 0))
-    ∷ [])
-    ≡ (0x0100 ∷ 0x1111 ∷ 0x2222 ∷ 0x81 ∷ 0 ∷ 0 ∷ 0x3333 ∷ 1 ∷ [])
-    ∷ (0x0100 ∷ 0x1111 ∷ 0x2222 ∷ 0x81 ∷ 0 ∷ 0 ∷ 0x3333 ∷ 1 ∷ [])
-    ∷ (0x0300 ∷ 0x1111 ∷ 0x2222 ∷ 0x80 ∷ 0 ∷ 0 ∷ 0x3333 ∷ 1 ∷ [])
-    ∷ (0x0000 ∷ 0x1111 ∷ 0x013F ∷ 0x0F01 ∷ 0 ∷ 0 ∷ 0x3333 ∷ 0 ∷ [])
-    ∷ (0x0755 ∷ 0x1111 ∷ 0x2222 ∷ 0x81 ∷ 0 ∷ 0 ∷ 0x3333 ∷ 1 ∷ [])
-    ∷ (0x0055 ∷ 0x1111 ∷ 0x2222 ∷ 0x80 ∷ 0 ∷ 0 ∷ 0x3333 ∷ 0 ∷ [])
-    ∷ (0x0455 ∷ 0x1111 ∷ 0x2222 ∷ 0x80 ∷ 0 ∷ 0 ∷ 0x3333 ∷ 1 ∷ [])
-    ∷ (0x0001 ∷ 0x1111 ∷ 0x2222 ∷ 0x80 ∷ 0 ∷ 0 ∷ 0x3333 ∷ 0 ∷ [])
-    ∷ (0x0301 ∷ 0x1111 ∷ 0x2222 ∷ 0x80 ∷ 0 ∷ 0 ∷ 0x3333 ∷ 1 ∷ [])
-    ∷ (0x0055 ∷ 0x1111 ∷ 0x2222 ∷ 0x80 ∷ 0 ∷ 0 ∷ 0x3333 ∷ 0 ∷ [])
-    ∷ (0x0455 ∷ 0x1111 ∷ 0x2222 ∷ 0x80 ∷ 0 ∷ 0 ∷ 0x3333 ∷ 1 ∷ [])
-    ∷ (0x0055 ∷ 0x1111 ∷ 0x2222 ∷ 0x80 ∷ 0 ∷ 0 ∷ 0x3333 ∷ 0 ∷ [])
-    ∷ (0x0455 ∷ 0x1111 ∷ 0x2222 ∷ 0x80 ∷ 0 ∷ 0 ∷ 0x3333 ∷ 1 ∷ [])
-    ∷ (0x0055 ∷ 0x1111 ∷ 0x2222 ∷ 0x80 ∷ 0 ∷ 0 ∷ 0x3333 ∷ 0 ∷ [])
-    ∷ (0x0155 ∷ 0x1111 ∷ 0x2222 ∷ 0x80 ∷ 0 ∷ 0 ∷ 0x3333 ∷ 1 ∷ [])
-    ∷ []
-unfolding le leBytes inLimits isValid blockOf readPacket packetAt returnedSize resultAnswer isDrive verifyOk packetTests packetPlan seek sectors parameters extensions result check
-registers-answered = refl
+pub record Case : Type 0 where
+  pub made : List (List ℕ)
+  pub given : List (List ℕ)
 
--- 41h: AL becomes 0 on success and stays on refusal, DH is not set
---   drive known, BX 55AAh: AX 3000h, BX AA55h, CX 0001h
---   drive known, BX AA55h: AX 0155h
---   drive unknown, BX 55AAh: AX 0155h
-pub registers-extensions :
-    map (λ (r : Registers). whole (check plain r [] .outcome))
-    ((record { ax = 0x4155; bx = 0x55AA; cx = 0x2222; dx = 0x7780; ds = 0; si = 0; es = 0x3333; carry = true })
-    ∷ (record { ax = 0x4155; bx = 0xAA55; cx = 0x2222; dx = 0x7780; ds = 0; si = 0; es = 0x3333; carry = true })
-    ∷ (record { ax = 0x4155; bx = 0x55AA; cx = 0x2222; dx = 0x7781; ds = 0; si = 0; es = 0x3333; carry = true })
-    ∷ [])
-    ≡ (0x3000 ∷ 0xAA55 ∷ 0x0001 ∷ 0x7780 ∷ 0 ∷ 0 ∷ 0x3333 ∷ 0 ∷ []) ∷ (0x0155 ∷ 0xAA55 ∷ 0x2222 ∷ 0x7780 ∷ 0 ∷ 0 ∷ 0x3333 ∷ 1 ∷ []) ∷ (0x0155 ∷ 0x55AA ∷ 0x2222 ∷ 0x7781 ∷ 0 ∷ 0 ∷ 0x3333 ∷ 1 ∷ []) ∷ []
-unfolding le leBytes inLimits isValid blockOf readPacket packetAt returnedSize resultAnswer isDrive verifyOk packetTests packetPlan seek sectors parameters extensions result check
-registers-extensions = refl
+abbrev Hold : List Case → Type 0
+Hold cases = map (λ (c : Case). c .made) cases ≡ map (λ (c : Case). c .given) cases
 
--- a request that waits keeps its registers, with carry clear: drive 80h, then the registers
---   42h, one block
-pub registers-waiting : wholes
-    ((check plain (call 0x4255 0x80) (roomy (packet 16 1 16 0 0)))
-    ∷ [])
-    ≡ (0x80 ∷ 0x4255 ∷ 0x1111 ∷ 0x2222 ∷ 0x80 ∷ 0 ∷ 0 ∷ 0x3333 ∷ 0 ∷ [])
-    ∷ []
-unfolding le leBytes inLimits isValid blockOf readPacket packetAt returnedSize resultAnswer isDrive verifyOk packetTests packetPlan seek sectors parameters extensions result check
-registers-waiting = refl
+abbrev at : Table → Registers → List ℕ → Checked
+at b = begin (fed b)
 
--- an unknown function is 01h whatever DL, AL stays
---   00h, drive 80h: AX 0155h
---   01h, drive 80h: AX 0155h
---   04h, drive 00h: AX 0155h
---   15h, drive 81h: AX 0155h
---   45h, drive 80h: AX 0155h
---   FFh, drive 80h: AX 0155h
-pub unknown-functions : wholes
-    ((check plain (call 0x0055 0x80) ([]))
-    ∷ (check plain (call 0x0155 0x80) ([]))
-    ∷ (check plain (call 0x0455 0x00) ([]))
-    ∷ (check plain (call 0x1555 0x81) ([]))
-    ∷ (check plain (call 0x4555 0x80) ([]))
-    ∷ (check plain (call 0xFF55 0x80) ([]))
-    ∷ [])
-    ≡ (0x0155 ∷ 0x1111 ∷ 0x2222 ∷ 0x80 ∷ 0 ∷ 0 ∷ 0x3333 ∷ 1 ∷ [])
-    ∷ (0x0155 ∷ 0x1111 ∷ 0x2222 ∷ 0x80 ∷ 0 ∷ 0 ∷ 0x3333 ∷ 1 ∷ [])
-    ∷ (0x0155 ∷ 0x1111 ∷ 0x2222 ∷ 0x00 ∷ 0 ∷ 0 ∷ 0x3333 ∷ 1 ∷ [])
-    ∷ (0x0155 ∷ 0x1111 ∷ 0x2222 ∷ 0x81 ∷ 0 ∷ 0 ∷ 0x3333 ∷ 1 ∷ [])
-    ∷ (0x0155 ∷ 0x1111 ∷ 0x2222 ∷ 0x80 ∷ 0 ∷ 0 ∷ 0x3333 ∷ 1 ∷ [])
-    ∷ (0x0155 ∷ 0x1111 ∷ 0x2222 ∷ 0x80 ∷ 0 ∷ 0 ∷ 0x3333 ∷ 1 ∷ [])
-    ∷ []
-unfolding le leBytes inLimits isValid blockOf readPacket packetAt returnedSize resultAnswer isDrive verifyOk packetTests packetPlan seek sectors parameters extensions result check
-unknown-functions = refl
+-- its answer in short; an outcome in short; its answer whole; its answer in short and the window after it
+abbrev gives : Checked → List ℕ → Case
+gives c l = record { made = short (c .outcome) ∷ []; given = l ∷ [] }
 
--- drive numbers 00h, 7Fh, 80h, 80h + n - 1, 80h + n and FFh of n = 0, 1 and 8 drives; DL - 80h is never taken in eight bits
---   no drive: none is one
---   one drive: 80h is one
---   eight drives: 80h and 87h are
-pub drive-numbers :
-    map (λ (b : Table). map (λ (n : ℕ). bit (isDrive b n)) (0x00 ∷ 0x7F ∷ 0x80 ∷ 0x81 ∷ 0x87 ∷ 0x88 ∷ 0xFF ∷ [])) (emptyTable ∷ plain ∷ eight ∷ [])
-    ≡ (0 ∷ 0 ∷ 0 ∷ 0 ∷ 0 ∷ 0 ∷ 0 ∷ []) ∷ (0 ∷ 0 ∷ 1 ∷ 0 ∷ 0 ∷ 0 ∷ 0 ∷ []) ∷ (0 ∷ 0 ∷ 1 ∷ 1 ∷ 1 ∷ 0 ∷ 0 ∷ []) ∷ []
-unfolding isDrive
-drive-numbers = refl
+abbrev comes : Outcome → List ℕ → Case
+comes o l = record { made = short o ∷ []; given = l ∷ [] }
 
--- a drive function of an unknown drive is 01h, 08h is 07h
---   02h, 00h: AX 0100h
---   03h, 7Fh: AX 0100h
---   08h, 80h of none: AX 0755h
---   08h, 88h of eight: AX 0755h
---   41h, FFh: AX 0155h
---   42h, 81h: AX 0155h
---   47h, 81h: AX 0155h
---   48h, 7Fh: AX 0155h
-pub unknown-drives : answers
-    ((check plain (call 0x0201 0x00) ([]))
-    ∷ (check plain (call 0x0301 0x7F) ([]))
-    ∷ (check emptyTable (call 0x0855 0x80) ([]))
-    ∷ (check eight (call 0x0855 0x88) ([]))
-    ∷ (check plain (call 0x4155 0xFF) ([]))
-    ∷ (check plain (call 0x4255 0x81) (packet 16 0 16 0 0))
-    ∷ (check plain (call 0x4755 0x81) (packet 16 0 16 0 0))
-    ∷ (check plain (call 0x4855 0x7F) (26 ∷ replicate 25 0))
-    ∷ [])
-    ≡ (0x0100 ∷ 1 ∷ [])
-    ∷ (0x0100 ∷ 1 ∷ [])
-    ∷ (0x0755 ∷ 1 ∷ [])
-    ∷ (0x0755 ∷ 1 ∷ [])
-    ∷ (0x0155 ∷ 1 ∷ [])
-    ∷ (0x0155 ∷ 1 ∷ [])
-    ∷ (0x0155 ∷ 1 ∷ [])
-    ∷ (0x0155 ∷ 1 ∷ [])
-    ∷ []
-unfolding le leBytes inLimits isValid blockOf readPacket packetAt returnedSize resultAnswer isDrive verifyOk packetTests packetPlan seek sectors parameters extensions result check
-unknown-drives = refl
+abbrev givesAll : Checked → List ℕ → Case
+givesAll c l = record { made = whole (c .outcome) ∷ []; given = l ∷ [] }
 
--- ---- "Run by program": start and count against 2048 blocks, the limits of AL and of the packet's count
+abbrev leaves : Checked → List ℕ → List ℕ → Case
+leaves c l w = record { made = short (c .outcome) ∷ c .window ∷ []; given = l ∷ w ∷ [] }
 
--- 42h, 43h and 44h by start and count, in a window of 528 bytes
---   42h, start 2047 count 1: waits
---   42h, start 2048 count 0: success
---   42h, start 2048 count 1: 04h
---   43h, protected and out of range: 03h
---   44h, count 127: success
---   44h, count 128: 01h
-pub run-by-program : answers
-    ((check plain (call 0x4200 0x80) (roomy (packet 16 1 16 0 2047)))
-    ∷ (check plain (call 0x4200 0x80) (roomy (packet 16 0 16 0 2048)))
-    ∷ (check plain (call 0x4200 0x80) (roomy (packet 16 1 16 0 2048)))
-    ∷ (check guarded (call 0x4300 0x80) (roomy (packet 16 1 16 0 2048)))
-    ∷ (check plain (call 0x4400 0x80) (roomy (packet 16 127 16 0 0)))
-    ∷ (check plain (call 0x4400 0x80) (roomy (packet 16 128 16 0 0)))
-    ∷ [])
-    ≡ (2047 ∷ 1 ∷ 16 ∷ 0 ∷ [])
-    ∷ (0x0000 ∷ 0 ∷ [])
-    ∷ (0x0400 ∷ 1 ∷ [])
-    ∷ (0x0300 ∷ 1 ∷ [])
-    ∷ (0x0000 ∷ 0 ∷ [])
-    ∷ (0x0100 ∷ 1 ∷ [])
-    ∷ []
-unfolding le leBytes inLimits isValid blockOf readPacket packetAt returnedSize resultAnswer isDrive verifyOk packetTests packetPlan seek sectors parameters extensions result check
-run-by-program = refl
+abbrev plans : Plan → List ℕ → Case
+plans p l = record { made = planned p ∷ []; given = l ∷ [] }
 
--- 02h and 03h by AL, in a window of 65536 bytes
---   02h, AL 128 at 0/0/1: waits
---   02h, AL 129: 09h
---   03h, protected and out of range: 03h
-pub run-by-program-sectors : map short
-    ((sectors plain (run 0x0280 0x0001 0x0080) 65536)
-    ∷ (sectors plain (run 0x0281 0x0001 0x0080) 65536)
-    ∷ (sectors guarded (run 0x0301 0x0201 0x0080) 65536)
-    ∷ [])
-    ≡ (0 ∷ 128 ∷ 0 ∷ 0 ∷ [])
-    ∷ (0x0900 ∷ 1 ∷ [])
-    ∷ (0x0300 ∷ 1 ∷ [])
-    ∷ []
-unfolding le leBytes inLimits isValid blockOf readPacket packetAt returnedSize resultAnswer isDrive verifyOk packetTests packetPlan seek sectors parameters extensions result check
-run-by-program-sectors = refl
+abbrev holds : Registers → List ℕ → Case
+holds r l = record { made = registers r ∷ []; given = l ∷ [] }
 
--- 42h by count, in a window of 65040 bytes
---   count 127: waits
---   count 128: 01h
-pub run-by-program-packets : map planned
-    ((packetTests (drive 0 2 0) (call 0x4200 0x80) 65040 (record { size = 16; count = 127; buffer = 16; start = 0 }))
-    ∷ (packetTests (drive 0 2 0) (call 0x4200 0x80) 65040 (record { size = 16; count = 128; buffer = 16; start = 0 }))
-    ∷ [])
-    ≡ (3 ∷ 0 ∷ 127 ∷ 16 ∷ 0 ∷ [])
-    ∷ (1 ∷ 1 ∷ [])
-    ∷ []
-unfolding packetTests
-run-by-program-packets = refl
+-- ---- one drive: each function's success and refusals, and the order of its tests
 
--- ---- 42h, 43h, 44h: each pair of adjoining tests with both faults, and the window after it
+pub record Vectors : Type 0 where
+  -- ---- "Numbers given back": which registers an answer changes; BX 1111h, CX 2222h, ES 3333h and carry were given
 
--- 42h: the count word is set to 0 once the size byte is found good
---   unknown drive and 15 bytes left: 01h, nothing written
---   15 bytes left and size 15: 01h, nothing written
---   size 15 and count 128: 01h, nothing written
---   count 128 and out of range: 01h, count word 0
---   out of range and buffer outside: 04h, count word 0
---   buffer outside: 09h, count word 0
-pub order-read : map shown
-    ((check plain (call 0x4200 0x81) (take 15 (packet 16 1 16 0 0)))
-    ∷ (check plain (call 0x4200 0x80) (take 15 (packet 15 1 16 0 0)))
-    ∷ (check plain (call 0x4200 0x80) (packet 15 128 16 0 0))
-    ∷ (check plain (call 0x4200 0x80) (packet 16 128 16 0 2048))
-    ∷ (check plain (call 0x4200 0x80) (packet 16 1 16 0 2048))
-    ∷ (check plain (call 0x4200 0x80) (packet 16 1 16 0 0))
-    ∷ [])
-    ≡ ((0x0100 ∷ 1 ∷ []) ∷ (take 15 (packet 16 1 16 0 0)) ∷ [])
-    ∷ ((0x0100 ∷ 1 ∷ []) ∷ (take 15 (packet 15 1 16 0 0)) ∷ [])
-    ∷ ((0x0100 ∷ 1 ∷ []) ∷ (packet 15 128 16 0 0) ∷ [])
-    ∷ ((0x0100 ∷ 1 ∷ []) ∷ (packet 16 0 16 0 2048) ∷ [])
-    ∷ ((0x0400 ∷ 1 ∷ []) ∷ (packet 16 0 16 0 2048) ∷ [])
-    ∷ ((0x0900 ∷ 1 ∷ []) ∷ (packet 16 0 16 0 0) ∷ [])
-    ∷ []
-unfolding le leBytes inLimits isValid blockOf readPacket packetAt returnedSize resultAnswer isDrive verifyOk packetTests packetPlan seek sectors parameters extensions result check
-order-read = refl
+  -- 02h and 03h: AL stays on success, which is given at the end; a refusal sets AL to 0, for an unknown drive too
+  --   02h finished: AX 0005h
+  --   03h finished: AX 0005h
+  --   02h withdrawn after 16 blocks: AX 8010h
+  --   03h withdrawn after none: AX 8000h
+  --   42h withdrawn after 16 blocks: AX 8055h
+  --   43h withdrawn after none: AX 8001h
+  pub registers-sectors : Hold
+      ((holds (succeed (posted (call 0x0205 0x80))) (kept 0x0005 0x80 0))
+      ∷ (holds (succeed (posted (call 0x0305 0x80))) (kept 0x0005 0x80 0))
+      ∷ (holds (withdraw 16 (posted (call 0x0220 0x80))) (kept 0x8010 0x80 1))
+      ∷ (holds (withdraw 0 (posted (call 0x0320 0x80))) (kept 0x8000 0x80 1))
+      ∷ (holds (withdraw 16 (posted (call 0x4255 0x80))) (kept 0x8055 0x80 1))
+      ∷ (holds (withdraw 0 (posted (call 0x4301 0x80))) (kept 0x8001 0x80 1))
+      ∷ [])
+  -- every function: success changes what the paper names, a refusal AH and carry, and AL for 02h and 03h
+  --   02h, drive 81h of one: AX 0100h
+  --   03h, drive 81h of one: AX 0100h
+  --   03h, protected: AX 0300h
+  --   08h: AX 0, CX 013Fh, DX 0F01h
+  --   08h, drive 81h of one: AX 0755h
+  --   42h, count 0: AX 0055h
+  --   42h, start 2049: AX 0455h
+  --   43h, AL 1, count 0: AX 0001h
+  --   43h, AL 1, protected: AX 0301h
+  --   44h: AX 0055h
+  --   44h, start 2049: AX 0455h
+  --   47h: AX 0055h
+  --   47h, start 2048: AX 0455h
+  --   48h, size 26: AX 0055h
+  --   48h, size 25: AX 0155h
+  pub registers-answered : Hold
+      ((givesAll (at plain (call 0x0205 0x81) []) (kept 0x0100 0x81 1))
+      ∷ (givesAll (at plain (call 0x0305 0x81) []) (kept 0x0100 0x81 1))
+      ∷ (givesAll (at guarded (call 0x0305 0x80) []) (kept 0x0300 0x80 1))
+      ∷ (givesAll (at plain (call 0x0855 0x80) []) (0x0000 ∷ 0x1111 ∷ 0x013F ∷ 0x0F01 ∷ 0 ∷ 0 ∷ 0x3333 ∷ 0 ∷ []))
+      ∷ (givesAll (at plain (call 0x0855 0x81) []) (kept 0x0755 0x81 1))
+      ∷ (givesAll (at plain (call 0x4255 0x80) (packet 16 0 16 0 0)) (kept 0x0055 0x80 0))
+      ∷ (givesAll (at plain (call 0x4255 0x80) (packet 16 0 16 0 2049)) (kept 0x0455 0x80 1))
+      ∷ (givesAll (at plain (call 0x4301 0x80) (packet 16 0 16 0 0)) (kept 0x0001 0x80 0))
+      ∷ (givesAll (at guarded (call 0x4301 0x80) (packet 16 0 16 0 0)) (kept 0x0301 0x80 1))
+      ∷ (givesAll (at plain (call 0x4455 0x80) (packet 16 1 16 0 0)) (kept 0x0055 0x80 0))
+      ∷ (givesAll (at plain (call 0x4455 0x80) (packet 16 0 16 0 2049)) (kept 0x0455 0x80 1))
+      ∷ (givesAll (at plain (call 0x4755 0x80) (packet 16 0 16 0 0)) (kept 0x0055 0x80 0))
+      ∷ (givesAll (at plain (call 0x4755 0x80) (packet 16 0 16 0 2048)) (kept 0x0455 0x80 1))
+      ∷ (givesAll (at plain (call 0x4855 0x80) (26 ∷ replicate 25 0)) (kept 0x0055 0x80 0))
+      ∷ (givesAll (at plain (call 0x4855 0x80) (25 ∷ replicate 25 0)) (kept 0x0155 0x80 1))
+      ∷ [])
+  -- 41h: AL becomes 0 on success and stays on refusal, DH is not set
+  --   drive known, BX 55AAh: AX 3000h, BX AA55h, CX 0001h
+  --   drive known, BX AA55h: AX 0155h
+  --   drive unknown, BX 55AAh: AX 0155h
+  pub registers-extensions : Hold
+      ((givesAll (at plain (asks41 0x55AA 0x7780) []) (0x3000 ∷ 0xAA55 ∷ 0x0001 ∷ 0x7780 ∷ 0 ∷ 0 ∷ 0x3333 ∷ 0 ∷ []))
+      ∷ (givesAll (at plain (asks41 0xAA55 0x7780) []) (0x0155 ∷ 0xAA55 ∷ 0x2222 ∷ 0x7780 ∷ 0 ∷ 0 ∷ 0x3333 ∷ 1 ∷ []))
+      ∷ (givesAll (at plain (asks41 0x55AA 0x7781) []) (0x0155 ∷ 0x55AA ∷ 0x2222 ∷ 0x7781 ∷ 0 ∷ 0 ∷ 0x3333 ∷ 1 ∷ []))
+      ∷ [])
+  -- a request that waits keeps its registers, with carry clear: drive 80h, then the registers
+  --   42h, one block
+  pub registers-waiting : Hold
+      ((givesAll (at plain (call 0x4255 0x80) (roomy (packet 16 1 16 0 0))) (0x80 ∷ kept 0x4255 0x80 0))
+      ∷ [])
+  -- an unknown function is 01h whatever DL, AL stays
+  --   00h, drive 80h: AX 0155h
+  --   01h, drive 80h: AX 0155h
+  --   04h, drive 00h: AX 0155h
+  --   15h, drive 81h: AX 0155h
+  --   45h, drive 80h: AX 0155h
+  --   FFh, drive 80h: AX 0155h
+  pub unknown-functions : Hold
+      ((givesAll (at plain (call 0x0055 0x80) []) (kept 0x0155 0x80 1))
+      ∷ (givesAll (at plain (call 0x0155 0x80) []) (kept 0x0155 0x80 1))
+      ∷ (givesAll (at plain (call 0x0455 0x00) []) (kept 0x0155 0x00 1))
+      ∷ (givesAll (at plain (call 0x1555 0x81) []) (kept 0x0155 0x81 1))
+      ∷ (givesAll (at plain (call 0x4555 0x80) []) (kept 0x0155 0x80 1))
+      ∷ (givesAll (at plain (call 0xFF55 0x80) []) (kept 0x0155 0x80 1))
+      ∷ [])
+  -- drive numbers 00h, 7Fh, 80h, 80h + n - 1, 80h + n and FFh of n = 0, 1 and 8 drives; DL - 80h is never taken in eight bits
+  --   no drive: none is one
+  --   one drive: 80h is one
+  --   eight drives: 80h, 81h and 87h are
+  pub drive-numbers :
+      map (λ (b : Table). map (λ (n : ℕ). bit (isDrive b n)) (0x00 ∷ 0x7F ∷ 0x80 ∷ 0x81 ∷ 0x87 ∷ 0x88 ∷ 0xFF ∷ [])) (emptyTable ∷ plain ∷ eight ∷ [])
+      ≡ (0 ∷ 0 ∷ 0 ∷ 0 ∷ 0 ∷ 0 ∷ 0 ∷ []) ∷ (0 ∷ 0 ∷ 1 ∷ 0 ∷ 0 ∷ 0 ∷ 0 ∷ []) ∷ (0 ∷ 0 ∷ 1 ∷ 1 ∷ 1 ∷ 0 ∷ 0 ∷ []) ∷ []
+  -- a drive function of an unknown drive is 01h, 08h is 07h
+  --   02h, 00h: AX 0100h
+  --   03h, 7Fh: AX 0100h
+  --   08h, 80h of none: AX 0755h
+  --   08h, 88h of eight: AX 0755h
+  --   41h, FFh: AX 0155h
+  --   42h, 81h: AX 0155h
+  --   47h, 81h: AX 0155h
+  --   48h, 7Fh: AX 0155h
+  pub unknown-drives : Hold
+      ((gives (at plain (call 0x0201 0x00) []) (0x0100 ∷ 1 ∷ []))
+      ∷ (gives (at plain (call 0x0301 0x7F) []) (0x0100 ∷ 1 ∷ []))
+      ∷ (gives (at emptyTable (call 0x0855 0x80) []) (0x0755 ∷ 1 ∷ []))
+      ∷ (gives (at eight (call 0x0855 0x88) []) (0x0755 ∷ 1 ∷ []))
+      ∷ (gives (at plain (call 0x4155 0xFF) []) (0x0155 ∷ 1 ∷ []))
+      ∷ (gives (at plain (call 0x4255 0x81) (packet 16 0 16 0 0)) (0x0155 ∷ 1 ∷ []))
+      ∷ (gives (at plain (call 0x4755 0x81) (packet 16 0 16 0 0)) (0x0155 ∷ 1 ∷ []))
+      ∷ (gives (at plain (call 0x4855 0x7F) (26 ∷ replicate 25 0)) (0x0155 ∷ 1 ∷ []))
+      ∷ [])
+  -- ---- "Run by program": start and count against 2048 blocks, the limits of AL and of the packet's count
 
--- 43h: AL and protection too
---   unknown drive and AL 3: 01h, nothing written
---   AL 3 and 15 bytes left: 01h, nothing written
---   15 bytes left and size 15: 01h, nothing written
---   size 15 and count 128: 01h, nothing written
---   count 128 and protected: 01h, count word 0
---   protected and out of range: 03h, count word 0
---   out of range and buffer outside: 04h, count word 0
---   buffer outside: 09h, count word 0
-pub order-write : map shown
-    ((check plain (call 0x4303 0x81) (packet 16 1 16 0 0))
-    ∷ (check plain (call 0x4303 0x80) (take 15 (packet 16 1 16 0 0)))
-    ∷ (check plain (call 0x4300 0x80) (take 15 (packet 15 1 16 0 0)))
-    ∷ (check plain (call 0x4300 0x80) (packet 15 128 16 0 0))
-    ∷ (check guarded (call 0x4300 0x80) (packet 16 128 16 0 0))
-    ∷ (check guarded (call 0x4300 0x80) (packet 16 1 16 0 2048))
-    ∷ (check plain (call 0x4300 0x80) (packet 16 1 16 0 2048))
-    ∷ (check plain (call 0x4300 0x80) (packet 16 1 16 0 0))
-    ∷ [])
-    ≡ ((0x0103 ∷ 1 ∷ []) ∷ (packet 16 1 16 0 0) ∷ [])
-    ∷ ((0x0103 ∷ 1 ∷ []) ∷ (take 15 (packet 16 1 16 0 0)) ∷ [])
-    ∷ ((0x0100 ∷ 1 ∷ []) ∷ (take 15 (packet 15 1 16 0 0)) ∷ [])
-    ∷ ((0x0100 ∷ 1 ∷ []) ∷ (packet 15 128 16 0 0) ∷ [])
-    ∷ ((0x0100 ∷ 1 ∷ []) ∷ (packet 16 0 16 0 0) ∷ [])
-    ∷ ((0x0300 ∷ 1 ∷ []) ∷ (packet 16 0 16 0 2048) ∷ [])
-    ∷ ((0x0400 ∷ 1 ∷ []) ∷ (packet 16 0 16 0 2048) ∷ [])
-    ∷ ((0x0900 ∷ 1 ∷ []) ∷ (packet 16 0 16 0 0) ∷ [])
-    ∷ []
-unfolding le leBytes inLimits isValid blockOf readPacket packetAt returnedSize resultAnswer isDrive verifyOk packetTests packetPlan seek sectors parameters extensions result check
-order-write = refl
+  -- 42h, 43h and 44h by start and count, in a window of 528 bytes
+  --   42h, start 2047 count 1: waits
+  --   42h, start 2048 count 0: success
+  --   42h, start 2048 count 1: 04h
+  --   43h, protected and out of range: 03h
+  --   44h, count 127: success
+  --   44h, count 128: 01h
+  pub run-by-program : Hold
+      ((gives (at plain (call 0x4200 0x80) (roomy (packet 16 1 16 0 2047))) (2047 ∷ 1 ∷ 16 ∷ 0 ∷ []))
+      ∷ (gives (at plain (call 0x4200 0x80) (roomy (packet 16 0 16 0 2048))) (0x0000 ∷ 0 ∷ []))
+      ∷ (gives (at plain (call 0x4200 0x80) (roomy (packet 16 1 16 0 2048))) (0x0400 ∷ 1 ∷ []))
+      ∷ (gives (at guarded (call 0x4300 0x80) (roomy (packet 16 1 16 0 2048))) (0x0300 ∷ 1 ∷ []))
+      ∷ (gives (at plain (call 0x4400 0x80) (roomy (packet 16 127 16 0 0))) (0x0000 ∷ 0 ∷ []))
+      ∷ (gives (at plain (call 0x4400 0x80) (roomy (packet 16 128 16 0 0))) (0x0100 ∷ 1 ∷ []))
+      ∷ [])
+  -- 02h and 03h by AL, in a window of 65536 bytes
+  --   02h, AL 128 at 0/0/1: waits
+  --   02h, AL 129: 09h
+  --   03h, protected and out of range: 03h
+  pub run-by-program-sectors : Hold
+      ((comes (sectorsOf plain (run 0x0280 0x0001 0x0080) 65536) (0 ∷ 128 ∷ 0 ∷ 0 ∷ []))
+      ∷ (comes (sectorsOf plain (run 0x0281 0x0001 0x0080) 65536) (0x0900 ∷ 1 ∷ []))
+      ∷ (comes (sectorsOf guarded (run 0x0301 0x0201 0x0080) 65536) (0x0300 ∷ 1 ∷ []))
+      ∷ [])
+  -- 42h by count, in a window of 65040 bytes
+  --   count 127: waits
+  --   count 128: 01h
+  pub run-by-program-packets : Hold
+      ((plans (packetTests (drive 0 2 0) (call 0x4200 0x80) 65040 (record { size = 16; count = 127; buffer = 16; start = 0 })) (3 ∷ 0 ∷ 127 ∷ 16 ∷ 0 ∷ []))
+      ∷ (plans (packetTests (drive 0 2 0) (call 0x4200 0x80) 65040 (record { size = 16; count = 128; buffer = 16; start = 0 })) (1 ∷ 1 ∷ []))
+      ∷ [])
+  -- ---- 42h, 43h, 44h: each pair of adjoining tests with both faults, and the window after it
 
--- 44h: neither AL, nor protection, nor the buffer
---   unknown drive and 15 bytes left: 01h, nothing written
---   15 bytes left and size 15: 01h, nothing written
---   size 15 and count 128: 01h, nothing written
---   count 128 and out of range: 01h, count word 0
---   out of range: 04h, count word 0
---   protected, AL FFh, count 127, buffer FFFFh:FFFFh: success, nothing written
-pub order-verify : map shown
-    ((check plain (call 0x4403 0x81) (take 15 (packet 16 1 16 0 0)))
-    ∷ (check plain (call 0x4403 0x80) (take 15 (packet 15 1 16 0 0)))
-    ∷ (check plain (call 0x4403 0x80) (packet 15 128 16 0 0))
-    ∷ (check plain (call 0x4403 0x80) (packet 16 128 16 0 2048))
-    ∷ (check plain (call 0x4403 0x80) (packet 16 1 16 0 2048))
-    ∷ (check guarded (call 0x44FF 0x80) (packet 16 127 0xFFFF 0xFFFF 0))
-    ∷ [])
-    ≡ ((0x0103 ∷ 1 ∷ []) ∷ (take 15 (packet 16 1 16 0 0)) ∷ [])
-    ∷ ((0x0103 ∷ 1 ∷ []) ∷ (take 15 (packet 15 1 16 0 0)) ∷ [])
-    ∷ ((0x0103 ∷ 1 ∷ []) ∷ (packet 15 128 16 0 0) ∷ [])
-    ∷ ((0x0103 ∷ 1 ∷ []) ∷ (packet 16 0 16 0 2048) ∷ [])
-    ∷ ((0x0403 ∷ 1 ∷ []) ∷ (packet 16 0 16 0 2048) ∷ [])
-    ∷ ((0x00FF ∷ 0 ∷ []) ∷ (packet 16 127 0xFFFF 0xFFFF 0) ∷ [])
-    ∷ []
-unfolding le leBytes inLimits isValid blockOf readPacket packetAt returnedSize resultAnswer isDrive verifyOk packetTests packetPlan seek sectors parameters extensions result check
-order-verify = refl
+  -- 42h: the count word is set to 0 once the size byte is found good
+  --   unknown drive and 15 bytes left: 01h, nothing written
+  --   15 bytes left and size 15: 01h, nothing written
+  --   size 15 and count 128: 01h, nothing written
+  --   count 128 and out of range: 01h, count word 0
+  --   out of range and buffer outside: 04h, count word 0
+  --   buffer outside: 09h, count word 0
+  pub order-read : Hold
+      ((leaves (at plain (call 0x4200 0x81) (take 15 (packet 16 1 16 0 0))) (0x0100 ∷ 1 ∷ []) (take 15 (packet 16 1 16 0 0)))
+      ∷ (leaves (at plain (call 0x4200 0x80) (take 15 (packet 15 1 16 0 0))) (0x0100 ∷ 1 ∷ []) (take 15 (packet 15 1 16 0 0)))
+      ∷ (leaves (at plain (call 0x4200 0x80) (packet 15 128 16 0 0)) (0x0100 ∷ 1 ∷ []) (packet 15 128 16 0 0))
+      ∷ (leaves (at plain (call 0x4200 0x80) (packet 16 128 16 0 2048)) (0x0100 ∷ 1 ∷ []) (packet 16 0 16 0 2048))
+      ∷ (leaves (at plain (call 0x4200 0x80) (packet 16 1 16 0 2048)) (0x0400 ∷ 1 ∷ []) (packet 16 0 16 0 2048))
+      ∷ (leaves (at plain (call 0x4200 0x80) (packet 16 1 16 0 0)) (0x0900 ∷ 1 ∷ []) (packet 16 0 16 0 0))
+      ∷ [])
+  -- 43h: AL and protection too
+  --   unknown drive and AL 3: 01h, nothing written
+  --   AL 3 and 15 bytes left: 01h, nothing written
+  --   15 bytes left and size 15: 01h, nothing written
+  --   size 15 and count 128: 01h, nothing written
+  --   count 128 and protected: 01h, count word 0
+  --   protected and out of range: 03h, count word 0
+  --   out of range and buffer outside: 04h, count word 0
+  --   buffer outside: 09h, count word 0
+  pub order-write : Hold
+      ((leaves (at plain (call 0x4303 0x81) (packet 16 1 16 0 0)) (0x0103 ∷ 1 ∷ []) (packet 16 1 16 0 0))
+      ∷ (leaves (at plain (call 0x4303 0x80) (take 15 (packet 16 1 16 0 0))) (0x0103 ∷ 1 ∷ []) (take 15 (packet 16 1 16 0 0)))
+      ∷ (leaves (at plain (call 0x4300 0x80) (take 15 (packet 15 1 16 0 0))) (0x0100 ∷ 1 ∷ []) (take 15 (packet 15 1 16 0 0)))
+      ∷ (leaves (at plain (call 0x4300 0x80) (packet 15 128 16 0 0)) (0x0100 ∷ 1 ∷ []) (packet 15 128 16 0 0))
+      ∷ (leaves (at guarded (call 0x4300 0x80) (packet 16 128 16 0 0)) (0x0100 ∷ 1 ∷ []) (packet 16 0 16 0 0))
+      ∷ (leaves (at guarded (call 0x4300 0x80) (packet 16 1 16 0 2048)) (0x0300 ∷ 1 ∷ []) (packet 16 0 16 0 2048))
+      ∷ (leaves (at plain (call 0x4300 0x80) (packet 16 1 16 0 2048)) (0x0400 ∷ 1 ∷ []) (packet 16 0 16 0 2048))
+      ∷ (leaves (at plain (call 0x4300 0x80) (packet 16 1 16 0 0)) (0x0900 ∷ 1 ∷ []) (packet 16 0 16 0 0))
+      ∷ [])
+  -- 44h: neither AL, nor protection, nor the buffer
+  --   unknown drive and 15 bytes left: 01h, nothing written
+  --   15 bytes left and size 15: 01h, nothing written
+  --   size 15 and count 128: 01h, nothing written
+  --   count 128 and out of range: 01h, count word 0
+  --   out of range: 04h, count word 0
+  --   protected, AL FFh, count 127, buffer FFFFh:FFFFh: success, nothing written
+  pub order-verify : Hold
+      ((leaves (at plain (call 0x4403 0x81) (take 15 (packet 16 1 16 0 0))) (0x0103 ∷ 1 ∷ []) (take 15 (packet 16 1 16 0 0)))
+      ∷ (leaves (at plain (call 0x4403 0x80) (take 15 (packet 15 1 16 0 0))) (0x0103 ∷ 1 ∷ []) (take 15 (packet 15 1 16 0 0)))
+      ∷ (leaves (at plain (call 0x4403 0x80) (packet 15 128 16 0 0)) (0x0103 ∷ 1 ∷ []) (packet 15 128 16 0 0))
+      ∷ (leaves (at plain (call 0x4403 0x80) (packet 16 128 16 0 2048)) (0x0103 ∷ 1 ∷ []) (packet 16 0 16 0 2048))
+      ∷ (leaves (at plain (call 0x4403 0x80) (packet 16 1 16 0 2048)) (0x0403 ∷ 1 ∷ []) (packet 16 0 16 0 2048))
+      ∷ (leaves (at guarded (call 0x44FF 0x80) (packet 16 127 0xFFFF 0xFFFF 0)) (0x00FF ∷ 0 ∷ []) (packet 16 127 0xFFFF 0xFFFF 0))
+      ∷ [])
+  -- a count of 0 passes every test before it is answered at once, and success leaves the packet
+  --   43h, protected: 03h
+  --   42h, start 2049: 04h
+  --   42h, start 2048: success
+  --   42h, buffer 17 of 16 bytes: 09h
+  --   42h, buffer 16 of 16 bytes: success
+  --   43h, buffer 17 of 16 bytes: 09h
+  pub count-zero : Hold
+      ((leaves (at guarded (call 0x4300 0x80) (packet 16 0 16 0 0)) (0x0300 ∷ 1 ∷ []) (packet 16 0 16 0 0))
+      ∷ (leaves (at plain (call 0x4200 0x80) (packet 16 0 16 0 2049)) (0x0400 ∷ 1 ∷ []) (packet 16 0 16 0 2049))
+      ∷ (leaves (at plain (call 0x4200 0x80) (packet 16 0 16 0 2048)) (0x0000 ∷ 0 ∷ []) (packet 16 0 16 0 2048))
+      ∷ (leaves (at plain (call 0x4200 0x80) (packet 16 0 17 0 0)) (0x0900 ∷ 1 ∷ []) (packet 16 0 17 0 0))
+      ∷ (leaves (at plain (call 0x4200 0x80) (packet 16 0 16 0 0)) (0x0000 ∷ 0 ∷ []) (packet 16 0 16 0 0))
+      ∷ (leaves (at plain (call 0x4300 0x80) (packet 16 0 17 0 0)) (0x0900 ∷ 1 ∷ []) (packet 16 0 17 0 0))
+      ∷ [])
+  -- the packet is always 16 bytes, its count a whole word, its buffer an address that is never wrapped
+  --   44h, size 24: success
+  --   44h, size 255: success
+  --   44h, count 0100h: 01h, both bytes 0
+  --   44h, count FFh: 01h
+  --   42h, count FFFFh: 01h, both bytes 0
+  --   42h, count 0, buffer FFFFh:FFFFh: 09h
+  pub packet-forms : Hold
+      ((leaves (at plain (call 0x4400 0x80) (packet 24 1 16 0 0)) (0x0000 ∷ 0 ∷ []) (packet 24 1 16 0 0))
+      ∷ (leaves (at plain (call 0x4400 0x80) (packet 255 1 16 0 0)) (0x0000 ∷ 0 ∷ []) (packet 255 1 16 0 0))
+      ∷ (leaves (at plain (call 0x4400 0x80) (packet 16 0x0100 16 0 0)) (0x0100 ∷ 1 ∷ []) (packet 16 0 16 0 0))
+      ∷ (leaves (at plain (call 0x4400 0x80) (packet 16 0xFF 16 0 0)) (0x0100 ∷ 1 ∷ []) (packet 16 0 16 0 0))
+      ∷ (leaves (at plain (call 0x4200 0x80) (packet 16 0xFFFF 16 0 0)) (0x0100 ∷ 1 ∷ []) (packet 16 0 16 0 0))
+      ∷ (leaves (at plain (call 0x4200 0x80) (packet 16 0 0xFFFF 0xFFFF 0)) (0x0900 ∷ 1 ∷ []) (packet 16 0 0xFFFF 0xFFFF 0))
+      ∷ [])
+  -- buffers above 1 MiB and across 64 KiB: 42h, one block at FFFFh:FFFFh and eight at 65000
+  --   10FFEFh in a window of 10FFEFh + 512: waits
+  --   10FFEFh in a window one byte shorter: 09h
+  --   65000 in a window of 69096: waits
+  --   65000 in a window of 69095: 09h
+  pub buffers : Hold
+      ((plans (packetTests (drive 0 2 0) (call 0x4200 0x80) (0x10FFEF + 512) (record { size = 16; count = 1; buffer = 0x10FFEF; start = 0 })) (3 ∷ 0 ∷ 1 ∷ 0x10FFEF ∷ 0 ∷ []))
+      ∷ (plans (packetTests (drive 0 2 0) (call 0x4200 0x80) (0x10FFEF + 511) (record { size = 16; count = 1; buffer = 0x10FFEF; start = 0 })) (1 ∷ 9 ∷ []))
+      ∷ (plans (packetTests (drive 0 2 0) (call 0x4200 0x80) 69096 (record { size = 16; count = 8; buffer = 65000; start = 0 })) (3 ∷ 0 ∷ 8 ∷ 65000 ∷ 0 ∷ []))
+      ∷ (plans (packetTests (drive 0 2 0) (call 0x4200 0x80) 69095 (record { size = 16; count = 8; buffer = 65000; start = 0 })) (1 ∷ 9 ∷ []))
+      ∷ [])
+  -- start + count never wraps: every one is 04h
+  --   42h, start 2^64 - 1 count 0
+  --   42h, start 2^64 - 1 count 1
+  --   42h, start 2^64 - 1 count 2
+  --   44h, start 2^64 - 127 count 127
+  --   47h, start 2^64 - 1
+  pub no-wrap : Hold
+      ((gives (at plain (call 0x4200 0x80) (roomy (packet 16 0 16 0 18446744073709551615))) (0x0400 ∷ 1 ∷ []))
+      ∷ (gives (at plain (call 0x4200 0x80) (roomy (packet 16 1 16 0 18446744073709551615))) (0x0400 ∷ 1 ∷ []))
+      ∷ (gives (at plain (call 0x4200 0x80) (roomy (packet 16 2 16 0 18446744073709551615))) (0x0400 ∷ 1 ∷ []))
+      ∷ (gives (at plain (call 0x4400 0x80) (roomy (packet 16 127 16 0 18446744073709551489))) (0x0400 ∷ 1 ∷ []))
+      ∷ (gives (at plain (call 0x4700 0x80) (roomy (packet 16 1 16 0 18446744073709551615))) (0x0400 ∷ 1 ∷ []))
+      ∷ [])
+  -- 43h: AL 0 and 1, and 2 where information flag bit 3 is set; a bad AL is refused before the packet is looked at
+  --   AL 0: success
+  --   AL 1: success
+  --   AL 2, bit set: success
+  --   AL 2, bit clear, count 128: 01h, nothing written
+  --   AL 3, bit set, count 128: 01h, nothing written
+  --   AL FFh, bit set, count 128: 01h, nothing written
+  pub verify-flag : Hold
+      ((leaves (at plain (call 0x4300 0x80) (packet 16 0 16 0 0)) (0x0000 ∷ 0 ∷ []) (packet 16 0 16 0 0))
+      ∷ (leaves (at plain (call 0x4301 0x80) (packet 16 0 16 0 0)) (0x0001 ∷ 0 ∷ []) (packet 16 0 16 0 0))
+      ∷ (leaves (at verifying (call 0x4302 0x80) (packet 16 0 16 0 0)) (0x0002 ∷ 0 ∷ []) (packet 16 0 16 0 0))
+      ∷ (leaves (at plain (call 0x4302 0x80) (packet 16 128 16 0 0)) (0x0102 ∷ 1 ∷ []) (packet 16 128 16 0 0))
+      ∷ (leaves (at verifying (call 0x4303 0x80) (packet 16 128 16 0 0)) (0x0103 ∷ 1 ∷ []) (packet 16 128 16 0 0))
+      ∷ (leaves (at verifying (call 0x43FF 0x80) (packet 16 128 16 0 0)) (0x01FF ∷ 1 ∷ []) (packet 16 128 16 0 0))
+      ∷ [])
+  -- ---- 47h, 02h and 03h, 08h, 48h
 
--- a count of 0 passes every test before it is answered at once, and success leaves the packet
---   43h, protected: 03h
---   42h, start 2049: 04h
---   42h, start 2048: success
---   42h, buffer 17 of 16 bytes: 09h
---   42h, buffer 16 of 16 bytes: success
---   43h, buffer 17 of 16 bytes: 09h
-pub count-zero : map shown
-    ((check guarded (call 0x4300 0x80) (packet 16 0 16 0 0))
-    ∷ (check plain (call 0x4200 0x80) (packet 16 0 16 0 2049))
-    ∷ (check plain (call 0x4200 0x80) (packet 16 0 16 0 2048))
-    ∷ (check plain (call 0x4200 0x80) (packet 16 0 17 0 0))
-    ∷ (check plain (call 0x4200 0x80) (packet 16 0 16 0 0))
-    ∷ (check plain (call 0x4300 0x80) (packet 16 0 17 0 0))
-    ∷ [])
-    ≡ ((0x0300 ∷ 1 ∷ []) ∷ (packet 16 0 16 0 0) ∷ [])
-    ∷ ((0x0400 ∷ 1 ∷ []) ∷ (packet 16 0 16 0 2049) ∷ [])
-    ∷ ((0x0000 ∷ 0 ∷ []) ∷ (packet 16 0 16 0 2048) ∷ [])
-    ∷ ((0x0900 ∷ 1 ∷ []) ∷ (packet 16 0 17 0 0) ∷ [])
-    ∷ ((0x0000 ∷ 0 ∷ []) ∷ (packet 16 0 16 0 0) ∷ [])
-    ∷ ((0x0900 ∷ 1 ∷ []) ∷ (packet 16 0 17 0 0) ∷ [])
-    ∷ []
-unfolding le leBytes inLimits isValid blockOf readPacket packetAt returnedSize resultAnswer isDrive verifyOk packetTests packetPlan seek sectors parameters extensions result check
-count-zero = refl
+  -- 47h: start below the blocks, count ignored, no refusal writes
+  --   start 2047: success
+  --   start 2048: 04h
+  --   count 65535: success
+  --   size 15 and start 2048: 01h
+  --   15 bytes left: 01h
+  pub seeks : Hold
+      ((leaves (at plain (call 0x4700 0x80) (packet 16 1 16 0 2047)) (0x0000 ∷ 0 ∷ []) (packet 16 1 16 0 2047))
+      ∷ (leaves (at plain (call 0x4700 0x80) (packet 16 1 16 0 2048)) (0x0400 ∷ 1 ∷ []) (packet 16 1 16 0 2048))
+      ∷ (leaves (at plain (call 0x4700 0x80) (packet 16 65535 16 0 0)) (0x0000 ∷ 0 ∷ []) (packet 16 65535 16 0 0))
+      ∷ (leaves (at plain (call 0x4700 0x80) (packet 15 1 16 0 2048)) (0x0100 ∷ 1 ∷ []) (packet 15 1 16 0 2048))
+      ∷ (leaves (at plain (call 0x4700 0x80) (take 15 (packet 16 1 16 0 0))) (0x0100 ∷ 1 ∷ []) (take 15 (packet 16 1 16 0 0)))
+      ∷ [])
+  -- 02h and 03h: drive, AL, protection, address, buffer
+  --   unknown drive and AL 129: 01h
+  --   03h, AL 0 and protected: 01h
+  --   03h, AL 129 and protected: 09h
+  --   03h, protected and cylinder 2: 03h
+  --   02h, protected: waits
+  --   cylinder 2 and buffer outside: 04h
+  --   buffer outside: 09h
+  --   buffer at the end: waits
+  pub order-sectors : Hold
+      ((comes (sectorsOf plain (run 0x0281 0x0001 0x0081) 65536) (0x0100 ∷ 1 ∷ []))
+      ∷ (comes (sectorsOf guarded (run 0x0300 0x0001 0x0080) 65536) (0x0100 ∷ 1 ∷ []))
+      ∷ (comes (sectorsOf guarded (run 0x0381 0x0001 0x0080) 65536) (0x0900 ∷ 1 ∷ []))
+      ∷ (comes (sectorsOf guarded (run 0x0301 0x0201 0x0080) 65536) (0x0300 ∷ 1 ∷ []))
+      ∷ (comes (sectorsOf guarded (run 0x0201 0x0001 0x0080) 65536) (0 ∷ 1 ∷ 0 ∷ 0 ∷ []))
+      ∷ (comes (sectorsOf plain (run 0x0201 0x0201 0x0080) 511) (0x0400 ∷ 1 ∷ []))
+      ∷ (comes (sectorsOf plain (run 0x0201 0x0001 0x0080) 511) (0x0900 ∷ 1 ∷ []))
+      ∷ (comes (sectorsOf plain (run 0x0201 0x0001 0x0080) 512) (0 ∷ 1 ∷ 0 ∷ 0 ∷ []))
+      ∷ [])
+  -- 02h: the address and its run in the geometry of 2016 blocks, of a drive of 2048
+  --   cylinder 1, head 15, sector 63, AL 1: waits at block 2015
+  --   the same, AL 2, which fits the drive but not the geometry: 04h
+  --   head 16: 04h
+  --   sector 0: 04h
+  --   cylinder 256, in the top bits of CL: 04h
+  --   a run across tracks, 128 blocks from 0/0/63: waits at block 62
+  pub addresses : Hold
+      ((comes (sectorsOf plain (run 0x0201 0x013F 0x0F80) 65536) (2015 ∷ 1 ∷ 0 ∷ 0 ∷ []))
+      ∷ (comes (sectorsOf plain (run 0x0202 0x013F 0x0F80) 65536) (0x0400 ∷ 1 ∷ []))
+      ∷ (comes (sectorsOf plain (run 0x0201 0x0001 0x1080) 65536) (0x0400 ∷ 1 ∷ []))
+      ∷ (comes (sectorsOf plain (run 0x0201 0x0000 0x0080) 65536) (0x0400 ∷ 1 ∷ []))
+      ∷ (comes (sectorsOf plain (run 0x0201 0x0041 0x0080) 65536) (0x0400 ∷ 1 ∷ []))
+      ∷ (comes (sectorsOf plain (run 0x0280 0x003F 0x0080) 65536) (62 ∷ 128 ∷ 0 ∷ 0 ∷ []))
+      ∷ [])
+  -- 08h: the number of drives whichever was asked, and the largest geometry
+  --   82h of three: CX 013Fh, DX 0F03h
+  --   80h of three: CX 013Fh, DX 0F03h
+  --   C 1024, H 255, S 63: CX FFFFh, DX FE01h
+  pub parameters-given : Hold
+      ((givesAll (at three (call 0x0855 0x82) []) (0x0000 ∷ 0x1111 ∷ 0x013F ∷ 0x0F03 ∷ 0 ∷ 0 ∷ 0x3333 ∷ 0 ∷ []))
+      ∷ (givesAll (at three (call 0x0855 0x80) []) (0x0000 ∷ 0x1111 ∷ 0x013F ∷ 0x0F03 ∷ 0 ∷ 0 ∷ 0x3333 ∷ 0 ∷ []))
+      ∷ (givesAll (at largest (call 0x0855 0x80) []) (0x0000 ∷ 0x1111 ∷ 0xFFFF ∷ 0xFE01 ∷ 0 ∷ 0 ∷ 0x3333 ∷ 0 ∷ []))
+      ∷ [])
+  -- 48h at place 4 of the window: bytes before it and past the returned size stay, and a refusal writes none
+  --   size 29, 29 bytes left: 26 returned
+  --   size 30, 29 bytes left: 01h, no smaller size is tried
+  --   size 25: 01h
+  --   one byte left: 01h
+  pub results : Hold
+      ((leaves (at plain result4 (9 ∷ 9 ∷ 9 ∷ 9 ∷ 29 ∷ 0 ∷ replicate 27 7)) (0x0000 ∷ 0 ∷ []) (9 ∷ 9 ∷ 9 ∷ 9 ∷ 26 ∷ 0 ∷ 2 ∷ 0 ∷ 2 ∷ 0 ∷ 0 ∷ 0 ∷ 16 ∷ 0 ∷ 0 ∷ 0 ∷ 63 ∷ 0 ∷ 0 ∷ 0 ∷ 0 ∷ 8 ∷ 0 ∷ 0 ∷ 0 ∷ 0 ∷ 0 ∷ 0 ∷ 0 ∷ 2 ∷ replicate 3 7))
+      ∷ (leaves (at plain result4 (9 ∷ 9 ∷ 9 ∷ 9 ∷ 30 ∷ 0 ∷ replicate 27 7)) (0x0100 ∷ 1 ∷ []) (9 ∷ 9 ∷ 9 ∷ 9 ∷ 30 ∷ 0 ∷ replicate 27 7))
+      ∷ (leaves (at plain result4 (9 ∷ 9 ∷ 9 ∷ 9 ∷ 25 ∷ 0 ∷ replicate 27 7)) (0x0100 ∷ 1 ∷ []) (9 ∷ 9 ∷ 9 ∷ 9 ∷ 25 ∷ 0 ∷ replicate 27 7))
+      ∷ (leaves (at plain result4 (9 ∷ 9 ∷ 9 ∷ 9 ∷ 26 ∷ [])) (0x0100 ∷ 1 ∷ []) (9 ∷ 9 ∷ 9 ∷ 9 ∷ 26 ∷ []))
+      ∷ [])
 
--- the packet is always 16 bytes, its count a whole word, its buffer an address that is never wrapped
---   44h, size 24: success
---   44h, size 255: success
---   44h, count 0100h: 01h, both bytes 0
---   44h, count FFh: 01h
---   42h, count FFFFh: 01h, both bytes 0
---   42h, count 0, buffer FFFFh:FFFFh: 09h
-pub packet-forms : map shown
-    ((check plain (call 0x4400 0x80) (packet 24 1 16 0 0))
-    ∷ (check plain (call 0x4400 0x80) (packet 255 1 16 0 0))
-    ∷ (check plain (call 0x4400 0x80) (packet 16 0x0100 16 0 0))
-    ∷ (check plain (call 0x4400 0x80) (packet 16 0xFF 16 0 0))
-    ∷ (check plain (call 0x4200 0x80) (packet 16 0xFFFF 16 0 0))
-    ∷ (check plain (call 0x4200 0x80) (packet 16 0 0xFFFF 0xFFFF 0))
-    ∷ [])
-    ≡ ((0x0000 ∷ 0 ∷ []) ∷ (packet 24 1 16 0 0) ∷ [])
-    ∷ ((0x0000 ∷ 0 ∷ []) ∷ (packet 255 1 16 0 0) ∷ [])
-    ∷ ((0x0100 ∷ 1 ∷ []) ∷ (packet 16 0 16 0 0) ∷ [])
-    ∷ ((0x0100 ∷ 1 ∷ []) ∷ (packet 16 0 16 0 0) ∷ [])
-    ∷ ((0x0100 ∷ 1 ∷ []) ∷ (packet 16 0 16 0 0) ∷ [])
-    ∷ ((0x0900 ∷ 1 ∷ []) ∷ (packet 16 0 0xFFFF 0xFFFF 0) ∷ [])
-    ∷ []
-unfolding le leBytes inLimits isValid blockOf readPacket packetAt returnedSize resultAnswer isDrive verifyOk packetTests packetPlan seek sectors parameters extensions result check
-packet-forms = refl
+pub vectors : Vectors
+unfolding le leBytes inLimits isValid blockOf readPacket packetAt returnedSize parameterBytes blockBytes interfaceBytes pathBytes sum wholeResult resultBytes resultAnswer isDrive verifyOk packetTests packetPlan seek sectors parameters extensions result steps begin outcomeNumbers
+vectors =
+    record {
+      registers-sectors = refl;
+      registers-answered = refl;
+      registers-extensions = refl;
+      registers-waiting = refl;
+      unknown-functions = refl;
+      drive-numbers = refl;
+      unknown-drives = refl;
+      run-by-program = refl;
+      run-by-program-sectors = refl;
+      run-by-program-packets = refl;
+      order-read = refl;
+      order-write = refl;
+      order-verify = refl;
+      count-zero = refl;
+      packet-forms = refl;
+      buffers = refl;
+      no-wrap = refl;
+      verify-flag = refl;
+      seeks = refl;
+      order-sectors = refl;
+      addresses = refl;
+      parameters-given = refl;
+      results = refl;
+    }
 
--- buffers above 1 MiB and across 64 KiB: 42h, one block at FFFFh:FFFFh and eight at 65000
---   10FFEFh in a window of 10FFEFh + 512: waits
---   10FFEFh in a window one byte shorter: 09h
---   65000 in a window of 69096: waits
---   65000 in a window of 69095: 09h
-pub buffers : map planned
-    ((packetTests (drive 0 2 0) (call 0x4200 0x80) (0x10FFEF + 512) (record { size = 16; count = 1; buffer = 0x10FFEF; start = 0 }))
-    ∷ (packetTests (drive 0 2 0) (call 0x4200 0x80) (0x10FFEF + 511) (record { size = 16; count = 1; buffer = 0x10FFEF; start = 0 }))
-    ∷ (packetTests (drive 0 2 0) (call 0x4200 0x80) 69096 (record { size = 16; count = 8; buffer = 65000; start = 0 }))
-    ∷ (packetTests (drive 0 2 0) (call 0x4200 0x80) 69095 (record { size = 16; count = 8; buffer = 65000; start = 0 }))
-    ∷ [])
-    ≡ (3 ∷ 0 ∷ 1 ∷ 0x10FFEF ∷ 0 ∷ [])
-    ∷ (1 ∷ 9 ∷ [])
-    ∷ (3 ∷ 0 ∷ 8 ∷ 65000 ∷ 0 ∷ [])
-    ∷ (1 ∷ 9 ∷ [])
-    ∷ []
-unfolding packetTests
-buffers = refl
+-- ---- three drives, and calls in which every register, offset, segment, drive and geometry that enters has a value of its own: nothing
+-- that is exchanged, ignored or taken from another drive gives the same numbers
 
--- start + count never wraps: every one is 04h
---   42h, start 2^64 - 1 count 0
---   42h, start 2^64 - 1 count 1
---   42h, start 2^64 - 1 count 2
---   44h, start 2^64 - 127 count 127
---   47h, start 2^64 - 1
-pub no-wrap : answers
-    ((check plain (call 0x4200 0x80) (roomy (packet 16 0 16 0 18446744073709551615)))
-    ∷ (check plain (call 0x4200 0x80) (roomy (packet 16 1 16 0 18446744073709551615)))
-    ∷ (check plain (call 0x4200 0x80) (roomy (packet 16 2 16 0 18446744073709551615)))
-    ∷ (check plain (call 0x4400 0x80) (roomy (packet 16 127 16 0 18446744073709551489)))
-    ∷ (check plain (call 0x4700 0x80) (roomy (packet 16 1 16 0 18446744073709551615)))
-    ∷ [])
-    ≡ (0x0400 ∷ 1 ∷ [])
-    ∷ (0x0400 ∷ 1 ∷ [])
-    ∷ (0x0400 ∷ 1 ∷ [])
-    ∷ (0x0400 ∷ 1 ∷ [])
-    ∷ (0x0400 ∷ 1 ∷ [])
-    ∷ []
-unfolding le leBytes inLimits isValid blockOf readPacket packetAt returnedSize resultAnswer isDrive verifyOk packetTests packetPlan seek sectors parameters extensions result check
-no-wrap = refl
+-- 80h: 385 of 5000 blocks from store block 700
+abbrev drive80 : Drive
+drive80 = record {
+  cylinders = 6;
+  heads = 8;
+  sectors = 12;
+  blocks = 5000;
+  first = 700;
+  flags = 2;
+  c = 5;
+  h = 7;
+  s = 11;
+  protection = 0;
+  bus = 80 ∷ 67 ∷ 73 ∷ 0 ∷ [];
+  interface = 65 ∷ 84 ∷ 65 ∷ 0 ∷ 0 ∷ 0 ∷ 0 ∷ 0 ∷ [];
+  path = 0 ∷ 31 ∷ 1 ∷ 0 ∷ 0 ∷ 0 ∷ 0 ∷ 0 ∷ [];
+  device = replicate 8 0;
+}
 
--- 43h: AL 0 and 1, and 2 where information flag bit 3 is set; a bad AL is refused before the packet is looked at
---   AL 0: success
---   AL 1: success
---   AL 2, bit set: success
---   AL 2, bit clear, count 128: 01h, nothing written
---   AL 3, bit set, count 128: 01h, nothing written
---   AL FFh, bit set, count 128: 01h, nothing written
-pub verify-flag : map shown
-    ((check plain (call 0x4300 0x80) (packet 16 0 16 0 0))
-    ∷ (check plain (call 0x4301 0x80) (packet 16 0 16 0 0))
-    ∷ (check verifying (call 0x4302 0x80) (packet 16 0 16 0 0))
-    ∷ (check plain (call 0x4302 0x80) (packet 16 128 16 0 0))
-    ∷ (check verifying (call 0x4303 0x80) (packet 16 128 16 0 0))
-    ∷ (check verifying (call 0x43FF 0x80) (packet 16 128 16 0 0))
-    ∷ [])
-    ≡ ((0x0000 ∷ 0 ∷ []) ∷ (packet 16 0 16 0 0) ∷ [])
-    ∷ ((0x0001 ∷ 0 ∷ []) ∷ (packet 16 0 16 0 0) ∷ [])
-    ∷ ((0x0002 ∷ 0 ∷ []) ∷ (packet 16 0 16 0 0) ∷ [])
-    ∷ ((0x0102 ∷ 1 ∷ []) ∷ (packet 16 128 16 0 0) ∷ [])
-    ∷ ((0x0103 ∷ 1 ∷ []) ∷ (packet 16 128 16 0 0) ∷ [])
-    ∷ ((0x01FF ∷ 1 ∷ []) ∷ (packet 16 128 16 0 0) ∷ [])
-    ∷ []
-unfolding le leBytes inLimits isValid blockOf readPacket packetAt returnedSize resultAnswer isDrive verifyOk packetTests packetPlan seek sectors parameters extensions result check
-verify-flag = refl
+-- 81h: 1800 of 3000 blocks from store block 6000; information flag bit 3
+abbrev drive81 : Drive
+drive81 = record {
+  cylinders = 301;
+  heads = 9;
+  sectors = 13;
+  blocks = 3000;
+  first = 6000;
+  flags = 10;
+  c = 300;
+  h = 3;
+  s = 2;
+  protection = 0;
+  bus = 73 ∷ 83 ∷ 65 ∷ 0 ∷ [];
+  interface = 83 ∷ 67 ∷ 83 ∷ 73 ∷ 0 ∷ 0 ∷ 0 ∷ 0 ∷ [];
+  path = 1 ∷ 2 ∷ 3 ∷ 4 ∷ 5 ∷ 6 ∷ 7 ∷ 8 ∷ [];
+  device = 9 ∷ 10 ∷ 11 ∷ 12 ∷ 13 ∷ 14 ∷ 15 ∷ 16 ∷ [];
+}
 
--- ---- 47h, 02h and 03h, 08h, 48h
+-- 82h: 40 of 41 blocks from store block 9001, protected
+abbrev drive82 : Drive
+drive82 = record {
+  cylinders = 1031;
+  heads = 10;
+  sectors = 14;
+  blocks = 41;
+  first = 9001;
+  flags = 4;
+  c = 2;
+  h = 4;
+  s = 5;
+  protection = 1;
+  bus = 80 ∷ 67 ∷ 73 ∷ 0 ∷ [];
+  interface = 85 ∷ 83 ∷ 66 ∷ 0 ∷ 0 ∷ 0 ∷ 0 ∷ 0 ∷ [];
+  path = 21 ∷ 22 ∷ 23 ∷ 24 ∷ 25 ∷ 26 ∷ 27 ∷ 28 ∷ [];
+  device = replicate 8 33;
+}
 
--- 47h: start below the blocks, count ignored, no refusal writes
---   start 2047: success
---   start 2048: 04h
---   count 65535: success
---   size 15 and start 2048: 01h
---   15 bytes left: 01h
-pub seeks : map shown
-    ((check plain (call 0x4700 0x80) (packet 16 1 16 0 2047))
-    ∷ (check plain (call 0x4700 0x80) (packet 16 1 16 0 2048))
-    ∷ (check plain (call 0x4700 0x80) (packet 16 65535 16 0 0))
-    ∷ (check plain (call 0x4700 0x80) (packet 15 1 16 0 2048))
-    ∷ (check plain (call 0x4700 0x80) (take 15 (packet 16 1 16 0 0)))
-    ∷ [])
-    ≡ ((0x0000 ∷ 0 ∷ []) ∷ (packet 16 1 16 0 2047) ∷ [])
-    ∷ ((0x0400 ∷ 1 ∷ []) ∷ (packet 16 1 16 0 2048) ∷ [])
-    ∷ ((0x0000 ∷ 0 ∷ []) ∷ (packet 16 65535 16 0 0) ∷ [])
-    ∷ ((0x0100 ∷ 1 ∷ []) ∷ (packet 15 1 16 0 2048) ∷ [])
-    ∷ ((0x0100 ∷ 1 ∷ []) ∷ (take 15 (packet 16 1 16 0 0)) ∷ [])
-    ∷ []
-unfolding le leBytes inLimits isValid blockOf readPacket packetAt returnedSize resultAnswer isDrive verifyOk packetTests packetPlan seek sectors parameters extensions result check
-seeks = refl
+abbrev apart : Table
+apart = record { drives = drive80 ∷ drive81 ∷ drive82 ∷ replicate 5 zeroDrive; count = 3 }
 
--- 02h and 03h: drive, AL, protection, address, buffer
---   unknown drive and AL 129: 01h
---   03h, AL 0 and protected: 01h
---   03h, AL 129 and protected: 09h
---   03h, protected and cylinder 2: 03h
---   02h, protected: waits
---   cylinder 2 and buffer outside: 04h
---   buffer outside: 09h
---   buffer at the end: waits
-pub order-sectors : map short
-    ((sectors plain (run 0x0281 0x0001 0x0081) 65536)
-    ∷ (sectors guarded (run 0x0300 0x0001 0x0080) 65536)
-    ∷ (sectors guarded (run 0x0381 0x0001 0x0080) 65536)
-    ∷ (sectors guarded (run 0x0301 0x0201 0x0080) 65536)
-    ∷ (sectors guarded (run 0x0201 0x0001 0x0080) 65536)
-    ∷ (sectors plain (run 0x0201 0x0201 0x0080) 511)
-    ∷ (sectors plain (run 0x0201 0x0001 0x0080) 511)
-    ∷ (sectors plain (run 0x0201 0x0001 0x0080) 512)
-    ∷ [])
-    ≡ (0x0100 ∷ 1 ∷ [])
-    ∷ (0x0100 ∷ 1 ∷ [])
-    ∷ (0x0900 ∷ 1 ∷ [])
-    ∷ (0x0300 ∷ 1 ∷ [])
-    ∷ (0 ∷ 1 ∷ 0 ∷ 0 ∷ [])
-    ∷ (0x0400 ∷ 1 ∷ [])
-    ∷ (0x0900 ∷ 1 ∷ [])
-    ∷ (0 ∷ 1 ∷ 0 ∷ 0 ∷ [])
-    ∷ []
-unfolding le leBytes inLimits isValid blockOf readPacket packetAt returnedSize resultAnswer isDrive verifyOk packetTests packetPlan seek sectors parameters extensions result check
-order-sectors = refl
+-- AX, BX, CX and DX; DS:SI is place 19, ES:0005h place 37, and carry was given
+abbrev own : ℕ → ℕ → ℕ → ℕ → Registers
+own ax bx cx dx = record { ax = ax; bx = bx; cx = cx; dx = dx; ds = 1; si = 3; es = 2; carry = true }
 
--- 02h: the address and its run in the geometry of 2016 blocks, of a drive of 2048
---   cylinder 1, head 15, sector 63, AL 1: waits at block 2015
---   the same, AL 2, which fits the drive but not the geometry: 04h
---   head 16: 04h
---   sector 0: 04h
---   cylinder 256, in the top bits of CL: 04h
---   a run across tracks, 128 blocks from 0/0/63: waits at block 62
-pub addresses : map short
-    ((sectors plain (run 0x0201 0x013F 0x0F80) 65536)
-    ∷ (sectors plain (run 0x0202 0x013F 0x0F80) 65536)
-    ∷ (sectors plain (run 0x0201 0x0001 0x1080) 65536)
-    ∷ (sectors plain (run 0x0201 0x0000 0x0080) 65536)
-    ∷ (sectors plain (run 0x0201 0x0041 0x0080) 65536)
-    ∷ (sectors plain (run 0x0280 0x003F 0x0080) 65536)
-    ∷ [])
-    ≡ (2015 ∷ 1 ∷ 0 ∷ 0 ∷ [])
-    ∷ (0x0400 ∷ 1 ∷ [])
-    ∷ (0x0400 ∷ 1 ∷ [])
-    ∷ (0x0400 ∷ 1 ∷ [])
-    ∷ (0x0400 ∷ 1 ∷ [])
-    ∷ (62 ∷ 128 ∷ 0 ∷ 0 ∷ [])
-    ∷ []
-unfolding le leBytes inLimits isValid blockOf readPacket packetAt returnedSize resultAnswer isDrive verifyOk packetTests packetPlan seek sectors parameters extensions result check
-addresses = refl
+-- the registers of `own`, after AX, BX, CX, DX and carry
+abbrev kept19 : ℕ → ℕ → ℕ → ℕ → ℕ → List ℕ
+kept19 ax bx cx dx carry = ax ∷ bx ∷ cx ∷ dx ∷ 1 ∷ 3 ∷ 2 ∷ carry ∷ []
 
--- 08h: the number of drives whichever was asked, and the largest geometry
---   82h of three: CX 013Fh, DX 0F03h
---   80h of three: CX 013Fh, DX 0F03h
---   C 1024, H 255, S 63: CX FFFFh, DX FE01h
-pub parameters-given : wholes
-    ((check three (call 0x0855 0x82) ([]))
-    ∷ (check three (call 0x0855 0x80) ([]))
-    ∷ (check largest (call 0x0855 0x80) ([]))
-    ∷ [])
-    ≡ (0x0000 ∷ 0x1111 ∷ 0x013F ∷ 0x0F03 ∷ 0 ∷ 0 ∷ 0x3333 ∷ 0 ∷ [])
-    ∷ (0x0000 ∷ 0x1111 ∷ 0x013F ∷ 0x0F03 ∷ 0 ∷ 0 ∷ 0x3333 ∷ 0 ∷ [])
-    ∷ (0x0000 ∷ 0x1111 ∷ 0xFFFF ∷ 0xFE01 ∷ 0 ∷ 0 ∷ 0x3333 ∷ 0 ∷ [])
-    ∷ []
-unfolding le leBytes inLimits isValid blockOf readPacket packetAt returnedSize resultAnswer isDrive verifyOk packetTests packetPlan seek sectors parameters extensions result check
-parameters-given = refl
+-- bytes at place 19, behind bytes that are no packet and no size of a result, and 7s behind them
+abbrev placed : List ℕ → ℕ → List ℕ
+placed p rest = replicate 19 15 ++ (p ++ replicate rest 7)
 
--- 48h at place 4 of the window: bytes before it and past the returned size stay, and a refusal writes none
---   size 29, 29 bytes left: 26 returned
---   size 30, 29 bytes left: 01h, no smaller size is tried
---   size 25: 01h
---   one byte left: 01h
-pub results : map shown
-    ((check plain (record { ax = 0x4800; bx = 0; cx = 0; dx = 0x80; ds = 0; si = 4; es = 0; carry = true }) (9 ∷ 9 ∷ 9 ∷ 9 ∷ 29 ∷ 0 ∷ replicate 27 7))
-    ∷ (check plain (record { ax = 0x4800; bx = 0; cx = 0; dx = 0x80; ds = 0; si = 4; es = 0; carry = true }) (9 ∷ 9 ∷ 9 ∷ 9 ∷ 30 ∷ 0 ∷ replicate 27 7))
-    ∷ (check plain (record { ax = 0x4800; bx = 0; cx = 0; dx = 0x80; ds = 0; si = 4; es = 0; carry = true }) (9 ∷ 9 ∷ 9 ∷ 9 ∷ 25 ∷ 0 ∷ replicate 27 7))
-    ∷ (check plain (record { ax = 0x4800; bx = 0; cx = 0; dx = 0x80; ds = 0; si = 4; es = 0; carry = true }) (9 ∷ 9 ∷ 9 ∷ 9 ∷ 26 ∷ []))
-    ∷ [])
-    ≡ ((0x0000 ∷ 0 ∷ []) ∷ (9 ∷ 9 ∷ 9 ∷ 9 ∷ 26 ∷ 0 ∷ 2 ∷ 0 ∷ 2 ∷ 0 ∷ 0 ∷ 0 ∷ 16 ∷ 0 ∷ 0 ∷ 0 ∷ 63 ∷ 0 ∷ 0 ∷ 0 ∷ 0 ∷ 8 ∷ 0 ∷ 0 ∷ 0 ∷ 0 ∷ 0 ∷ 0 ∷ 0 ∷ 2 ∷ replicate 3 7) ∷ [])
-    ∷ ((0x0100 ∷ 1 ∷ []) ∷ (9 ∷ 9 ∷ 9 ∷ 9 ∷ 30 ∷ 0 ∷ replicate 27 7) ∷ [])
-    ∷ ((0x0100 ∷ 1 ∷ []) ∷ (9 ∷ 9 ∷ 9 ∷ 9 ∷ 25 ∷ 0 ∷ replicate 27 7) ∷ [])
-    ∷ ((0x0100 ∷ 1 ∷ []) ∷ (9 ∷ 9 ∷ 9 ∷ 9 ∷ 26 ∷ []) ∷ [])
-    ∷ []
-unfolding le leBytes inLimits isValid blockOf readPacket packetAt returnedSize parameterBytes blockBytes interfaceBytes pathBytes sum wholeResult resultBytes resultAnswer isDrive verifyOk packetTests packetPlan seek sectors parameters extensions result check
-results = refl
+-- a packet of one block whose buffer, segment 3 and offset 9, is place 57; the window ends with the buffer
+abbrev one57 : ℕ → ℕ → List ℕ
+one57 count start = placed (packet 16 count 9 3 start) 534
+
+-- an outcome as numbers: 0 and the registers; or 256, drive, start, count, buffer, packet and the registers kept
+abbrev numbers : Checked → List ℕ → Case
+numbers c l = record { made = outcomeNumbers (c .outcome) ∷ []; given = l ∷ [] }
+
+-- the same, and the window after it
+abbrev both-ways : Checked → List ℕ → List ℕ → Case
+both-ways c l w = record { made = outcomeNumbers (c .outcome) ∷ c .window ∷ []; given = l ∷ w ∷ [] }
+
+abbrev asks82 : Job
+asks82 = record { registers = own 0x4277 5 0x0242 0x0182; drive = 0x82; start = 4; count = 1; buffer = 57; packet = 19 }
+
+pub record Apart : Type 0 where
+  -- drives by their numbers: 80h, 81h and 82h have their first blocks, and every number has a place
+  pub drive-places : map (λ (n : ℕ). driveAt apart n .first) (0x80 ∷ 0x81 ∷ 0x82 ∷ []) ++ map (λ (n : ℕ). driveIn apart n .first) (0x80 ∷ 0x81 ∷ 0x82 ∷ 0x01 ∷ 0x8A ∷ [])
+      ≡ 700 ∷ 6000 ∷ 9001 ∷ 700 ∷ 6000 ∷ 9001 ∷ 6000 ∷ 9001 ∷ []
+  -- 02h and 03h: buffer at ES:BX, address from CX and DH, geometry and protection of DL's drive
+  --   02h, 81h, 258/1/2 of 300/3/2, two blocks in a window that ends with them: block 1551, buffer 37
+  --   the same in a window one byte shorter: 09h
+  --   03h, 80h, 4/5/9 of 5/7/11: block 371
+  --   02h, 82h, 1/2/4 of 2/4/5: block 33
+  --   03h, 82h, which is protected: 03h
+  --   02h, 82h, eight blocks from 33, inside its 41 but not its 40: 04h
+  pub own-sectors : Hold
+      ((numbers (at apart (own 0x0202 5 0x0242 0x0181) (replicate 1061 7)) (256 ∷ 0x81 ∷ 1551 ∷ 2 ∷ 37 ∷ 0 ∷ kept19 0x0202 5 0x0242 0x0181 0))
+      ∷ (numbers (at apart (own 0x0202 5 0x0242 0x0181) (replicate 1060 7)) (0 ∷ kept19 0x0900 5 0x0242 0x0181 1))
+      ∷ (numbers (at apart (own 0x0301 5 0x0409 0x0580) (replicate 549 7)) (256 ∷ 0x80 ∷ 371 ∷ 1 ∷ 37 ∷ 0 ∷ kept19 0x0301 5 0x0409 0x0580 0))
+      ∷ (numbers (at apart (own 0x0202 5 0x0104 0x0282) (replicate 1061 7)) (256 ∷ 0x82 ∷ 33 ∷ 2 ∷ 37 ∷ 0 ∷ kept19 0x0202 5 0x0104 0x0282 0))
+      ∷ (numbers (at apart (own 0x0302 5 0x0104 0x0282) (replicate 1061 7)) (0 ∷ kept19 0x0300 5 0x0104 0x0282 1))
+      ∷ (numbers (at apart (own 0x0208 5 0x0104 0x0282) (replicate 1061 7)) (0 ∷ kept19 0x0400 5 0x0104 0x0282 1))
+      ∷ [])
+  -- 42h, 43h: packet at DS:SI, buffer from its words 6 and 4, blocks, flags and protection of DL's drive; what a refusal writes
+  --   42h, 81h, start 2999 of 3000: waits with buffer 57 and packet 19
+  --   43h, 81h, AL 2: waits
+  --   43h, 80h, AL 2, which has no bit 3: 01h, nothing written
+  --   42h, 81h, start 3000: 04h, the count word at 21 set to 0
+  --   42h, 80h, start 3000 of 5000: waits
+  --   43h, 82h, which is protected: 03h, count word 0
+  --   42h, 82h, a window one byte shorter than the buffer: 09h, count word 0
+  pub own-packets : Hold
+      ((both-ways (at apart (own 0x4277 5 0x0242 0x0181) (one57 1 2999)) (256 ∷ 0x81 ∷ 2999 ∷ 1 ∷ 57 ∷ 19 ∷ kept19 0x4277 5 0x0242 0x0181 0) (one57 1 2999))
+      ∷ (both-ways (at apart (own 0x4302 5 0x0242 0x0181) (one57 1 2999)) (256 ∷ 0x81 ∷ 2999 ∷ 1 ∷ 57 ∷ 19 ∷ kept19 0x4302 5 0x0242 0x0181 0) (one57 1 2999))
+      ∷ (both-ways (at apart (own 0x4302 5 0x0242 0x0180) (one57 1 2999)) (0 ∷ kept19 0x0102 5 0x0242 0x0180 1) (one57 1 2999))
+      ∷ (both-ways (at apart (own 0x4277 5 0x0242 0x0181) (one57 1 3000)) (0 ∷ kept19 0x0477 5 0x0242 0x0181 1) (one57 0 3000))
+      ∷ (both-ways (at apart (own 0x4277 5 0x0242 0x0180) (one57 1 3000)) (256 ∷ 0x80 ∷ 3000 ∷ 1 ∷ 57 ∷ 19 ∷ kept19 0x4277 5 0x0242 0x0180 0) (one57 1 3000))
+      ∷ (both-ways (at apart (own 0x4301 5 0x0242 0x0182) (one57 1 40)) (0 ∷ kept19 0x0301 5 0x0242 0x0182 1) (one57 0 40))
+      ∷ (both-ways (at apart (own 0x4277 5 0x0242 0x0182) (placed (packet 16 1 9 3 40) 533)) (0 ∷ kept19 0x0977 5 0x0242 0x0182 1) (placed (packet 16 0 9 3 40) 533))
+      ∷ [])
+  -- 44h and 47h: the same packet, blocks of DL's drive
+  --   44h, 82h, start 40 of 41: success
+  --   44h, 82h, start 41: 04h, count word 0
+  --   47h, 82h, start 40: success
+  --   47h, 82h, start 41: 04h, nothing written
+  --   47h, 80h, start 41: success
+  pub own-verify-seek : Hold
+      ((both-ways (at apart (own 0x4477 5 0x0242 0x0182) (one57 1 40)) (0 ∷ kept19 0x0077 5 0x0242 0x0182 0) (one57 1 40))
+      ∷ (both-ways (at apart (own 0x4477 5 0x0242 0x0182) (one57 1 41)) (0 ∷ kept19 0x0477 5 0x0242 0x0182 1) (one57 0 41))
+      ∷ (both-ways (at apart (own 0x4777 5 0x0242 0x0182) (one57 1 40)) (0 ∷ kept19 0x0077 5 0x0242 0x0182 0) (one57 1 40))
+      ∷ (both-ways (at apart (own 0x4777 5 0x0242 0x0182) (one57 1 41)) (0 ∷ kept19 0x0477 5 0x0242 0x0182 1) (one57 1 41))
+      ∷ (both-ways (at apart (own 0x4777 5 0x0242 0x0180) (one57 1 41)) (0 ∷ kept19 0x0077 5 0x0242 0x0180 0) (one57 1 41))
+      ∷ [])
+  -- 08h: the geometry of DL's drive and the number of drives; 81h has C above 256. Over one drive the number is the one that is given
+  pub own-parameters : Hold
+      ((numbers (at apart (own 0x0877 5 0x0242 0x0180) []) (0 ∷ kept19 0 5 0x040B 0x0603 0))
+      ∷ (numbers (at apart (own 0x0877 5 0x0242 0x0181) []) (0 ∷ kept19 0 5 0x2B42 0x0203 0))
+      ∷ (numbers (at apart (own 0x0877 5 0x0242 0x0182) []) (0 ∷ kept19 0 5 0x0105 0x0303 0))
+      ∷ (numbers (at apart (own 0x0877 5 0x0242 0x0183) []) (0 ∷ kept19 0x0777 5 0x0242 0x0183 1))
+      ∷ (numbers (steps true 6 drive81 (own 0x0877 5 0x0242 0x0180) []) (0 ∷ kept19 0 5 0x2B42 0x0206 0))
+      ∷ (numbers (steps false 6 drive81 (own 0x0877 5 0x0242 0x0180) []) (0 ∷ kept19 0x0777 5 0x0242 0x0180 1))
+      ∷ [])
+  -- 41h: 82h is known and 83h is not; the registers that are not named stay
+  pub own-extensions : Hold
+      ((numbers (at apart (own 0x4177 0x55AA 0x0242 0x0182) []) (0 ∷ kept19 0x3000 0xAA55 0x0001 0x0182 0))
+      ∷ (numbers (at apart (own 0x4177 0x55AA 0x0242 0x0183) []) (0 ∷ kept19 0x0177 0x55AA 0x0242 0x0183 1))
+      ∷ [])
+  -- 48h: the result of DL's drive, laid at DS:SI
+  --   82h: flags 4, physical geometry 1031/10/14, 41 blocks
+  --   80h: flags 2, physical geometry 6/8/12, 5000 blocks
+  --   82h, the word at DS:SI cut off: 01h
+  pub own-results : Hold
+      ((both-ways (at apart (own 0x4877 5 0x0242 0x0182) (placed (26 ∷ 0 ∷ []) 26)) (0 ∷ kept19 0x0077 5 0x0242 0x0182 0)
+      (placed (26 ∷ 0 ∷ 4 ∷ 0 ∷ 7 ∷ 4 ∷ 0 ∷ 0 ∷ 10 ∷ 0 ∷ 0 ∷ 0 ∷ 14 ∷ 0 ∷ 0 ∷ 0 ∷ 41 ∷ 0 ∷ 0 ∷ 0 ∷ 0 ∷ 0 ∷ 0 ∷ 0 ∷ 0 ∷ 2 ∷ []) 2))
+      ∷ (both-ways (at apart (own 0x4877 5 0x0242 0x0180) (placed (26 ∷ 0 ∷ []) 26)) (0 ∷ kept19 0x0077 5 0x0242 0x0180 0)
+      (placed (26 ∷ 0 ∷ 2 ∷ 0 ∷ 6 ∷ 0 ∷ 0 ∷ 0 ∷ 8 ∷ 0 ∷ 0 ∷ 0 ∷ 12 ∷ 0 ∷ 0 ∷ 0 ∷ 0x88 ∷ 0x13 ∷ 0 ∷ 0 ∷ 0 ∷ 0 ∷ 0 ∷ 0 ∷ 0 ∷ 2 ∷ []) 2))
+      ∷ (both-ways (at apart (own 0x4877 5 0x0242 0x0182) (placed (26 ∷ []) 0)) (0 ∷ kept19 0x0177 5 0x0242 0x0182 1) (placed (26 ∷ []) 0))
+      ∷ [])
+  -- unknown functions, and answers given later: AH, AL and carry change, nothing else
+  pub own-answers : Hold
+      ((numbers (at apart (own 0x0577 5 0x0242 0x0181) []) (0 ∷ kept19 0x0177 5 0x0242 0x0181 1))
+      ∷ (numbers (at apart (own 0x4977 5 0x0242 0x0181) []) (0 ∷ kept19 0x0177 5 0x0242 0x0181 1))
+      ∷ (holds (succeed (posted (own 0x0205 5 0x0242 0x0181))) (kept19 0x0005 5 0x0242 0x0181 0))
+      ∷ (holds (succeed (posted (own 0x4301 5 0x0242 0x0181))) (kept19 0x0001 5 0x0242 0x0181 0))
+      ∷ (holds (withdraw 48 (posted (own 0x0350 5 0x0242 0x0181))) (kept19 0x8030 5 0x0242 0x0181 1))
+      ∷ (holds (withdraw 48 (posted (own 0x4277 5 0x0242 0x0181))) (kept19 0x8077 5 0x0242 0x0181 1))
+      ∷ [])
+  -- a request's own words: n, buffer and the store block named first, of 02h on 81h and of 42h on 82h; the store block of a job on 82h
+  pub own-words :
+      asked (own 0x0202 5 0x0242 0x0181) [] ∷ askedBuffer (own 0x0202 5 0x0242 0x0181) [] ∷ namedFrom apart (own 0x0202 5 0x0242 0x0181) []
+      ∷ asked (own 0x4277 5 0x0242 0x0182) (one57 1 40) ∷ askedBuffer (own 0x4277 5 0x0242 0x0182) (one57 1 40) ∷ namedFrom apart (own 0x4277 5 0x0242 0x0182) (one57 1 40)
+      ∷ storeBlock apart asks82 ∷ []
+      ≡ 2 ∷ 37 ∷ 7551 ∷ 1 ∷ 57 ∷ 9041 ∷ 9005 ∷ []
+
+pub apart-vectors : Apart
+unfolding le leBytes inLimits isValid blockOf readPacket packetAt returnedSize parameterBytes blockBytes interfaceBytes pathBytes sum wholeResult resultBytes resultAnswer isDrive verifyOk packetTests packetPlan seek sectors parameters extensions result steps begin outcomeNumbers
+apart-vectors =
+    record {
+      drive-places = refl;
+      own-sectors = refl;
+      own-packets = refl;
+      own-verify-seek = refl;
+      own-parameters = refl;
+      own-extensions = refl;
+      own-results = refl;
+      own-answers = refl;
+      own-words = refl;
+    }

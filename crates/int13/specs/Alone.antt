@@ -18,14 +18,15 @@ use Rattle.int13.specs.declared.Job.{Job}
 use Rattle.int13.specs.declared.Outcome.{Outcome}
 use Rattle.int13.specs.declared.Outcome.the-variants.{Answered, Waits}
 use Rattle.int13.specs.Answers.{ah, al, isSectors, isWrite, succeed}
-use Rattle.int13.specs.Steps.{Checked, driveAt, driveOf, packetPlace, check}
+use Rattle.int13.specs.Steps.{Checked, Feeds, fed, driveAt, driveNamed, packetPlace, begin}
 
--- ---- a request, from outside: the registers and the window that the post found
+-- ---- "The words of demand 3", a request from outside: the registers and the window that the post found
 
 -- n: its AL or packet count
 abbrev pub asked : Registers → List ℕ → ℕ
 asked r w = pick (isSectors (ah r)) (al r) (le 2 w (packetPlace r + 2))
 
+-- the block of an address that is valid
 abbrev pub blockNumber : ToBlock → ℕ
 blockNumber (Block n) = n
 blockNumber (NoBlock code) = 0
@@ -33,14 +34,15 @@ blockNumber (NoBlock code) = 0
 -- the first of its blocks, of the drive: from start, for 02h and 03h from its address's block
 abbrev pub askedStart : Table → Registers → List ℕ → ℕ
 askedStart b r w =
-    pick (isSectors (ah r)) (blockNumber (blockOf (geometryOf (driveOf b r)) (addressIn (r .cx) (r .dx)))) (le 8 w (packetPlace r + 8))
+    pick (isSectors (ah r)) (blockNumber (blockOf (geometryOf (driveNamed b r)) (addressIn (r .cx) (r .dx)))) (le 8 w (packetPlace r + 8))
 
 -- the store block that it names first
 abbrev pub namedFrom : Table → Registers → List ℕ → ℕ
-namedFrom b r w = driveOf b r .first + askedStart b r w
+namedFrom b r w = driveNamed b r .first + askedStart b r w
 
--- ---- the blocks of a request move between the window and the store
+-- ---- "The words of demand 3", Served alone: the blocks of a request move between the window and the store
 
+-- the guest's window and the store, which are its state
 pub record Memory : Type 0 where
   pub window : List ℕ
   pub store : List ℕ
@@ -56,8 +58,9 @@ moves j first i k m =
     (record { window = m .window; store = blocks (m .store) (blockLength * (first + i)) (m .window) (j .buffer + blockLength * i) k })
     (record { window = blocks (m .window) (j .buffer + blockLength * i) (m .store) (blockLength * (first + i)) k; store = m .store })
 
--- ---- served alone
+-- ---- "The words of demand 3", Served alone: what it gives
 
+-- registers, and the window and store afterwards
 pub record Served : Type 0 where
   pub registers : Registers
   pub memory : Memory
@@ -67,9 +70,10 @@ abbrev pub finish : Table → Outcome → List ℕ → Memory → Served
 finish b (Answered r) w m = record { registers = r; memory = record { window = w; store = m .store } }
 finish b (Waits j) w m = record { registers = succeed (j .registers); memory = moves j (storeBlock b j) 0 (j .count) m }
 
-abbrev pub servedBy : Table → Registers → Memory → Served
-servedBy b r m = finish b (check b r (m .window) .outcome) (check b r (m .window) .window) m
+-- by the steps, with the table that the opening read
+abbrev pub servedBy : Feeds Table → Registers → Memory → Served
+servedBy f r m = finish (f .table) (begin f r (m .window) .outcome) (begin f r (m .window) .window) m
 
 -- fed the opening's table bytes, the post's registers, and the guest's window and the store as the post found them
-unfoldable pub alone : List ℕ → Registers → Memory → Served
-alone t r m = servedBy (readTable t (length (m .store) / blockLength) .table) r m
+unfoldable pub alone : Feeds (List ℕ) → Registers → Memory → Served
+alone f r m = servedBy (fed (readTable (f .table) (length (m .store) / blockLength) .table)) r m

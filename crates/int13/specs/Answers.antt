@@ -2,40 +2,51 @@
 -- Assumes nothing.
 use Prim.Native.Nat.{ℕ, _+_, _*_, _/_, _%_}
 use mathlib.Core.Bool.{Bool, true, false}
+use mathlib.Core.List.{List, [], _∷_}
 use lib.Dec.{eqb}
 use Rattle.logic.specs.Logic.{pick, either}
 use Rattle.int13.specs.declared.Registers.{Registers}
+use Rattle.int13.specs.declared.Job.{Job}
+use Rattle.int13.specs.declared.Outcome.{Outcome}
+use Rattle.int13.specs.declared.Outcome.the-variants.{Answered, Waits}
 
--- ---- the codes
+-- ---- "Numbers given back", the codes in AH; 04h is chs's `outside`
 
+-- 01h: unknown function or drive; bad parameter as listed
 abbrev pub badParameter : ℕ
 badParameter = 0x01
 
+-- 03h: write to a protected drive
 abbrev pub writeProtected : ℕ
 writeProtected = 0x03
 
--- 04h is chs's `outside`
+-- 07h: 08h on an unknown drive
 abbrev pub noParameters : ℕ
 noParameters = 0x07
 
+-- 09h: transfer buffer outside the window, or AL above 128
 abbrev pub badBuffer : ℕ
 badBuffer = 0x09
 
+-- 80h: withdrawn
 abbrev pub withdrawnCode : ℕ
 withdrawnCode = 0x80
 
--- ---- halves of the registers
+-- ---- "Numbers given back", halves of the registers
 
+-- the function
 abbrev pub ah : Registers → ℕ
 ah r = r .ax / 256
 
+-- the sectors of 02h and 03h, the verify flag of 43h
 abbrev pub al : Registers → ℕ
 al r = r .ax % 256
 
+-- the drive's number
 abbrev pub dl : Registers → ℕ
 dl r = r .dx % 256
 
--- ---- the functions by their numbers
+-- ---- "Steps of each function", the functions by their numbers
 
 -- 02h and 03h, which say a run of sectors in AL
 abbrev pub isSectors : ℕ → Bool
@@ -45,8 +56,10 @@ isSectors f = either (eqb f 0x02) (eqb f 0x03)
 abbrev pub isWrite : ℕ → Bool
 isWrite f = either (eqb f 0x03) (eqb f 0x43)
 
--- ---- the one place that sets carry, AH and AL; registers not named stay as given
+-- ---- "Numbers given back", what an answer does to the registers
 
+-- Carry, AH and AL; registers not named stay as given. Every refusal, every success of 42h to 48h and every request that ends goes
+-- through it; the successes of 08h and 41h name further registers, and stand with their steps.
 abbrev pub answer : Bool → ℕ → ℕ → Registers → Registers
 answer carry code low r = record { ax = 256 * code + low; bx = r .bx; cx = r .cx; dx = r .dx; ds = r .ds; si = r .si; es = r .es; carry = carry }
 
@@ -69,3 +82,18 @@ withdraw moved r = stop withdrawnCode moved r
 -- the registers that a waiting row keeps: every answer names carry, so that what the guest gave there is dropped
 abbrev pub posted : Registers → Registers
 posted r = record { ax = r .ax; bx = r .bx; cx = r .cx; dx = r .dx; ds = r .ds; si = r .si; es = r .es; carry = false }
+
+-- ---- "Numbers given back", the answers as numbers
+
+-- the registers in the order of the post, carry last
+abbrev pub registerNumbers : Registers → List ℕ
+registerNumbers r = r .ax ∷ r .bx ∷ r .cx ∷ r .dx ∷ r .ds ∷ r .si ∷ r .es ∷ pick (r .carry) 1 0 ∷ []
+
+-- 256: a call or a row waits, or a turn is idle; document 01 gives none of them a number, and has no number 256
+abbrev pub nothingYet : ℕ
+nothingYet = 256
+
+-- 0 and the registers; or 256, what the request asks, and the registers that its row keeps
+unfoldable pub outcomeNumbers : Outcome → List ℕ
+outcomeNumbers (Answered r) = 0 ∷ registerNumbers r
+outcomeNumbers (Waits j) = nothingYet ∷ j .drive ∷ j .start ∷ j .count ∷ j .buffer ∷ j .packet ∷ registerNumbers (j .registers)

@@ -1,3 +1,5 @@
 pub mod Answers
 pub mod Steps
+pub mod Numbers
 pub mod Alone
+pub mod AloneBytes

@@ -1,4 +1,5 @@
--- Document 01, "Steps of each function": the tests of each function in the paper's order. M is the length of the guest's window.
+-- Document 01, "Steps of each function": the tests of each function in the paper's order, over the one drive that DL names. M is the length
+-- of the guest's window; `known`: whether the table has the drive; d: that drive, any one where it is not known.
 -- Assumes nothing.
 use Prim.Native.Nat.{ℕ, _+_, _-_, _*_, _/_, _%_}
 use mathlib.Core.Bool.{Bool, true, false, not}
@@ -14,14 +15,14 @@ use Rattle.chs.specs.Chs.{outside, size, blockOf, addressIn, pack}
 use Rattle.drive.specs.declared.Drive.{Drive}
 use Rattle.drive.specs.Drive.{geometryOf, isProtected}
 use Rattle.table.specs.declared.Table.{Table}
-use Rattle.table.specs.Table.{drivesOf, noDrive}
+use Rattle.table.specs.Table.{mostDrives, drivesOf, noDrive}
 use Rattle.layout.specs.declared.Packet.{Packet}
 use Rattle.layout.specs.declared.PacketRead.{PacketRead}
 use Rattle.layout.specs.declared.PacketRead.the-variants.{Whole, Refused as NoPacket}
 use Rattle.layout.specs.declared.ResultAnswer.{ResultAnswer}
 use Rattle.layout.specs.declared.ResultAnswer.the-variants.{Written, Refused as NoResult}
 use Rattle.layout.specs.Packet.{linear, packetLength, readPacket}
-use Rattle.layout.specs.ResultBuffer.{resultAnswer, resultOut}
+use Rattle.layout.specs.ResultBuffer.{noPointer, resultAnswer, resultOut}
 use Rattle.memory.specs.Blocks.{blockLength}
 use Rattle.int13.specs.declared.Registers.{Registers}
 use Rattle.int13.specs.declared.Job.{Job}
@@ -31,33 +32,53 @@ use Rattle.int13.specs.declared.Plan.{Plan}
 use Rattle.int13.specs.declared.Plan.the-variants.{Refuse, Clear, Finish, Wait}
 use Rattle.int13.specs.Answers.{badParameter, writeProtected, noParameters, badBuffer, ah, al, dl, isWrite, answer, succeed, refuse, posted}
 
+-- ---- "Steps of each function", what they are fed and what they make of a call
+
+-- What a call is fed beside its registers and its guest's memory: the drive table, T its form (the opening's bytes, or the table read from
+-- them). A feed that a later paper adds is a field more.
+pub record Feeds (T : Type 0) : Type 0 where
+  pub table : T
+
+-- fed that table
+abbrev pub fed : {T : Type 0} → T → Feeds T
+fed t = record { table = t }
+
 -- what the steps make of a call: answered at once or waiting, and the guest's window afterwards
 pub record Checked : Type 0 where
   pub outcome : Outcome
   pub window : List ℕ
 
+-- an outcome that writes nothing
 abbrev pub unchanged : List ℕ → Outcome → Checked
 unchanged w o = record { outcome = o; window = w }
 
--- ---- drives: numbered 80h upward in table order
+-- ---- "Parts of the desk", drives: numbered 80h upward in table order
 
+-- the number of the first drive
 abbrev pub firstDrive : ℕ
 firstDrive = 0x80
 
+-- how many drives the table has
 abbrev pub driveCount : Table → ℕ
 driveCount b = length (drivesOf b)
 
+-- whether a number is one of the table's drives; one below 80h never is
 unfoldable pub isDrive : Table → ℕ → Bool
 isDrive b n = both (leb firstDrive n) (ltb n (firstDrive + driveCount b))
 
+-- the drive of a number
 abbrev pub driveAt : Table → ℕ → Drive
 driveAt b n = getD (b .drives) (n - firstDrive) noDrive
 
--- the drive that DL names
-abbrev pub driveOf : Table → Registers → Drive
-driveOf b r = driveAt b (dl r)
+-- the drive in the place of a number, for every number: 80h is a multiple of eight, so that drive 80h + i stands in place i
+abbrev pub driveIn : Table → ℕ → Drive
+driveIn b n = getD (b .drives) (n % mostDrives) noDrive
 
--- ---- 42h, 43h, 44h
+-- the drive that DL names
+abbrev pub driveNamed : Table → Registers → Drive
+driveNamed b r = driveAt b (dl r)
+
+-- ---- "Steps of each function", 42h, 43h, 44h
 
 -- the packet stands at DS:SI
 abbrev pub packetPlace : Registers → ℕ
@@ -67,13 +88,15 @@ packetPlace r = linear (r .ds) (r .si)
 unfoldable pub verifyOk : ℕ → ℕ → Bool
 verifyOk low flags = either (ltb low 2) (both (eqb low 2) (eqb (flags / 8 % 2) 1))
 
+-- count at most 127
 abbrev pub mostBlocks : ℕ
 mostBlocks = 127
 
+-- what a packet that passed its tests asks
 abbrev pub packetJob : Registers → Packet → Job
 packetJob r p = record { registers = posted r; drive = dl r; start = p .start; count = p .count; buffer = p .buffer; packet = packetPlace r }
 
--- the packet's own tests, once its size byte is found good; from here a refusal sets the count word to 0
+-- the packet's own tests, once its size byte is found good; from here a refusal sets the count word to 0; 44h moves nothing
 unfoldable pub packetTests : Drive → Registers → ℕ → Packet → Plan
 packetTests d r M p =
     pick (ltb mostBlocks (p .count)) (Clear badParameter)
@@ -89,27 +112,31 @@ abbrev pub packetRead : Drive → Registers → ℕ → PacketRead → Plan
 packetRead d r M (NoPacket code) = Refuse code
 packetRead d r M (Whole p) = pick (ltb (p .size) packetLength) (Refuse badParameter) (packetTests d r M p)
 
-unfoldable pub packetPlan : Table → Registers → List ℕ → Plan
-packetPlan b r w =
-    pick (not (isDrive b (dl r))) (Refuse badParameter)
-    (pick (both (isWrite (ah r)) (not (verifyOk (al r) (driveOf b r .flags)))) (Refuse badParameter)
-    (packetRead (driveOf b r) r (length w) (readPacket w (packetPlace r))))
+-- drive, then AL for 43h, then the packet, which is read once
+unfoldable pub packetPlan : Bool → Drive → Registers → List ℕ → Plan
+packetPlan known d r w =
+    pick (not known) (Refuse badParameter)
+    (pick (both (isWrite (ah r)) (not (verifyOk (al r) (d .flags)))) (Refuse badParameter)
+    (packetRead d r (length w) (readPacket w (packetPlace r))))
 
 -- the count word of the packet at a place, set to a number
 abbrev pub withCount : List ℕ → ℕ → ℕ → List ℕ
 withCount w place n = sets w (place + 2) (leBytes 2 n)
 
+-- what a plan comes to; success never writes the packet
 abbrev pub carryOut : Plan → Registers → List ℕ → Checked
 carryOut (Refuse code) r w = unchanged w (Answered (refuse code r))
 carryOut (Clear code) r w = record { outcome = Answered (refuse code r); window = withCount w (packetPlace r) 0 }
 carryOut Finish r w = unchanged w (Answered (succeed r))
 carryOut (Wait j) r w = unchanged w (Waits j)
 
-abbrev pub extended : Table → Registers → List ℕ → Checked
-extended b r w = carryOut (packetPlan b r w) r w
+-- 42h, 43h and 44h
+abbrev pub extended : Bool → Drive → Registers → List ℕ → Checked
+extended known d r w = carryOut (packetPlan known d r w) r w
 
--- ---- 47h: drive, packet and size as above; start below the drive's blocks; count ignored
+-- ---- "Steps of each function", 47h
 
+-- packet and size as above; start below the drive's blocks; count ignored
 abbrev pub seekRead : Drive → Registers → PacketRead → Outcome
 seekRead d r (NoPacket code) = Answered (refuse code r)
 seekRead d r (Whole p) =
@@ -117,13 +144,15 @@ seekRead d r (Whole p) =
     (pick (leb (d .blocks) (p .start)) (Answered (refuse outside r))
     (Answered (succeed r)))
 
-unfoldable pub seek : Table → Registers → List ℕ → Outcome
-seek b r w =
-    pick (not (isDrive b (dl r))) (Answered (refuse badParameter r))
-    (seekRead (driveOf b r) r (readPacket w (packetPlace r)))
+-- 47h: drive, then the packet
+unfoldable pub seek : Bool → Drive → Registers → List ℕ → Outcome
+seek known d r w =
+    pick (not known) (Answered (refuse badParameter r))
+    (seekRead d r (readPacket w (packetPlace r)))
 
--- ---- 02h, 03h
+-- ---- "Steps of each function", 02h, 03h
 
+-- AL at most 128
 abbrev pub mostRun : ℕ
 mostRun = 128
 
@@ -131,6 +160,7 @@ mostRun = 128
 abbrev pub sectorBuffer : Registers → ℕ
 sectorBuffer r = linear (r .es) (r .bx)
 
+-- what a run that passed its tests asks: AL blocks from the address's block; 02h and 03h have no packet
 abbrev pub sectorJob : Registers → ℕ → Job
 sectorJob r n = record { registers = posted r; drive = dl r; start = n; count = al r; buffer = sectorBuffer r; packet = 0 }
 
@@ -142,57 +172,70 @@ sectorRun d r M (Block n) =
     (pick (ltb M (sectorBuffer r + blockLength * al r)) (Answered (refuse badBuffer r))
     (Waits (sectorJob r n)))
 
-unfoldable pub sectors : Table → Registers → ℕ → Outcome
-sectors b r M =
-    pick (not (isDrive b (dl r))) (Answered (refuse badParameter r))
+-- 02h and 03h: drive, AL, protection, address, buffer
+unfoldable pub sectors : Bool → Drive → Registers → ℕ → Outcome
+sectors known d r M =
+    pick (not known) (Answered (refuse badParameter r))
     (pick (eqb (al r) 0) (Answered (refuse badParameter r))
     (pick (ltb mostRun (al r)) (Answered (refuse badBuffer r))
-    (pick (both (isWrite (ah r)) (isProtected (driveOf b r))) (Answered (refuse writeProtected r))
-    (sectorRun (driveOf b r) r M (blockOf (geometryOf (driveOf b r)) (addressIn (r .cx) (r .dx)))))))
+    (pick (both (isWrite (ah r)) (isProtected d)) (Answered (refuse writeProtected r))
+    (sectorRun d r M (blockOf (geometryOf d) (addressIn (r .cx) (r .dx)))))))
 
--- ---- 08h: AL = 0; CH and CL hold C - 1 and S; DH = H - 1, of which DX has room for eight bits; DL = number of drives
+-- ---- "Steps of each function", 08h
 
+-- AL = 0; CH and CL hold C - 1 and S; DH = H - 1, of which DX has room for eight bits; DL = number of drives
 abbrev pub geometryGiven : Drive → ℕ → Registers → Registers
 geometryGiven d n r = record { ax = 0; bx = r .bx; cx = pack (d .c - 1) (d .s); dx = 256 * ((d .h - 1) % 256) + n; ds = r .ds; si = r .si; es = r .es; carry = false }
 
-unfoldable pub parameters : Table → Registers → Outcome
-parameters b r = pick (isDrive b (dl r)) (Answered (geometryGiven (driveOf b r) (driveCount b) r)) (Answered (refuse noParameters r))
+-- 08h: an unknown drive is 07h
+unfoldable pub parameters : Bool → ℕ → Drive → Registers → Outcome
+parameters known count d r = pick known (Answered (geometryGiven d count r)) (Answered (refuse noParameters r))
 
--- ---- 41h: drive known and BX = 55AAh, else 01h; AX = 3000h, BX = AA55h, CX = 0001h
+-- ---- "Steps of each function", 41h
 
+-- AX = 3000h, BX = AA55h, CX = 0001h
 abbrev pub extensionsGiven : Registers → Registers
 extensionsGiven r = record { ax = 0x3000; bx = 0xAA55; cx = 0x0001; dx = r .dx; ds = r .ds; si = r .si; es = r .es; carry = false }
 
-unfoldable pub extensions : Table → Registers → Outcome
-extensions b r = pick (both (isDrive b (dl r)) (eqb (r .bx) 0x55AA)) (Answered (extensionsGiven r)) (Answered (refuse badParameter r))
+-- 41h: drive known and BX = 55AAh, else 01h
+unfoldable pub extensions : Bool → Registers → Outcome
+extensions known r = pick (both known (eqb (r .bx) 0x55AA)) (Answered (extensionsGiven r)) (Answered (refuse badParameter r))
 
--- ---- 48h: drive; the word at DS:SI inside the window, which is the buffer's size; then the result
+-- ---- "Steps of each function", 48h
 
+-- the result was written, or refused
 abbrev pub resultGiven : ResultAnswer → Registers → Outcome
 resultGiven (NoResult code) r = Answered (refuse code r)
 resultGiven (Written n) r = Answered (succeed r)
 
+-- the word at a place is the buffer's size; the result goes there, and what stands before and behind it stays
 abbrev pub resultSteps : Drive → Registers → List ℕ → ℕ → Checked
 resultSteps d r w place =
     record {
       outcome = resultGiven (resultAnswer d (le 2 w place) (length (drop place w))) r;
-      window = take place w ++ resultOut d (le 2 w place) (drop place w);
+      window = take place w ++ resultOut d noPointer (le 2 w place) (drop place w);
     }
 
-unfoldable pub result : Table → Registers → List ℕ → Checked
-result b r w =
-    pick (not (isDrive b (dl r))) (unchanged w (Answered (refuse badParameter r)))
+-- 48h: drive; the word at DS:SI inside the window; then the result
+unfoldable pub result : Bool → Drive → Registers → List ℕ → Checked
+result known d r w =
+    pick (not known) (unchanged w (Answered (refuse badParameter r)))
     (pick (ltb (length w) (packetPlace r + 2)) (unchanged w (Answered (refuse badParameter r)))
-    (resultSteps (driveOf b r) r w (packetPlace r)))
+    (resultSteps d r w (packetPlace r)))
 
--- ---- every function by AH; unknown ones are 01h
+-- ---- "Steps of each function", every function by AH
 
-unfoldable pub check : Table → Registers → List ℕ → Checked
-check b r w =
-    pick (either (eqb (ah r) 0x02) (eqb (ah r) 0x03)) (unchanged w (sectors b r (length w)))
-    (pick (eqb (ah r) 0x08) (unchanged w (parameters b r))
-    (pick (eqb (ah r) 0x41) (unchanged w (extensions b r))
-    (pick (either (eqb (ah r) 0x42) (either (eqb (ah r) 0x43) (eqb (ah r) 0x44))) (extended b r w)
-    (pick (eqb (ah r) 0x47) (unchanged w (seek b r w))
-    (pick (eqb (ah r) 0x48) (result b r w)
+-- the steps of a call over one drive: whether DL names it, of how many, and which it is; an unknown function is 01h
+unfoldable pub steps : Bool → ℕ → Drive → Registers → List ℕ → Checked
+steps known count d r w =
+    pick (either (eqb (ah r) 0x02) (eqb (ah r) 0x03)) (unchanged w (sectors known d r (length w)))
+    (pick (eqb (ah r) 0x08) (unchanged w (parameters known count d r))
+    (pick (eqb (ah r) 0x41) (unchanged w (extensions known r))
+    (pick (either (eqb (ah r) 0x42) (either (eqb (ah r) 0x43) (eqb (ah r) 0x44))) (extended known d r w)
+    (pick (eqb (ah r) 0x47) (unchanged w (seek known d r w))
+    (pick (eqb (ah r) 0x48) (result known d r w)
     (unchanged w (Answered (refuse badParameter r))))))))
+
+-- a call begun, with all that it is fed: answered at once with what that writes, or made a request that waits
+unfoldable pub begin : Feeds Table → Registers → List ℕ → Checked
+begin f r w = steps (isDrive (f .table) (dl r)) (driveCount (f .table)) (driveNamed (f .table) r) r w

@@ -1,8 +1,10 @@
-// INT 13h: registers, requests, and the steps of each function, on a drive table and one guest's window.
+// INT 13h: registers, requests, and the steps of each function, over one drive and one guest's window. A step function is told whether
+// DL names a drive (`known`) and is handed that drive; where it is not known `d` is any drive, and is not looked at.
 use chs::ToBlock;
 use drive::Drive;
 use layout::Packet;
 use layout::PacketRead;
+use layout::Pointer;
 use layout::ResultAnswer;
 use table::Table;
 ghost use mathlib.Core.Path.{_≡_};
@@ -11,8 +13,9 @@ ghost use Prim.Native.Nat.{_+_, _-_, _≤_};
 ghost use lib.Dec.{ltb, eqb};
 ghost use Rattle.logic.specs.Logic.{either};
 ghost use Rattle.chs.specs.declared.ToBlock.the-variants.{Block};
-ghost use Rattle.int13.specs.Answers.{ah, al, dl, isSectors, isWrite, answer, succeed, stop, refuse, withdraw, posted};
-ghost use Rattle.int13.specs.Steps.{driveCount, isDrive, driveAt, packetPlace, verifyOk, packetJob, packetTests, packetRead, packetPlan, extended, seekRead, seek, sectorBuffer, sectorJob, sectorRun, sectors, geometryGiven, parameters, extensionsGiven, extensions, resultGiven, result, check};
+ghost use Rattle.int13.specs.Answers.{ah, al, dl, isSectors, isWrite, answer, succeed, stop, refuse, withdraw, posted, outcomeNumbers};
+ghost use Rattle.int13.specs.Steps.{driveCount, isDrive, driveAt, driveIn, fed, packetPlace, verifyOk, packetJob, packetTests, packetRead, packetPlan, extended, seekRead, seek, sectorBuffer, sectorJob, sectorRun, sectors, geometryGiven, parameters, extensionsGiven, extensions, resultGiven, result, steps, begin};
+ghost use Rattle.int13.specs.Numbers.{stepsGiven, beginGiven};
 
 // The registers of a call.
 pub struct Registers {
@@ -117,7 +120,7 @@ fn al(r: Registers) -> u8
     (r.ax % 256) as u8
 }
 
-fn dl(r: Registers) -> u8
+pub fn dl(r: Registers) -> u8
     ensures { λ n. ⌜ n ≡ dl r ⌝ }
 {
     (r.dx % 256) as u8
@@ -125,7 +128,8 @@ fn dl(r: Registers) -> u8
 
 // ---- answers
 
-// The one place that sets carry, AH and AL; the other registers stay as given.
+// Sets carry, AH and AL; the other registers stay as given. Every answer goes through it but the successes of 08h and 41h, which set
+// further registers.
 fn answer(carry: bool, code: u8, low: u8, r: Registers) -> Registers
     ensures { λ a. ⌜ a ≡ answer carry code low r ⌝ }
 {
@@ -207,24 +211,20 @@ pub fn is_drive(b: Table, n: u8) -> bool
     logic::and(FIRST_DRIVE <= n, n < end)
 }
 
-// The drive of a number. Every caller has found by `is_drive` that there is one; a waiting row names one.
+// The drive in the place of a number, which is the drive of that number where there is one: 80h is a multiple of eight.
 pub fn drive_at(b: Table, n: u8) -> Drive
-    requires { ⌜ isDrive b n ≡ true ⌝ }
-    ensures { λ d. ⌜ d ≡ driveAt b n ⌝ }
+    ensures { λ d. ⌜ (d ≡ driveIn b n) × (isDrive b n ≡ true → d ≡ driveAt b n) ⌝ }
 {
     let drives = b.drives;
-    let place = (n - FIRST_DRIVE) as usize;
+    let place = (n % 8) as usize;
     drives[place]
 }
 
-// start + count is above the end. Tested by difference, since a guest's start may be any 64-bit number.
+// start + count is above the end, a sum that does not wrap: a guest's start may be any 64-bit number.
 fn ends_past(end: u64, start: u64, count: u64) -> bool
     ensures { λ r. ⌜ r ≡ ltb end (start + count) ⌝ }
 {
-    if end < count {
-        return true;
-    }
-    end - count < start
+    !logic::ends_by(start, count, end)
 }
 
 // Bytes of a block.
@@ -270,11 +270,10 @@ fn sector_run(d: Drive, r: Registers, window: usize, start: u32) -> Outcome
     Outcome::Waits(sector_job(r, start))
 }
 
-fn sectors_02_03(b: Table, r: Registers, window: usize) -> Outcome
-    ensures { λ o. ⌜ o ≡ sectors b r window ⌝ }
+fn sectors_02_03(known: bool, d: Drive, r: Registers, window: usize) -> Outcome
+    ensures { λ o. ⌜ o ≡ sectors known d r window ⌝ }
 {
-    let n = dl(r);
-    if !is_drive(b, n) {
+    if !known {
         return Outcome::Answered(refuse(BAD_PARAMETER, r));
     }
     let count = al(r);
@@ -284,7 +283,6 @@ fn sectors_02_03(b: Table, r: Registers, window: usize) -> Outcome
     if MOST_RUN < count {
         return Outcome::Answered(refuse(BAD_BUFFER, r));
     }
-    let d = drive_at(b, n);
     if logic::and(is_write(function_of(r)), drive::is_protected(d)) {
         return Outcome::Answered(refuse(WRITE_PROTECTED, r));
     }
@@ -320,15 +318,13 @@ fn geometry_given(d: Drive, n: u8, r: Registers) -> Registers
     }
 }
 
-fn parameters_08(b: Table, r: Registers) -> Outcome
-    ensures { λ o. ⌜ o ≡ parameters b r ⌝ }
+fn parameters_08(known: bool, count: u8, d: Drive, r: Registers) -> Outcome
+    ensures { λ o. ⌜ o ≡ parameters known count d r ⌝ }
 {
-    let n = dl(r);
-    if !is_drive(b, n) {
+    if !known {
         return Outcome::Answered(refuse(NO_PARAMETERS, r));
     }
-    let d = drive_at(b, n);
-    Outcome::Answered(geometry_given(d, drive_count(b), r))
+    Outcome::Answered(geometry_given(d, count, r))
 }
 
 // ---- 41h: check extensions present
@@ -358,10 +354,10 @@ fn extensions_given(r: Registers) -> Registers
     }
 }
 
-fn extensions_41(b: Table, r: Registers) -> Outcome
-    ensures { λ o. ⌜ o ≡ extensions b r ⌝ }
+fn extensions_41(known: bool, r: Registers) -> Outcome
+    ensures { λ o. ⌜ o ≡ extensions known r ⌝ }
 {
-    if logic::and(is_drive(b, dl(r)), r.bx == ASKED) {
+    if logic::and(known, r.bx == ASKED) {
         return Outcome::Answered(extensions_given(r));
     }
     Outcome::Answered(refuse(BAD_PARAMETER, r))
@@ -444,14 +440,12 @@ fn packet_read(d: Drive, r: Registers, window: usize, read: PacketRead) -> Plan
 }
 
 // All tests in the paper's order; the packet is read once, here.
-fn packet_plan(b: Table, r: Registers, window: &[u8]) -> Plan
-    ensures { λ o. ⌜ o ≡ packetPlan b r (now (window .entry)) ⌝ }
+fn packet_plan(known: bool, d: Drive, r: Registers, window: &[u8]) -> Plan
+    ensures { λ o. ⌜ o ≡ packetPlan known d r (now (window .entry)) ⌝ }
 {
-    let n = dl(r);
-    if !is_drive(b, n) {
+    if !known {
         return Plan::Refuse(BAD_PARAMETER);
     }
-    let d = drive_at(b, n);
     let verify = verify_ok(al(r), d.flags);
     if logic::and(is_write(function_of(r)), !verify) {
         return Plan::Refuse(BAD_PARAMETER);
@@ -460,10 +454,10 @@ fn packet_plan(b: Table, r: Registers, window: &[u8]) -> Plan
     packet_read(d, r, window.len(), read)
 }
 
-fn extended_42_43_44(b: Table, r: Registers, window: &mut [u8]) -> Outcome
-    ensures { λ o. ⌜ (o ≡ extended b r (now (window .entry)) .outcome) × (now (window .exit) ≡ extended b r (now (window .entry)) .window) ⌝ }
+fn extended_42_43_44(known: bool, d: Drive, r: Registers, window: &mut [u8]) -> Outcome
+    ensures { λ o. ⌜ (o ≡ extended known d r (now (window .entry)) .outcome) × (now (window .exit) ≡ extended known d r (now (window .entry)) .window) ⌝ }
 {
-    let plan = packet_plan(b, r, window);
+    let plan = packet_plan(known, d, r, window);
     match plan {
         Plan::Refuse(code) => Outcome::Answered(refuse(code, r)),
         Plan::Clear(code) => {
@@ -494,15 +488,14 @@ fn seek_read(d: Drive, r: Registers, read: PacketRead) -> Outcome
     }
 }
 
-fn seek_47(b: Table, r: Registers, window: &[u8]) -> Outcome
-    ensures { λ o. ⌜ o ≡ seek b r (now (window .entry)) ⌝ }
+fn seek_47(known: bool, d: Drive, r: Registers, window: &[u8]) -> Outcome
+    ensures { λ o. ⌜ o ≡ seek known d r (now (window .entry)) ⌝ }
 {
-    let n = dl(r);
-    if !is_drive(b, n) {
+    if !known {
         return Outcome::Answered(refuse(BAD_PARAMETER, r));
     }
     let read = layout::read_packet(window, packet_place(r));
-    seek_read(drive_at(b, n), r, read)
+    seek_read(d, r, read)
 }
 
 // ---- 48h: get drive parameters, the result buffer
@@ -516,20 +509,25 @@ fn result_given(given: ResultAnswer, r: Registers) -> Outcome
     }
 }
 
-fn result_48(b: Table, r: Registers, window: &mut [u8]) -> Outcome
-    ensures { λ o. ⌜ (o ≡ result b r (now (window .entry)) .outcome) × (now (window .exit) ≡ result b r (now (window .entry)) .window) ⌝ }
+// FFFFh, twice: no pointer.
+const NO_POINTER: u16 = 0xFFFF;
+
+fn result_48(known: bool, d: Drive, r: Registers, window: &mut [u8]) -> Outcome
+    ensures { λ o. ⌜ (o ≡ result known d r (now (window .entry)) .outcome) × (now (window .exit) ≡ result known d r (now (window .entry)) .window) ⌝ }
 {
-    let n = dl(r);
-    if !is_drive(b, n) {
+    if !known {
         return Outcome::Answered(refuse(BAD_PARAMETER, r));
     }
     let place = packet_place(r);
     if window.len() < place + 2 {
         return Outcome::Answered(refuse(BAD_PARAMETER, r));
     }
-    let d = drive_at(b, n);
     let asked = words::get16(window, place);
-    let given = layout::write_result(d, asked, &mut window[place..]);
+    let none = Pointer {
+        offset: NO_POINTER,
+        segment: NO_POINTER,
+    };
+    let given = layout::write_result(d, none, asked, &mut window[place..]);
     result_given(given, r)
 }
 
@@ -544,29 +542,41 @@ fn is_extended(f: u8) -> bool
     )
 }
 
-// What a call comes to, for any table, registers and window: answered at once, or it waits. The window is written by 48h and by a
-// refused 42h, 43h or 44h only. A function that is not named here is refused with 01h.
-pub fn check(b: Table, r: Registers, window: &mut [u8]) -> Outcome
-    ensures { λ o. ⌜ (o ≡ check b r (now (window .entry)) .outcome) × (now (window .exit) ≡ check b r (now (window .entry)) .window) ⌝ }
+// What a call comes to, for any drive, registers and window: answered at once, or it waits. `known`: whether DL names a drive of the
+// table; `count`: how many drives there are; `d`: the drive that DL names, any one where there is none. The window is written by 48h and
+// by a refused 42h, 43h or 44h only. A function that is not named here is refused with 01h.
+pub fn steps(known: bool, count: u8, d: Drive, r: Registers, window: &mut [u8]) -> Outcome
+    ensures { λ o. ⌜ (o ≡ steps known count d r (now (window .entry)) .outcome) × (now (window .exit) ≡ steps known count d r (now (window .entry)) .window) × (outcomeNumbers o ≡ stepsGiven known count d r (now (window .entry))) ⌝ }
 {
     let f = function_of(r);
     if is_sectors(f) {
-        return sectors_02_03(b, r, window.len());
+        return sectors_02_03(known, d, r, window.len());
     }
     if f == GET_PARAMETERS {
-        return parameters_08(b, r);
+        return parameters_08(known, count, d, r);
     }
     if f == CHECK_EXTENSIONS {
-        return extensions_41(b, r);
+        return extensions_41(known, r);
     }
     if is_extended(f) {
-        return extended_42_43_44(b, r, window);
+        return extended_42_43_44(known, d, r, window);
     }
     if f == EXTENDED_SEEK {
-        return seek_47(b, r, window);
+        return seek_47(known, d, r, window);
     }
     if f == GET_RESULT {
-        return result_48(b, r, window);
+        return result_48(known, d, r, window);
     }
     Outcome::Answered(refuse(BAD_PARAMETER, r))
+}
+
+// A call begun at a whole table: the steps over the drive that DL names, with what they write.
+pub fn begin(b: Table, r: Registers, window: &mut [u8]) -> Outcome
+    ensures { λ o. ⌜ (o ≡ begin (fed b) r (now (window .entry)) .outcome) × (now (window .exit) ≡ begin (fed b) r (now (window .entry)) .window) × (outcomeNumbers o ≡ beginGiven b r (now (window .entry))) ⌝ }
+{
+    let n = dl(r);
+    let known = is_drive(b, n);
+    let count = drive_count(b);
+    let d = drive_at(b, n);
+    steps(known, count, d, r, window)
 }

@@ -10,7 +10,7 @@ use lib.ListN.{length, replicate, getD-replicate, List·getD-eq-default}
 use lib.Dec.{leb, ltb, eqb}
 use borrow.Author.Tests.{leb-true, ltb-true, lt-ltb, eqb-true}
 use Rattle.logic.specs.Logic.{pick, both}
-use Rattle.logic.proofs.Logic.{both-true, both-intro, lt-or-le}
+use Rattle.logic.proofs.LogicLaws.{both-true, both-intro, lt-or-le, impossible}
 use Rattle.chs.specs.Chs.{size}
 use Rattle.drive.specs.Drive.{same, blankNumbers, blankNames, isBlank}
 use Rattle.table.specs.declared.Table.{Table}
@@ -32,7 +32,7 @@ use Rattle.desk.specs.Parts.{windowSize, storeBlocks, vacantRow, stageIn, stage
 use Rattle.desk.specs.Acceptable.{isTransfer, countOk, rangeOk, packetOk, jobOk, movedOk, stageOk, rowsOk, accept}
 use Rattle.desk.specs.Calls.{opened, openDesk, openAnswer, openOf}
 use Rattle.table.proofs.Sound.{Good, accepted-good}
-use Rattle.desk.proofs.Acceptances.{job-facts, rowsOk-at, Waits, waits-facts}
+use Rattle.desk.proofs.AcceptableLaws.{job-facts, rowsOk-at, Waits, waits-facts}
 use Rattle.isolation.proofs.Check.{known}
 
 -- ---- acceptable, as facts
@@ -80,7 +80,7 @@ all-vacant g =
 
 passed : (x : Answer) → openAnswer x ≡ Opened → x ≡ Accepted
 passed Accepted e = refl
-passed (TableRefused n place) e = let z : _≡_ {A = ℕ} 0 1 = cc in absurd (omega arith)
+passed (TableRefused n place) e = impossible (cc)
 
 -- an opening that passed gives such a desk
 pub opened-desk : (t : List ℕ) (arena store : ℕ) → openOf t arena store .answer ≡ Opened → openOf t arena store .desk ≡ opened (readTable t (store / blockLength) .table) arena store

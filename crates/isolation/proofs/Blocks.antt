@@ -2,17 +2,18 @@
 -- Assumes nothing.
 use Prim.Native.Nat.{ℕ, _<_}
 use mathlib.Core.Path.{_≡_, refl, sym, ap, ap₂, subst, _∙_}
-use mathlib.Core.Bool.{true, false}
+use mathlib.Core.Bool.{Bool, true, false}
 use mathlib.Core.Logic.{⊎-elim}
 use mathlib.Core.List.{List, [], _∷_, _++_, map}
 use native.Mathlib.Omega.{arith}
 use lib.Dec.{leb, eqb}
 use lib.ListN.{length, getD, List·getD-eq-default}
 use borrow.Author.Tests.{eq-eqb, ne-eqb, eqb-true, leb-true}
-use Rattle.logic.proofs.Logic.{both-true, pick-cases, lt-or-le}
+use Rattle.logic.specs.Logic.{pick}
+use Rattle.logic.proofs.LogicLaws.{both-true, pick-cases, lt-or-le, impossible}
 use Rattle.words.specs.Words.{Bytes}
 use Rattle.memory.specs.Window.{guests, windowLength}
-use Rattle.drive.proofs.Drives.{Arrays}
+use Rattle.drive.proofs.DriveLaws.{Arrays}
 use Rattle.table.specs.Table.{noDrive, isSound}
 use Rattle.desk.specs.declared.Row.{Row}
 use Rattle.desk.specs.declared.Desk.{Desk}
@@ -20,10 +21,10 @@ use Rattle.desk.specs.declared.OpenAnswer.{OpenAnswer}
 use Rattle.desk.specs.declared.OpenAnswer.the-variants.{Opened, Refused as OpenRefused}
 use Rattle.desk.specs.Parts.{windowSize, storeBlocks, vacantRow, stageAt}
 use Rattle.desk.specs.Acceptable.{stageOk, accept}
-use Rattle.desk.proofs.Acceptances.{closed-refused}
+use Rattle.desk.proofs.AcceptableLaws.{closed-refused}
 use Rattle.desk.specs.Calls.{openOf, writtenOf, writtenOut, postOf, turnOf, collectOf, withdrawOf}
-use Rattle.image.specs.Image.{image, blockSize, isImage, deskOf, accepted, laid, FitsDesk}
-use Rattle.image.proofs.Laws.{length-image, desk-image, exact}
+use Rattle.image.specs.Image.{image, deskSize, isImage, deskOf, accepted, laid, FitsDesk}
+use Rattle.image.proofs.ImageLaws.{length-image, desk-image, exact}
 use Rattle.isolation.specs.Lists.{Op, openTable, post, turn, collect, withdraw, write, Call, Answer, opening, Out, openedDesk, stepOf, step, Event, run, after}
 use Rattle.isolation.specs.Words.{Kind, opens, kindOf, houseNumber, NoneOpens}
 use Rattle.isolation.specs.Blocks.{FitsOp, FitsCalls, AtBlocks, OutBlock, blockAfter, outBlock, numberOf, left25, stepBlockOf, stepBlock, EventBlock, runBlock, afterBlock, NoneOpensBlock, imageOut, imageEvent, ClaimBlock, DemandBlock}
@@ -31,7 +32,7 @@ use Rattle.isolation.proofs.Accept.{Facts, accept-facts, Inv, inv-accep
 use Rattle.isolation.proofs.View.{Did, same, idle, answer, accepting, serving, giving, withdrawing, Quiet, refusing, writing, view}
 use Rattle.isolation.proofs.Keep.{inv-step}
 use Rattle.isolation.proofs.Bound.{opens-front}
-use Rattle.isolation.proofs.Posts.{different, never as never-did}
+use Rattle.isolation.proofs.Posts.{never as never-did}
 use Rattle.isolation.proofs.Fits.{fits-opened, by-opening, opening-case, fits-step}
 use Rattle.isolation.proofs.Theorem.{demand}
 use Rattle.isolation.proofs.Refusals.{LowOpening, opening-low}
@@ -39,28 +40,28 @@ use Rattle.isolation.proofs.Refusals.{LowOpening, opening-low}
 -- ---- one call
 
 -- at a block of the size
-step-at : (b : List ℕ) (d : Desk) (c : Call) → length b ≡ blockSize → deskOf b ≡ d → stepBlock b c ≡ outBlock b (step d c)
+step-at : (b : List ℕ) (d : Desk) (c : Call) → length b ≡ deskSize → deskOf b ≡ d → stepBlock b c ≡ outBlock b (step d c)
 unfolding stepBlock step
 step-at b d c l e = by-op (c .op) ∙ ap (λ (x : Desk). outBlock b (stepOf x (c .op) (c .arena) (c .store))) e
   where
     by-op : (o : Op) → stepBlockOf b o (c .arena) (c .store) ≡ outBlock b (stepOf (deskOf b) o (c .arena) (c .store))
-    by-op (openTable t a s) = rw (eq-eqb (length b) blockSize l)
+    by-op (openTable t a s) = rw (eq-eqb (length b) deskSize l)
     by-op (post g r) = refl
     by-op turn = refl
     by-op (collect g) = refl
     by-op (withdraw g) = refl
     by-op (write out) = refl
 
-laid-image : (b : List ℕ) (d : Desk) → length b ≡ blockSize → laid b d ≡ image d
+laid-image : (b : List ℕ) (d : Desk) → length b ≡ deskSize → laid b d ≡ image d
 unfolding laid
-laid-image b d l = rw (eq-eqb (length b) blockSize l)
+laid-image b d l = rw (eq-eqb (length b) deskSize l)
 
 quiet-block : {k : Kind} (b : List ℕ) (d : Desk) → Quiet k → blockAfter b d k ≡ b
 quiet-block b d refusing = refl
 quiet-block b d writing = refl
 
 -- the block after a call is the image of the desk after it
-block-did : (d : Desk) (c : Call) (o : Out) → length (image d) ≡ blockSize → Did d c o → blockAfter (image d) (o .desk) (kindOf (o .answer)) ≡ image (o .desk)
+block-did : (d : Desk) (c : Call) (o : Out) → length (image d) ≡ deskSize → Did d c o → blockAfter (image d) (o .desk) (kindOf (o .answer)) ≡ image (o .desk)
 block-did d c o l (same x k n) = quiet-block (image d) d k
 block-did d c o l (idle e f) = refl
 block-did d c o l (answer g r x w e b t v ko kw k) = refl
@@ -77,13 +78,13 @@ record Opens (t : List ℕ) (a s : ℕ) (o : OutBlock) : Type 0 where
 opens-block : (b t : List ℕ) (a s : ℕ) (arena store : List ℕ) → stepBlockOf b (openTable t a s) arena store .answer ≡ opening Opened
     → Opens t a s (stepBlockOf b (openTable t a s) arena store)
 opens-block b t a s arena store =
-    pick-cases (λ (o : OutBlock). o .answer ≡ opening Opened → Opens t a s o) (eqb (length b) blockSize) _ _
+    pick-cases (λ (o : OutBlock). o .answer ≡ opening Opened → Opens t a s o) (eqb (length b) deskSize) _ _
     (λ l e.
     let x : openOf t a s .answer ≡ Opened = cc in
     let y : blockAfter b (openedDesk (deskOf b) (openOf t a s .desk) (openOf t a s .answer)) (kindOf (opening (openOf t a s .answer))) ≡ laid b (openOf t a s .desk)
     = ap (λ (y : OpenAnswer). blockAfter b (openedDesk (deskOf b) (openOf t a s .desk) y) (kindOf (opening y))) x in
-    record { passed = x; block = y ∙ laid-image b (openOf t a s .desk) (eqb-true (length b) blockSize l) })
-    (λ l e. different cc)
+    record { passed = x; block = y ∙ laid-image b (openOf t a s .desk) (eqb-true (length b) deskSize l) })
+    (λ l e. impossible cc)
 
 opens-first : (b t : List ℕ) (a s : ℕ) (c : Call) → c .op ≡ openTable t a s → stepBlock b c .answer ≡ opening Opened → Opens t a s (stepBlock b c)
 unfolding stepBlock
@@ -94,13 +95,13 @@ opens-first b t a s c e =
 -- ---- 25
 
 -- at a block that is not accepted, and for an opening has another size
-is-25 : (b : List ℕ) (c : Call) → accepted b ≡ false → ((t : List ℕ) (a s : ℕ) → c .op ≡ openTable t a s → length b ≡ blockSize → ⊥)
+is-25 : (b : List ℕ) (c : Call) → accepted b ≡ false → ((t : List ℕ) (a s : ℕ) → c .op ≡ openTable t a s → length b ≡ deskSize → ⊥)
     → stepBlock b c ≡ left25 b (c .op) (c .arena) (c .store)
 unfolding stepBlock accepted postOf turnOf collectOf withdrawOf writtenOf writtenOut
 is-25 b c e n = by-op (c .op) n
   where
-    by-op : (o : Op) → ((t : List ℕ) (a s : ℕ) → o ≡ openTable t a s → length b ≡ blockSize → ⊥) → stepBlockOf b o (c .arena) (c .store) ≡ left25 b o (c .arena) (c .store)
-    by-op (openTable t a s) n = rw (ne-eqb (length b) blockSize (n t a s refl))
+    by-op : (o : Op) → ((t : List ℕ) (a s : ℕ) → o ≡ openTable t a s → length b ≡ deskSize → ⊥) → stepBlockOf b o (c .arena) (c .store) ≡ left25 b o (c .arena) (c .store)
+    by-op (openTable t a s) n = rw (ne-eqb (length b) deskSize (n t a s refl))
     by-op (post g r) n = rw e
     by-op turn n = rw e
     by-op (collect g) n = rw e
@@ -113,9 +114,9 @@ pub not-accepted : (b : List ℕ) (c : Call) → accepted b ≡ false → ((t : 
 not-accepted b c e n = is-25 b c e (λ t a s o l. n t a s o)
 
 -- and every call at a block of another size
-pub other-size : (b : List ℕ) (c : Call) → (length b ≡ blockSize → ⊥) → stepBlock b c ≡ left25 b (c .op) (c .arena) (c .store)
+pub other-size : (b : List ℕ) (c : Call) → (length b ≡ deskSize → ⊥) → stepBlock b c ≡ left25 b (c .op) (c .arena) (c .store)
 unfolding accepted deskOf isImage
-other-size b c n = is-25 b c (rw (ne-eqb (length b) blockSize n) (closed-refused 0 0)) (λ t a s o l. n l)
+other-size b c n = is-25 b c (rw (ne-eqb (length b) deskSize n) (closed-refused 0 0)) (λ t a s o l. n l)
 
 -- a call at a desk that is no 25 by its house number is none
 never-25 : (d : Desk) (c : Call) → (houseNumber (step d c .answer) ≡ 25 → ⊥) → numberOf (step d c .answer) ≡ 25 → ⊥
@@ -281,7 +282,7 @@ held-accepted d e f =
 record Whole (b : List ℕ) : Type 0 where
   pub held : Held (deskOf b)
   pub image : image (deskOf b) ≡ b
-  pub size : length b ≡ blockSize
+  pub size : length b ≡ deskSize
 
 whole : (b : List ℕ) → Bytes b → accepted b ≡ true → Whole b
 whole b h e =
@@ -337,5 +338,19 @@ never b c h e x =
     let w = whole b h e in
     never-25 (deskOf b) c (house-25 (deskOf b) (w .held .inv) c) (sym (ap (λ (o : OutBlock). numberOf (o .answer)) (step-at b (deskOf b) c (w .size) refl)) ∙ x)
 
+-- an opening needs no desk
+openings : (b : List ℕ) (c : Call) (t : List ℕ) (a s : ℕ) → c .op ≡ openTable t a s → length b ≡ deskSize → numberOf (stepBlock b c .answer) ≡ 25 → ⊥
+unfolding stepBlock
+openings b c t a s e l x =
+    by-answer (openOf t a s .answer) (opening-low t a s)
+    (sym (ap (λ (o : Op). numberOf (stepBlockOf b o (c .arena) (c .store) .answer)) e ∙ ap (λ (y : Bool). numberOf (pick y here (left25 b (openTable t a s) (c .arena) (c .store)) .answer)) (eq-eqb (length b) deskSize l)) ∙ x)
+  where
+    here : OutBlock
+    here = outBlock b (stepOf (deskOf b) (openTable t a s) (c .arena) (c .store))
+
+    by-answer : (y : OpenAnswer) → LowOpening y → numberOf (opening y) ≡ 25 → ⊥
+    by-answer Opened low x = omega arith
+    by-answer (OpenRefused n place) low x = omega arith
+
 pub at-blocks : AtBlocks
-at-blocks = record { notAccepted = not-accepted; otherSize = other-size; never = never; kept = kept }
+at-blocks = record { notAccepted = not-accepted; otherSize = other-size; never = never; openings = openings; kept = kept }

@@ -113,7 +113,7 @@ pub wait-start : (p g : ℕ) (q : Request) → q .moved ≡ 0 → 0 < q .job .co
 unfolding waitFor
 wait-start p g q z h = start (q .job .count) (q .moved) (dist p g) z h (dist-lt p g)
   where
-    start : (n m u : ℕ) → m ≡ 0 → 0 < n → u < 8 → 8 * ((n - m - 1) / 16) + u < 8 * ((n + 15) / 16)
+    start : (n m u : ℕ) → m ≡ 0 → 0 < n → u < 8 → 8 * ((n - m - 1) / 16) + u < turnsFor n
     start n m u z h b = omega arith
 
 -- ---- how it goes on

@@ -11,13 +11,13 @@ use lib.Seq.{length-sets}
 use lib.Dec.{leb, ltb, eqb}
 use borrow.Author.Tests.{leb-true, ltb-true, ltb-false, le-leb, eqb-false, not-false}
 use Rattle.logic.specs.Logic.{both, either}
-use Rattle.logic.proofs.Logic.{both-true, pick-cases}
+use Rattle.logic.proofs.LogicLaws.{both-true, pick-cases}
 use Rattle.words.specs.Words.{le, leBytes}
 use Rattle.chs.specs.declared.ToBlock.{ToBlock}
 use Rattle.chs.specs.declared.ToBlock.the-variants.{Block, Refused as NoBlock}
 use Rattle.chs.specs.Chs.{size, blockOf, addressIn}
 use Rattle.drive.specs.Drive.{geometryOf, isProtected}
-use Rattle.drive.proofs.Drives.{Arrays}
+use Rattle.drive.proofs.DriveLaws.{Arrays}
 use Rattle.table.specs.declared.Table.{Table}
 use Rattle.layout.specs.declared.Packet.{Packet}
 use Rattle.layout.specs.declared.PacketRead.{PacketRead}
@@ -25,8 +25,8 @@ use Rattle.layout.specs.declared.PacketRead.the-variants.{Whole, Refused as NoP
 use Rattle.layout.specs.declared.ResultAnswer.{ResultAnswer}
 use Rattle.layout.specs.declared.ResultAnswer.the-variants.{Written, Refused as NoResult}
 use Rattle.layout.specs.Packet.{packetAt, readPacket}
-use Rattle.layout.specs.ResultBuffer.{resultAnswer, resultOut}
-use Rattle.layout.proofs.ResultBuffers.{length-out}
+use Rattle.layout.specs.ResultBuffer.{noPointer, resultAnswer, resultOut}
+use Rattle.layout.proofs.ResultBufferLaws.{length-out}
 use Rattle.memory.specs.Blocks.{blockLength}
 use Rattle.int13.specs.declared.Registers.{Registers}
 use Rattle.int13.specs.declared.Job.{Job}
@@ -35,11 +35,11 @@ use Rattle.int13.specs.declared.Outcome.the-variants.{Answered, Waits}
 use Rattle.int13.specs.declared.Plan.{Plan}
 use Rattle.int13.specs.declared.Plan.the-variants.{Clear}
 use Rattle.int13.specs.Answers.{ah, al, dl, isSectors, isWrite, posted}
-use Rattle.int13.specs.Steps.{Checked, isDrive, driveAt, driveOf, packetPlace, verifyOk, packetTests, packetRead, packetPlan, packetJob, carryOut, extended, seekRead, seek, sectorBuffer, sectorJob, sectorRun, sectors, parameters, extensions, resultGiven, result, check}
+use Rattle.int13.specs.Steps.{Checked, isDrive, driveAt, driveNamed, packetPlace, verifyOk, packetTests, packetRead, packetPlan, packetJob, carryOut, extended, seekRead, seek, sectorBuffer, sectorJob, sectorRun, sectors, parameters, extensions, resultGiven, result, fed, driveCount, steps, begin}
 use Rattle.int13.specs.Alone.{asked, namedFrom, storeBlock}
 use Rattle.desk.specs.Acceptable.{jobOk}
 use Rattle.table.proofs.Sound.{Obeys, Good, good-obeys}
-use Rattle.drive.proofs.Drives.{geometry-inside}
+use Rattle.drive.proofs.DriveLaws.{geometry-inside}
 
 -- ---- the drive that a number names
 
@@ -79,38 +79,38 @@ module _ (b : Table) (store : ℕ) (g : Good b store) (r : Registers) (w : List 
   -- ---- 02h, 03h
 
   sectors-wait : (n : ℕ) → isSectors (ah r) ≡ true → isDrive b (dl r) ≡ true → eqb (al r) 0 ≡ false → ltb 128 (al r) ≡ false
-      → both (isWrite (ah r)) (isProtected (driveOf b r)) ≡ false
-      → blockOf (geometryOf (driveOf b r)) (addressIn (r .cx) (r .dx)) ≡ Block n
-      → ltb (size (geometryOf (driveOf b r))) (n + al r) ≡ false → ltb (length w) (sectorBuffer r + blockLength * al r) ≡ false
+      → both (isWrite (ah r)) (isProtected (driveNamed b r)) ≡ false
+      → blockOf (geometryOf (driveNamed b r)) (addressIn (r .cx) (r .dx)) ≡ Block n
+      → ltb (size (geometryOf (driveNamed b r))) (n + al r) ≡ false → ltb (length w) (sectorBuffer r + blockLength * al r) ≡ false
       → Fresh b r w (sectorJob r n)
   unfolding jobOk
   sectors-wait n s d z m p e i f =
       let k = known b store (dl r) g d in
-      let y : n + al r ≤ size (geometryOf (driveOf b r)) = ltb-false (size (geometryOf (driveOf b r))) (n + al r) i in
-      let x : n + al r ≤ driveOf b r .blocks = omega (arith, y, geometry-inside (driveOf b r) (k .taken .fields)) in
+      let y : n + al r ≤ size (geometryOf (driveNamed b r)) = ltb-false (size (geometryOf (driveNamed b r))) (n + al r) i in
+      let x : n + al r ≤ driveNamed b r .blocks = omega (arith, y, geometry-inside (driveNamed b r) (k .taken .fields)) in
       let ne : al r ≡ 0 → ⊥ = eqb-false (al r) 0 z in
       record {
-        ok = rw (d, s, p, le-leb (al r) 128 (ltb-false 128 (al r) m), le-leb (n + al r) (driveOf b r .blocks) x, le-leb (n + al r) (size (geometryOf (driveOf b r))) y, le-leb (sectorBuffer r + blockLength * al r) (length w) (ltb-false (length w) (sectorBuffer r + blockLength * al r) f));
+        ok = rw (d, s, p, le-leb (al r) 128 (ltb-false 128 (al r) m), le-leb (n + al r) (driveNamed b r .blocks) x, le-leb (n + al r) (size (geometryOf (driveNamed b r))) y, le-leb (sectorBuffer r + blockLength * al r) (length w) (ltb-false (length w) (sectorBuffer r + blockLength * al r) f));
         some = omega (arith, ne);
         registers = refl;
         count = rw s;
         first = rw (s, e);
       }
 
-  sectors-says : isSectors (ah r) ≡ true → Stays (sectors b r (length w))
+  sectors-says : isSectors (ah r) ≡ true → Stays (sectors (isDrive b (dl r)) (driveNamed b r) r (length w))
   unfolding sectors
   sectors-says s =
       pick-cases Stays (not (isDrive b (dl r))) _ _ (λ e. refl) (λ e₁.
       pick-cases Stays (eqb (al r) 0) _ _ (λ e. refl) (λ e₂.
       pick-cases Stays (ltb 128 (al r)) _ _ (λ e. refl) (λ e₃.
-      pick-cases Stays (both (isWrite (ah r)) (isProtected (driveOf b r))) _ _ (λ e. refl) (λ e₄.
-      run e₁ e₂ e₃ e₄ (blockOf (geometryOf (driveOf b r)) (addressIn (r .cx) (r .dx))) refl))))
+      pick-cases Stays (both (isWrite (ah r)) (isProtected (driveNamed b r))) _ _ (λ e. refl) (λ e₄.
+      run e₁ e₂ e₃ e₄ (blockOf (geometryOf (driveNamed b r)) (addressIn (r .cx) (r .dx))) refl))))
     where
-      run : not (isDrive b (dl r)) ≡ false → eqb (al r) 0 ≡ false → ltb 128 (al r) ≡ false → both (isWrite (ah r)) (isProtected (driveOf b r)) ≡ false
-          → (x : ToBlock) → blockOf (geometryOf (driveOf b r)) (addressIn (r .cx) (r .dx)) ≡ x → Stays (sectorRun (driveOf b r) r (length w) x)
+      run : not (isDrive b (dl r)) ≡ false → eqb (al r) 0 ≡ false → ltb 128 (al r) ≡ false → both (isWrite (ah r)) (isProtected (driveNamed b r)) ≡ false
+          → (x : ToBlock) → blockOf (geometryOf (driveNamed b r)) (addressIn (r .cx) (r .dx)) ≡ x → Stays (sectorRun (driveNamed b r) r (length w) x)
       run e₁ e₂ e₃ e₄ (NoBlock code) e = refl
       run e₁ e₂ e₃ e₄ (Block n) e =
-          pick-cases Stays (ltb (size (geometryOf (driveOf b r))) (n + al r)) _ _ (λ e. refl) (λ e₅.
+          pick-cases Stays (ltb (size (geometryOf (driveNamed b r))) (n + al r)) _ _ (λ e. refl) (λ e₅.
           pick-cases Stays (ltb (length w) (sectorBuffer r + blockLength * al r)) _ _ (λ e. refl) (λ e₆.
           (sectors-wait n s (not-false _ e₁) e₂ e₃ e₄ e e₅ e₆, refl)))
 
@@ -132,7 +132,7 @@ module _ (b : Table) (store : ℕ) (g : Good b store) (r : Registers) (w : List 
   not-third false false z e f = sym f ∙ e
 
   packet-wait : isSectors (ah r) ≡ false → Extended ≡ true → isDrive b (dl r) ≡ true → leb (packetPlace r + 16) (length w) ≡ true
-      → ltb 127 (packet .count) ≡ false → both (isWrite (ah r)) (isProtected (driveOf b r)) ≡ false → ltb (driveOf b r .blocks) (packet .start + packet .count) ≡ false
+      → ltb 127 (packet .count) ≡ false → both (isWrite (ah r)) (isProtected (driveNamed b r)) ≡ false → ltb (driveNamed b r .blocks) (packet .start + packet .count) ≡ false
       → eqb (ah r) 0x44 ≡ false → ltb (length w) (packet .buffer + blockLength * packet .count) ≡ false → eqb (packet .count) 0 ≡ false
       → Fresh b r w (packetJob r packet)
   unfolding jobOk packetAt
@@ -140,7 +140,7 @@ module _ (b : Table) (store : ℕ) (g : Good b store) (r : Registers) (w : List 
       let ne : packet .count ≡ 0 → ⊥ = eqb-false (packet .count) 0 z in
       let t : either (eqb (ah r) 0x42) (eqb (ah r) 0x43) ≡ true = not-third (eqb (ah r) 0x42) (eqb (ah r) 0x43) (eqb (ah r) 0x44) x f in
       record {
-        ok = rw (d, s, t, p, i, le-leb (packet .count) 127 (ltb-false 127 (packet .count) m), le-leb (packet .start + packet .count) (driveOf b r .blocks) (ltb-false (driveOf b r .blocks) (packet .start + packet .count) q), le-leb (packet .buffer + blockLength * packet .count) (length w) (ltb-false (length w) (packet .buffer + blockLength * packet .count) u));
+        ok = rw (d, s, t, p, i, le-leb (packet .count) 127 (ltb-false 127 (packet .count) m), le-leb (packet .start + packet .count) (driveNamed b r .blocks) (ltb-false (driveNamed b r .blocks) (packet .start + packet .count) q), le-leb (packet .buffer + blockLength * packet .count) (length w) (ltb-false (length w) (packet .buffer + blockLength * packet .count) u));
         some = omega (arith, ne);
         registers = refl;
         count = rw s;
@@ -150,70 +150,70 @@ module _ (b : Table) (store : ℕ) (g : Good b store) (r : Registers) (w : List 
   clears : (code : ℕ) → Plans (Clear code)
   clears code = length-sets w (packetPlace r + 2) (leBytes 2 0)
 
-  packet-says : isSectors (ah r) ≡ false → Extended ≡ true → isDrive b (dl r) ≡ true → leb (packetPlace r + 16) (length w) ≡ true → Plans (packetTests (driveOf b r) r (length w) packet)
+  packet-says : isSectors (ah r) ≡ false → Extended ≡ true → isDrive b (dl r) ≡ true → leb (packetPlace r + 16) (length w) ≡ true → Plans (packetTests (driveNamed b r) r (length w) packet)
   unfolding packetTests
   packet-says s x d i =
       pick-cases Plans (ltb 127 (packet .count)) _ _ (λ e. clears 1) (λ e₁.
-      pick-cases Plans (both (isWrite (ah r)) (isProtected (driveOf b r))) _ _ (λ e. clears 3) (λ e₂.
-      pick-cases Plans (ltb (driveOf b r .blocks) (packet .start + packet .count)) _ _ (λ e. clears 4) (λ e₃.
+      pick-cases Plans (both (isWrite (ah r)) (isProtected (driveNamed b r))) _ _ (λ e. clears 3) (λ e₂.
+      pick-cases Plans (ltb (driveNamed b r .blocks) (packet .start + packet .count)) _ _ (λ e. clears 4) (λ e₃.
       pick-cases Plans (eqb (ah r) 0x44) _ _ (λ e. refl) (λ e₄.
       pick-cases Plans (ltb (length w) (packet .buffer + blockLength * packet .count)) _ _ (λ e. clears 9) (λ e₅.
       pick-cases Plans (eqb (packet .count) 0) _ _ (λ e. refl) (λ e₆.
       (packet-wait s x d i e₁ e₂ e₃ e₄ e₅ e₆, refl)))))))
 
-  extended-says : isSectors (ah r) ≡ false → Extended ≡ true → After (extended b r w)
+  extended-says : isSectors (ah r) ≡ false → Extended ≡ true → After (extended (isDrive b (dl r)) (driveNamed b r) r w)
   unfolding packetPlan readPacket
   extended-says s x =
       pick-cases Plans (not (isDrive b (dl r))) _ _ (λ e. refl) (λ e₁.
-      pick-cases Plans (both (isWrite (ah r)) (not (verifyOk (al r) (driveOf b r .flags)))) _ _ (λ e. refl) (λ e₂.
-      pick-cases (λ (p : PacketRead). Plans (packetRead (driveOf b r) r (length w) p)) (leb (packetPlace r + 16) (length w)) _ _
+      pick-cases Plans (both (isWrite (ah r)) (not (verifyOk (al r) (driveNamed b r .flags)))) _ _ (λ e. refl) (λ e₂.
+      pick-cases (λ (p : PacketRead). Plans (packetRead (driveNamed b r) r (length w) p)) (leb (packetPlace r + 16) (length w)) _ _
       (λ e₃. pick-cases Plans (ltb (packet .size) 16) _ _ (λ e. refl) (λ e₄. packet-says s x (not-false _ e₁) e₃))
       (λ e₃. refl)))
 
   -- ---- the others never wait
 
-  seek-says : Stays (seek b r w)
+  seek-says : Stays (seek (isDrive b (dl r)) (driveNamed b r) r w)
   unfolding seek
   seek-says = pick-cases Stays (not (isDrive b (dl r))) _ _ (λ e. refl) (λ e. by-packet (readPacket w (packetPlace r)))
     where
-      by-packet : (p : PacketRead) → Stays (seekRead (driveOf b r) r p)
+      by-packet : (p : PacketRead) → Stays (seekRead (driveNamed b r) r p)
       by-packet (NoPacket code) = refl
-      by-packet (Whole p) = pick-cases Stays (ltb (p .size) 16) _ _ (λ e. refl) (λ e. pick-cases Stays (leb (driveOf b r .blocks) (p .start)) _ _ (λ e. refl) (λ e. refl))
+      by-packet (Whole p) = pick-cases Stays (ltb (p .size) 16) _ _ (λ e. refl) (λ e. pick-cases Stays (leb (driveNamed b r .blocks) (p .start)) _ _ (λ e. refl) (λ e. refl))
 
-  parameters-says : Stays (parameters b r)
+  parameters-says : Stays (parameters (isDrive b (dl r)) (driveCount b) (driveNamed b r) r)
   unfolding parameters
   parameters-says = pick-cases Stays (isDrive b (dl r)) _ _ (λ e. refl) (λ e. refl)
 
-  extensions-says : Stays (extensions b r)
+  extensions-says : Stays (extensions (isDrive b (dl r)) r)
   unfolding extensions
   extensions-says = pick-cases Stays (both (isDrive b (dl r)) (eqb (r .bx) 0x55AA)) _ _ (λ e. refl) (λ e. refl)
 
-  result-says : After (result b r w)
+  result-says : After (result (isDrive b (dl r)) (driveNamed b r) r w)
   unfolding result
   result-says =
       pick-cases After (not (isDrive b (dl r))) _ _ (λ e. refl) (λ e₁.
       pick-cases After (ltb (length w) (packetPlace r + 2)) _ _ (λ e. refl) (λ e₂.
-      by-answer (resultAnswer (driveOf b r) (le 2 w (packetPlace r)) (length (drop (packetPlace r) w))) (whole (not-false _ e₁) e₂)))
+      by-answer (resultAnswer (driveNamed b r) (le 2 w (packetPlace r)) (length (drop (packetPlace r) w))) (whole (not-false _ e₁) e₂)))
     where
       place : ℕ
       place = packetPlace r
 
-      whole : isDrive b (dl r) ≡ true → ltb (length w) (place + 2) ≡ false → length (take place w ++ resultOut (driveOf b r) (le 2 w place) (drop place w)) ≡ length w
+      whole : isDrive b (dl r) ≡ true → ltb (length w) (place + 2) ≡ false → length (take place w ++ resultOut (driveNamed b r) noPointer (le 2 w place) (drop place w)) ≡ length w
       whole d e =
           let l : place + 2 ≤ length w = ltb-false (length w) (place + 2) e in
-          let n : length (resultOut (driveOf b r) (le 2 w place) (drop place w)) ≡ length w - place
-          = length-out (driveOf b r) (le 2 w place) (drop place w) (known b store (dl r) g d .arrays) ∙ length-drop place w in
-          length-append (take place w) (resultOut (driveOf b r) (le 2 w place) (drop place w)) ∙ omega (arith, l, n, length-take place w)
+          let n : length (resultOut (driveNamed b r) noPointer (le 2 w place) (drop place w)) ≡ length w - place
+          = length-out (driveNamed b r) noPointer (le 2 w place) (drop place w) (known b store (dl r) g d .arrays) ∙ length-drop place w in
+          length-append (take place w) (resultOut (driveNamed b r) noPointer (le 2 w place) (drop place w)) ∙ omega (arith, l, n, length-take place w)
 
-      by-answer : (x : ResultAnswer) → length (take place w ++ resultOut (driveOf b r) (le 2 w place) (drop place w)) ≡ length w
-          → Says b r w (resultGiven x r) (take place w ++ resultOut (driveOf b r) (le 2 w place) (drop place w))
+      by-answer : (x : ResultAnswer) → length (take place w ++ resultOut (driveNamed b r) noPointer (le 2 w place) (drop place w)) ≡ length w
+          → Says b r w (resultGiven x r) (take place w ++ resultOut (driveNamed b r) noPointer (le 2 w place) (drop place w))
       by-answer (NoResult code) e = e
       by-answer (Written n) e = e
 
   -- ---- every function
 
-  pub check-says : After (check b r w)
-  unfolding check
+  pub check-says : After (begin (fed b) r w)
+  unfolding begin steps
   check-says =
       pick-cases After (either (eqb (ah r) 0x02) (eqb (ah r) 0x03)) _ _ (λ e. sectors-says e) (λ e₁.
       pick-cases After (eqb (ah r) 0x08) _ _ (λ e. parameters-says) (λ e₂.

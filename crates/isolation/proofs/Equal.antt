@@ -10,7 +10,7 @@ use native.Mathlib.Decide.{ℕ-discrete}
 use lib.ListN.{length, getD}
 use Rattle.memory.specs.Window.{guests, windowOf, withWindow}
 use Rattle.memory.specs.Blocks.{blockLength}
-use Rattle.memory.proofs.Windows.{window-with-same, window-with-other}
+use Rattle.memory.proofs.WindowLaws.{window-with-same, window-with-other}
 use Rattle.int13.specs.declared.Job.{Job}
 use Rattle.int13.specs.declared.Outcome.the-variants.{Answered, Waits}
 use Rattle.int13.specs.Answers.{succeed}
@@ -28,7 +28,7 @@ use Rattle.isolation.proofs.Moves.{Agree, Alike, Off, SameSize, moves-s
 use Rattle.isolation.proofs.Accept.{Inv, Ready, ready}
 use Rattle.isolation.proofs.View.{Lent, Did, same, idle, answer, accepting, serving, giving, withdrawing, view, still, postedOut, servedOut, collectedOut, withdrawnOut, windowIn, window-length, span-lent, quiet-touch, quiet-moved}
 use Rattle.isolation.proofs.Keep.{stage-same, stage-other, waiting-below, inv-step, fixed-step, served-size, withdrawn-size, same-guest}
-use Rattle.isolation.proofs.Fate.{other-guest, same-request, after-cases}
+use Rattle.isolation.proofs.Fate.{other-guest, same-request, rest, after-cases}
 
 abbrev pub memory : List ℕ → List ℕ → Memory
 memory w s = record { window = w; store = s }
@@ -59,10 +59,6 @@ alike-from lo n w w′ s s′ m e l a k =
 
 same-store : (lo n : ℕ) (s s′ : List ℕ) → s′ ≡ s → Agree lo n s′ s
 same-store lo n s s′ e i h b = ap (λ (t : List ℕ). getD t i 0) e
-
--- all are moved
-whole : (n m : ℕ) → m < n → n ≤ m + min 16 (n - m) → m + min 16 (n - m) ≡ n
-whole n m l h = omega arith
 
 fits : (n m : ℕ) → m < n → m + min 16 (n - m) ≤ n
 fits n m l = omega arith
@@ -154,7 +150,7 @@ module _ (lo : ℕ) (d : Desk) (inv : Inv d) (c : Call) (g : ℕ) (j : Job) (n :
 
       is-over : j .count ≤ n + q → stageAt (o .desk) g ≡ Finished (succeed (j .registers)) → Goes o
       is-over h r =
-          let all : n + q ≡ j .count = whole (j .count) n (good .rest) h in
+          let all : n + q ≡ j .count = rest (j .count) n (good .rest) h in
           over r (subst (λ (k : ℕ). Alike lo (j .count) (memory (windowOf (o .arena) g (windowSize d)) (by .store)) (moves j lo 0 k m₀)) all al′)
           (ap (λ (k : ℕ). n + k) (same-guest g q) ∙ all)
 
@@ -199,7 +195,7 @@ module _ (lo : ℕ) (d : Desk) (inv : Inv d) (c : Call) (g : ℕ) (j : Job) (n :
       stay (postedOut d c h (Waits p) (windowIn d c h)) (stage-other d h g (Waiting (request p 0)) gh) refl refl refl refl
       (windowOf (withWindow (c .arena) h (windowSize d) (windowIn d c h)) g (windowSize d)) (c .store)
       (elsewhere h (windowIn d c h) b gh l (window-length d c h b l) (i .0)) (ap length (i .1)) (same-store lo (j .count) s (c .store) (i .1)) (i .2)
-  goes o (serving h p t b l v f) i u = serve-next h p b l v i (λ y x e m n. u h (quota p) x p refl y v (e, m) n) (ℕ-discrete h g)
+  goes o (serving h p t b l v f) i u = serve-next h p b l v i (λ y x e m n. u h (quota p) x p refl y v (e, (omega (arith, m .0), omega (arith, m .1))) n) (ℕ-discrete h g)
   goes o (giving h r t b v) i u =
       let gh : g ≢ h = λ y. finished≢waiting (sym v ∙ (rw y at (mid .here))) in
       stay (collectedOut d c h r) (stage-other d h g Vacant gh) refl refl refl refl w s refl refl (λ k a z. refl) i

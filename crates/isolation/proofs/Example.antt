@@ -16,12 +16,12 @@ use Rattle.drive.specs.Drive.{driveOf, same, busOk, interfaceOk, geometryFits, 
 use Rattle.table.specs.declared.Table.{Table}
 use Rattle.table.specs.Table.{zeroDrive, headerOf, headerAt, overlapsAny, refusal, driveStep, endStep, stepOf as tableStepOf, stepAt, readFrom, readTable, soundTo, blankTo, isSound}
 use Rattle.memory.specs.Window.{guests, windowOf}
-use Rattle.memory.proofs.Windows.{length-with-window}
+use Rattle.memory.proofs.WindowLaws.{length-with-window}
 use Rattle.int13.specs.declared.Registers.{Registers}
 use Rattle.int13.specs.declared.Job.{Job}
 use Rattle.int13.specs.declared.Outcome.{Outcome}
 use Rattle.int13.specs.declared.Outcome.the-variants.{Waits}
-use Rattle.int13.specs.Steps.{isDrive, sectors, check}
+use Rattle.int13.specs.Steps.{isDrive, fed, driveNamed, sectors, steps, begin}
 use Rattle.int13.specs.Alone.{storeBlock, alone}
 use Rattle.desk.specs.declared.Request.{Request}
 use Rattle.desk.specs.declared.Stage.{Stage}
@@ -36,13 +36,13 @@ use Rattle.desk.specs.declared.PostAnswer.the-variants.{Refused as PostRefused}
 use Rattle.desk.specs.declared.TurnAnswer.{TurnAnswer}
 use Rattle.desk.specs.declared.TurnAnswer.the-variants.{Refused as TurnRefused}
 use Rattle.desk.specs.Parts.{windowSize, stageAt, withStage, withPointer}
-use Rattle.desk.specs.Acceptable.{jobOk, rowsOk, accept}
-use Rattle.desk.specs.Calls.{Done, isLent, opened, openOf, postChecked, postRow, postOf, seek, stageAfter, memoryOf, movedBy, serve, serveStage, turnNext, turnOf}
+use Rattle.desk.specs.Acceptable.{requestOk, rowsOk, accept}
+use Rattle.desk.specs.Calls.{Done, isLent, opened, openOf, postChecked, postRow, postOf, firstWaiting, stageAfter, memoryOf, movedBy, serve, serveStage, turnNext, turnOf}
 use Rattle.isolation.specs.Lists.{Op, post, turn, Call, posted, turned, Out, outOf, step, Event, run, after}
 use Rattle.isolation.specs.Words.{serves, NoneOpens, Accepted, Waits as WaitsOn, Finishes, moved, Named, Writes, Unwritten, Left}
-use Rattle.isolation.specs.Demand.{foundBy, firstBy, Same, Claim}
+use Rattle.isolation.specs.Demand.{foundBy, firstBy, Taken, Same, Claim}
 use Rattle.isolation.proofs.Moves.{moves-size}
-use Rattle.logic.proofs.Logic.{both-intro}
+use Rattle.logic.proofs.LogicLaws.{both-intro, impossible}
 use Rattle.isolation.proofs.View.{window-length}
 use Rattle.isolation.proofs.Fate.{same-request}
 use Rattle.isolation.proofs.Theorem.{demand}
@@ -83,20 +83,20 @@ abbrev writeJob : Job
 writeJob = record { registers = wrote; drive = 0x80; start = 17; count = 1; buffer = 0; packet = 0 }
 
 -- the steps let both wait, whatever a window of that length holds
-sectors-read : (n : ℕ) → n ≡ 8704 → sectors table read n ≡ Waits readJob
+sectors-read : (n : ℕ) → n ≡ 8704 → sectors (isDrive table 0x80) (driveNamed table read) read n ≡ Waits readJob
 unfolding sectors isDrive blockOf inLimits isValid
 sectors-read n e = rw e
 
-check-read : (w : List ℕ) → length w ≡ 8704 → (check table read w .outcome ≡ Waits readJob) × (check table read w .window ≡ w)
-unfolding check
+check-read : (w : List ℕ) → length w ≡ 8704 → (begin (fed table) read w .outcome ≡ Waits readJob) × (begin (fed table) read w .window ≡ w)
+unfolding begin steps
 check-read w e = (sectors-read (length w) e, refl)
 
-sectors-write : (n : ℕ) → n ≡ 8704 → sectors table wrote n ≡ Waits writeJob
+sectors-write : (n : ℕ) → n ≡ 8704 → sectors (isDrive table 0x80) (driveNamed table wrote) wrote n ≡ Waits writeJob
 unfolding sectors isDrive blockOf inLimits isValid
 sectors-write n e = rw e
 
-check-write : (w : List ℕ) → length w ≡ 8704 → (check table wrote w .outcome ≡ Waits writeJob) × (check table wrote w .window ≡ w)
-unfolding check
+check-write : (w : List ℕ) → length w ≡ 8704 → (begin (fed table) wrote w .outcome ≡ Waits writeJob) × (begin (fed table) wrote w .window ≡ w)
+unfolding begin steps
 check-write w e = (sectors-write (length w) e, refl)
 
 -- ---- the desks
@@ -117,32 +117,29 @@ abbrev d₄ : Desk
 d₄ = withPointer (withStage d₃ 5 (stageAfter (record { job = writeJob; moved = 0 }))) 6
 
 ok₀ : accept d₀ ≡ true
-unfolding accept isSound soundTo refusal fieldsOk geometryFits inLimits busOk interfaceOk same inStore overlapsAny overlap blankTo isBlank blankNumbers blankNames rowsOk jobOk isDrive
+unfolding accept isSound soundTo refusal fieldsOk geometryFits inLimits busOk interfaceOk same inStore overlapsAny overlap blankTo isBlank blankNumbers blankNames rowsOk requestOk isDrive
 ok₀ = refl
 
 ok₁ : accept d₁ ≡ true
-unfolding accept isSound soundTo refusal fieldsOk geometryFits inLimits busOk interfaceOk same inStore overlapsAny overlap blankTo isBlank blankNumbers blankNames rowsOk jobOk isDrive
+unfolding accept isSound soundTo refusal fieldsOk geometryFits inLimits busOk interfaceOk same inStore overlapsAny overlap blankTo isBlank blankNumbers blankNames rowsOk requestOk isDrive
 ok₁ = refl
 
 ok₂ : accept d₂ ≡ true
-unfolding accept isSound soundTo refusal fieldsOk geometryFits inLimits busOk interfaceOk same inStore overlapsAny overlap blankTo isBlank blankNumbers blankNames rowsOk jobOk isDrive
+unfolding accept isSound soundTo refusal fieldsOk geometryFits inLimits busOk interfaceOk same inStore overlapsAny overlap blankTo isBlank blankNumbers blankNames rowsOk requestOk isDrive
 ok₂ = refl
 
 ok₃ : accept d₃ ≡ true
-unfolding accept isSound soundTo refusal fieldsOk geometryFits inLimits busOk interfaceOk same inStore overlapsAny overlap blankTo isBlank blankNumbers blankNames rowsOk jobOk isDrive stageAfter
+unfolding accept isSound soundTo refusal fieldsOk geometryFits inLimits busOk interfaceOk same inStore overlapsAny overlap blankTo isBlank blankNumbers blankNames rowsOk requestOk isDrive stageAfter
 ok₃ = refl
 
 ok₄ : accept d₄ ≡ true
-unfolding accept isSound soundTo refusal fieldsOk geometryFits inLimits busOk interfaceOk same inStore overlapsAny overlap blankTo isBlank blankNumbers blankNames rowsOk jobOk isDrive stageAfter
+unfolding accept isSound soundTo refusal fieldsOk geometryFits inLimits busOk interfaceOk same inStore overlapsAny overlap blankTo isBlank blankNumbers blankNames rowsOk requestOk isDrive stageAfter
 ok₄ = refl
 
 -- ---- a post that is accepted, and a turn that serves
 
-differ : {A : Type 0} → _≡_ {A = ℕ} 0 1 → A
-differ e = absurd (omega arith)
-
 post-accepted : (d : Desk) (g : ℕ) (r : Registers) (arena store : List ℕ) (j : Job) → accept d ≡ true → isLent d arena store ≡ true → ltb g guests ≡ true → stageAt d g ≡ Vacant
-    → check (d .table) r (windowOf arena g (windowSize d)) .outcome ≡ Waits j → check (d .table) r (windowOf arena g (windowSize d)) .window ≡ windowOf arena g (windowSize d)
+    → begin (fed (d .table)) r (windowOf arena g (windowSize d)) .outcome ≡ Waits j → begin (fed (d .table)) r (windowOf arena g (windowSize d)) .window ≡ windowOf arena g (windowSize d)
     → postOf d g r arena store ≡ postChecked d g arena store (Waits j) (windowOf arena g (windowSize d))
 unfolding postOf
 post-accepted d g r arena store j a l b s o w =
@@ -150,18 +147,18 @@ post-accepted d g r arena store j a l b s o w =
     ∙ ap (λ (t : Bool). pick (not t) (refuse 24) (pick (not (ltb g guests)) (refuse 20) (postRow d g r arena store (stageAt d g)))) l
     ∙ ap (λ (t : Bool). pick (not t) (refuse 20) (postRow d g r arena store (stageAt d g))) b
     ∙ ap (postRow d g r arena store) s
-    ∙ ap (λ (x : Outcome). postChecked d g arena store x (check (d .table) r (windowOf arena g (windowSize d)) .window)) o
+    ∙ ap (λ (x : Outcome). postChecked d g arena store x (begin (fed (d .table)) r (windowOf arena g (windowSize d)) .window)) o
     ∙ ap (postChecked d g arena store (Waits j)) w
   where
     refuse : ℕ → Done PostAnswer
     refuse n = record { desk = d; answer = PostRefused n; arena = arena; store = store }
 
-turn-serves : (d : Desk) (g : ℕ) (q : Request) (arena store : List ℕ) → accept d ≡ true → isLent d arena store ≡ true → seek (d .rows) guests (d .pointer) ≡ Guest g
+turn-serves : (d : Desk) (g : ℕ) (q : Request) (arena store : List ℕ) → accept d ≡ true → isLent d arena store ≡ true → firstWaiting (d .rows) guests (d .pointer) ≡ Guest g
     → stageAt d g ≡ Waiting q → turnOf d arena store ≡ serve d g q arena store
 unfolding turnOf
 turn-serves d g q arena store a l n s =
-    ap (λ (t : Bool). pick (not t) (refuse 25) (pick (not (isLent d arena store)) (refuse 24) (turnNext d (seek (d .rows) guests (d .pointer)) arena store))) a
-    ∙ ap (λ (t : Bool). pick (not t) (refuse 24) (turnNext d (seek (d .rows) guests (d .pointer)) arena store)) l
+    ap (λ (t : Bool). pick (not t) (refuse 25) (pick (not (isLent d arena store)) (refuse 24) (turnNext d (firstWaiting (d .rows) guests (d .pointer)) arena store))) a
+    ∙ ap (λ (t : Bool). pick (not t) (refuse 24) (turnNext d (firstWaiting (d .rows) guests (d .pointer)) arena store)) l
     ∙ ap (λ (x : Next). turnNext d x arena store) n
     ∙ ap (λ (x : Stage). serveStage d g x arena store) s
   where
@@ -250,15 +247,15 @@ module _ (a s : List ℕ) where
         ap (outOf (posted 5)) (post-accepted d₁ 5 wrote (o₁ .arena) s writeJob ok₁ (lent d₁ (o₁ .arena) s a₁ ls) refl refl (k .0) (k .1))
 
     e₃ : step d₂ c₃ ≡ o₃
-    unfolding step seek
+    unfolding step firstWaiting
     e₃ = ap (outOf turned) (turn-serves d₂ 2 (record { job = readJob; moved = 0 }) (o₂ .arena) s ok₂ (lent d₂ (o₂ .arena) s a₂ ls) refl refl)
 
     e₄ : step d₃ c₄ ≡ o₄
-    unfolding step seek stageAfter
+    unfolding step firstWaiting stageAfter
     e₄ = ap (outOf turned) (turn-serves d₃ 5 (record { job = writeJob; moved = 0 }) (o₃ .arena) (o₃ .store) ok₃ (lent d₃ (o₃ .arena) (o₃ .store) a₃ s₃) refl refl)
 
     e₅ : step d₄ c₅ ≡ o₅
-    unfolding step seek stageAfter
+    unfolding step firstWaiting stageAfter
     e₅ = ap (outOf turned) (turn-serves d₄ 2 (record { job = readJob; moved = 16 }) (o₄ .arena) (o₄ .store) ok₄ (lent d₄ (o₄ .arena) (o₄ .store) a₄ s₄) refl refl)
 
     abbrev entry : Desk → Call → Out → Event
@@ -286,7 +283,7 @@ module _ (a s : List ℕ) where
 
     -- the conditions
     pub closed : NoneOpens (run d₀ calls)
-    closed = subst NoneOpens (sym whole) ((λ e. differ cc), ((λ e. differ cc), ((λ e. differ cc), ((λ e. differ cc), ((λ e. differ cc), tt)))))
+    closed = subst NoneOpens (sym whole) ((λ e. impossible cc), ((λ e. impossible cc), ((λ e. impossible cc), ((λ e. impossible cc), ((λ e. impossible cc), tt)))))
 
     claimed : Claim table₁ d₀ 8704 calls
     claimed = subst (λ (o : Opening). NoneOpens (run (o .desk) calls) → Claim table₁ (o .desk) 8704 calls) opening
@@ -294,6 +291,10 @@ module _ (a s : List ℕ) where
 
     accepted : Accepted d₀ c₁ 2 read
     accepted = record { posts = refl; waits = ap (λ (o : Out). o .answer) e₁ }
+
+    taken : Taken d₀ calls
+    unfolding after
+    taken = record { before = []; call = c₁; guest = 2; registers = read; since = c₂ ∷ c₃ ∷ c₄ ∷ c₅ ∷ []; place = refl; accepted = accepted }
 
     finishes : Finishes 2 17 (step d₀ c₁ .desk) (c₂ ∷ c₃ ∷ c₄ ∷ []) c₅
     finishes = subst (λ (o : Out). Finishes 2 17 (o .desk) (c₂ ∷ c₃ ∷ c₄ ∷ []) c₅) (sym e₁)
@@ -322,7 +323,7 @@ module _ (a s : List ℕ) where
     unwritten = subst (λ (n : ℕ). Unwritten 2 n 17 (run (step d₀ c₁ .desk) (c₂ ∷ c₃ ∷ c₄ ∷ c₅ ∷ []))) (sym first-is)
         (subst (λ (o : Out). Unwritten 2 0 17 (run (o .desk) (c₂ ∷ c₃ ∷ c₄ ∷ c₅ ∷ []))) (sym e₁)
         (subst (Unwritten 2 0 17) (sym upto) (
-          (λ h k b q e. differ cc),
+          (λ h k b q e. impossible cc),
           (
             (λ h k b q e ne. let hh : 2 ≡ h = cc in absurd (ne (sym hh))),
             (
@@ -333,9 +334,9 @@ module _ (a s : List ℕ) where
         )))
 
     -- after the third turn, guest 2's registers, window and blocks 0 to 16 are those of its read served alone
-    pub example : Same 8704 2 (firstBy table 8704 c₁ 2 read) 17 (step (after (step d₀ c₁ .desk) (c₂ ∷ c₃ ∷ c₄ ∷ [])) c₅) (alone table₁ read (foundBy 8704 c₁ 2))
-    unfolding after
-    example = claimed .equal [] (c₂ ∷ c₃ ∷ c₄ ∷ []) [] c₁ c₅ 2 read refl accepted finishes left unwritten
+    pub example : Same 8704 2 (firstBy table 8704 c₁ 2 read) 17 (step (after (step d₀ c₁ .desk) (c₂ ∷ c₃ ∷ c₄ ∷ [])) c₅) (alone (fed table₁) read (foundBy 8704 c₁ 2))
+    unfolding after taken
+    example = claimed .equal taken (c₂ ∷ c₃ ∷ c₄ ∷ []) [] c₅ refl finishes left unwritten
 
 -- and with bytes: an arena of zeros, a store of sevens
 pub zeros : List ℕ
@@ -354,5 +355,5 @@ long-store = length-replicate {A = ℕ} storeLength 7
 
 pub example-bytes : Same 8704 2 (firstBy table 8704 (c₁ zeros sevens) 2 read) 17
     (step (after (step d₀ (c₁ zeros sevens) .desk) (c₂ zeros sevens ∷ c₃ zeros sevens ∷ c₄ zeros sevens ∷ [])) (c₅ zeros sevens))
-    (alone table₁ read (foundBy 8704 (c₁ zeros sevens) 2))
+    (alone (fed table₁) read (foundBy 8704 (c₁ zeros sevens) 2))
 example-bytes = example zeros sevens long-arena long-store

@@ -6,11 +6,11 @@ use mathlib.Core.List.{List}
 use native.Mathlib.Omega.{arith}
 use lib.ListN.{length, replicate}
 use Rattle.words.specs.Words.{Bytes, le, leBytes}
-use Rattle.words.proofs.Words.{bytes-leBytes}
+use Rattle.words.proofs.WordsLaws.{bytes-leBytes}
 use Rattle.desk.specs.declared.Opening.{Opening}
 use Rattle.desk.specs.declared.OpenAnswer.the-variants.{Opened}
 use Rattle.desk.specs.Calls.{openOf}
-use Rattle.image.specs.Image.{blockSize, FitsRegisters}
+use Rattle.image.specs.Image.{deskSize, FitsRegisters}
 use Rattle.isolation.specs.Lists.{openTable, Call, opening, run}
 use Rattle.isolation.specs.Words.{NoneOpens}
 use Rattle.isolation.specs.Blocks.{FitsCalls, stepBlock, ClaimBlock}
@@ -22,7 +22,7 @@ unfolding le leBytes
 bytes-table = bytes-leBytes 72 (le 72 table₁ 0)
 
 abbrev zeros : List ℕ
-zeros = replicate blockSize 0
+zeros = replicate deskSize 0
 
 module _ (a s : List ℕ) (la : length a ≡ arenaLength) (ls : length s ≡ storeLength) where
   abbrev first : Call

@@ -8,7 +8,7 @@ use lib.ListN.{length}
 use lib.Dec.{ltb, eqb}
 use borrow.Author.Tests.{eq-eqb, ne-eqb}
 use Rattle.logic.specs.Logic.{pick}
-use Rattle.logic.proofs.Logic.{pick-cases}
+use Rattle.logic.proofs.LogicLaws.{pick-cases}
 use Rattle.table.specs.declared.Written.{Written}
 use Rattle.table.specs.declared.Written.the-variants.{Bytes, Refused as WriteRefused}
 use Rattle.int13.specs.declared.Registers.{Registers}
@@ -28,12 +28,12 @@ use Rattle.desk.specs.declared.CollectAnswer.{CollectAnswer}
 use Rattle.desk.specs.declared.CollectAnswer.the-variants.{Given as CollectGiven, Refused as CollectRefused}
 use Rattle.desk.specs.declared.WithdrawAnswer.{WithdrawAnswer}
 use Rattle.desk.specs.declared.WithdrawAnswer.the-variants.{Given as WithdrawGiven, Refused as WithdrawRefused}
-use Rattle.int13.specs.Steps.{Checked, check}
+use Rattle.int13.specs.Steps.{Checked, fed, begin}
 use Rattle.desk.specs.Parts.{windowSize, stageAt}
 use Rattle.desk.specs.Acceptable.{accept}
 use Rattle.desk.specs.Calls.{Done, done, notAcceptable, noGuest, isLent, postChecked, postRow, collectStage, withdrawStage, openOf, writtenOf, writtenOut, postOf, turnOf, collectOf, withdrawOf}
 use Rattle.desk.specs.Numbers.{openNumbers, collectNumbers}
-use Rattle.image.specs.Image.{blockSize, deskOf, laid}
+use Rattle.image.specs.Image.{deskSize, deskOf, laid}
 use Rattle.exports.specs.Exports.{Effect, effect, over, openBlock, openCall, writeCall, given, changed, postBlock, postEffect, postCall, turnBlock, turnEffect, turnCall, collectBlock, collectEffect, collectCall, withdrawBlock, withdrawEffect, withdrawCall}
 use Rattle.isolation.specs.Lists.{Op, openTable, post, turn, collect, withdraw, write, opening, posted, turned, collected, withdrawn, written, openedDesk, stepOf}
 use Rattle.isolation.specs.Words.{kindOf}
@@ -82,7 +82,7 @@ post-store d g r arena store =
     checked (OutcomeWaits j) w = refl
 
     row : (x : Stage) → postRow d g r arena store x .store ≡ store
-    row Vacant = checked (check (d .table) r (windowOf arena g (windowSize d)) .outcome) (check (d .table) r (windowOf arena g (windowSize d)) .window)
+    row Vacant = checked (begin (fed (d .table)) r (windowOf arena g (windowSize d)) .outcome) (begin (fed (d .table)) r (windowOf arena g (windowSize d)) .window)
     row (Waiting q) = refl
     row (Finished y) = refl
 
@@ -135,17 +135,17 @@ collect-alike d g a s a' s' = go (not (accept d)) (not (ltb g guests)) (stageAt 
     go false false (Finished y) = record { desk = refl; answer = refl }
 
 module _ (b arena store : List ℕ) where
-  at-open : (t : List ℕ) (a s place : ℕ) → length b ≡ blockSize
+  at-open : (t : List ℕ) (a s place : ℕ) → length b ≡ deskSize
       → openCall b t a s place ≡ effect (over (numbersOf (does b arena store (openTable t a s) .answer)) (0 ∷ place ∷ [])) (does b arena store (openTable t a s) .block ∷ [])
   unfolding openCall stepBlock
   at-open t a s place l =
-      rw (eq-eqb (length b) blockSize l)
+      rw (eq-eqb (length b) deskSize l)
       (ap (λ (y : List ℕ). effect (over (openNumbers (openOf t a s .answer)) (0 ∷ place ∷ [])) (y ∷ []))
       (open-block b (deskOf b) (openOf t a s .desk) (openOf t a s .answer)))
 
-  at-other : (t : List ℕ) (a s place : ℕ) → (length b ≡ blockSize → ⊥) → openCall b t a s place ≡ effect (notAcceptable ∷ place ∷ []) (does b arena store (openTable t a s) .block ∷ [])
+  at-other : (t : List ℕ) (a s place : ℕ) → (length b ≡ deskSize → ⊥) → openCall b t a s place ≡ effect (notAcceptable ∷ place ∷ []) (does b arena store (openTable t a s) .block ∷ [])
   unfolding openCall stepBlock
-  at-other t a s place n = rw (ne-eqb (length b) blockSize n)
+  at-other t a s place n = rw (ne-eqb (length b) deskSize n)
 
   at-post : (g ax bx cx dx ds si es carry : ℕ)
       → postCall b arena store g ax bx cx dx ds si es carry
@@ -185,7 +185,7 @@ module _ (b arena store : List ℕ) where
   open-leaves : (t : List ℕ) (a s : ℕ) → (does b arena store (openTable t a s) .arena ≡ arena) × (does b arena store (openTable t a s) .store ≡ store)
   unfolding stepBlock
   open-leaves t a s =
-      pick-cases (λ (o : OutBlock). (o .arena ≡ arena) × (o .store ≡ store)) (eqb (length b) blockSize) _ _ (λ e. (refl, refl)) (λ e. (refl, refl))
+      pick-cases (λ (o : OutBlock). (o .arena ≡ arena) × (o .store ≡ store)) (eqb (length b) deskSize) _ _ (λ e. (refl, refl)) (λ e. (refl, refl))
 
   write-block : (out : List ℕ) → does b arena store (write out) .block ≡ b
   unfolding stepBlock

@@ -18,7 +18,7 @@ use Rattle.desk.specs.Calls.{quota, later, stageAfter}
 use Rattle.isolation.specs.Lists.{Call, Out, step}
 use Rattle.isolation.specs.Words.{Kind, withdraws, opens, kindOf, turnIn, withdrawalIn, movedIn, serviceIn, ifSame}
 use Rattle.isolation.proofs.Turn.{dist, dist-less, vacant≢waiting, finished≢waiting}
-use Rattle.logic.proofs.Logic.{pick-cases}
+use Rattle.logic.proofs.LogicLaws.{pick-cases}
 use Rattle.isolation.proofs.Accept.{Inv, ready}
 use Rattle.isolation.proofs.View.{Did, same, idle, answer, accepting, serving, giving, withdrawing, view, servedOut, withdrawnOut, quiet-turn, quiet-withdrawal, quiet-moved, quiet-service}
 use Rattle.isolation.proofs.Keep.{stage-same, stage-other, waiting-below, same-guest}
@@ -51,7 +51,7 @@ same-request e = cc
 full : (n m : ℕ) → m + min 16 (n - m) < n → min 16 (n - m) ≡ 16
 full n m h = omega arith
 
-rest : (n m : ℕ) → m < n → n ≤ m + min 16 (n - m) → m + min 16 (n - m) ≡ n
+pub rest : (n m : ℕ) → m < n → n ≤ m + min 16 (n - m) → m + min 16 (n - m) ≡ n
 rest n m l h = omega arith
 
 -- the stage that a service leaves, by cases

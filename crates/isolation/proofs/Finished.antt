@@ -5,6 +5,7 @@ use mathlib.Core.Path.{_≡_, refl, sym, subst, _∙_}
 use mathlib.Core.List.{List, [], _∷_}
 use native.Mathlib.Omega.{arith}
 use native.Mathlib.Decide.{ℕ-discrete}
+use Rattle.logic.proofs.LogicLaws.{impossible}
 use Rattle.int13.specs.declared.Registers.{Registers}
 use Rattle.desk.specs.declared.Request.{Request}
 use Rattle.desk.specs.declared.Stage.the-variants.{Vacant, Waiting, Finished}
@@ -20,7 +21,6 @@ use Rattle.isolation.proofs.View.{Did, same, idle, answer, accepting, s
 use Rattle.isolation.proofs.Keep.{stage-other, inv-step, same-guest}
 use Rattle.isolation.proofs.Fate.{other-guest}
 use Rattle.isolation.proofs.Equal.{request}
-use Rattle.isolation.proofs.Posts.{different}
 
 -- ---- a finished row
 
@@ -29,10 +29,10 @@ data Holds (g : ℕ) (x : Registers) (o : Out) : Type 0 where
   given : o .answer ≡ collected g (Given x) → collectIn g (kindOf (o .answer)) ≡ 1 → Holds g x o
 
 vacant≢finished : {x : Registers} → Vacant ≡ Finished x → ⊥
-vacant≢finished e = different cc
+vacant≢finished e = impossible cc
 
 waiting≢finished : {x : Registers} {q : Request} → Waiting q ≡ Finished x → ⊥
-waiting≢finished e = different cc
+waiting≢finished e = impossible cc
 
 same-finished : {x y : Registers} → Finished x ≡ Finished y → x ≡ y
 same-finished e = cc

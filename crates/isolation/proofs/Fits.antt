@@ -11,16 +11,16 @@ use lib.Seq.{getD-set-same, getD-set-other, length-take-le}
 use lib.Dec.{leb, ltb, eqb}
 use borrow.Author.Tests.{leb-true, ltb-true, eqb-true}
 use Rattle.logic.specs.Logic.{pick}
-use Rattle.logic.proofs.Logic.{both-true, pick-cases}
+use Rattle.logic.proofs.LogicLaws.{both-true, pick-cases, impossible}
 use Rattle.words.specs.Words.{Bytes, part}
-use Rattle.words.proofs.Words.{bytes-part}
+use Rattle.words.proofs.WordsLaws.{bytes-part}
 use Rattle.drive.specs.declared.Drive.{Drive}
 use Rattle.drive.specs.Drive.{driveOf}
-use Rattle.drive.proofs.Drives.{fits-drive}
+use Rattle.drive.proofs.DriveLaws.{fits-drive}
 use Rattle.table.specs.declared.Table.{Table}
 use Rattle.table.specs.declared.Stepped.{Stepped}
 use Rattle.table.specs.Table.{noDrive, zeroDrive, emptyTable, more, goOn, readFrom, readTable, drivesOf}
-use Rattle.table.proofs.Tables.{stepAt-cases, whole-at, refusal-room}
+use Rattle.table.proofs.TableLaws.{stepAt-cases, whole-at, refusal-room}
 use Rattle.memory.specs.Window.{guests}
 use Rattle.memory.specs.Blocks.{blockLength}
 use Rattle.int13.specs.declared.Registers.{Registers}
@@ -40,7 +40,7 @@ use Rattle.table.specs.declared.Written.the-variants.{Bytes as WrittenBytes, Re
 use Rattle.desk.specs.Parts.{windowSize, stageAt, withStage, withPointer, next}
 use Rattle.desk.specs.Acceptable.{packetOk, stageOk}
 use Rattle.desk.specs.Calls.{openOf, quota, later, stageAfter}
-use Rattle.desk.proofs.Acceptances.{waits-facts}
+use Rattle.desk.proofs.AcceptableLaws.{waits-facts}
 use Rattle.image.specs.Image.{FitsRegisters, FitsRequest, FitsStage, FitsDrive, FitsTable, FitsDesk}
 use Rattle.isolation.specs.Lists.{Op, openTable, post, turn, collect, withdraw, write, Call, Answer, opening, posted as postedTo, turned, collected, withdrawn, written, Out, openedDesk, stepOf, step}
 use Rattle.isolation.specs.Words.{opens, kindOf}
@@ -48,7 +48,6 @@ use Rattle.isolation.specs.Blocks.{FitsOp}
 use Rattle.isolation.proofs.Accept.{Inv, opened-desk, all-vacant}
 use Rattle.isolation.proofs.View.{Did, same, idle, answer, accepting, serving, giving, withdrawing, view}
 use Rattle.isolation.proofs.Keep.{stage-same, stage-other, inv-did}
-use Rattle.isolation.proofs.Posts.{different}
 
 -- ---- the drives that are read
 
@@ -116,7 +115,7 @@ fits-from (suc k) t store at b y f =
     (λ n p. f)
     (λ h l. f)
     (λ h z.
-    let w = whole-at t at 1 h in
+    let w = whole-at t at 1 68 h in
     let l : length (part 68 t at) ≡ 68 = length-take-le 68 (drop at t) (simp length-drop (omega (arith, w .whole, w .header))) in
     fits-from k t store (at + 68) (more b (driveOf (part 68 t at))) y
     (fits-more b (driveOf (part 68 t at)) f (fits-record (part 68 t at) (bytes-part 68 t at y) l) (refusal-room b (driveOf (part 68 t at)) store z)))
@@ -230,19 +229,19 @@ fits-did d c o inv f t (withdrawing g q e b l v) i = fits-set d g Vacant (d .poi
 -- an answer is that of an opening that passed, or none such
 pub by-opening : {A : Type 0} (x : Answer) → (x ≡ opening Opened → A) → ((kindOf x ≡ opens → ⊥) → A) → A
 by-opening (opening Opened) f g = f refl
-by-opening (opening (OpenRefused n place)) f g = g (λ e. different cc)
-by-opening (postedTo h (PostAnswered r)) f g = g (λ e. different cc)
-by-opening (postedTo h PostWaits) f g = g (λ e. different cc)
-by-opening (postedTo h (PostRefused n)) f g = g (λ e. different cc)
-by-opening (turned (Served h k)) f g = g (λ e. different cc)
-by-opening (turned Idle) f g = g (λ e. different cc)
-by-opening (turned (TurnRefused n)) f g = g (λ e. different cc)
-by-opening (collected h (CollectGiven r)) f g = g (λ e. different cc)
-by-opening (collected h (CollectRefused n)) f g = g (λ e. different cc)
-by-opening (withdrawn h (WithdrawGiven r)) f g = g (λ e. different cc)
-by-opening (withdrawn h (WithdrawRefused n)) f g = g (λ e. different cc)
-by-opening (written (WrittenBytes n) out) f g = g (λ e. different cc)
-by-opening (written (WriteRefused n) out) f g = g (λ e. different cc)
+by-opening (opening (OpenRefused n place)) f g = g (λ e. impossible cc)
+by-opening (postedTo h (PostAnswered r)) f g = g (λ e. impossible cc)
+by-opening (postedTo h PostWaits) f g = g (λ e. impossible cc)
+by-opening (postedTo h (PostRefused n)) f g = g (λ e. impossible cc)
+by-opening (turned (Served h k)) f g = g (λ e. impossible cc)
+by-opening (turned Idle) f g = g (λ e. impossible cc)
+by-opening (turned (TurnRefused n)) f g = g (λ e. impossible cc)
+by-opening (collected h (CollectGiven r)) f g = g (λ e. impossible cc)
+by-opening (collected h (CollectRefused n)) f g = g (λ e. impossible cc)
+by-opening (withdrawn h (WithdrawGiven r)) f g = g (λ e. impossible cc)
+by-opening (withdrawn h (WithdrawRefused n)) f g = g (λ e. impossible cc)
+by-opening (written (WrittenBytes n) out) f g = g (λ e. impossible cc)
+by-opening (written (WriteRefused n) out) f g = g (λ e. impossible cc)
 
 -- a call that is answered as an opening that passed leaves the desk of that opening
 pub opening-case : (P : Desk → Type 0) (d : Desk) (o : Op) (arena store : List ℕ)
@@ -251,11 +250,11 @@ pub opening-case : (P : Desk → Type 0) (d : Desk) (o : Op) (arena store : List
 opening-case P d (openTable t a s) arena store f e =
     let x : openOf t a s .answer ≡ Opened = cc in
     subst (λ (y : OpenAnswer). P (openedDesk d (openOf t a s .desk) y)) (sym x) (f t a s refl x)
-opening-case P d (post g r) arena store f e = different cc
-opening-case P d turn arena store f e = different cc
-opening-case P d (collect g) arena store f e = different cc
-opening-case P d (withdraw g) arena store f e = different cc
-opening-case P d (write out) arena store f e = different cc
+opening-case P d (post g r) arena store f e = impossible cc
+opening-case P d turn arena store f e = impossible cc
+opening-case P d (collect g) arena store f e = impossible cc
+opening-case P d (withdraw g) arena store f e = impossible cc
+opening-case P d (write out) arena store f e = impossible cc
 
 -- every call leaves a desk that fits
 pub fits-step : (d : Desk) → Inv d → FitsDesk d → (c : Call) → FitsOp (c .op) → FitsDesk (step d c .desk)

@@ -13,7 +13,7 @@ use lib.ListN.{length, length-set, List·getD-eq-default}
 use lib.Seq.{getD-set-same, getD-set-other, length-sets}
 use Rattle.words.specs.Words.{leBytes}
 use Rattle.memory.specs.Window.{guests, windowOf, spanLength}
-use Rattle.memory.proofs.Windows.{window-with-other}
+use Rattle.memory.proofs.WindowLaws.{window-with-other}
 use Rattle.table.specs.declared.Table.{Table}
 use Rattle.int13.specs.declared.Registers.{Registers}
 use Rattle.int13.specs.Answers.{ah, isSectors}
@@ -24,13 +24,14 @@ use Rattle.desk.specs.declared.Stage.the-variants.{Vacant, Waiting}
 use Rattle.desk.specs.declared.Row.{Row}
 use Rattle.desk.specs.declared.Desk.{Desk}
 use Rattle.desk.specs.Parts.{windowSize, vacantRow, stageAt, withStage, withPointer, next}
-use Rattle.desk.specs.Acceptable.{jobOk, movedOk, stageOk}
-use Rattle.desk.specs.Calls.{quota, stageAfter, memoryOf, movedBy, withdrawnWindow}
+use Rattle.desk.specs.Acceptable.{jobOk, stageOk}
+use Rattle.desk.specs.Calls.{quota, later, stageAfter, memoryOf, movedBy, withdrawnWindow}
 use Rattle.isolation.specs.Lists.{post, turn, collect, withdraw, Call, Out, step, run, after}
 use Rattle.isolation.specs.Words.{opens, kindOf, NoneOpens, serviceIn, ifSame}
+use Rattle.desk.proofs.AcceptableLaws.{waiting-ok}
 use Rattle.isolation.proofs.Turn.{next-lt, vacant≢waiting}
 use Rattle.isolation.proofs.Moves.{moves-size}
-use Rattle.logic.proofs.Logic.{pick-cases, both-intro, lt-or-le}
+use Rattle.logic.proofs.LogicLaws.{pick-cases, both-intro, lt-or-le, impossible}
 use Rattle.isolation.proofs.Check.{Fresh}
 use Rattle.isolation.proofs.Accept.{Inv, Ready, ready, waiting-job}
 use Rattle.isolation.proofs.View.{Lent, Did, same, idle, answer, accepting, serving, giving, withdrawing, view, windowIn, window-length, span-lent}
@@ -73,14 +74,14 @@ after-ok : (b : Table) (M S : ℕ) (q : Request) → jobOk b M (q .job) ≡ true
 unfolding stageAfter
 after-ok b M S q j a =
     pick-cases (λ (s : Stage). stageOk b M s ≡ true) (ltb (q .moved + quota q) (q .job .count)) _ _
-    (λ e. both-intro (jobOk b M (q .job)) (movedOk (q .moved + quota q) (q .job .count)) j
+    (λ e. waiting-ok b M (later q (quota q)) j
     (both-intro (eqb ((q .moved + quota q) % 16) 0) (ltb (q .moved + quota q) (q .job .count))
     (eq-eqb _ _ (next-whole (q .job .count) (q .moved) (a .whole) (ltb-true _ _ e))) e))
     (λ e. refl)
 
 fresh-ok : (b : Table) (M : ℕ) (r : Registers) (w : List ℕ) (q : Request) → q .moved ≡ 0 → length w ≡ M → Fresh b r w (q .job) → stageOk b M (Waiting q) ≡ true
 fresh-ok b M r w q z l f =
-    both-intro (jobOk b M (q .job)) (movedOk (q .moved) (q .job .count)) (ap (λ (m : ℕ). jobOk b m (q .job)) (sym l) ∙ f .ok)
+    waiting-ok b M q (ap (λ (m : ℕ). jobOk b m (q .job)) (sym l) ∙ f .ok)
     (rw z (both-intro (eqb 0 0) (ltb 0 (q .job .count)) refl (lt-ltb _ _ (f .some))))
 
 pub inv-did : (d : Desk) (c : Call) (o : Out) → Inv d → Did d c o → Inv (o .desk)
@@ -153,13 +154,13 @@ pub record Spared (d : Desk) (c : Call) (o : Out) (h : ℕ) : Type 0 where
   pub window : windowOf (o .arena) h (windowSize d) ≡ windowOf (c .arena) h (windowSize d)
 
 turn≢post : {A : Type 0} {g : ℕ} {r : Registers} → turn ≡ post g r → A
-turn≢post e = let z : _≡_ {A = ℕ} 0 1 = cc in absurd (omega arith)
+turn≢post e = impossible (cc)
 
 turn≢collect : {A : Type 0} {g : ℕ} → turn ≡ collect g → A
-turn≢collect e = let z : _≡_ {A = ℕ} 0 1 = cc in absurd (omega arith)
+turn≢collect e = impossible (cc)
 
 turn≢withdraw : {A : Type 0} {g : ℕ} → turn ≡ withdraw g → A
-turn≢withdraw e = let z : _≡_ {A = ℕ} 0 1 = cc in absurd (omega arith)
+turn≢withdraw e = impossible (cc)
 
 pub same-guest : (g n : ℕ) → ifSame g g n ≡ n
 same-guest g n = rw (eq-eqb g g refl)

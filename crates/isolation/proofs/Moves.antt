@@ -8,12 +8,12 @@ use mathlib.Core.List.{List}
 use native.Mathlib.Omega.{arith}
 use lib.ListN.{length, getD, drop}
 use lib.Seq.{ext-getD, getD-take, getD-drop}
-use Rattle.logic.proofs.Logic.{lt-or-le}
+use Rattle.logic.proofs.LogicLaws.{lt-or-le}
 use Rattle.logic.specs.Logic.{pick}
 use Rattle.words.specs.Words.{part}
 use Rattle.memory.specs.Blocks.{blockLength, blocks}
 use Rattle.memory.proofs.Sets.{length-part}
-use Rattle.memory.proofs.Blocks.{blocks-length, blocks-append, getD-blocks-outside, part-blocks-same, blocks-source}
+use Rattle.memory.proofs.BlocksLaws.{blocks-length, blocks-append, getD-blocks-outside, part-blocks-same, blocks-source}
 use Rattle.int13.specs.declared.Job.{Job}
 use Rattle.int13.specs.Answers.{ah, isWrite}
 use Rattle.int13.specs.Alone.{Memory, moves}

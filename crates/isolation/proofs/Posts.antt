@@ -4,16 +4,17 @@ use Prim.Native.Nat.{ℕ, _/_, _<_}
 use mathlib.Core.Path.{_≡_, refl, sym, ap, _∙_}
 use mathlib.Core.List.{List}
 use native.Mathlib.Omega.{arith}
+use Rattle.logic.proofs.LogicLaws.{impossible}
 use Rattle.memory.specs.Window.{guests}
 use Rattle.memory.specs.Blocks.{blockLength}
-use Rattle.memory.proofs.Windows.{window-with-same, with-window-same}
+use Rattle.memory.proofs.WindowLaws.{window-with-same, with-window-same}
 use Rattle.table.specs.declared.Table.{Table}
 use Rattle.table.specs.Table.{readTable}
 use Rattle.int13.specs.declared.Registers.{Registers}
 use Rattle.int13.specs.declared.Job.{Job}
 use Rattle.int13.specs.declared.Outcome.{Outcome}
 use Rattle.int13.specs.declared.Outcome.the-variants.{Answered, Waits as JobWaits}
-use Rattle.int13.specs.Steps.{check}
+use Rattle.int13.specs.Steps.{fed, begin}
 use Rattle.int13.specs.Alone.{Memory, Served, finish, servedBy, alone}
 use Rattle.desk.specs.declared.Stage.the-variants.{Waiting}
 use Rattle.desk.specs.declared.Desk.{Desk}
@@ -28,10 +29,6 @@ use Rattle.isolation.proofs.View.{Lent, Did, same, idle, answer, accept
 use Rattle.isolation.proofs.Keep.{stage-same}
 use Rattle.isolation.proofs.Equal.{memory, request}
 
--- two constructors differ
-pub different : {A : Type 0} → _≡_ {A = ℕ} 0 1 → A
-different e = absurd (omega arith)
-
 -- ---- an accepted post
 
 pub record Took (d : Desk) (c : Call) (g : ℕ) (r : Registers) (o : Out) : Type 0 where
@@ -39,14 +36,14 @@ pub record Took (d : Desk) (c : Call) (g : ℕ) (r : Registers) (o : Out) : Type
   pub row : stageAt (o .desk) g ≡ Waiting (request job 0)
   pub below : g < guests
   pub lent : Lent d c
-  pub outcome : check (d .table) r (windowIn d c g) .outcome ≡ JobWaits job
+  pub outcome : begin (fed (d .table)) r (windowIn d c g) .outcome ≡ JobWaits job
   pub fresh : Fresh (d .table) r (windowIn d c g) job
   pub arena : o .arena ≡ c .arena
   pub store : o .store ≡ c .store
 
 quiet-accepts : {k : Kind} {g : ℕ} → Quiet k → k ≡ accepts g → ⊥
-quiet-accepts refusing e = different cc
-quiet-accepts writing e = different cc
+quiet-accepts refusing e = impossible cc
+quiet-accepts writing e = impossible cc
 
 same-post-guest : {g h : ℕ} {r r′ : Registers} → post g r ≡ post h r′ → g ≡ h
 same-post-guest e = cc
@@ -56,8 +53,8 @@ same-post-registers e = cc
 
 pub took : (d : Desk) (c : Call) (g : ℕ) (r : Registers) (o : Out) → Inv d → c .op ≡ post g r → o .answer ≡ posted g PostWaits → Did d c o → Took d c g r o
 took d c g r o inv p a (same x k n) = absurd (quiet-accepts k (ap kindOf a))
-took d c g r o inv p a (idle e f) = different cc
-took d c g r o inv p a (answer h r₁ x w e b l v ko kw k) = different cc
+took d c g r o inv p a (idle e f) = impossible cc
+took d c g r o inv p a (answer h r₁ x w e b l v ko kw k) = impossible cc
 took d c g r o inv p a (accepting h r′ j e b l v ko kw f) =
     let gh : h ≡ g = same-post-guest (sym e ∙ p) in
     let rr : r′ ≡ r = same-post-registers (sym e ∙ p) in
@@ -72,15 +69,15 @@ took d c g r o inv p a (accepting h r′ j e b l v ko kw f) =
       arena = with-window-same (c .arena) h (windowSize d);
       store = refl;
     })
-took d c g r o inv p a (serving h q e b l v f) = different cc
-took d c g r o inv p a (giving h x e b v) = different cc
-took d c g r o inv p a (withdrawing h q e b l v) = different cc
+took d c g r o inv p a (serving h q e b l v f) = impossible cc
+took d c g r o inv p a (giving h x e b v) = impossible cc
+took d c g r o inv p a (withdrawing h q e b l v) = impossible cc
 
 -- ---- a post answered at once
 
 quiet-answers : {k : Kind} {g : ℕ} → Quiet k → k ≡ answers g → ⊥
-quiet-answers refusing e = different cc
-quiet-answers writing e = different cc
+quiet-answers refusing e = impossible cc
+quiet-answers writing e = impossible cc
 
 same-answer-guest : {g h : ℕ} {x y : Registers} → posted g (PostAnswered x) ≡ posted h (PostAnswered y) → g ≡ h
 same-answer-guest e = cc
@@ -89,20 +86,20 @@ same-answer : {g h : ℕ} {x y : Registers} → posted g (PostAnswered x) ≡ po
 same-answer e = cc
 
 answered-alone : (t : List ℕ) (d : Desk) (c : Call) (g : ℕ) (r x : Registers) (w : List ℕ) → Lent d c → readTable t (d .store / blockLength) .table ≡ d .table
-    → check (d .table) r (windowIn d c g) .outcome ≡ Answered x → check (d .table) r (windowIn d c g) .window ≡ w
-    → alone t r (memory (windowIn d c g) (c .store)) ≡ record { registers = x; memory = memory w (c .store) }
+    → begin (fed (d .table)) r (windowIn d c g) .outcome ≡ Answered x → begin (fed (d .table)) r (windowIn d c g) .window ≡ w
+    → alone (fed t) r (memory (windowIn d c g) (c .store)) ≡ record { registers = x; memory = memory w (c .store) }
 unfolding alone
 answered-alone t d c g r x w l te ko kw =
     let m : Memory = memory (windowIn d c g) (c .store) in
-    ap (λ (s : ℕ). servedBy (readTable t (s / blockLength) .table) r m) (l .store)
-    ∙ ap (λ (b : Table). servedBy b r m) te
-    ∙ ap (λ (o : Outcome). finish (d .table) o (check (d .table) r (windowIn d c g) .window) m) ko
+    ap (λ (s : ℕ). servedBy (fed (readTable t (s / blockLength) .table)) r m) (l .store)
+    ∙ ap (λ (b : Table). servedBy (fed b) r m) te
+    ∙ ap (λ (o : Outcome). finish (d .table) o (begin (fed (d .table)) r (windowIn d c g) .window) m) ko
     ∙ ap (λ (v : List ℕ). finish (d .table) (Answered x) v m) kw
 
 pub at-once : (t : List ℕ) (d : Desk) (c : Call) (g : ℕ) (r x : Registers) (o : Out) → readTable t (d .store / blockLength) .table ≡ d .table
-    → c .op ≡ post g r → o .answer ≡ posted g (PostAnswered x) → Did d c o → SameAtOnce (windowSize d) g o x (alone t r (memory (windowIn d c g) (c .store)))
+    → c .op ≡ post g r → o .answer ≡ posted g (PostAnswered x) → Did d c o → SameAtOnce (windowSize d) g o x (alone (fed t) r (memory (windowIn d c g) (c .store)))
 at-once t d c g r x o te p a (same y k n) = absurd (quiet-answers k (ap kindOf a))
-at-once t d c g r x o te p a (idle e f) = different cc
+at-once t d c g r x o te p a (idle e f) = impossible cc
 at-once t d c g r x o te p a (answer h r′ y w e b l v ko kw k) =
     let gh : h ≡ g = same-answer-guest a in
     let rr : r′ ≡ r = same-post-registers (sym e ∙ p) in
@@ -114,10 +111,10 @@ at-once t d c g r x o te p a (answer h r′ y w e b l v ko kw k) =
       window = window-with-same (c .arena) h (windowSize d) w (k ∙ sym (span-lent d c h b l)) ∙ ap (λ (s : Served). s .memory .window) (sym al);
       store = ap (λ (s : Served). s .memory .store) (sym al);
     })
-at-once t d c g r x o te p a (accepting h r′ j e b l v ko kw f) = different cc
-at-once t d c g r x o te p a (serving h q e b l v f) = different cc
-at-once t d c g r x o te p a (giving h y e b v) = different cc
-at-once t d c g r x o te p a (withdrawing h q e b l v) = different cc
+at-once t d c g r x o te p a (accepting h r′ j e b l v ko kw f) = impossible cc
+at-once t d c g r x o te p a (serving h q e b l v f) = impossible cc
+at-once t d c g r x o te p a (giving h y e b v) = impossible cc
+at-once t d c g r x o te p a (withdrawing h q e b l v) = impossible cc
 
 -- ---- never 25
 

@@ -6,7 +6,7 @@ use mathlib.Core.List.{List}
 use native.Mathlib.Omega.{arith}
 use lib.Dec.{leb, ltb, eqb}
 use lib.ListN.{length}
-use Rattle.logic.proofs.Logic.{pick-cases}
+use Rattle.logic.proofs.LogicLaws.{pick-cases}
 use Rattle.words.specs.Words.{le, part}
 use Rattle.drive.specs.declared.Drive.{Drive}
 use Rattle.drive.specs.Drive.{driveOf, fieldsOk, inStore}
@@ -17,7 +17,7 @@ use Rattle.table.specs.declared.Stepped.{Stepped}
 use Rattle.table.specs.declared.Answer.{Answer}
 use Rattle.table.specs.declared.Answer.the-variants.{Accepted, Refused as AnswerRefused}
 use Rattle.table.specs.declared.Reading.{Reading}
-use Rattle.table.specs.Table.{isKind, recordLength, headerOf, headerAt, overlapsAny, refusal, goOn, driveStep, endStep, stepOf, stepAt, readFrom, readTable, emptyTable}
+use Rattle.table.specs.Table.{isKind, lengthOk, headerOf, headerAt, overlapsAny, refusal, goOn, driveStep, endStep, stepOf, stepAt, readFrom, readTable, emptyTable}
 use Rattle.memory.specs.Blocks.{blockLength}
 use Rattle.desk.specs.declared.OpenAnswer.{OpenAnswer}
 use Rattle.desk.specs.declared.OpenAnswer.the-variants.{Opened, Refused as OpenRefused}
@@ -45,12 +45,12 @@ unfolding stepAt stepOf headerAt headerOf endStep driveStep
 step-low t at b store =
     pick-cases (λ h. LowStep (stepOf h t at b store .step)) (ltb (length t - at) 4) _ _ (λ e. omega arith) (λ e.
     pick-cases (λ h. LowStep (stepOf h t at b store .step)) (not (isKind (le 2 t (at + 2)))) _ _ (λ e. omega arith) (λ e.
-    pick-cases (λ h. LowStep (stepOf h t at b store .step)) (not (eqb (le 2 t at) (recordLength (le 2 t (at + 2))))) _ _ (λ e. omega arith) (λ e.
-    pick-cases (λ h. LowStep (stepOf h t at b store .step)) (ltb (length t - at) (recordLength (le 2 t (at + 2)))) _ _ (λ e. omega arith) (λ e.
+    pick-cases (λ h. LowStep (stepOf h t at b store .step)) (not (lengthOk (le 2 t (at + 2)) (le 2 t at))) _ _ (λ e. omega arith) (λ e.
+    pick-cases (λ h. LowStep (stepOf h t at b store .step)) (ltb (length t - at) (le 2 t at)) _ _ (λ e. omega arith) (λ e.
     pick-cases (λ (x : Stepped). LowStep (x .step)) (eqb (le 2 t (at + 2)) 0) _ _
     (λ e. pick-cases (λ (x : Stepped). LowStep (x .step)) (ltb (at + 4) (length t)) _ _ (λ e. omega arith) (λ e. tt))
-    (λ e. pick-cases (λ (x : Stepped). LowStep (x .step)) (eqb (refusal b (driveOf (part 68 t at)) store) 0) _ _ (λ e. tt)
-    (λ e. refusal-low b (driveOf (part 68 t at)) store))))))
+    (λ e. pick-cases (λ (x : Stepped). LowStep (x .step)) (eqb (refusal b (driveOf (part (le 2 t at) t at)) store) 0) _ _ (λ e. tt)
+    (λ e. refusal-low b (driveOf (part (le 2 t at) t at)) store))))))
 
 go-low : (s : Step) (b : Table) (f : ℕ → Table → Reading) → LowStep s → ((at : ℕ) (b : Table) → LowAnswer (f at b .answer)) → LowAnswer (goOn s b f .answer)
 go-low (Next at) b f l h = h at b

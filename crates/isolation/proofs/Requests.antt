@@ -6,9 +6,9 @@ use mathlib.Core.Logic.{⊎-elim}
 use mathlib.Core.List.{List, [], _∷_, _++_}
 use native.Mathlib.Omega.{arith}
 use lib.ListN.{length}
-use Rattle.logic.proofs.Logic.{lt-or-le}
+use Rattle.logic.proofs.LogicLaws.{lt-or-le}
 use Rattle.words.specs.Words.{part}
-use Rattle.memory.specs.Window.{guests, windowLength, windowOf}
+use Rattle.memory.specs.Window.{windowLength, windowOf}
 use Rattle.memory.specs.Blocks.{blockLength}
 use Rattle.table.specs.declared.Table.{Table}
 use Rattle.table.specs.Table.{readTable}
@@ -17,7 +17,7 @@ use Rattle.int13.specs.declared.Job.{Job}
 use Rattle.int13.specs.declared.Outcome.{Outcome}
 use Rattle.int13.specs.declared.Outcome.the-variants.{Waits as JobWaits}
 use Rattle.int13.specs.Answers.{succeed}
-use Rattle.int13.specs.Steps.{check}
+use Rattle.int13.specs.Steps.{fed, begin}
 use Rattle.int13.specs.Alone.{Memory, Served, storeBlock, moves, finish, servedBy, alone}
 use Rattle.desk.specs.declared.Stage.the-variants.{Finished}
 use Rattle.desk.specs.declared.Desk.{Desk}
@@ -25,7 +25,7 @@ use Rattle.desk.specs.declared.CollectAnswer.the-variants.{Given}
 use Rattle.desk.specs.Parts.{windowSize, stageAt}
 use Rattle.desk.specs.Acceptable.{jobOk}
 use Rattle.isolation.specs.Lists.{collect, Call, collected, step, run, after}
-use Rattle.isolation.specs.Words.{Kind, refused, plain, opens, answers, accepts, serves, idles, hands, withdraws, kindOf, NoneOpens, total, turnIn, turns, services, movedIn, moved, withdrawalIn, withdrawals, collects, Accepted, Waits, Finishes, turnsFor, Unwritten, Left}
+use Rattle.isolation.specs.Words.{Kind, refused, plain, opens, answers, accepts, serves, idles, hands, withdraws, kindOf, NoneOpens, total, turnIn, turns, services, movedIn, moved, withdrawalIn, withdrawals, collects, Accepted, Waits, Finishes, turnsEach, turnsFor, Unwritten, Left}
 use Rattle.isolation.specs.Demand.{Ends, finishing as endsFinishing, withdrawing as endsWithdrawing, Same}
 use Rattle.isolation.proofs.Turn.{dist-lt}
 use Rattle.isolation.proofs.Moves.{Alike, part-agree, moves-size, moves-none}
@@ -81,7 +81,7 @@ module _ (d : Desk) (inv : Inv d) (c : Call) (g : ℕ) (r : Registers) (acc : Ac
   n = job .count
 
   tracked : (mid : List Call) → NoneOpens (run d₁ mid) → Waits g n (run d₁ mid) → Track g (request job 0) d₁ mid
-  tracked mid no-open w = track mid d₁ inv₁ no-open g (request job 0) (accepted .row) (w .0) (omega (arith, w .1))
+  tracked mid no-open w = track mid d₁ inv₁ no-open g (request job 0) (accepted .row) (omega (arith, w .0)) (omega (arith, w .1))
 
   start : waitFor (d₁ .pointer) g (request job 0) < turnsFor n
   start = wait-start (d₁ .pointer) g (request job 0) refl (accepted .fresh .some)
@@ -115,7 +115,7 @@ module _ (d : Desk) (inv : Inv d) (c : Call) (g : ℕ) (r : Registers) (acc : Ac
   pub within′ : (mid stretch : List Call) (last : Call) → NoneOpens (run d₁ (mid ++ (stretch ++ last ∷ [])))
       → Waits g n (run d₁ (mid ++ stretch))
       → turns (run (after d₁ (mid ++ stretch)) (last ∷ [])) ≡ 1
-      → guests ≤ turns (run (after d₁ mid) (stretch ++ last ∷ []))
+      → turnsEach ≤ turns (run (after d₁ mid) (stretch ++ last ∷ []))
       → 0 < services g (run (after d₁ mid) (stretch ++ last ∷ []))
   within′ mid stretch last no-open w one eight =
       let d₂ : Desk = after d₁ mid in
@@ -180,12 +180,12 @@ module _ (d : Desk) (inv : Inv d) (c : Call) (g : ℕ) (r : Registers) (acc : Ac
   abbrev lo : ℕ
   lo = storeBlock (d .table) job
 
-  alone-is : (t : List ℕ) → readTable t (d .store / blockLength) .table ≡ d .table → alone t r found ≡ finish (d .table) (JobWaits job) (check (d .table) r (windowIn d c g) .window) found
+  alone-is : (t : List ℕ) → readTable t (d .store / blockLength) .table ≡ d .table → alone (fed t) r found ≡ finish (d .table) (JobWaits job) (begin (fed (d .table)) r (windowIn d c g) .window) found
   unfolding alone
   alone-is t e =
-      ap (λ (s : ℕ). servedBy (readTable t (s / blockLength) .table) r found) (accepted .lent .store)
-      ∙ ap (λ (b : Table). servedBy b r found) e
-      ∙ ap (λ (o : Outcome). finish (d .table) o (check (d .table) r (windowIn d c g) .window) found) (accepted .outcome)
+      ap (λ (s : ℕ). servedBy (fed (readTable t (s / blockLength) .table)) r found) (accepted .lent .store)
+      ∙ ap (λ (b : Table). servedBy (fed b) r found) e
+      ∙ ap (λ (o : Outcome). finish (d .table) o (begin (fed (d .table)) r (windowIn d c g) .window) found) (accepted .outcome)
 
   mid₀ : Mid lo d₁ g job 0 found (windowIn d c g) (c .store)
   mid₀ =
@@ -207,7 +207,7 @@ module _ (d : Desk) (inv : Inv d) (c : Call) (g : ℕ) (r : Registers) (acc : Ac
       → Finishes g n d₁ mid last
       → Left (windowSize d) g (windowOf (step d c .arena) g (windowSize d)) (step d c .store) (run d₁ (mid ++ last ∷ []))
       → Unwritten g lo n (run d₁ (mid ++ last ∷ []))
-      → Same (windowSize d) g lo n (step (after d₁ mid) last) (alone t r found)
+      → Same (windowSize d) g lo n (step (after d₁ mid) last) (alone (fed t) r found)
   equal′ t te mid last no-open f l u =
       let l₁ : Left (windowSize d) g (windowIn d c g) (c .store) (run d₁ (mid ++ last ∷ []))
       = subst (λ (s : List ℕ). Left (windowSize d) g (windowIn d c g) s (run d₁ (mid ++ last ∷ []))) (accepted .store)
@@ -230,13 +230,17 @@ module _ (d : Desk) (inv : Inv d) (c : Call) (g : ℕ) (r : Registers) (acc : Ac
             ∙ ap (λ (x : Served). part blockLength (x .memory .store) (blockLength * b)) (sym al);
       }
 
+  pub finished′ : (t : List ℕ) → readTable t (d .store / blockLength) .table ≡ d .table → (mid : List Call) (last : Call) → NoneOpens (run d₁ (mid ++ last ∷ []))
+      → Finishes g n d₁ mid last → stageAt (step (after d₁ mid) last .desk) g ≡ Finished (alone (fed t) r found .registers)
+  finished′ t te mid last no-open f = finished mid last no-open f ∙ ap (λ (x : Served). Finished (x .registers)) (sym (alone-is t te))
+
   pub handed′ : (t : List ℕ) → readTable t (d .store / blockLength) .table ≡ d .table → (mid after₁ : List Call) (last x : Call)
       → NoneOpens (run d₁ (mid ++ last ∷ (after₁ ++ x ∷ [])))
       → Finishes g n d₁ mid last
       → collects g (run (step (after d₁ mid) last .desk) after₁) ≡ 0
       → x .op ≡ collect g
       → (kindOf (step (after (step (after d₁ mid) last .desk) after₁) x .answer) ≡ refused → ⊥)
-      → step (after (step (after d₁ mid) last .desk) after₁) x .answer ≡ collected g (Given (alone t r found .registers))
+      → step (after (step (after d₁ mid) last .desk) after₁) x .answer ≡ collected g (Given (alone (fed t) r found .registers))
   handed′ t te mid after₁ last x no-open f z op u =
       let d₂ : Desk = step (after d₁ mid) last .desk in
       let o₁ : NoneOpens (run d₁ mid) = opens-front mid (last ∷ (after₁ ++ x ∷ [])) d₁ no-open in

@@ -8,7 +8,7 @@ use native.Mathlib.Omega.{arith}
 use lib.ListN.{length, drop}
 use lib.Dec.{leb, ltb, eqb}
 use Rattle.logic.specs.Logic.{both, either}
-use Rattle.logic.proofs.Logic.{pick-cases}
+use Rattle.logic.proofs.LogicLaws.{pick-cases}
 use Rattle.words.specs.Words.{le}
 use Rattle.memory.specs.Window.{guests}
 use Rattle.memory.specs.Blocks.{blockLength}
@@ -32,7 +32,7 @@ use Rattle.int13.specs.declared.Outcome.the-variants.{Answered, Waits}
 use Rattle.int13.specs.declared.Plan.{Plan}
 use Rattle.int13.specs.declared.Plan.the-variants.{Refuse, Clear, Finish, Wait}
 use Rattle.int13.specs.Answers.{ah, al, dl, isWrite, succeed, withdraw}
-use Rattle.int13.specs.Steps.{Checked, mostRun, mostBlocks, isDrive, driveOf, packetPlace, verifyOk, packetTests, packetRead, packetPlan, carryOut, seekRead, seek, sectorBuffer, sectorRun, sectors, parameters, extensions, resultGiven, result, check}
+use Rattle.int13.specs.Steps.{Checked, mostRun, mostBlocks, isDrive, driveNamed, packetPlace, verifyOk, packetTests, packetRead, packetPlan, carryOut, seekRead, seek, sectorBuffer, sectorRun, sectors, parameters, extensions, resultGiven, result, fed, driveCount, steps, begin}
 use Rattle.desk.specs.declared.Request.{Request}
 use Rattle.desk.specs.declared.Stage.the-variants.{Waiting}
 use Rattle.desk.specs.declared.Desk.{Desk}
@@ -41,7 +41,7 @@ use Rattle.desk.specs.declared.Next.the-variants.{Guest, Nobody}
 use Rattle.desk.specs.declared.TurnAnswer.{TurnAnswer}
 use Rattle.desk.specs.Parts.{stageAt}
 use Rattle.desk.specs.Acceptable.{accept}
-use Rattle.desk.specs.Calls.{Done, isLent, seek as seekRow, quota, serveStage, turnNext, turnOf}
+use Rattle.desk.specs.Calls.{Done, isLent, firstWaiting as seekRow, quota, serveStage, turnNext, turnOf}
 use Rattle.isolation.specs.Single.{SameSegments, KeepsSegments, Serves, Single}
 use Rattle.isolation.proofs.Accept.{accept-facts}
 use Rattle.isolation.proofs.Turn.{dist-lt, Found, seek-guest, seek-nobody}
@@ -61,20 +61,20 @@ module _ (b : Table) (r : Registers) (w : List ℕ) where
       pick-cases Keeps (ltb (size (geometryOf d)) (n + al r)) _ _ (λ e. record { ds = refl; si = refl; es = refl })
       (λ e. pick-cases Keeps (ltb M (sectorBuffer r + blockLength * al r)) _ _ (λ e. record { ds = refl; si = refl; es = refl }) (λ e. record { ds = refl; si = refl; es = refl }))
 
-  by-sectors : (M : ℕ) → Keeps (sectors b r M)
+  by-sectors : (M : ℕ) → Keeps (sectors (isDrive b (dl r)) (driveNamed b r) r M)
   unfolding sectors
   by-sectors M =
       pick-cases Keeps (not (isDrive b (dl r))) _ _ (λ e. record { ds = refl; si = refl; es = refl })
       (λ e. pick-cases Keeps (eqb (al r) 0) _ _ (λ e. record { ds = refl; si = refl; es = refl })
       (λ e. pick-cases Keeps (ltb mostRun (al r)) _ _ (λ e. record { ds = refl; si = refl; es = refl })
-      (λ e. pick-cases Keeps (both (isWrite (ah r)) (isProtected (driveOf b r))) _ _ (λ e. record { ds = refl; si = refl; es = refl })
-      (λ e. run (driveOf b r) M (blockOf (geometryOf (driveOf b r)) (addressIn (r .cx) (r .dx)))))))
+      (λ e. pick-cases Keeps (both (isWrite (ah r)) (isProtected (driveNamed b r))) _ _ (λ e. record { ds = refl; si = refl; es = refl })
+      (λ e. run (driveNamed b r) M (blockOf (geometryOf (driveNamed b r)) (addressIn (r .cx) (r .dx)))))))
 
-  by-parameters : Keeps (parameters b r)
+  by-parameters : Keeps (parameters (isDrive b (dl r)) (driveCount b) (driveNamed b r) r)
   unfolding parameters
   by-parameters = pick-cases Keeps (isDrive b (dl r)) _ _ (λ e. record { ds = refl; si = refl; es = refl }) (λ e. record { ds = refl; si = refl; es = refl })
 
-  by-extensions : Keeps (extensions b r)
+  by-extensions : Keeps (extensions (isDrive b (dl r)) r)
   unfolding extensions
   by-extensions = pick-cases Keeps (both (isDrive b (dl r)) (eqb (r .bx) 0x55AA)) _ _ (λ e. record { ds = refl; si = refl; es = refl }) (λ e. record { ds = refl; si = refl; es = refl })
 
@@ -99,11 +99,11 @@ module _ (b : Table) (r : Registers) (w : List ℕ) where
   read d M (NoPacket code) = tt
   read d M (Whole p) = pick-cases Plans (ltb (p .size) packetLength) _ _ (λ e. tt) (λ e. tests d M p)
 
-  by-plan : Plans (packetPlan b r w)
+  by-plan : Plans (packetPlan (isDrive b (dl r)) (driveNamed b r) r w)
   unfolding packetPlan
   by-plan =
       pick-cases Plans (not (isDrive b (dl r))) _ _ (λ e. tt)
-      (λ e. pick-cases Plans (both (isWrite (ah r)) (not (verifyOk (al r) (driveOf b r .flags)))) _ _ (λ e. tt) (λ e. read (driveOf b r) (length w) (readPacket w (packetPlace r))))
+      (λ e. pick-cases Plans (both (isWrite (ah r)) (not (verifyOk (al r) (driveNamed b r .flags)))) _ _ (λ e. tt) (λ e. read (driveNamed b r) (length w) (readPacket w (packetPlace r))))
 
   carried : (p : Plan) → Plans p → KeepsChecked (carryOut p r w)
   carried (Refuse code) k = record { ds = refl; si = refl; es = refl }
@@ -111,34 +111,34 @@ module _ (b : Table) (r : Registers) (w : List ℕ) where
   carried Finish k = record { ds = refl; si = refl; es = refl }
   carried (Wait j) k = k
 
-  by-seek : Keeps (seek b r w)
+  by-seek : Keeps (seek (isDrive b (dl r)) (driveNamed b r) r w)
   unfolding seek
   by-seek = pick-cases Keeps (not (isDrive b (dl r))) _ _ (λ e. record { ds = refl; si = refl; es = refl }) (λ e. go (readPacket w (packetPlace r)))
     where
-      go : (x : PacketRead) → Keeps (seekRead (driveOf b r) r x)
+      go : (x : PacketRead) → Keeps (seekRead (driveNamed b r) r x)
       go (NoPacket code) = record { ds = refl; si = refl; es = refl }
       go (Whole p) =
           pick-cases Keeps (ltb (p .size) packetLength) _ _ (λ e. record { ds = refl; si = refl; es = refl })
-          (λ e. pick-cases Keeps (leb (driveOf b r .blocks) (p .start)) _ _ (λ e. record { ds = refl; si = refl; es = refl }) (λ e. record { ds = refl; si = refl; es = refl }))
+          (λ e. pick-cases Keeps (leb (driveNamed b r .blocks) (p .start)) _ _ (λ e. record { ds = refl; si = refl; es = refl }) (λ e. record { ds = refl; si = refl; es = refl }))
 
-  by-result : KeepsChecked (result b r w)
+  by-result : KeepsChecked (result (isDrive b (dl r)) (driveNamed b r) r w)
   unfolding result
   by-result =
       pick-cases KeepsChecked (not (isDrive b (dl r))) _ _ (λ e. record { ds = refl; si = refl; es = refl })
       (λ e. pick-cases KeepsChecked (ltb (length w) (packetPlace r + 2)) _ _ (λ e. record { ds = refl; si = refl; es = refl })
-      (λ e. go (resultAnswer (driveOf b r) (le 2 w (packetPlace r)) (length (drop (packetPlace r) w)))))
+      (λ e. go (resultAnswer (driveNamed b r) (le 2 w (packetPlace r)) (length (drop (packetPlace r) w)))))
     where
       go : (x : ResultAnswer) → Keeps (resultGiven x r)
       go (NoResult code) = record { ds = refl; si = refl; es = refl }
       go (Written n) = record { ds = refl; si = refl; es = refl }
 
-  by-function : KeepsChecked (check b r w)
-  unfolding check
+  by-function : KeepsChecked (begin (fed b) r w)
+  unfolding begin steps
   by-function =
       pick-cases KeepsChecked (either (eqb (ah r) 0x02) (eqb (ah r) 0x03)) _ _ (λ e. by-sectors (length w))
       (λ e. pick-cases KeepsChecked (eqb (ah r) 0x08) _ _ (λ e. by-parameters)
       (λ e. pick-cases KeepsChecked (eqb (ah r) 0x41) _ _ (λ e. by-extensions)
-      (λ e. pick-cases KeepsChecked (either (eqb (ah r) 0x42) (either (eqb (ah r) 0x43) (eqb (ah r) 0x44))) _ _ (λ e. carried (packetPlan b r w) by-plan)
+      (λ e. pick-cases KeepsChecked (either (eqb (ah r) 0x42) (either (eqb (ah r) 0x43) (eqb (ah r) 0x44))) _ _ (λ e. carried (packetPlan (isDrive b (dl r)) (driveNamed b r) r w) by-plan)
       (λ e. pick-cases KeepsChecked (eqb (ah r) 0x47) _ _ (λ e. by-seek)
       (λ e. pick-cases KeepsChecked (eqb (ah r) 0x48) _ _ (λ e. by-result) (λ e. record { ds = refl; si = refl; es = refl }))))))
 

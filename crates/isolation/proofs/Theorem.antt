@@ -1,29 +1,31 @@
 -- Demand 3 holds of every list of calls after an opening.
 -- Assumes nothing.
 use Prim.Native.Nat.{ℕ, _/_, _≤_, _<_}
-use mathlib.Core.Path.{_≡_, refl, sym, ap, subst, subst₂, _∙_}
+use mathlib.Core.Path.{_≡_, sym, ap, subst, subst₂, _∙_}
 use mathlib.Core.List.{List, [], _∷_, _++_, append-assoc}
-use Rattle.memory.specs.Window.{guests, windowLength, windowOf}
+use native.Mathlib.Omega.{arith}
+use Rattle.memory.specs.Window.{windowLength, windowOf}
 use Rattle.memory.specs.Blocks.{blockLength}
 use Rattle.table.specs.declared.Table.{Table}
 use Rattle.table.specs.Table.{readTable}
 use Rattle.int13.specs.declared.Registers.{Registers}
+use Rattle.int13.specs.Steps.{fed}
 use Rattle.int13.specs.Alone.{storeBlock, alone}
+use Rattle.desk.specs.declared.Stage.the-variants.{Finished}
 use Rattle.desk.specs.declared.Desk.{Desk}
 use Rattle.desk.specs.declared.OpenAnswer.the-variants.{Opened}
-use Rattle.desk.specs.declared.PostAnswer.the-variants.{Answered as PostAnswered}
 use Rattle.desk.specs.declared.CollectAnswer.the-variants.{Given}
 use Rattle.desk.specs.Parts.{windowSize, stageAt}
 use Rattle.desk.specs.Calls.{openOf}
-use Rattle.isolation.specs.Lists.{post, turn, collect, Call, posted, collected, step, Event, run, after}
-use Rattle.isolation.specs.Words.{refused, opens, kindOf, NoneOpens, turns, serviceIn, services, collects, Accepted, Waits, Finishes, turnsFor, Unwritten, Left}
-use Rattle.isolation.specs.Demand.{foundBy, askedBy, firstBy, Ends, Same, SameAtOnce, Claim, Demand}
+use Rattle.isolation.specs.Lists.{Call, collected, step, Event, run, after}
+use Rattle.isolation.specs.Words.{refused, opens, kindOf, NoneOpens, turns, collects, Accepted, Waits, Finishes, turnsFor, Unwritten, Left}
+use Rattle.isolation.specs.Demand.{outAfter, foundBy, askedBy, firstBy, Taken, outOn, countOf, firstOf, aloneOf, Ends, Same, SameAtOnce, Claim, Demand}
 use Rattle.isolation.proofs.Accept.{Inv, inv-accept, inv-opened, opened-desk}
 use Rattle.isolation.proofs.View.{same, answer, view}
 use Rattle.isolation.proofs.Keep.{reached, turn-spares}
 use Rattle.isolation.proofs.Bound.{opens-front, opens-rest, opens-cons, opens-upto, after-at, after-none}
 use Rattle.isolation.proofs.Posts.{at-once, never}
-use Rattle.isolation.proofs.Requests.{accepted, bounded′, finishes′, within′, equal′, handed′}
+use Rattle.isolation.proofs.Requests.{accepted, bounded′, finishes′, within′, equal′, finished′, handed′}
 
 module _ (t : List ℕ) (arena store : ℕ) (calls : List Call) (passed : openOf t arena store .answer ≡ Opened)
     (closed : NoneOpens (run (openOf t arena store .desk) calls)) where
@@ -69,123 +71,82 @@ module _ (t : List ℕ) (arena store : ℕ) (calls : List Call) (passed : openOf
   names d inv c g r acc no-open e f =
       accepted d inv c g r acc no-open .fresh .first ∙ ap (λ (k : ℕ). firstBy (d .table) k c g r) e ∙ ap (λ (b : Table). firstBy b m c g r) f
 
-  within″ : (pre mid stretch rest : List Call) (c last : Call) (g : ℕ) (r : Registers) → calls ≡ pre ++ c ∷ (mid ++ (stretch ++ last ∷ rest))
-      → Accepted (after d₀ pre) c g r
-      → Waits g (askedBy m c g r) (run (step (after d₀ pre) c .desk) (mid ++ stretch))
-      → turns (run (after (step (after d₀ pre) c .desk) (mid ++ stretch)) (last ∷ [])) ≡ 1
-      → guests ≤ turns (run (after (step (after d₀ pre) c .desk) mid) (stretch ++ last ∷ []))
-      → 0 < services g (run (after (step (after d₀ pre) c .desk) mid) (stretch ++ last ∷ []))
-  within″ pre mid stretch rest c last g r e acc w one eight =
-      let d : Desk = after d₀ pre in
-      let a = at pre (mid ++ (stretch ++ last ∷ rest)) c e in
-      let n = asks d (a .inv) c g r acc (a .here) (a .size) in
-      let o : NoneOpens (run (step d c .desk) (mid ++ (stretch ++ last ∷ [])))
-      = subst (λ (l : List Call). NoneOpens (run (step d c .desk) l)) (append-assoc mid stretch (last ∷ []))
-      (opens-upto (mid ++ stretch) rest last (step d c .desk)
-      (subst (λ (l : List Call). NoneOpens (run (step d c .desk) l)) (sym (append-assoc mid stretch (last ∷ rest))) (a .later))) in
-      within′ d (a .inv) c g r acc (a .here) mid stretch last o
-      (subst (λ (k : ℕ). Waits g k (run (step d c .desk) (mid ++ stretch))) (sym n) w) one eight
+  -- a request of the list: what its post found, and the calls since
+  placed : (q : Taken d₀ calls) (rest : List Call) → q .since ≡ rest → At (q .call) (after d₀ (q .before)) rest
+  placed q rest e = at (q .before) rest (q .call) (q .place ∙ ap (λ (l : List Call). q .before ++ q .call ∷ l) e)
 
-  bounded″ : (pre mid rest : List Call) (c : Call) (g : ℕ) (r : Registers) → calls ≡ pre ++ c ∷ (mid ++ rest)
-      → Accepted (after d₀ pre) c g r
-      → Waits g (askedBy m c g r) (run (step (after d₀ pre) c .desk) mid)
-      → turns (run (step (after d₀ pre) c .desk) mid) < turnsFor (askedBy m c g r)
-  bounded″ pre mid rest c g r e acc w =
-      let d : Desk = after d₀ pre in
-      let a = at pre (mid ++ rest) c e in
-      let n = asks d (a .inv) c g r acc (a .here) (a .size) in
-      subst (λ (k : ℕ). Waits g k (run (step d c .desk) mid) → turns (run (step d c .desk) mid) < turnsFor k) n
-      (bounded′ d (a .inv) c g r acc (a .here) mid (opens-front mid rest (step d c .desk) (a .later))) w
-
-  finishes″ : (pre mid rest : List Call) (c : Call) (g : ℕ) (r : Registers) → calls ≡ pre ++ c ∷ (mid ++ rest)
-      → Accepted (after d₀ pre) c g r
-      → turnsFor (askedBy m c g r) ≤ turns (run (step (after d₀ pre) c .desk) mid)
-      → Ends g (askedBy m c g r) (turnsFor (askedBy m c g r)) (step (after d₀ pre) c .desk) mid
-  finishes″ pre mid rest c g r e acc w =
-      let d : Desk = after d₀ pre in
-      let a = at pre (mid ++ rest) c e in
-      let n = asks d (a .inv) c g r acc (a .here) (a .size) in
-      subst (λ (k : ℕ). turnsFor k ≤ turns (run (step d c .desk) mid) → Ends g k (turnsFor k) (step d c .desk) mid) n
-      (finishes′ d (a .inv) c g r acc (a .here) mid (opens-front mid rest (step d c .desk) (a .later))) w
-
-  spared″ : (pre rest : List Call) (c : Call) (h : ℕ) → calls ≡ pre ++ c ∷ rest
-      → c .op ≡ turn
-      → serviceIn h (kindOf (step (after d₀ pre) c .answer)) ≡ 0
-      → (stageAt (step (after d₀ pre) c .desk) h ≡ stageAt (after d₀ pre) h) × (windowOf (step (after d₀ pre) c .arena) h m ≡ windowOf (c .arena) h m)
-  spared″ pre rest c h e t z =
-      let d : Desk = after d₀ pre in
-      let a = at pre rest c e in
-      let s = turn-spares d c (step d c) t h z (view d (a .inv) c (a .here)) in
-      (s .row, subst (λ (k : ℕ). windowOf (step d c .arena) h k ≡ windowOf (c .arena) h k) (a .size) (s .window))
-
-  equal″ : (pre mid rest : List Call) (c last : Call) (g : ℕ) (r : Registers) → calls ≡ pre ++ c ∷ (mid ++ last ∷ rest)
-      → Accepted (after d₀ pre) c g r
-      → Finishes g (askedBy m c g r) (step (after d₀ pre) c .desk) mid last
-      → Left m g (windowOf (step (after d₀ pre) c .arena) g m) (step (after d₀ pre) c .store) (run (step (after d₀ pre) c .desk) (mid ++ last ∷ []))
-      → Unwritten g (firstBy (d₀ .table) m c g r) (askedBy m c g r) (run (step (after d₀ pre) c .desk) (mid ++ last ∷ []))
-      → Same m g (firstBy (d₀ .table) m c g r) (askedBy m c g r) (step (after (step (after d₀ pre) c .desk) mid) last) (alone t r (foundBy m c g))
-  equal″ pre mid rest c last g r e acc =
-      let d : Desk = after d₀ pre in
-      let d₁ : Desk = step d c .desk in
-      let a = at pre (mid ++ last ∷ rest) c e in
-      let n = asks d (a .inv) c g r acc (a .here) (a .size) in
-      let f = names d (a .inv) c g r acc (a .here) (a .size) (a .same) in
-      let es : List Event = run d₁ (mid ++ last ∷ []) in
-      let by-row = equal′ d (a .inv) c g r acc (a .here) t (a .table) mid last (opens-upto mid rest last d₁ (a .later)) in
-      subst (λ (k : ℕ). Finishes g (askedBy m c g r) d₁ mid last
-      → Left k g (windowOf (step d c .arena) g k) (step d c .store) es
-      → Unwritten g (firstBy (d₀ .table) m c g r) (askedBy m c g r) es
-      → Same k g (firstBy (d₀ .table) m c g r) (askedBy m c g r) (step (after d₁ mid) last) (alone t r (foundBy k c g))) (a .size)
-      (subst₂ (λ (k lo : ℕ). Finishes g k d₁ mid last
-      → Left (windowSize d) g (windowOf (step d c .arena) g (windowSize d)) (step d c .store) es
-      → Unwritten g lo k es
-      → Same (windowSize d) g lo k (step (after d₁ mid) last) (alone t r (foundBy (windowSize d) c g))) n f by-row)
-
-  handed″ : (pre mid later rest : List Call) (c last x : Call) (g : ℕ) (r : Registers) → calls ≡ pre ++ c ∷ (mid ++ last ∷ (later ++ x ∷ rest))
-      → Accepted (after d₀ pre) c g r
-      → Finishes g (askedBy m c g r) (step (after d₀ pre) c .desk) mid last
-      → collects g (run (after (step (after d₀ pre) c .desk) (mid ++ last ∷ [])) later) ≡ 0
-      → x .op ≡ collect g
-      → (kindOf (step (after (step (after d₀ pre) c .desk) (mid ++ last ∷ later)) x .answer) ≡ refused → ⊥)
-      → step (after (step (after d₀ pre) c .desk) (mid ++ last ∷ later)) x .answer ≡ collected g (Given (alone t r (foundBy m c g) .registers))
-  handed″ pre mid later rest c last x g r e acc f z op u =
-      let d : Desk = after d₀ pre in
-      let d₁ : Desk = step d c .desk in
-      let a = at pre (mid ++ last ∷ (later ++ x ∷ rest)) c e in
-      let n = asks d (a .inv) c g r acc (a .here) (a .size) in
-      let assoc : mid ++ last ∷ (later ++ x ∷ rest) ≡ (mid ++ last ∷ later) ++ x ∷ rest = sym (append-assoc mid (last ∷ later) (x ∷ rest)) in
-      let assoc′ : (mid ++ last ∷ later) ++ x ∷ [] ≡ mid ++ last ∷ (later ++ x ∷ []) = append-assoc mid (last ∷ later) (x ∷ []) in
-      let o : NoneOpens (run d₁ (mid ++ last ∷ (later ++ x ∷ [])))
-      = subst (λ (l : List Call). NoneOpens (run d₁ l)) assoc′
-      (opens-upto (mid ++ last ∷ later) rest x d₁ (subst (λ (l : List Call). NoneOpens (run d₁ l)) assoc (a .later))) in
-      let there : after d₁ (mid ++ last ∷ later) ≡ after (step (after d₁ mid) last .desk) later = after-at mid later last d₁ in
-      let z′ : collects g (run (step (after d₁ mid) last .desk) later) ≡ 0
-      = subst (λ (x : Desk). collects g (run x later) ≡ 0) (after-at mid [] last d₁ ∙ after-none (step (after d₁ mid) last .desk)) z in
-      subst (λ (y : Desk). (kindOf (step y x .answer) ≡ refused → ⊥) → step y x .answer ≡ collected g (Given (alone t r (foundBy m c g) .registers))) (sym there)
-      (subst (λ (k : ℕ). (kindOf (step (after (step (after d₁ mid) last .desk) later) x .answer) ≡ refused → ⊥)
-      → step (after (step (after d₁ mid) last .desk) later) x .answer ≡ collected g (Given (alone t r (foundBy k c g) .registers))) (a .size)
-      (handed′ d (a .inv) c g r acc (a .here) t (a .table) mid later last x o (subst (λ (k : ℕ). Finishes g k d₁ mid last) (sym n) f) z′ op)) u
-
-  atOnce″ : (pre rest : List Call) (c : Call) (g : ℕ) (r x : Registers) → calls ≡ pre ++ c ∷ rest
-      → c .op ≡ post g r
-      → step (after d₀ pre) c .answer ≡ posted g (PostAnswered x)
-      → SameAtOnce m g (step (after d₀ pre) c) x (alone t r (foundBy m c g))
-  atOnce″ pre rest c g r x e op p =
-      let d : Desk = after d₀ pre in
-      let a = at pre rest c e in
-      subst (λ (k : ℕ). SameAtOnce k g (step d c) x (alone t r (foundBy k c g))) (a .size)
-      (at-once t d c g r x (step d c) (a .table) op p (view d (a .inv) c (a .here)))
+  counts : (q : Taken d₀ calls) (rest : List Call) (a : At (q .call) (after d₀ (q .before)) rest)
+      → accepted (after d₀ (q .before)) (a .inv) (q .call) (q .guest) (q .registers) (q .accepted) (a .here) .job .count ≡ countOf q m
+  counts q rest a = asks (after d₀ (q .before)) (a .inv) (q .call) (q .guest) (q .registers) (q .accepted) (a .here) (a .size)
 
   claim : Claim t d₀ m calls
   claim =
       record {
-        within = within″;
-        bounded = bounded″;
-        finishes = finishes″;
-        spared = spared″;
-        equal = equal″;
-        handed = handed″;
-        atOnce = atOnce″;
+        within = λ q mid stretch rest last e w one eight.
+            let d₁ : Desk = outOn q .desk in
+            let a = placed q (mid ++ (stretch ++ last ∷ rest)) e in
+            let o : NoneOpens (run d₁ (mid ++ (stretch ++ last ∷ [])))
+            = subst (λ (l : List Call). NoneOpens (run d₁ l)) (append-assoc mid stretch (last ∷ []))
+            (opens-upto (mid ++ stretch) rest last d₁
+            (subst (λ (l : List Call). NoneOpens (run d₁ l)) (sym (append-assoc mid stretch (last ∷ rest))) (a .later))) in
+            within′ (after d₀ (q .before)) (a .inv) (q .call) (q .guest) (q .registers) (q .accepted) (a .here) mid stretch last o
+            (subst (λ (k : ℕ). Waits (q .guest) k (run d₁ (mid ++ stretch))) (sym (counts q _ a)) w) one (omega (arith, eight));
+        bounded = λ q mid rest e w.
+            let d₁ : Desk = outOn q .desk in
+            let a = placed q (mid ++ rest) e in
+            subst (λ (k : ℕ). Waits (q .guest) k (run d₁ mid) → turns (run d₁ mid) < turnsFor k) (counts q _ a)
+            (bounded′ (after d₀ (q .before)) (a .inv) (q .call) (q .guest) (q .registers) (q .accepted) (a .here) mid (opens-front mid rest d₁ (a .later))) w;
+        finishes = λ q mid rest e w.
+            let d₁ : Desk = outOn q .desk in
+            let a = placed q (mid ++ rest) e in
+            subst (λ (k : ℕ). turnsFor k ≤ turns (run d₁ mid) → Ends (q .guest) k (turnsFor k) d₁ mid) (counts q _ a)
+            (finishes′ (after d₀ (q .before)) (a .inv) (q .call) (q .guest) (q .registers) (q .accepted) (a .here) mid (opens-front mid rest d₁ (a .later))) w;
+        spared = λ pre rest c h e t z.
+            let a = at pre rest c e in
+            let s = turn-spares (after d₀ pre) c (step (after d₀ pre) c) t h (omega (arith, z)) (view (after d₀ pre) (a .inv) c (a .here)) in
+            (s .row, subst (λ (k : ℕ). windowOf (step (after d₀ pre) c .arena) h k ≡ windowOf (c .arena) h k) (a .size) (s .window));
+        equal = λ q mid rest last e.
+            let d : Desk = after d₀ (q .before) in
+            let d₁ : Desk = outOn q .desk in
+            let a = placed q (mid ++ last ∷ rest) e in
+            let f = names d (a .inv) (q .call) (q .guest) (q .registers) (q .accepted) (a .here) (a .size) (a .same) in
+            let es : List Event = run d₁ (mid ++ last ∷ []) in
+            subst (λ (k : ℕ). Finishes (q .guest) (countOf q m) d₁ mid last
+            → Left k (q .guest) (windowOf (outOn q .arena) (q .guest) k) (outOn q .store) es
+            → Unwritten (q .guest) (firstOf q m) (countOf q m) es
+            → Same k (q .guest) (firstOf q m) (countOf q m) (outAfter d₁ mid last) (aloneOf q t k)) (a .size)
+            (subst₂ (λ (k lo : ℕ). Finishes (q .guest) k d₁ mid last
+            → Left (windowSize d) (q .guest) (windowOf (outOn q .arena) (q .guest) (windowSize d)) (outOn q .store) es
+            → Unwritten (q .guest) lo k es
+            → Same (windowSize d) (q .guest) lo k (outAfter d₁ mid last) (aloneOf q t (windowSize d))) (counts q _ a) f
+            (equal′ d (a .inv) (q .call) (q .guest) (q .registers) (q .accepted) (a .here) t (a .table) mid last (opens-upto mid rest last d₁ (a .later))));
+        handed = λ q mid more rest last x e f z op u.
+            let d₁ : Desk = outOn q .desk in
+            let d₂ : Desk = outAfter d₁ mid last .desk in
+            let a = placed q (mid ++ last ∷ (more ++ x ∷ rest)) e in
+            let assoc : mid ++ last ∷ (more ++ x ∷ rest) ≡ (mid ++ last ∷ more) ++ x ∷ rest = sym (append-assoc mid (last ∷ more) (x ∷ rest)) in
+            let assoc′ : (mid ++ last ∷ more) ++ x ∷ [] ≡ mid ++ last ∷ (more ++ x ∷ []) = append-assoc mid (last ∷ more) (x ∷ []) in
+            let o : NoneOpens (run d₁ (mid ++ last ∷ (more ++ x ∷ [])))
+            = subst (λ (l : List Call). NoneOpens (run d₁ l)) assoc′
+            (opens-upto (mid ++ last ∷ more) rest x d₁ (subst (λ (l : List Call). NoneOpens (run d₁ l)) assoc (a .later))) in
+            let z′ : collects (q .guest) (run d₂ more) ≡ 0
+            = ap (λ (y : Desk). collects (q .guest) (run y more)) (sym (after-at mid [] last d₁ ∙ after-none d₂)) ∙ omega (arith, z) in
+            subst (λ (y : Desk). (kindOf (step y x .answer) ≡ refused → ⊥) → step y x .answer ≡ collected (q .guest) (Given (aloneOf q t m .registers)))
+            (sym (after-at mid more last d₁))
+            (subst (λ (k : ℕ). (kindOf (step (after d₂ more) x .answer) ≡ refused → ⊥)
+            → step (after d₂ more) x .answer ≡ collected (q .guest) (Given (aloneOf q t k .registers))) (a .size)
+            (handed′ (after d₀ (q .before)) (a .inv) (q .call) (q .guest) (q .registers) (q .accepted) (a .here) t (a .table) mid more last x o
+            (subst (λ (k : ℕ). Finishes (q .guest) k d₁ mid last) (sym (counts q _ a)) f) z′ op)) u;
+        finished = λ q mid rest last e f.
+            let d₁ : Desk = outOn q .desk in
+            let a = placed q (mid ++ last ∷ rest) e in
+            subst (λ (k : ℕ). stageAt (outAfter d₁ mid last .desk) (q .guest) ≡ Finished (aloneOf q t k .registers)) (a .size)
+            (finished′ (after d₀ (q .before)) (a .inv) (q .call) (q .guest) (q .registers) (q .accepted) (a .here) t (a .table) mid last (opens-upto mid rest last d₁ (a .later))
+            (subst (λ (k : ℕ). Finishes (q .guest) k d₁ mid last) (sym (counts q _ a)) f));
+        atOnce = λ pre rest c g r x e op p.
+            let a = at pre rest c e in
+            subst (λ (k : ℕ). SameAtOnce k g (outAfter d₀ pre c) x (alone (fed t) r (foundBy k c g))) (a .size)
+            (at-once t (after d₀ pre) c g r x (outAfter d₀ pre c) (a .table) op p (view (after d₀ pre) (a .inv) c (a .here)));
         acceptable = λ pre rest e.
             inv-accept (after d₀ pre)
             (reached pre d₀ (inv-opened t arena store passed) (opens-front pre rest d₀ (subst (λ (l : List Call). NoneOpens (run d₀ l)) e closed)) .inv);

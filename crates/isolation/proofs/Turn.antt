@@ -8,7 +8,7 @@ use mathlib.Core.List.{List}
 use native.Mathlib.Omega.{arith}
 use lib.Dec.{ltb}
 use borrow.Author.Tests.{ltb-true, ltb-false}
-use Rattle.logic.proofs.Logic.{lt-or-le}
+use Rattle.logic.proofs.LogicLaws.{lt-or-le, impossible}
 use Rattle.logic.specs.Logic.{pick}
 use Rattle.int13.specs.declared.Registers.{Registers}
 use Rattle.desk.specs.declared.Request.{Request}
@@ -17,7 +17,7 @@ use Rattle.desk.specs.declared.Stage.the-variants.{Vacant, Waiting, Finished}
 use Rattle.desk.specs.declared.Row.{Row}
 use Rattle.desk.specs.declared.Next.the-variants.{Guest, Nobody}
 use Rattle.desk.specs.Parts.{stageIn, isWaiting, next}
-use Rattle.desk.specs.Calls.{seek}
+use Rattle.desk.specs.Calls.{firstWaiting}
 
 -- how many guests stand between the pointer and g, counting cyclically
 abbrev pub dist : ℕ → ℕ → ℕ
@@ -81,13 +81,13 @@ pub record Found (rows : List Row) (p g : ℕ) : Type 0 where
   pub nearest : (h : ℕ) (q : Request) → h < 8 → stageIn rows h ≡ Waiting q → dist p g ≤ dist p h
 
 nobody≢guest : (g : ℕ) → Nobody ≡ Guest g → ⊥
-nobody≢guest g e = let z : _≡_ {A = ℕ} 0 1 = cc in omega arith
+nobody≢guest g e = impossible (cc)
 
 pub vacant≢waiting : {q : Request} → Vacant ≡ Waiting q → ⊥
-vacant≢waiting e = let z : _≡_ {A = ℕ} 0 1 = cc in omega arith
+vacant≢waiting e = impossible (cc)
 
 pub finished≢waiting : {q : Request} {r : Registers} → Finished r ≡ Waiting q → ⊥
-finished≢waiting e = let z : _≡_ {A = ℕ} 0 1 = cc in omega arith
+finished≢waiting e = impossible (cc)
 
 -- the row at the pointer does not wait, and the rest of the search found g
 past : (rows : List Row) (p g : ℕ) → p < 8 → ((q : Request) → stageIn rows p ≡ Waiting q → ⊥) → Found rows (next p) g → Found rows p g
@@ -103,8 +103,8 @@ past rows p g pb nw f =
           omega (arith, dist-next p g pb (f .below) gp, dist-next p h pb b hp);
     }
 
-seek-go : (rows : List Row) (k p g : ℕ) → p < 8 → (seek rows k (next p) ≡ Guest g → Found rows (next p) g)
-    → (st : Stage) → stageIn rows p ≡ st → pick (isWaiting st) (Guest p) (seek rows k (next p)) ≡ Guest g → Found rows p g
+seek-go : (rows : List Row) (k p g : ℕ) → p < 8 → (firstWaiting rows k (next p) ≡ Guest g → Found rows (next p) g)
+    → (st : Stage) → stageIn rows p ≡ st → pick (isWaiting st) (Guest p) (firstWaiting rows k (next p)) ≡ Guest g → Found rows p g
 seek-go rows k p g pb ih Vacant r f = past rows p g pb (λ q x. vacant≢waiting (sym r ∙ x)) (ih f)
 seek-go rows k p g pb ih (Finished y) r f = past rows p g pb (λ q x. finished≢waiting (sym r ∙ x)) (ih f)
 seek-go rows k p g pb ih (Waiting q) r f =
@@ -116,15 +116,15 @@ seek-go rows k p g pb ih (Waiting q) r f =
       nearest = λ h q′ b x. rw (← pg) (omega (arith, dist-here p pb));
     }
 
-pub seek-guest : (rows : List Row) (k p g : ℕ) → p < 8 → seek rows k p ≡ Guest g → Found rows p g
-unfolding seek
+pub seek-guest : (rows : List Row) (k p g : ℕ) → p < 8 → firstWaiting rows k p ≡ Guest g → Found rows p g
+unfolding firstWaiting
 seek-guest rows zero p g pb e = absurd (nobody≢guest g e)
 seek-guest rows (suc k) p g pb e = seek-go rows k p g pb (seek-guest rows k (next p) g (next-lt p)) (stageIn rows p) refl e
 
 -- where the search finds nobody among k, no guest nearer than k waits
 seek-nobody-go : (rows : List Row) (k p : ℕ) → p < 8
-    → (seek rows k (next p) ≡ Nobody → (h : ℕ) (q : Request) → h < 8 → dist (next p) h < k → stageIn rows h ≡ Waiting q → ⊥)
-    → (st : Stage) → stageIn rows p ≡ st → pick (isWaiting st) (Guest p) (seek rows k (next p)) ≡ Nobody
+    → (firstWaiting rows k (next p) ≡ Nobody → (h : ℕ) (q : Request) → h < 8 → dist (next p) h < k → stageIn rows h ≡ Waiting q → ⊥)
+    → (st : Stage) → stageIn rows p ≡ st → pick (isWaiting st) (Guest p) (firstWaiting rows k (next p)) ≡ Nobody
     → (h : ℕ) (q : Request) → h < 8 → dist p h < suc k → stageIn rows h ≡ Waiting q → ⊥
 seek-nobody-go rows k p pb ih Vacant r f h q b l x =
     let hp : h ≢ p = λ z. vacant≢waiting {q = q} (sym r ∙ (rw z at x)) in
@@ -134,8 +134,8 @@ seek-nobody-go rows k p pb ih (Finished y) r f h q b l x =
     ih f h q b (omega (arith, dist-next p h pb b hp)) x
 seek-nobody-go rows k p pb ih (Waiting q′) r f h q b l x = nobody≢guest p (sym f)
 
-pub seek-nobody : (rows : List Row) (k p : ℕ) → p < 8 → seek rows k p ≡ Nobody
+pub seek-nobody : (rows : List Row) (k p : ℕ) → p < 8 → firstWaiting rows k p ≡ Nobody
     → (h : ℕ) (q : Request) → h < 8 → dist p h < k → stageIn rows h ≡ Waiting q → ⊥
-unfolding seek
+unfolding firstWaiting
 seek-nobody rows zero p pb e h q b l x = omega arith
 seek-nobody rows (suc k) p pb e h q b l x = seek-nobody-go rows k p pb (seek-nobody rows k (next p) (next-lt p)) (stageIn rows p) refl e h q b l x

@@ -8,9 +8,9 @@ use native.Mathlib.Omega.{arith}
 use lib.Dec.{ltb, eqb}
 use borrow.Author.Tests.{ltb-true, eqb-true, not-true, not-false}
 use lib.ListN.{length}
-use Rattle.logic.proofs.Logic.{both-true, pick-cases, true≢false}
+use Rattle.logic.proofs.LogicLaws.{both-true, pick-cases, true≢false}
 use Rattle.memory.specs.Window.{guests, windowLength, spanLength, windowOf}
-use Rattle.memory.proofs.Windows.{span-in, length-window}
+use Rattle.memory.proofs.WindowLaws.{span-in, length-window}
 use Rattle.table.specs.declared.Written.{Written}
 use Rattle.table.specs.declared.Written.the-variants.{Bytes, Refused as WriteRefused}
 use Rattle.table.specs.Table.{writeAnswer, tableOf}
@@ -18,7 +18,7 @@ use Rattle.int13.specs.declared.Registers.{Registers}
 use Rattle.int13.specs.declared.Job.{Job}
 use Rattle.int13.specs.declared.Outcome.{Outcome}
 use Rattle.int13.specs.declared.Outcome.the-variants.{Answered, Waits}
-use Rattle.int13.specs.Steps.{check}
+use Rattle.int13.specs.Steps.{fed, begin}
 use Rattle.desk.specs.declared.Request.{Request}
 use Rattle.desk.specs.declared.Stage.{Stage}
 use Rattle.desk.specs.declared.Stage.the-variants.{Vacant, Waiting, Finished}
@@ -37,7 +37,7 @@ use Rattle.desk.specs.declared.WithdrawAnswer.{WithdrawAnswer}
 use Rattle.desk.specs.declared.WithdrawAnswer.the-variants.{Refused as WithdrawRefused}
 use Rattle.desk.specs.Parts.{windowSize, stageAt}
 use Rattle.desk.specs.Acceptable.{accept}
-use Rattle.desk.specs.Calls.{isLent, Done, openOf, writtenOf, writtenOut, postChecked, postRow, postOf, seek, serve, serveStage, turnNext, turnOf, collectStage, collectOf, withdrawStage, withdrawOf}
+use Rattle.desk.specs.Calls.{isLent, Done, openOf, writtenOf, writtenOut, postChecked, postRow, postOf, firstWaiting, serve, serveStage, turnNext, turnOf, collectStage, collectOf, withdrawStage, withdrawOf}
 use Rattle.isolation.specs.Lists.{Op, openTable, post, turn, collect, withdraw, write, Call, Answer, opening, posted, turned, collected, withdrawn, written, Out, openedDesk, outOf, stepOf, step}
 use Rattle.isolation.specs.Words.{Kind, refused, plain, opens, kindOf, houseNumber, turnIn, serviceIn, movedIn, withdrawalIn, collectIn, touchIn}
 use Rattle.isolation.proofs.Turn.{dist, dist-lt, Found, seek-guest, seek-nobody, vacant≢waiting, finished≢waiting}
@@ -101,10 +101,10 @@ pub data Did (d : Desk) (c : Call) : Out → Type 0 where
   same : (x : Answer) → Quiet (kindOf x) → (houseNumber x ≡ 25 → ⊥) → Did d c (still d c x)
   idle : c .op ≡ turn → ((h : ℕ) (q : Request) → h < guests → stageAt d h ≡ Waiting q → ⊥) → Did d c (still d c (turned Idle))
   answer : (g : ℕ) (r x : Registers) (w : List ℕ) → c .op ≡ post g r → g < guests → Lent d c → stageAt d g ≡ Vacant
-      → check (d .table) r (windowIn d c g) .outcome ≡ Answered x → check (d .table) r (windowIn d c g) .window ≡ w → length w ≡ windowSize d
+      → begin (fed (d .table)) r (windowIn d c g) .outcome ≡ Answered x → begin (fed (d .table)) r (windowIn d c g) .window ≡ w → length w ≡ windowSize d
       → Did d c (postedOut d c g (Answered x) w)
   accepting : (g : ℕ) (r : Registers) (j : Job) → c .op ≡ post g r → g < guests → Lent d c → stageAt d g ≡ Vacant
-      → check (d .table) r (windowIn d c g) .outcome ≡ Waits j → check (d .table) r (windowIn d c g) .window ≡ windowIn d c g → Fresh (d .table) r (windowIn d c g) j
+      → begin (fed (d .table)) r (windowIn d c g) .outcome ≡ Waits j → begin (fed (d .table)) r (windowIn d c g) .window ≡ windowIn d c g → Fresh (d .table) r (windowIn d c g) j
       → Did d c (postedOut d c g (Waits j) (windowIn d c g))
   serving : (g : ℕ) (q : Request) → c .op ≡ turn → g < guests → Lent d c → stageAt d g ≡ Waiting q
       → ((h : ℕ) (q′ : Request) → h < guests → stageAt d h ≡ Waiting q′ → dist (d .pointer) g ≤ dist (d .pointer) h) → Did d c (servedOut d c g q)
@@ -143,7 +143,7 @@ module _ (d : Desk) (inv : Inv d) (c : Call) where
   Posts g o = Did d c (outOf (posted g) o)
 
   view-checked : (g : ℕ) (r : Registers) → c .op ≡ post g r → g < guests → Lent d c → stageAt d g ≡ Vacant → (o : Outcome) (w : List ℕ)
-      → check (d .table) r (windowIn d c g) .outcome ≡ o → check (d .table) r (windowIn d c g) .window ≡ w → Says (d .table) r (windowIn d c g) o w
+      → begin (fed (d .table)) r (windowIn d c g) .outcome ≡ o → begin (fed (d .table)) r (windowIn d c g) .window ≡ w → Says (d .table) r (windowIn d c g) o w
       → Posts g (postChecked d g (c .arena) (c .store) o w)
   view-checked g r e b l v (Answered x) w ko kw s = answer g r x w e b l v ko kw (s ∙ window-length d c g b l)
   view-checked g r e b l v (Waits j) w ko kw s =
@@ -151,7 +151,7 @@ module _ (d : Desk) (inv : Inv d) (c : Call) where
 
   view-vacant : (g : ℕ) (r : Registers) → c .op ≡ post g r → g < guests → Lent d c → (s : Stage) → stageAt d g ≡ s → Posts g (postRow d g r (c .arena) (c .store) s)
   view-vacant g r e b l Vacant v =
-      view-checked g r e b l v (check (d .table) r (windowIn d c g) .outcome) (check (d .table) r (windowIn d c g) .window) refl refl
+      view-checked g r e b l v (begin (fed (d .table)) r (windowIn d c g) .outcome) (begin (fed (d .table)) r (windowIn d c g) .window) refl refl
       (check-says (d .table) (d .store / 512) (inv .table) r (windowIn d c g))
   view-vacant g r e b l (Waiting q) v = same (posted g (PostRefused 21)) refusing (λ e. absurd (omega arith))
   view-vacant g r e b l (Finished x) v = same (posted g (PostRefused 21)) refusing (λ e. absurd (omega arith))
@@ -174,7 +174,7 @@ module _ (d : Desk) (inv : Inv d) (c : Call) where
   view-serve g e l f (Waiting q) v = serving g q e (f .below) l v (f .nearest)
   view-serve g e l f (Finished x) v = absurd (finished≢waiting (sym v ∙ f .here))
 
-  view-next : c .op ≡ turn → Lent d c → (n : Next) → seek (d .rows) guests (d .pointer) ≡ n → Turns (turnNext d n (c .arena) (c .store))
+  view-next : c .op ≡ turn → Lent d c → (n : Next) → firstWaiting (d .rows) guests (d .pointer) ≡ n → Turns (turnNext d n (c .arena) (c .store))
   view-next e l Nobody s = idle e (λ h q b x. seek-nobody (d .rows) guests (d .pointer) (inv .pointer) s h q b (dist-lt (d .pointer) h) x)
   view-next e l (Guest g) s = view-serve g e l (seek-guest (d .rows) guests (d .pointer) g (inv .pointer) s) (stageAt d g) refl
 
@@ -183,7 +183,7 @@ module _ (d : Desk) (inv : Inv d) (c : Call) where
   view-turn o =
       pick-cases Turns (not (accept d)) _ _ (λ e. accepted e) (λ e.
       pick-cases Turns (not (isLent d (c .arena) (c .store))) _ _ (λ e. same (turned (TurnRefused 24)) refusing (λ e. absurd (omega arith))) (λ e₁.
-      view-next o (lent-facts d c (not-false _ e₁)) (seek (d .rows) guests (d .pointer)) refl))
+      view-next o (lent-facts d c (not-false _ e₁)) (firstWaiting (d .rows) guests (d .pointer)) refl))
 
   -- ---- collect
 

@@ -17,13 +17,14 @@ use Rattle.desk.specs.declared.TurnAnswer.the-variants.{Refused as TurnRefused}
 use Rattle.desk.specs.declared.CollectAnswer.the-variants.{Refused as CollectRefused}
 use Rattle.desk.specs.declared.WithdrawAnswer.the-variants.{Refused as WithdrawRefused}
 use Rattle.desk.specs.Calls.{notAcceptable, openOf}
-use Rattle.image.specs.Image.{image, blockSize, deskOf, accepted, laid, FitsRegisters}
+use Rattle.image.specs.Image.{image, deskSize, deskOf, accepted, laid, FitsRegisters}
 use Rattle.isolation.specs.Lists.{Op, openTable, post, turn, collect, withdraw, write, Call, Answer, opening, posted, turned, collected, withdrawn, written, Out, stepOf, Event, run}
 use Rattle.isolation.specs.Words.{Kind, refused, plain, opens, answers, accepts, serves, idles, hands, withdraws, kindOf, houseNumber}
 use Rattle.isolation.specs.Demand.{Claim}
 
--- ---- what the types of its arguments say of a call
+-- ---- "Calls the host makes", the calls for C over a desk block
 
+-- what the types of its arguments say of a call
 abbrev pub FitsOp : Op → Type 0
 FitsOp (openTable t a s) = Bytes t × (a < 256 ^ 8) × (s < 256 ^ 8)
 FitsOp (post g r) = FitsRegisters r
@@ -32,12 +33,14 @@ FitsOp (collect g) = Unit
 FitsOp (withdraw g) = Unit
 FitsOp (write out) = Unit
 
+-- and of each call of a list
 abbrev pub FitsCalls : List Call → Type 0
 FitsCalls [] = Unit
 FitsCalls (c ∷ cs) = FitsOp (c .op) × FitsCalls cs
 
--- ---- one call
+-- ---- "Calls the host makes", one call at a desk block
 
+-- what a call at a block leaves
 pub record OutBlock : Type 0 where
   pub block : List ℕ
   pub answer : Answer
@@ -56,6 +59,7 @@ blockAfter b d idles = b
 blockAfter b d (hands g r) = laid b d
 blockAfter b d (withdraws g) = laid b d
 
+-- the block that is left, with the rest as at the desk
 abbrev pub outBlock : List ℕ → Out → OutBlock
 outBlock b o = record { block = blockAfter b (o .desk) (kindOf (o .answer)); answer = o .answer; arena = o .arena; store = o .store }
 
@@ -78,23 +82,25 @@ numberOf (collected g x) = houseNumber (collected g x)
 numberOf (withdrawn g x) = houseNumber (withdrawn g x)
 numberOf (written x out) = houseNumber (written x out)
 
+-- a call that is answered 25 leaves everything
 abbrev pub left25 : List ℕ → Op → List ℕ → List ℕ → OutBlock
 left25 b o arena store = record { block = b; answer = answer25 o; arena = arena; store = store }
 
 -- the call at the desk that the block is the image of: of a block that is none, a desk at which every call is 25. An opening needs no desk,
 -- and looks at the size alone
 abbrev pub stepBlockOf : List ℕ → Op → List ℕ → List ℕ → OutBlock
-stepBlockOf b (openTable t a s) arena store = pick (eqb (length b) blockSize) (outBlock b (stepOf (deskOf b) (openTable t a s) arena store)) (left25 b (openTable t a s) arena store)
+stepBlockOf b (openTable t a s) arena store = pick (eqb (length b) deskSize) (outBlock b (stepOf (deskOf b) (openTable t a s) arena store)) (left25 b (openTable t a s) arena store)
 stepBlockOf b (post g r) arena store = outBlock b (stepOf (deskOf b) (post g r) arena store)
 stepBlockOf b turn arena store = outBlock b (stepOf (deskOf b) turn arena store)
 stepBlockOf b (collect g) arena store = outBlock b (stepOf (deskOf b) (collect g) arena store)
 stepBlockOf b (withdraw g) arena store = outBlock b (stepOf (deskOf b) (withdraw g) arena store)
 stepBlockOf b (write out) arena store = outBlock b (stepOf (deskOf b) (write out) arena store)
 
+-- what a call leaves at a block
 unfoldable pub stepBlock : List ℕ → Call → OutBlock
 stepBlock b c = stepBlockOf b (c .op) (c .arena) (c .store)
 
--- ---- a list of calls
+-- ---- "The words of demand 3", the list of calls at a desk block
 
 -- one call of the list: the block that it got, and what it left
 pub record EventBlock : Type 0 where
@@ -102,9 +108,11 @@ pub record EventBlock : Type 0 where
   pub call : Call
   pub out : OutBlock
 
+-- the call c at the block b
 abbrev pub eventBlock : List ℕ → Call → EventBlock
 eventBlock b c = record { block = b; call = c; out = stepBlock b c }
 
+-- the calls one after the other, each at the block that the one before left
 unfoldable pub runBlock : List ℕ → List Call → List EventBlock
 runBlock b [] = []
 runBlock b (c ∷ cs) = eventBlock b c ∷ runBlock (stepBlock b c .block) cs
@@ -119,16 +127,17 @@ abbrev pub NoneOpensBlock : List EventBlock → Type 0
 NoneOpensBlock [] = Unit
 NoneOpensBlock (e ∷ es) = (kindOf (e .out .answer) ≡ opens → ⊥) × NoneOpensBlock es
 
--- ---- the same call with each desk as its image
+-- ---- demand 3 at a desk block
 
+-- what a call leaves at a desk, with the desk as its image
 abbrev pub imageOut : Out → OutBlock
 imageOut o = record { block = image (o .desk); answer = o .answer; arena = o .arena; store = o .store }
 
+-- a call of the list, with each desk as its image
 abbrev pub imageEvent : Event → EventBlock
 imageEvent e = record { block = image (e .desk); call = e .call; out = imageOut (e .out) }
 
--- ---- the claim, of the calls after an opening of the table bytes t that left the block b₀; d₀ is the desk it gave
-
+-- the claim, of the calls after an opening of the table bytes t that left the block b₀; d₀ is the desk it gave
 pub record ClaimBlock (t : List ℕ) (d₀ : Desk) (m : ℕ) (b₀ : List ℕ) (calls : List Call) : Type 0 where
   -- the calls at the block are those at the desk, one by one: the block is its image, answer, arena and store are the same
   pub begins : b₀ ≡ image d₀
@@ -149,13 +158,16 @@ DemandBlock = (b t : List ℕ) (arena store : ℕ) (first : Call) (calls : List 
     → NoneOpensBlock (runBlock (stepBlock b first .block) calls)
     → ClaimBlock t (openOf t arena store .desk) (windowLength arena) (stepBlock b first .block) calls
 
--- ---- any block, whoever made it
+-- ---- "Calls the host makes", any block, whoever made it
 
 -- 25 exactly where the block is not accepted, but for an opening, for which the size alone counts; 25 changes nothing, so that such a call
 -- may be struck from a list. An accepted block stays one, whatever is called
 pub record AtBlocks : Type 0 where
   pub notAccepted : (b : List ℕ) (c : Call) → accepted b ≡ false → ((t : List ℕ) (a s : ℕ) → c .op ≡ openTable t a s → ⊥)
       → stepBlock b c ≡ left25 b (c .op) (c .arena) (c .store)
-  pub otherSize : (b : List ℕ) (c : Call) → (length b ≡ blockSize → ⊥) → stepBlock b c ≡ left25 b (c .op) (c .arena) (c .store)
+  pub otherSize : (b : List ℕ) (c : Call) → (length b ≡ deskSize → ⊥) → stepBlock b c ≡ left25 b (c .op) (c .arena) (c .store)
   pub never : (b : List ℕ) (c : Call) → Bytes b → accepted b ≡ true → numberOf (stepBlock b c .answer) ≡ notAcceptable → ⊥
+  -- "a desk block of another size is 25, first": an opening of a block of the size has a table's number, or none
+  pub openings : (b : List ℕ) (c : Call) (t : List ℕ) (a s : ℕ) → c .op ≡ openTable t a s → length b ≡ deskSize
+      → numberOf (stepBlock b c .answer) ≡ notAcceptable → ⊥
   pub kept : (b : List ℕ) (c : Call) → Bytes b → FitsOp (c .op) → accepted b ≡ true → accepted (stepBlock b c .block) ≡ true

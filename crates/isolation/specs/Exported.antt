@@ -7,12 +7,17 @@ use mathlib.Core.List.{List, [], _∷_}
 use lib.ListN.{length}
 use Rattle.table.specs.Table.{writtenNumbers}
 use Rattle.int13.specs.declared.Registers.{Registers}
+use Rattle.int13.specs.Answers.{posted as postedRegisters}
+use Rattle.int13.specs.Steps.{fed}
+use Rattle.int13.specs.Alone.{Memory, alone}
 use Rattle.desk.specs.Calls.{notAcceptable}
 use Rattle.desk.specs.Numbers.{openNumbers, postNumbers, turnNumbers, collectNumbers, withdrawNumbers}
-use Rattle.image.specs.Image.{blockSize}
+use Rattle.image.specs.Image.{deskSize}
 use Rattle.exports.specs.Exports.{effect, over, openCall, writeCall, given, changed, postCall, turnCall, collectCall, withdrawCall}
 use Rattle.isolation.specs.Lists.{Op, openTable, post, turn, collect, withdraw, write, Call, Answer, opening, posted, turned, collected, withdrawn, written}
 use Rattle.isolation.specs.Blocks.{OutBlock, stepBlock}
+
+-- ---- "Calls the host makes", the calls for C
 
 -- the number and the values of an answer
 abbrev pub numbersOf : Answer → List ℕ
@@ -32,16 +37,25 @@ bufferOf (collected g x) = []
 bufferOf (withdrawn g x) = []
 bufferOf (written x out) = out
 
+-- ---- "The words of demand 3", served alone, and the exported post
+
+-- The exported post hands on the guest's registers with carry clear; served alone is fed them as posted. It does not look at the posted carry,
+-- so that both speak of the same request.
+abbrev pub CarryUnread : Type 0
+CarryUnread = (t : List ℕ) (r : Registers) (m : Memory) → alone (fed t) r m ≡ alone (fed t) (postedRegisters r) m
+
 -- at a block, with an arena and a store
 module _ (b arena store : List ℕ) where
+  -- what a call of the list leaves there
   abbrev pub does : Op → OutBlock
   does o = stepBlock b (record { op = o; arena = arena; store = store })
 
+  -- each call for C, by its contract, gives the numbers of that answer and leaves that block, arena and store
   pub record Exported : Type 0 where
-    pub openAt : (t : List ℕ) (a s place : ℕ) → length b ≡ blockSize
+    pub openAt : (t : List ℕ) (a s place : ℕ) → length b ≡ deskSize
         → openCall b t a s place ≡ effect (over (numbersOf (does (openTable t a s) .answer)) (0 ∷ place ∷ [])) (does (openTable t a s) .block ∷ [])
     -- there is no place in a table that was not read
-    pub openOther : (t : List ℕ) (a s place : ℕ) → (length b ≡ blockSize → ⊥)
+    pub openOther : (t : List ℕ) (a s place : ℕ) → (length b ≡ deskSize → ⊥)
         → openCall b t a s place ≡ effect (notAcceptable ∷ place ∷ []) (does (openTable t a s) .block ∷ [])
     pub writeAt : (out : List ℕ) (n : ℕ) → writeCall b out n ≡ effect (over (numbersOf (does (write out) .answer)) (0 ∷ n ∷ [])) (bufferOf (does (write out) .answer) ∷ [])
     pub postAt : (g ax bx cx dx ds si es carry : ℕ)

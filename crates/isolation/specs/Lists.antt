@@ -14,7 +14,7 @@ use Rattle.desk.specs.declared.CollectAnswer.{CollectAnswer}
 use Rattle.desk.specs.declared.WithdrawAnswer.{WithdrawAnswer}
 use Rattle.desk.specs.Calls.{Done, openOf, writtenOf, writtenOut, postOf, turnOf, collectOf, withdrawOf}
 
--- ---- one call
+-- ---- "The words of demand 3", one call of the list
 
 -- "posts, turns, collects, withdrawals, table writes, refused openings [...] with any arguments": an opening takes table bytes, arena length
 -- and store length; a table write its buffer
@@ -54,9 +54,11 @@ abbrev pub openedDesk : Desk → Desk → OpenAnswer → Desk
 openedDesk d new Opened = new
 openedDesk d new (OpenRefused n place) = d
 
+-- a desk call's result, its answer among those of the list
 abbrev pub outOf : {A : Type 0} → (A → Answer) → Done A → Out
 outOf f o = record { desk = o .desk; answer = f (o .answer); arena = o .arena; store = o .store }
 
+-- each call is the desk's own; an opening and a table write leave arena and store, and a table write the desk too
 abbrev pub stepOf : Desk → Op → List ℕ → List ℕ → Out
 stepOf d (openTable t a s) arena store =
     record { desk = openedDesk d (openOf t a s .desk) (openOf t a s .answer); answer = opening (openOf t a s .answer); arena = arena; store = store }
@@ -66,10 +68,11 @@ stepOf d (collect g) arena store = outOf (collected g) (collectOf d g arena stor
 stepOf d (withdraw g) arena store = outOf (withdrawn g) (withdrawOf d g arena store)
 stepOf d (write out) arena store = record { desk = d; answer = written (writtenOf d (length out)) (writtenOut d out); arena = arena; store = store }
 
+-- what a call leaves at a desk
 unfoldable pub step : Desk → Call → Out
 step d c = stepOf d (c .op) (c .arena) (c .store)
 
--- ---- a list of calls
+-- ---- "The words of demand 3", the list of calls
 
 -- one call of the list: the desk that it got, and what it left
 pub record Event : Type 0 where
@@ -77,6 +80,7 @@ pub record Event : Type 0 where
   pub call : Call
   pub out : Out
 
+-- the call c at the desk d
 abbrev pub event : Desk → Call → Event
 event d c = record { desk = d; call = c; out = step d c }
 

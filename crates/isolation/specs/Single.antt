@@ -10,7 +10,7 @@ use Rattle.int13.specs.declared.Registers.{Registers}
 use Rattle.int13.specs.declared.Outcome.{Outcome}
 use Rattle.int13.specs.declared.Outcome.the-variants.{Answered, Waits}
 use Rattle.int13.specs.Answers.{succeed, withdraw}
-use Rattle.int13.specs.Steps.{Checked, check}
+use Rattle.int13.specs.Steps.{Checked, fed, begin}
 use Rattle.desk.specs.declared.Request.{Request}
 use Rattle.desk.specs.declared.Stage.the-variants.{Waiting}
 use Rattle.desk.specs.declared.Desk.{Desk}
@@ -19,6 +19,8 @@ use Rattle.desk.specs.declared.TurnAnswer.the-variants.{Served}
 use Rattle.desk.specs.Parts.{stageAt}
 use Rattle.desk.specs.Acceptable.{accept}
 use Rattle.desk.specs.Calls.{Done, isLent, turnOf}
+
+-- ---- "Numbers given back", registers not named; "Calls the host makes", turn
 
 -- "registers not named stay as given": no step of any function names DS, SI or ES
 pub record SameSegments (r x : Registers) : Type 0 where
@@ -31,13 +33,15 @@ abbrev pub KeepsSegments : Registers → Outcome → Type 0
 KeepsSegments r (Answered x) = SameSegments r x
 KeepsSegments r (Waits j) = SameSegments r (j .registers)
 
+-- a turn that serves a guest
 pub record Serves (x : TurnAnswer) : Type 0 where
   pub guest : ℕ
   pub moved : ℕ
   pub is : x ≡ Served guest moved
 
+-- of every answer at once, every finish and every withdrawal, and of every turn
 pub record Single : Type 0 where
-  pub posted : (b : Table) (r : Registers) (w : List ℕ) → KeepsSegments r (check b r w .outcome)
+  pub posted : (b : Table) (r : Registers) (w : List ℕ) → KeepsSegments r (begin (fed b) r w .outcome)
   pub finished : (r : Registers) → SameSegments r (succeed r)
   pub withdrawn : (n : ℕ) (r : Registers) → SameSegments r (withdraw n r)
   -- idle cannot occur while a request waits: a turn that is not refused then serves one

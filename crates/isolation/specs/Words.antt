@@ -21,11 +21,12 @@ use Rattle.desk.specs.declared.TurnAnswer.the-variants.{Served, Idle, Refused a
 use Rattle.desk.specs.declared.CollectAnswer.the-variants.{Given as CollectGiven, Refused as CollectRefused}
 use Rattle.desk.specs.declared.WithdrawAnswer.the-variants.{Given as WithdrawGiven, Refused as WithdrawRefused}
 use Rattle.desk.specs.Parts.{stageAt}
-use Rattle.desk.specs.Acceptable.{part as partLength}
+use Rattle.desk.specs.Acceptable.{turnBlocks as partLength}
 use Rattle.isolation.specs.Lists.{post, Call, Answer, opening, posted, turned, collected, withdrawn, written, step, Event, run, after}
 
--- ---- the answers, in the words of the demand; each later word is a clause for each of these
+-- ---- "The words of demand 3", the answers; each later word is a clause for each of these
 
+-- what an answer says of its call
 pub data Kind : Type 0 where
   -- a house number, or a table's number
   refused : Kind
@@ -44,6 +45,7 @@ pub data Kind : Type 0 where
   -- a withdrawal of a guest
   withdraws : ℕ → Kind
 
+-- a house number or a table's number is a refusal; the others by what was asked
 abbrev pub kindOf : Answer → Kind
 kindOf (opening Opened) = opens
 kindOf (opening (OpenRefused n place)) = refused
@@ -60,6 +62,7 @@ kindOf (withdrawn g (WithdrawRefused n)) = refused
 kindOf (written (Bytes n) out) = plain
 kindOf (written (WriteRefused n) out) = refused
 
+-- of one call of the list
 abbrev pub kindIn : Event → Kind
 kindIn e = kindOf (e .out .answer)
 
@@ -84,8 +87,9 @@ abbrev pub NoneOpens : List Event → Type 0
 NoneOpens [] = Unit
 NoneOpens (e ∷ es) = (kindIn e ≡ opens → ⊥) × NoneOpens es
 
--- ---- numbers over a list of calls
+-- ---- "The words of demand 3", numbers over a list of calls
 
+-- the sum over the list of what each answer counts for
 abbrev pub total : (Kind → ℕ) → List Event → ℕ
 total f [] = 0
 total f (e ∷ es) = f (kindIn e) + total f es
@@ -94,94 +98,78 @@ total f (e ∷ es) = f (kindIn e) + total f es
 abbrev pub ifSame : ℕ → ℕ → ℕ → ℕ
 ifSame h g k = pick (eqb h g) k 0
 
--- turns not refused
-abbrev pub turnIn : Kind → ℕ
-turnIn refused = 0
-turnIn plain = 0
-turnIn opens = 0
-turnIn (answers h) = 0
-turnIn (accepts h) = 0
-turnIn (serves h k) = 1
-turnIn idles = 1
-turnIn (hands h r) = 0
-turnIn (withdraws h) = 0
+-- what one answer counts for: a turn not refused; a post, turn or withdrawal without a house number; and of one guest a service, the blocks
+-- moved, a withdrawal and a collect
+pub record Marks : Type 0 where
+  pub turn : ℕ
+  pub touch : ℕ
+  pub service : ℕ
+  pub moved : ℕ
+  pub withdrawal : ℕ
+  pub collect : ℕ
 
+-- such a line
+abbrev pub line : ℕ → ℕ → ℕ → ℕ → ℕ → ℕ → Marks
+line turn touch service moved withdrawal collect =
+    record { turn = turn; touch = touch; service = service; moved = moved; withdrawal = withdrawal; collect = collect }
+
+-- a line for each kind of answer, in that order, for guest g. "A turn serves it by answering that guest", whatever the number
+abbrev pub marks : ℕ → Kind → Marks
+marks g refused = line 0 0 0 0 0 0
+marks g plain = line 0 0 0 0 0 0
+marks g opens = line 0 0 0 0 0 0
+marks g (answers h) = line 0 1 0 0 0 0
+marks g (accepts h) = line 0 1 0 0 0 0
+marks g (serves h k) = line 1 1 (ifSame h g 1) (ifSame h g k) 0 0
+marks g idles = line 1 1 0 0 0 0
+marks g (hands h r) = line 0 0 0 0 0 (ifSame h g 1)
+marks g (withdraws h) = line 0 1 0 0 (ifSame h g 1) 0
+
+-- turns not refused, of whatever guest: 8 is none
+abbrev pub turnIn : Kind → ℕ
+turnIn k = marks guests k .turn
+
+-- posts, turns and withdrawals without a house number
+abbrev pub touchIn : Kind → ℕ
+touchIn k = marks guests k .touch
+
+-- turns that serve g
+abbrev pub serviceIn : ℕ → Kind → ℕ
+serviceIn g k = marks g k .service
+
+-- the number that a turn answers for g
+abbrev pub movedIn : ℕ → Kind → ℕ
+movedIn g k = marks g k .moved
+
+-- withdrawals of g not refused
+abbrev pub withdrawalIn : ℕ → Kind → ℕ
+withdrawalIn g k = marks g k .withdrawal
+
+-- collects of g not refused
+abbrev pub collectIn : ℕ → Kind → ℕ
+collectIn g k = marks g k .collect
+
+-- how many turns of the list were not refused
 abbrev pub turns : List Event → ℕ
 turns = total turnIn
 
--- "A turn serves it by answering that guest", whatever the number
-abbrev pub serviceIn : ℕ → Kind → ℕ
-serviceIn g refused = 0
-serviceIn g plain = 0
-serviceIn g opens = 0
-serviceIn g (answers h) = 0
-serviceIn g (accepts h) = 0
-serviceIn g (serves h k) = ifSame h g 1
-serviceIn g idles = 0
-serviceIn g (hands h r) = 0
-serviceIn g (withdraws h) = 0
-
+-- how many served g
 abbrev pub services : ℕ → List Event → ℕ
 services g = total (serviceIn g)
 
 -- "the numbers so answered"
-abbrev pub movedIn : ℕ → Kind → ℕ
-movedIn g refused = 0
-movedIn g plain = 0
-movedIn g opens = 0
-movedIn g (answers h) = 0
-movedIn g (accepts h) = 0
-movedIn g (serves h k) = ifSame h g k
-movedIn g idles = 0
-movedIn g (hands h r) = 0
-movedIn g (withdraws h) = 0
-
 abbrev pub moved : ℕ → List Event → ℕ
 moved g = total (movedIn g)
 
--- withdrawals of a guest not refused
-abbrev pub withdrawalIn : ℕ → Kind → ℕ
-withdrawalIn g refused = 0
-withdrawalIn g plain = 0
-withdrawalIn g opens = 0
-withdrawalIn g (answers h) = 0
-withdrawalIn g (accepts h) = 0
-withdrawalIn g (serves h k) = 0
-withdrawalIn g idles = 0
-withdrawalIn g (hands h r) = 0
-withdrawalIn g (withdraws h) = ifSame h g 1
-
+-- how many withdrawals of g were not refused
 abbrev pub withdrawals : ℕ → List Event → ℕ
 withdrawals g = total (withdrawalIn g)
 
--- collects of a guest not refused
-abbrev pub collectIn : ℕ → Kind → ℕ
-collectIn g refused = 0
-collectIn g plain = 0
-collectIn g opens = 0
-collectIn g (answers h) = 0
-collectIn g (accepts h) = 0
-collectIn g (serves h k) = 0
-collectIn g idles = 0
-collectIn g (hands h r) = ifSame h g 1
-collectIn g (withdraws h) = 0
-
+-- how many collects of g were not refused
 abbrev pub collects : ℕ → List Event → ℕ
 collects g = total (collectIn g)
 
--- posts, turns and withdrawals without a house number
-abbrev pub touchIn : Kind → ℕ
-touchIn refused = 0
-touchIn plain = 0
-touchIn opens = 0
-touchIn (answers h) = 1
-touchIn (accepts h) = 1
-touchIn (serves h k) = 1
-touchIn idles = 1
-touchIn (hands h r) = 0
-touchIn (withdraws h) = 1
-
--- ---- a request, by the calls since its acceptance
+-- ---- "The words of demand 3", a request, by the calls since its acceptance
 
 -- "A request is accepted by the post answered that the row waits."
 pub record Accepted (d : Desk) (c : Call) (g : ℕ) (r : Registers) : Type 0 where
@@ -202,11 +190,15 @@ pub record Withdraws (g n : ℕ) (d : Desk) (front : List Call) (t : Call) : Typ
   pub waited : Waits g n (run d front)
   pub gone : kindOf (step (after d front) t .answer) ≡ withdraws g
 
+-- "any eight successive turns", and the eight for each part
+abbrev pub turnsEach : ℕ
+turnsEach = 8
+
 -- 8 x ceil(n / 16)
 abbrev pub turnsFor : ℕ → ℕ
-turnsFor n = guests * ((n + 15) / partLength)
+turnsFor n = turnsEach * ((n + 15) / partLength)
 
--- ---- the blocks, the arena and the store
+-- ---- "The words of demand 3", the blocks, the arena and the store
 
 -- "A request names the n blocks of its drive from start": store block b is one of n from first
 abbrev pub Named : ℕ → ℕ → ℕ → Type 0

@@ -1,3 +1,5 @@
-pub mod Packets
-pub mod ResultBuffers
+pub mod PacketLaws
+pub mod ResultBufferLaws
+pub mod Demand2
 pub mod Sums
+pub mod Vectors

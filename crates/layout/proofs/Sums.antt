@@ -8,7 +8,7 @@ use Rattle.words.specs.Words.{le, leBytes}
 use Rattle.drive.specs.declared.Drive.{Drive}
 use Rattle.drive.specs.Drive.{driveOf}
 use Rattle.layout.specs.Packet.{packetAt, readPacket, packetNumbers}
-use Rattle.layout.specs.ResultBuffer.{returnedSize, parameterBytes, blockBytes, interfaceBytes, pathBytes, sum, wholeResult, resultBytes, resultAnswer, resultNumbers}
+use Rattle.layout.specs.ResultBuffer.{noPointer, returnedSize, parameterBytes, blockBytes, interfaceBytes, pathBytes, sum, wholeResult, resultBytes, resultAnswer, resultNumbers}
 
 -- the drive's record in the 72-byte table
 abbrev tableRecord : List ℕ
@@ -19,7 +19,7 @@ tableRecord =
     ∷ 0 ∷ 0 ∷ 0 ∷ 0 ∷ 0 ∷ 0 ∷ 0 ∷ 0 ∷ []
 
 -- its whole result
-pub table-result : resultBytes (driveOf tableRecord) 66
+pub table-result : resultBytes (driveOf tableRecord) noPointer 66
     ≡ 66 ∷ 0 ∷ 2 ∷ 0 ∷ 2 ∷ 0 ∷ 0 ∷ 0 ∷ 16 ∷ 0 ∷ 0 ∷ 0 ∷ 63 ∷ 0 ∷ 0 ∷ 0 ∷ 0 ∷ 8 ∷ 0 ∷ 0 ∷ 0 ∷ 0 ∷ 0 ∷ 0 ∷ 0 ∷ 2
     ∷ 255 ∷ 255 ∷ 255 ∷ 255
     ∷ 221 ∷ 190 ∷ 36 ∷ 0 ∷ 0 ∷ 0 ∷ 80 ∷ 67 ∷ 73 ∷ 0 ∷ 65 ∷ 84 ∷ 65 ∷ 0 ∷ 0 ∷ 0 ∷ 0 ∷ 0 ∷ 0 ∷ 31 ∷ 1 ∷ 0 ∷ 0 ∷ 0 ∷ 0 ∷ 0
@@ -28,7 +28,7 @@ unfolding driveOf le leBytes resultBytes wholeResult parameterBytes blockBytes i
 table-result = refl
 
 -- P7: byte 65 of the result is 6Fh
-pub byte65 : getD (resultBytes (driveOf tableRecord) 66) 65 0 ≡ 111
+pub byte65 : getD (resultBytes (driveOf tableRecord) noPointer 66) 65 0 ≡ 111
 unfolding driveOf le leBytes resultBytes wholeResult parameterBytes blockBytes interfaceBytes pathBytes sum
 byte65 = refl
 

@@ -1,2 +1,3 @@
 pub mod Packet
 pub mod ResultBuffer
+pub mod Demand2

@@ -20,10 +20,11 @@ linear segment offset = 16 * segment + offset
 
 -- AH 01h: bad parameter as listed
 abbrev pub badParameter : ℕ
-badParameter = 1
+badParameter = 0x01
 
 -- ---- "Steps of each function", 42h, 43h and 44h: the packet
 
+-- 16 packet bytes
 abbrev pub packetLength : ℕ
 packetLength = 16
 
@@ -40,8 +41,16 @@ packetAt window at = record {
 unfoldable pub readPacket : List ℕ → ℕ → PacketRead
 readPacket window at = pick (leb (at + packetLength) (length window)) (Whole (packetAt window at)) (Refused badParameter)
 
--- ---- the answer as numbers: 0 and the values in the packet's order, or the code
+-- ---- "Forms we want to see": the answer as numbers, 0 and the values in the packet's order, or the code
 
+-- size, count, buffer, start
 unfoldable pub packetNumbers : PacketRead → List ℕ
 packetNumbers (Whole p) = 0 ∷ p .size ∷ p .count ∷ p .buffer ∷ p .start ∷ []
 packetNumbers (Refused code) = code ∷ []
+
+-- the numbers for a place of a window, by the paper's offsets; the buffer is 16 times segment plus offset
+unfoldable pub packetGiven : List ℕ → ℕ → List ℕ
+packetGiven window at =
+    pick (leb (at + 16) (length window))
+    (0 ∷ getD window at 0 ∷ le 2 window (at + 2) ∷ (16 * le 2 window (at + 6) + le 2 window (at + 4)) ∷ le 8 window (at + 8) ∷ [])
+    (0x01 ∷ [])

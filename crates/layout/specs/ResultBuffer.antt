@@ -9,18 +9,21 @@ use Rattle.words.specs.Words.{leBytes}
 use Rattle.drive.specs.declared.Drive.{Drive}
 use Rattle.memory.specs.Blocks.{blockLength}
 use Rattle.layout.specs.Packet.{badParameter}
+use Rattle.layout.specs.declared.Pointer.{Pointer}
 use Rattle.layout.specs.declared.ResultAnswer.{ResultAnswer}
 use Rattle.layout.specs.declared.ResultAnswer.the-variants.{Written, Refused}
 
--- ---- the sizes
+-- ---- "Steps of each function", 48h: the sizes
 
--- up to the bytes in a block, with the pointer after them, with the device path after that
+-- up to the bytes in a block
 abbrev pub leastSize : ℕ
 leastSize = 26
 
+-- with the pointer after them
 abbrev pub pointerSize : ℕ
 pointerSize = 30
 
+-- with the device path after that
 abbrev pub pathSize : ℕ
 pathSize = 66
 
@@ -28,34 +31,31 @@ pathSize = 66
 unfoldable pub returnedSize : ℕ → ℕ
 returnedSize asked = pick (ltb asked pointerSize) leastSize (pick (ltb asked pathSize) pointerSize pathSize)
 
--- ---- the bytes, by the paper's offsets
+-- ---- "Steps of each function", 48h: the bytes, by the paper's offsets
 
 -- information flags as the table has them
 abbrev pub flagsShown : Drive → ℕ
 flagsShown d = d .flags
 
--- FFFFh:FFFFh
-abbrev pub pointerOffset : ℕ
-pointerOffset = 65535
+-- the pointer of every result today: FFFFh:FFFFh, which is no pointer
+abbrev pub noPointer : Pointer
+noPointer = record { offset = 0xFFFF; segment = 0xFFFF }
 
-abbrev pub pointerSegment : ℕ
-pointerSegment = 65535
-
--- BEDDh
+-- the word that begins the device path
 abbrev pub pathKey : ℕ
-pathKey = 48861
+pathKey = 0xBEDD
 
--- 24h, the length from byte 30 on
+-- the length from byte 30 on
 abbrev pub pathLength : ℕ
-pathLength = 36
+pathLength = 0x24
 
 -- offsets 0, 2, 4, 8, 12: returned size, flags, physical cylinders, heads, sectors
 unfoldable pub parameterBytes : Drive → ℕ → List ℕ
 parameterBytes d n = leBytes 2 n ++ (leBytes 2 (flagsShown d) ++ (leBytes 4 (d .cylinders) ++ (leBytes 4 (d .heads) ++ leBytes 4 (d .sectors))))
 
 -- offsets 16, 24, 26, 28: blocks, bytes in a block, offset and segment of the pointer
-unfoldable pub blockBytes : Drive → List ℕ
-blockBytes d = leBytes 8 (d .blocks) ++ (leBytes 2 blockLength ++ (leBytes 2 pointerOffset ++ leBytes 2 pointerSegment))
+unfoldable pub blockBytes : Drive → Pointer → List ℕ
+blockBytes d p = leBytes 8 (d .blocks) ++ (leBytes 2 blockLength ++ (leBytes 2 (p .offset) ++ leBytes 2 (p .segment)))
 
 -- offsets 30, 32, 33, 36, 40: BEDDh, 24h, three zeros, host bus, interface type
 unfoldable pub interfaceBytes : Drive → List ℕ
@@ -79,14 +79,14 @@ abbrev pub summedBytes : Drive → List ℕ
 summedBytes d = interfaceBytes d ++ pathBytes d
 
 -- all 66 bytes, with the returned size n
-unfoldable pub wholeResult : Drive → ℕ → List ℕ
-wholeResult d n = parameterBytes d n ++ (blockBytes d ++ (summedBytes d ++ (checksum (summedBytes d) ∷ [])))
+unfoldable pub wholeResult : Drive → Pointer → ℕ → List ℕ
+wholeResult d p n = parameterBytes d n ++ (blockBytes d p ++ (summedBytes d ++ (checksum (summedBytes d) ∷ [])))
 
 -- the returned bytes
-unfoldable pub resultBytes : Drive → ℕ → List ℕ
-resultBytes d n = take n (wholeResult d n)
+unfoldable pub resultBytes : Drive → Pointer → ℕ → List ℕ
+resultBytes d p n = take n (wholeResult d p n)
 
--- ---- the answer
+-- ---- "Steps of each function", 48h: the answer
 
 -- asked: the word at DS:SI; room: the bytes from DS:SI to the window's end. All returned bytes must be inside, no smaller size is tried.
 -- Every drive has the same sizes
@@ -95,14 +95,21 @@ resultAnswer d asked room =
     pick (both (leb leastSize asked) (leb (returnedSize asked) room)) (Written (returnedSize asked)) (Refused badParameter)
 
 -- the bytes from DS:SI after an answer: those past the returned size stay, and a refusal writes none
-abbrev pub written : Drive → ResultAnswer → List ℕ → List ℕ
-written d (Written n) out = resultBytes d n ++ drop n out
-written d (Refused code) out = out
+abbrev pub written : Drive → Pointer → ResultAnswer → List ℕ → List ℕ
+written d p (Written n) out = resultBytes d p n ++ drop n out
+written d p (Refused code) out = out
 
-abbrev pub resultOut : Drive → ℕ → List ℕ → List ℕ
-resultOut d asked out = written d (resultAnswer d asked (length out)) out
+-- the bytes from DS:SI after the answer to a size asked
+abbrev pub resultOut : Drive → Pointer → ℕ → List ℕ → List ℕ
+resultOut d p asked out = written d p (resultAnswer d asked (length out)) out
 
--- the answer as numbers: 0 and the returned size, or the code
+-- ---- "Forms we want to see": the answer as numbers, 0 and the returned size, or the code
+
+-- of an answer
 unfoldable pub resultNumbers : ResultAnswer → List ℕ
 resultNumbers (Written n) = 0 ∷ n ∷ []
 resultNumbers (Refused code) = code ∷ []
+
+-- the numbers for a size asked and the room
+unfoldable pub sizeGiven : ℕ → ℕ → List ℕ
+sizeGiven asked room = pick (both (leb 26 asked) (leb (returnedSize asked) room)) (0 ∷ returnedSize asked ∷ []) (0x01 ∷ [])

@@ -5,11 +5,11 @@ ghost use mathlib.Core.Path.{_≡_};
 ghost use Prim.Native.Nat.{_%_, _≤_};
 ghost use lib.ListN.{length};
 ghost use lib.Seq.{sets};
-ghost use Rattle.layout.specs.Packet.{linear, readPacket};
-ghost use Rattle.layout.specs.ResultBuffer.{pathSize, returnedSize, flagsShown, parameterBytes, blockBytes, interfaceBytes, pathBytes, sum, checksum, wholeResult, resultAnswer, resultOut};
+ghost use Rattle.layout.specs.Packet.{linear, readPacket, packetNumbers, packetGiven};
+ghost use Rattle.layout.specs.ResultBuffer.{pathSize, returnedSize, flagsShown, parameterBytes, blockBytes, interfaceBytes, pathBytes, sum, checksum, wholeResult, resultAnswer, resultOut, resultNumbers, sizeGiven};
 
 // AH 01h.
-const BAD_PARAMETER: u8 = 1;
+const BAD_PARAMETER: u8 = 0x01;
 
 // ---- the device address packet
 
@@ -41,7 +41,7 @@ const PACKET_LENGTH: usize = 16;
 // The packet at a place of the window. Refused with 01h: a packet that is not wholly inside. Tested by difference, since the place
 // may be any number.
 pub fn read_packet(window: &[u8], at: usize) -> PacketRead
-    ensures { λ r. ⌜ r ≡ readPacket (now (window .entry)) at ⌝ }
+    ensures { λ r. ⌜ (r ≡ readPacket (now (window .entry)) at) × (packetNumbers r ≡ packetGiven (now (window .entry)) at) ⌝ }
 {
     if window.len() < PACKET_LENGTH {
         return PacketRead::Refused(BAD_PARAMETER);
@@ -61,6 +61,12 @@ pub fn read_packet(window: &[u8], at: usize) -> PacketRead
 
 // ---- the bytes of the result buffer
 
+// Where bytes 26 to 29 of a result point, as the two words that stand there.
+pub struct Pointer {
+    pub offset: u16,
+    pub segment: u16,
+}
+
 const LEAST_SIZE: u16 = 26;
 
 const POINTER_SIZE: u16 = 30;
@@ -68,11 +74,6 @@ const POINTER_SIZE: u16 = 30;
 const PATH_SIZE: u16 = 66;
 
 const BLOCK_LENGTH: u16 = 512;
-
-// FFFFh:FFFFh, no parameter table.
-const POINTER_OFFSET: u16 = 0xFFFF;
-
-const POINTER_SEGMENT: u16 = 0xFFFF;
 
 const PATH_KEY: u16 = 0xBEDD;
 
@@ -109,14 +110,14 @@ fn put_geometry(d: Drive, n: u16, out: &mut [u8])
     words::store32(out, 12, d.sectors);
 }
 
-fn put_blocks(d: Drive, out: &mut [u8])
+fn put_blocks(d: Drive, p: Pointer, out: &mut [u8])
     requires { ⌜ pathSize ≤ length (now out) ⌝ }
-    ensures { λ _. ⌜ now (out .exit) ≡ sets (now (out .entry)) 16 (blockBytes d) ⌝ }
+    ensures { λ _. ⌜ now (out .exit) ≡ sets (now (out .entry)) 16 (blockBytes d p) ⌝ }
 {
     words::store64(out, 16, d.blocks);
     words::store16(out, 24, BLOCK_LENGTH);
-    words::store16(out, 26, POINTER_OFFSET);
-    words::store16(out, 28, POINTER_SEGMENT);
+    words::store16(out, 26, p.offset);
+    words::store16(out, 28, p.segment);
 }
 
 // The length is a byte with three zeros after it: one dword.
@@ -163,12 +164,12 @@ fn checksum_of(s: &[u8]) -> u8
 }
 
 // All 66 bytes, with the returned size n.
-fn result_of(d: Drive, n: u16) -> [u8; 66]
-    ensures { λ r. ⌜ r ≡ wholeResult d n ⌝ }
+fn result_of(d: Drive, p: Pointer, n: u16) -> [u8; 66]
+    ensures { λ r. ⌜ r ≡ wholeResult d p n ⌝ }
 {
     let mut r = [0u8; 66];
     put_geometry(d, n, &mut r);
-    put_blocks(d, &mut r);
+    put_blocks(d, p, &mut r);
     put_interface(d, &mut r);
     put_paths(d, &mut r);
     let from = 30;
@@ -186,10 +187,10 @@ pub enum ResultAnswer {
     Refused(u8),
 }
 
-// The result for a drive and the size asked; out is the window from DS:SI to its end. Refused with 01h, out unchanged: a size below
+// The result for a drive, a pointer and the size asked; out is the window from DS:SI to its end. Refused with 01h, out unchanged: a size below
 // 26, or too little room for the returned size. Bytes past the returned size stay.
-pub fn write_result(d: Drive, asked: u16, out: &mut [u8]) -> ResultAnswer
-    ensures { λ r. ⌜ (r ≡ resultAnswer d asked (length (now (out .entry)))) × (now (out .exit) ≡ resultOut d asked (now (out .entry))) ⌝ }
+pub fn write_result(d: Drive, p: Pointer, asked: u16, out: &mut [u8]) -> ResultAnswer
+    ensures { λ r. ⌜ (r ≡ resultAnswer d asked (length (now (out .entry)))) × (now (out .exit) ≡ resultOut d p asked (now (out .entry))) × (resultNumbers r ≡ sizeGiven asked (length (now (out .entry)))) ⌝ }
 {
     if asked < LEAST_SIZE {
         return ResultAnswer::Refused(BAD_PARAMETER);
@@ -199,7 +200,7 @@ pub fn write_result(d: Drive, asked: u16, out: &mut [u8]) -> ResultAnswer
     if out.len() < size {
         return ResultAnswer::Refused(BAD_PARAMETER);
     }
-    let r = result_of(d, n);
+    let r = result_of(d, p, n);
     words::store(out, 0, &r[..size]);
     ResultAnswer::Written(n)
 }

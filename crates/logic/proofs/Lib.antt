@@ -1,1 +1,1 @@
-pub mod Logic
+pub mod LogicLaws

@@ -1,6 +1,6 @@
--- Choices by a test: the words in which the other definitions put the paper's "if".
+-- Choices by a test: the words in which the other definitions put the paper's "if", "each" and "some".
 -- Assumes nothing.
-use Prim.Native.Nat.{ℕ}
+use Prim.Native.Nat.{ℕ, zero, suc}
 use mathlib.Core.Bool.{Bool, true, false}
 use lib.Dec.{leb}
 
@@ -22,3 +22,13 @@ either false b = b
 -- low ≤ x ≤ high
 abbrev pub inRange : ℕ → ℕ → ℕ → Bool
 inRange x low high = both (leb low x) (leb x high)
+
+-- the test holds of every number below n
+abbrev pub allBelow : ℕ → (ℕ → Bool) → Bool
+allBelow zero f = true
+allBelow (suc n) f = both (f n) (allBelow n f)
+
+-- the test holds of some number below n
+abbrev pub someBelow : ℕ → (ℕ → Bool) → Bool
+someBelow zero f = false
+someBelow (suc n) f = either (f n) (someBelow n f)

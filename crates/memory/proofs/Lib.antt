@@ -1,4 +1,4 @@
 pub mod Sets
-pub mod Windows
-pub mod Blocks
+pub mod WindowLaws
+pub mod BlocksLaws
 pub mod Vectors

@@ -25,6 +25,7 @@ hasWindow n guest m = both (leb m (windowLength n)) (ltb guest guests)
 unfoldable pub spanStart : ℕ → ℕ → ℕ → ℕ
 spanStart n guest m = pick (hasWindow n guest m) (guest * m) 0
 
+-- how long the window is: m, or 0 where there is none
 unfoldable pub spanLength : ℕ → ℕ → ℕ → ℕ
 spanLength n guest m = pick (hasWindow n guest m) m 0
 

@@ -70,13 +70,32 @@ pub fn window_shared<'a>(arena: &'a [u8], guest: usize, m: usize) -> &'a [u8]
 
 // ---- Moves of k blocks, promised as k moves of one block in ascending order.
 
+// Bytes that go by way of a buffer.
+const BUFFER: usize = 8192;
+
+// All of a, laid over the bytes of dst from a place, as words::store does. A run of at most 8192 bytes goes by way of a buffer: a slice may
+// overlap another for all that the compiler knows, a local array overlaps nothing, so it makes one memmove of the two copies.
+fn lay(dst: &mut [u8], at: usize, a: &[u8])
+    requires { ⌜ at + length (now a) ≤ length (now dst) ⌝ }
+    ensures { λ _. ⌜ now (dst .exit) ≡ sets (now (dst .entry)) at (now (a .entry)) ⌝ }
+{
+    let n = a.len();
+    if BUFFER < n {
+        words::store(dst, at, a);
+        return;
+    }
+    let mut buffer: [u8; 8192] = [0; 8192];
+    words::store(&mut buffer, 0, a);
+    words::store(dst, at, &buffer[..n]);
+}
+
 // One run of 512 × k bytes. Its callers are load and save, which ask for the same ranges.
 fn copy(dst: &mut [u8], at: usize, src: &[u8], from: usize, k: usize)
     requires { ⌜ (at + blockLength * k ≤ length (now dst)) × (from + blockLength * k ≤ length (now src)) ⌝ }
     ensures { λ _. ⌜ now (dst .exit) ≡ blocks (now (dst .entry)) at (now (src .entry)) from k ⌝ }
 {
     let end = from + BLOCK_LENGTH * k;
-    words::store(dst, at, &src[from..end]);
+    lay(dst, at, &src[from..end]);
 }
 
 // A read: k blocks of the store, from byte from, go to place at of the guest's window. The desk has tested that the buffer lies in the

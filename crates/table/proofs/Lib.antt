@@ -1,7 +1,9 @@
-pub mod Tables
+pub mod TableLaws
 pub mod Nine
 pub mod WriteRead
+pub mod Sound
 pub mod ReadWrite
 pub mod Needed
 pub mod Vectors
-pub mod Sound
+pub mod Demand2
+pub mod Runs

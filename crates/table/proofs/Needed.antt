@@ -1,17 +1,18 @@
 -- The reader needs the first 612 bytes, nine records of 68, and no byte past them.
 -- Assumes nothing.
 use mathlib.Core.Path.{_≡_, refl, sym, ap, _∙_}
-use mathlib.Core.Bool.{Bool, true, false}
+use mathlib.Core.Bool.{Bool, true, false, not}
 use mathlib.Core.List.{List, [], _∷_}
 use Prim.Native.Nat.{ℕ, zero, suc, _+_, _-_, _*_, _≤_, _<_, min}
 use native.Mathlib.Nat.{zero-add, suc-add, add-assoc}
 use native.Mathlib.Omega.{arith}
 use lib.ListN.{length, take, drop, getD, length-take}
 use lib.Seq.{take-take, getD-take, take-nil, drop-nil}
-use lib.Dec.{ltb, eqb}
-use Rattle.logic.proofs.Logic.{leb-iff}
+use lib.Dec.{ltb}
+use Rattle.logic.specs.Logic.{pick}
+use Rattle.logic.proofs.LogicLaws.{leb-iff}
 use Rattle.words.specs.Words.{le, part}
-use Rattle.words.proofs.Words.{le-ext}
+use Rattle.words.proofs.WordsLaws.{le-ext}
 use Rattle.drive.specs.Drive.{driveOf}
 use Rattle.table.specs.declared.Table.{Table}
 use Rattle.table.specs.declared.Header.{Header}
@@ -20,8 +21,8 @@ use Rattle.table.specs.declared.Step.{Step}
 use Rattle.table.specs.declared.Step.the-variants.{Next, Done, Refused}
 use Rattle.table.specs.declared.Stepped.{Stepped}
 use Rattle.table.specs.declared.Reading.{Reading}
-use Rattle.table.specs.Table.{headerAt, headerOf, recordLength, goOn, endStep, bodyStep, stepOf, stepAt, readFrom, readTable, emptyTable}
-use Rattle.table.proofs.Tables.{stepAt-cases}
+use Rattle.table.specs.Table.{isKind, lengthOk, headerAt, headerOf, more, goOn, endStep, stepOf, stepAt, readFrom, readTable, emptyTable}
+use Rattle.table.proofs.TableLaws.{stepAt-cases, whole-at, lengthOk-most}
 
 -- a part of the first n + m bytes
 drop-take : (n m : ℕ) (l : List ℕ) → drop n (take (n + m) l) ≡ take m (drop n l)
@@ -46,31 +47,32 @@ module _ (n : ℕ) (t u : List ℕ) (same : take n t ≡ take n u) where
   after : (at : ℕ) → at < n → ltb at (length t) ≡ ltb at (length u)
   after at h = leb-iff (suc at) (length t) (suc at) (length u) (λ q. omega (arith, lengths)) (λ q. omega (arith, lengths))
 
-  body : (at : ℕ) → at + 68 ≤ n → part 68 t at ≡ part 68 u at
-  body at h =
-      let e : take (at + 68) t ≡ take (at + 68) u = sym (take-take (at + 68) n t h) ∙ ap (take (at + 68)) same ∙ take-take (at + 68) n u h in
-      sym (drop-take at 68 t) ∙ ap (drop at) e ∙ drop-take at 68 u
+  body : (at m : ℕ) → at + m ≤ n → part m t at ≡ part m u at
+  body at m h =
+      let e : take (at + m) t ≡ take (at + m) u = sym (take-take (at + m) n t h) ∙ ap (take (at + m)) same ∙ take-take (at + m) n u h in
+      sym (drop-take at m t) ∙ ap (drop at) e ∙ drop-take at m u
 
-  length-most : (k : ℕ) → recordLength k ≤ 68
-  length-most k = by-kind (eqb k 0) refl
-    where
-      by-kind : (x : Bool) → eqb k 0 ≡ x → recordLength k ≤ 68
-      by-kind true e = rw e (omega arith)
-      by-kind false e = rw e (omega arith)
+  -- the last check of a header looks at no more than the record
+  cut : (at k size : ℕ) → at + 68 ≤ n → (c : Bool) → lengthOk k size ≡ c
+      → pick (not c) (Bad 2) (pick (ltb (length t - at) size) (Bad 1) (Whole k size)) ≡ pick (not c) (Bad 2) (pick (ltb (length u - at) size) (Bad 1) (Whole k size))
+  cut at k size h true e = rw (left at size (omega (arith, lengthOk-most k size e)))
+  cut at k size h false e = refl
 
   header : (at : ℕ) → at + 68 ≤ n → headerAt t at ≡ headerAt u at
   unfolding headerAt headerOf
   header at h =
       let k : ℕ = le 2 u (at + 2) in
-      rw (word at (omega arith), word (at + 2) (omega arith), left at 4 (omega arith), left at (recordLength k) (omega (arith, length-most k)))
+      let size : ℕ = le 2 u at in
+      rw (word at (omega arith), word (at + 2) (omega arith), left at 4 (omega arith))
+      (ap (λ (x : Header). pick (ltb (length u - at) 4) (Bad 1) (pick (not (isKind k)) (Bad 3) x)) (cut at k size h (lengthOk k size) refl))
 
   step : (at : ℕ) (b : Table) (store : ℕ) → at + 68 ≤ n → stepAt t at b store ≡ stepAt u at b store
   unfolding stepAt stepOf endStep
-  step at b store h = rw (header at h) (by-header (headerAt u at))
+  step at b store h = rw (header at h) (by-header (headerAt u at) refl)
     where
-      by-header : (x : Header) → stepOf x t at b store ≡ stepOf x u at b store
-      by-header (Bad m) = refl
-      by-header (Whole k) = rw (after (at + 4) (omega arith), body at h)
+      by-header : (x : Header) → headerAt u at ≡ x → stepOf x t at b store ≡ stepOf x u at b store
+      by-header (Bad m) q = refl
+      by-header (Whole k m) q = rw (after (at + 4) (omega arith), body at m (omega (arith, lengthOk-most k m (whole-at u at k m q .right))))
 
   -- k records need 68 bytes each
   reads : (k store at : ℕ) (b : Table) → at + 68 * k ≤ n → readFrom k t store at b ≡ readFrom k u store at b
@@ -79,7 +81,7 @@ module _ (n : ℕ) (t u : List ℕ) (same : take n t ≡ take n u) where
   reads (suc k) store at b h =
       rw (step at b store (omega arith))
       (stepAt-cases (λ (s : Stepped). goOn (s .step) (s .table) (readFrom k t store) ≡ goOn (s .step) (s .table) (readFrom k u store)) u at b store
-      (λ m p. refl) (λ e l. refl) (λ e z. reads k store (at + 68) (Rattle.table.specs.Table.more b (driveOf (part 68 u at))) (omega arith)))
+      (λ m p. refl) (λ e l. refl) (λ e z. reads k store (at + 68) (more b (driveOf (part 68 u at))) (omega arith)))
 
 -- two inputs with the same first 612 bytes are read alike
 pub needed : (t u : List ℕ) (store : ℕ) → take 612 t ≡ take 612 u → readTable t store ≡ readTable u store

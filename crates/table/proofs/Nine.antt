@@ -10,7 +10,7 @@ use Rattle.table.specs.declared.Stepped.{Stepped}
 use Rattle.drive.specs.Drive.{driveOf}
 use Rattle.words.specs.Words.{part}
 use Rattle.table.specs.Table.{more, goOn, stepAt, readFrom, readTable, emptyTable}
-use Rattle.table.proofs.Tables.{stepAt-cases, refusal-room}
+use Rattle.table.proofs.TableLaws.{stepAt-cases, refusal-room}
 
 one-more : (k : ℕ) (t : List ℕ) (store at : ℕ) (b : Table) → b .count ≤ 8 → 9 ≤ k + b .count → readFrom (suc k) t store at b ≡ readFrom k t store at b
 unfolding readFrom

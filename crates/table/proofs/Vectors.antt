@@ -1,14 +1,17 @@
 -- Tables by number: document 01's 72 bytes, and tables that fail one check or two adjoining ones.
 -- Assumes nothing.
 use mathlib.Core.Path.{_≡_, refl}
+use mathlib.Core.Bool.{Bool, true, false}
 use mathlib.Core.List.{List, [], _∷_, _++_, map}
 use Prim.Native.Nat.{ℕ, zero, suc, _+_, _*_}
 use lib.ListN.{length, getD, set, take, drop, replicate}
 use lib.Seq.{sets}
 use Rattle.words.specs.Words.{le, leBytes}
 use Rattle.chs.specs.Chs.{inLimits}
-use Rattle.drive.specs.Drive.{driveOf, same, busOk, interfaceOk, geometryFits, fieldsOk, inStore, overlap}
-use Rattle.table.specs.Table.{headerOf, headerAt, overlapsAny, refusal, driveStep, endStep, stepOf, stepAt, readFrom, readTable, answerNumbers, noDrive}
+use Rattle.drive.specs.declared.Drive.{Drive}
+use Rattle.drive.specs.Drive.{driveOf, recordOf, geometryBytes, sizeBytes, nameBytes, same, busOk, interfaceOk, geometryFits, fieldsOk, inStore, overlap, blankNumbers, blankNames, isBlank}
+use Rattle.table.specs.declared.Table.{Table}
+use Rattle.table.specs.Table.{headerOf, headerAt, overlapsAny, refusal, driveStep, endStep, stepOf, stepAt, zeroDrive, readFrom, readTable, recordsOf, bytesOf, tableOf, writeAnswer, writeOut, soundTo, blankTo, isSound, answerNumbers, writtenNumbers, noDrive}
 
 -- the drive record of document 01's table, and the end record
 abbrev record₁ : List ℕ
@@ -139,3 +142,78 @@ overlaps = refl
 pub no-store : map (λ (t : List ℕ). answerNumbers (readTable t 0 .answer)) ((record₁ ++ end) ∷ end ∷ []) ≡ (6 ∷ 0 ∷ []) ∷ (0 ∷ []) ∷ []
 unfolding le leBytes inLimits driveOf same busOk interfaceOk geometryFits fieldsOk inStore overlap headerOf headerAt overlapsAny refusal driveStep endStep stepOf stepAt readFrom readTable answerNumbers
 no-store = refl
+
+-- ---- what is read and written, by value
+
+-- two drives of different fields, in an order that is not that of their blocks: 80h has 5000 blocks from 9000, 81h 4000 from 100
+abbrev first-drive : Drive
+first-drive = record { cylinders = 11; heads = 12; sectors = 13; blocks = 5000; first = 9000; flags = 21; c = 7; h = 8; s = 9; protection = 1; bus = 73 ∷ 83 ∷ 65 ∷ 0 ∷ []; interface = 85 ∷ 83 ∷ 66 ∷ 0 ∷ 0 ∷ 0 ∷ 0 ∷ 0 ∷ []; path = 1 ∷ 2 ∷ 3 ∷ 4 ∷ 5 ∷ 6 ∷ 7 ∷ 8 ∷ []; device = 9 ∷ 10 ∷ 11 ∷ 12 ∷ 13 ∷ 14 ∷ 15 ∷ 16 ∷ [] }
+
+abbrev second-drive : Drive
+second-drive = record { cylinders = 31; heads = 32; sectors = 33; blocks = 4000; first = 100; flags = 34; c = 10; h = 11; s = 12; protection = 0; bus = 80 ∷ 67 ∷ 73 ∷ 0 ∷ []; interface = 65 ∷ 84 ∷ 65 ∷ 80 ∷ 73 ∷ 0 ∷ 0 ∷ 0 ∷ []; path = 17 ∷ 18 ∷ 19 ∷ 20 ∷ 21 ∷ 22 ∷ 23 ∷ 24 ∷ []; device = 25 ∷ 26 ∷ 27 ∷ 28 ∷ 29 ∷ 30 ∷ 31 ∷ 32 ∷ [] }
+
+abbrev first-bytes : List ℕ
+first-bytes = 68 ∷ 0 ∷ 1 ∷ 0 ∷ 11 ∷ 0 ∷ 0 ∷ 0 ∷ 12 ∷ 0 ∷ 0 ∷ 0 ∷ 13 ∷ 0 ∷ 0 ∷ 0 ∷ 136 ∷ 19 ∷ 0 ∷ 0 ∷ 0 ∷ 0 ∷ 0 ∷ 0 ∷ 40 ∷ 35 ∷ 0 ∷ 0 ∷ 0 ∷ 0 ∷ 0 ∷ 0 ∷ 21 ∷ 0 ∷ 7 ∷ 0 ∷ 8 ∷ 0 ∷ 9 ∷ 1 ∷ 73 ∷ 83 ∷ 65 ∷ 0 ∷ 85 ∷ 83 ∷ 66 ∷ 0 ∷ 0 ∷ 0 ∷ 0 ∷ 0 ∷ 1 ∷ 2 ∷ 3 ∷ 4 ∷ 5 ∷ 6 ∷ 7 ∷ 8 ∷ 9 ∷ 10 ∷ 11 ∷ 12 ∷ 13 ∷ 14 ∷ 15 ∷ 16 ∷ []
+
+abbrev second-bytes : List ℕ
+second-bytes = 68 ∷ 0 ∷ 1 ∷ 0 ∷ 31 ∷ 0 ∷ 0 ∷ 0 ∷ 32 ∷ 0 ∷ 0 ∷ 0 ∷ 33 ∷ 0 ∷ 0 ∷ 0 ∷ 160 ∷ 15 ∷ 0 ∷ 0 ∷ 0 ∷ 0 ∷ 0 ∷ 0 ∷ 100 ∷ 0 ∷ 0 ∷ 0 ∷ 0 ∷ 0 ∷ 0 ∷ 0 ∷ 34 ∷ 0 ∷ 10 ∷ 0 ∷ 11 ∷ 0 ∷ 12 ∷ 0 ∷ 80 ∷ 67 ∷ 73 ∷ 0 ∷ 65 ∷ 84 ∷ 65 ∷ 80 ∷ 73 ∷ 0 ∷ 0 ∷ 0 ∷ 17 ∷ 18 ∷ 19 ∷ 20 ∷ 21 ∷ 22 ∷ 23 ∷ 24 ∷ 25 ∷ 26 ∷ 27 ∷ 28 ∷ 29 ∷ 30 ∷ 31 ∷ 32 ∷ []
+
+abbrev two : Table
+two = record { drives = first-drive ∷ second-drive ∷ replicate 6 zeroDrive; count = 2 }
+
+-- read: each drive at its place, with its own fields
+pub two-read : readTable (first-bytes ++ second-bytes ++ end) 14000 .table ≡ two
+unfolding le leBytes inLimits driveOf same busOk interfaceOk geometryFits fieldsOk inStore overlap headerOf headerAt overlapsAny refusal driveStep endStep stepOf stepAt readFrom readTable
+two-read = refl
+
+-- refused at the second record, the table has the drive before it
+pub one-read : readTable (first-bytes ++ second-bytes ++ end) 4099 .table .count ∷ readTable (second-bytes ++ first-bytes ++ end) 4100 .table .count ∷ [] ≡ 0 ∷ 1 ∷ []
+unfolding le leBytes inLimits driveOf same busOk interfaceOk geometryFits fieldsOk inStore overlap headerOf headerAt overlapsAny refusal driveStep endStep stepOf stepAt readFrom readTable
+one-read = refl
+
+-- written: the records in the order of the places, then the end record
+pub two-written : tableOf two ≡ first-bytes ++ second-bytes ++ end
+unfolding leBytes recordOf geometryBytes sizeBytes nameBytes recordsOf bytesOf tableOf
+two-written = refl
+
+-- into a buffer: 139 bytes are too few and stay, 140 are enough, and of 142 the last two stay
+pub buffers : map (λ (n : ℕ). writtenNumbers (writeAnswer two n)) (0 ∷ 139 ∷ 140 ∷ 142 ∷ []) ≡ (19 ∷ []) ∷ (19 ∷ []) ∷ (0 ∷ 140 ∷ []) ∷ (0 ∷ 140 ∷ []) ∷ []
+unfolding leBytes recordOf geometryBytes sizeBytes nameBytes recordsOf bytesOf tableOf writeAnswer writtenNumbers
+buffers = refl
+
+pub laid : map (writeOut two) (replicate 139 7 ∷ replicate 140 7 ∷ replicate 142 7 ∷ [])
+    ≡ replicate 139 7 ∷ (first-bytes ++ second-bytes ++ end) ∷ (first-bytes ++ second-bytes ++ end ++ (7 ∷ 7 ∷ [])) ∷ []
+unfolding leBytes recordOf geometryBytes sizeBytes nameBytes recordsOf bytesOf tableOf writeOut
+laid = refl
+
+-- ---- a table that obeys the rules
+
+-- a table by its drives and its count
+abbrev table : List Drive → ℕ → Table
+table ds n = record { drives = ds; count = n }
+
+-- in a store of 14000 blocks
+--   two drives: true
+--   the other way round: true
+--   only the first counted, the second not blank: false
+--   three counted, the third blank: false
+--   none counted, all blank: true
+--   the same drive twice: false
+--   nine counted: false
+pub sound : map (λ (b : Table). isSound b 14000)
+    (two
+    ∷ table (second-drive ∷ first-drive ∷ replicate 6 zeroDrive) 2
+    ∷ table (first-drive ∷ second-drive ∷ replicate 6 zeroDrive) 1
+    ∷ table (first-drive ∷ second-drive ∷ replicate 6 zeroDrive) 3
+    ∷ table (replicate 8 zeroDrive) 0
+    ∷ table (first-drive ∷ first-drive ∷ replicate 6 zeroDrive) 2
+    ∷ table (first-drive ∷ second-drive ∷ replicate 6 zeroDrive) 9
+    ∷ [])
+    ≡ true ∷ true ∷ false ∷ false ∷ true ∷ false ∷ false ∷ []
+unfolding inLimits same busOk interfaceOk geometryFits fieldsOk inStore overlap overlapsAny refusal blankNumbers blankNames isBlank soundTo blankTo isSound
+sound = refl
+
+-- and in one of 13999: the drive from 9000 ends past it
+pub sound-short : isSound two 13999 ∷ isSound two 14000 ∷ [] ≡ false ∷ true ∷ []
+unfolding inLimits same busOk interfaceOk geometryFits fieldsOk inStore overlap overlapsAny refusal blankNumbers blankNames isBlank soundTo blankTo isSound
+sound-short = refl

@@ -4,26 +4,27 @@ use mathlib.Core.Path.{_≡_, refl, sym, ap, _∙_}
 use mathlib.Core.List.{List, [], _∷_, _++_}
 use Prim.Native.Nat.{ℕ, zero, suc, _+_, _-_, _≤_, _<_}
 use native.Mathlib.Nat.{zero-add}
-use native.Mathlib.Numerals.{add-one}
 use native.Mathlib.Omega.{arith}
 use lib.ListN.{length, take, drop, getD, set, length-drop, length-set, take-append-drop}
-use lib.Seq.{take-all, take-add, take-suc-set, length-take-le, getD-take, getD-drop, drop-drop}
+use lib.Seq.{take-all, take-add, length-take-le, getD-take, getD-drop, getD-set-same, getD-set-other, drop-drop}
+use Rattle.logic.proofs.LogicLaws.{impossible}
 use Rattle.words.specs.Words.{Bytes, le, leBytes, part}
-use Rattle.words.proofs.Words.{le-ext, write-read, bytes-part}
+use Rattle.words.proofs.WordsLaws.{le-ext, write-read, bytes-part}
 use Rattle.drive.specs.declared.Drive.{Drive}
 use Rattle.drive.specs.Drive.{driveOf, recordOf}
-use Rattle.drive.proofs.Drives.{record-drive}
+use Rattle.drive.proofs.DriveLaws.{record-drive}
 use Rattle.table.specs.declared.Table.{Table}
 use Rattle.table.specs.declared.Stepped.{Stepped}
 use Rattle.table.specs.declared.Header.the-variants.{Whole}
 use Rattle.table.specs.declared.Answer.the-variants.{Accepted}
-use Rattle.table.specs.Table.{headerAt, more, goOn, stepAt, readFrom, readTable, emptyTable, recordsOf, endRecord, bytesOf, drivesOf, tableOf}
-use Rattle.table.proofs.Tables.{stepAt-cases, whole-at, refusal-room, recordsOf-append, recordsOf-one}
+use Rattle.table.specs.Table.{noDrive, headerAt, more, goOn, stepAt, readFrom, readTable, emptyTable, recordsOf, endRecord, bytesOf, drivesOf, tableOf}
+use Rattle.table.proofs.TableLaws.{stepAt-cases, whole-at, refusal-room, recordsOf-more, recordsOf-ext, length-drives}
 
 -- the drives so far are the bytes so far
 record Read (t : List ℕ) (at : ℕ) (b : Table) : Type 0 where
-  same : recordsOf (drivesOf b) ≡ take at t
+  same : recordsOf (b .count) b ≡ take at t
   eight : length (b .drives) ≡ 8
+  most : b .count ≤ 8
   inside : at ≤ length t
 
 -- a word of a part is the word
@@ -34,44 +35,48 @@ le-part k n s at i h = le-ext k (part n s at) s i (at + i) (λ j l.
 
 module _ (t : List ℕ) (bytes : Bytes t) where
   -- a whole drive record is the record of its drive
-  whole-record : (at : ℕ) → headerAt t at ≡ Whole 1 → (recordOf (driveOf (part 68 t at)) ≡ part 68 t at) × (at + 68 ≤ length t)
+  whole-record : (at : ℕ) → headerAt t at ≡ Whole 1 68 → (recordOf (driveOf (part 68 t at)) ≡ part 68 t at) × (at + 68 ≤ length t)
   whole-record at h =
-      let w = whole-at t at 1 h in
+      let w = whole-at t at 1 68 h in
       let l : at + 68 ≤ length t = omega (arith, w .whole, w .header) in
       let n : length (part 68 t at) ≡ 68 = length-take-le 68 (drop at t) (simp length-drop (omega arith)) in (
-        record-drive (part 68 t at) (bytes-part 68 t at bytes) n (le-part 2 68 t at 0 (omega arith) ∙ rw native.Mathlib.Nat.add-zero (w .right)) (le-part 2 68 t at 2 (omega arith) ∙ w .same),
+        record-drive (part 68 t at) (bytes-part 68 t at bytes) n (le-part 2 68 t at 0 (omega arith) ∙ rw native.Mathlib.Nat.add-zero (w .long)) (le-part 2 68 t at 2 (omega arith) ∙ w .same),
         l,
       )
 
-  next-read : (at : ℕ) (b : Table) → Read t at b → b .count < 8 → headerAt t at ≡ Whole 1 → Read t (at + 68) (more b (driveOf (part 68 t at)))
+  next-read : (at : ℕ) (b : Table) → Read t at b → b .count < 8 → headerAt t at ≡ Whole 1 68 → Read t (at + 68) (more b (driveOf (part 68 t at)))
   next-read at b r room h =
       let d : Drive = driveOf (part 68 t at) in
       let w = whole-record at h in
       let i : b .count < length (b .drives) = omega (arith, r .eight) in
       record {
-        same = rw (add-one, take-suc-set (b .drives) (b .count) d i, recordsOf-append, recordsOf-one, w .0, r .same) (sym (take-add at 68 t));
+        same = recordsOf-more (b .count) (more b d)
+            ∙ rw (recordsOf-ext (b .count) (more b d) b (λ j l. getD-set-other (b .drives) (b .count) j d noDrive (λ x. omega arith)), getD-set-same (b .drives) (b .count) d noDrive i, w .0, r .same)
+            (sym (take-add at 68 t));
         eight = rw length-set (r .eight);
+        most = omega arith;
         inside = w .1;
       }
 
   -- the end record and nothing after it
-  last-read : (at : ℕ) (b : Table) → Read t at b → headerAt t at ≡ Whole 0 → length t ≤ at + 4 → tableOf b ≡ t
+  last-read : (at : ℕ) (b : Table) → Read t at b → headerAt t at ≡ Whole 0 4 → length t ≤ at + 4 → tableOf b ≡ t
   unfolding tableOf bytesOf
   last-read at b r h l =
-      let w = whole-at t at 0 h in
+      let w = whole-at t at 0 4 h in
       let q : at + 4 ≤ length t = omega (arith, w .header, r .inside) in
-      let e₀ : leBytes 2 4 ≡ part 2 t at = ap (leBytes 2) (sym (w .right)) ∙ write-read 2 t at bytes (omega arith) in
+      let n : length (drivesOf b) ≡ b .count = omega (arith, length-drives b (r .eight), r .most) in
+      let e₀ : leBytes 2 4 ≡ part 2 t at = ap (leBytes 2) (sym (w .long)) ∙ write-read 2 t at bytes (omega arith) in
       let e₂ : leBytes 2 0 ≡ part 2 t (at + 2) = ap (leBytes 2) (sym (w .same)) ∙ write-read 2 t (at + 2) bytes (omega arith) in
       let two : part 2 t at ++ part 2 t (at + 2) ≡ part 4 t at = rw (← drop-drop 2 at t) (sym (take-add 2 2 (drop at t))) in
       let rest : part 4 t at ≡ drop at t = take-all 4 (drop at t) (simp length-drop (omega arith)) in
-      rw (r .same, e₀, e₂, two, rest) (take-append-drop at t)
+      rw (n, r .same, e₀, e₂, two, rest) (take-append-drop at t)
 
   back : (k store at : ℕ) (b : Table) → Read t at b → readFrom k t store at b .answer ≡ Accepted → tableOf (readFrom k t store at b .table) ≡ t
   unfolding readFrom
-  back zero store at b r e = let z : _≡_ {A = ℕ} 0 1 = cc in absurd (omega arith)
+  back zero store at b r e = impossible (cc)
   back (suc k) store at b r e =
       stepAt-cases (λ (s : Stepped). goOn (s .step) (s .table) (readFrom k t store) .answer ≡ Accepted → tableOf (goOn (s .step) (s .table) (readFrom k t store) .table) ≡ t) t at b store
-      (λ n p q. let z : _≡_ {A = ℕ} 0 1 = cc in absurd (omega arith))
+      (λ n p q. impossible (cc))
       (λ h l q. last-read at b r h l)
       (λ h z q. back k store (at + 68) (more b (driveOf (part 68 t at))) (next-read at b r (refusal-room b (driveOf (part 68 t at)) store z) h) q)
       e
@@ -79,4 +84,4 @@ module _ (t : List ℕ) (bytes : Bytes t) where
 -- demand 2: a drive table read and written back gives the same bytes
 pub write-read-table : (t : List ℕ) (store : ℕ) → Bytes t → readTable t store .answer ≡ Accepted → tableOf (readTable t store .table) ≡ t
 unfolding readTable recordsOf
-write-read-table t store b e = back t b 9 store 0 emptyTable (record { same = refl; eight = refl; inside = omega arith }) e
+write-read-table t store b e = back t b 9 store 0 emptyTable (record { same = refl; eight = refl; most = omega arith; inside = omega arith }) e

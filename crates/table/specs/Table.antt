@@ -6,7 +6,7 @@ use mathlib.Core.Bool.{Bool, true, false, not}
 use mathlib.Core.List.{List, [], _∷_, _++_}
 use lib.ListN.{length, getD, set, take, drop, replicate}
 use lib.Dec.{leb, ltb, eqb}
-use Rattle.logic.specs.Logic.{pick, both, either}
+use Rattle.logic.specs.Logic.{pick, both, either, allBelow, someBelow}
 use Rattle.words.specs.Words.{le, leBytes, part}
 use Rattle.drive.specs.declared.Drive.{Drive}
 use Rattle.drive.specs.Drive.{Fits, driveKind, driveLength, driveOf, recordOf, fieldsOk, inStore, overlap, isBlank}
@@ -16,37 +16,45 @@ use Rattle.table.specs.declared.Header.the-variants.{Whole, Bad}
 use Rattle.table.specs.declared.Step.{Step}
 use Rattle.table.specs.declared.Step.the-variants.{Next, Done, Refused}
 use Rattle.table.specs.declared.Stepped.{Stepped}
+use Rattle.table.specs.declared.Cursor.{Cursor}
+use Rattle.table.specs.declared.Found.{Found}
 use Rattle.table.specs.declared.Answer.{Answer}
 use Rattle.table.specs.declared.Answer.the-variants.{Accepted, Refused as AnswerRefused}
 use Rattle.table.specs.declared.Reading.{Reading}
 use Rattle.table.specs.declared.Written.{Written}
 use Rattle.table.specs.declared.Written.the-variants.{Bytes, Refused as WriteRefused}
 
--- ---- the numbers of the refusals, in the order of the checks
+-- ---- "The drive table", the numbers of the refusals, in the order of the checks
 
 -- 1 fewer than 4 bytes left, or the record is cut off
 abbrev pub cutOff : ℕ
 cutOff = 1
 
+-- 3 unknown kind
 abbrev pub unknownKind : ℕ
 unknownKind = 3
 
+-- 2 wrong length for the kind
 abbrev pub wrongLength : ℕ
 wrongLength = 2
 
+-- 4 ninth drive
 abbrev pub ninthDrive : ℕ
 ninthDrive = 4
 
+-- 5 a field breaks its rule
 abbrev pub badField : ℕ
 badField = 5
 
+-- 6 first + blocks is above the store
 abbrev pub pastStore : ℕ
 pastStore = 6
 
+-- 7 it overlaps an earlier drive
 abbrev pub overlapping : ℕ
 overlapping = 7
 
--- a byte follows the end record
+-- 8 a byte follows the end record
 abbrev pub byteFollows : ℕ
 byteFollows = 8
 
@@ -54,38 +62,42 @@ byteFollows = 8
 abbrev pub shortBuffer : ℕ
 shortBuffer = 19
 
--- ---- a record: length first (word, whole record), then a two-byte kind
+-- ---- "The drive table", a record: length first (word, whole record), then a two-byte kind
 
--- kind 0, length 4, ends the table
+-- kind 0 ends the table
 abbrev pub endKind : ℕ
 endKind = 0
 
+-- and its record is 4 bytes
 abbrev pub endLength : ℕ
 endLength = 4
 
+-- the kinds that there are: 0 and 1
 abbrev pub isKind : ℕ → Bool
 isKind kind = either (eqb kind endKind) (eqb kind driveKind)
 
-abbrev pub recordLength : ℕ → ℕ
-recordLength kind = pick (eqb kind endKind) endLength driveLength
+-- the length for the kind: 4 for kind 0, 68 for kind 1
+abbrev pub lengthOk : ℕ → ℕ → Bool
+lengthOk kind size = either (both (eqb kind endKind) (eqb size endLength)) (both (eqb kind driveKind) (eqb size driveLength))
 
 -- the length word and the kind
 abbrev pub headerLength : ℕ
 headerLength = 4
 
--- checks 1, 3, 2, 1 of a record, from the bytes left, its length word and its kind
+-- checks 1, 3, 2, 1 of a record, from the bytes left, its length word and its kind: its refusal, or a whole record of a kind and a length
 unfoldable pub headerOf : ℕ → ℕ → ℕ → Header
 headerOf left size kind =
     pick (ltb left headerLength) (Bad cutOff)
     (pick (not (isKind kind)) (Bad unknownKind)
-    (pick (not (eqb size (recordLength kind))) (Bad wrongLength)
-    (pick (ltb left (recordLength kind)) (Bad cutOff)
-    (Whole kind))))
+    (pick (not (lengthOk kind size)) (Bad wrongLength)
+    (pick (ltb left size) (Bad cutOff)
+    (Whole kind size))))
 
+-- the header at a place: the length word first, the kind two bytes on
 unfoldable pub headerAt : List ℕ → ℕ → Header
 headerAt t at = headerOf (length t - at) (le 2 t at) (le 2 t (at + 2))
 
--- ---- a drive, among those before it: checks 4, 5, 6, 7
+-- ---- "The drive table", a drive among those before it: checks 4, 5, 6, 7
 
 -- "Drives: 0 to 8"
 abbrev pub mostDrives : ℕ
@@ -97,27 +109,32 @@ noDrive = record { cylinders = 0; heads = 0; sectors = 0; blocks = 0; first = 0;
 
 -- d overlaps one of the first n
 unfoldable pub overlapsAny : ℕ → List Drive → Drive → Bool
-overlapsAny zero l d = false
-overlapsAny (suc n) l d = either (overlap d (getD l n noDrive)) (overlapsAny n l d)
+overlapsAny n l d = someBelow n (λ i. overlap d (getD l i noDrive))
 
--- the refusal of a drive, or 0 where it is taken
-unfoldable pub refusal : Table → Drive → ℕ → ℕ
-refusal b d store =
-    pick (leb mostDrives (b .count)) ninthDrive
+-- the refusal of a drive after n others, which it overlaps or not; or 0 where it is taken
+abbrev pub refusalBy : ℕ → Bool → Drive → ℕ → ℕ
+refusalBy n overlaps d store =
+    pick (leb mostDrives n) ninthDrive
     (pick (not (fieldsOk d)) badField
     (pick (not (inStore d store)) pastStore
-    (pick (overlapsAny (b .count) (b .drives) d) overlapping
+    (pick overlaps overlapping
     0)))
+
+-- the refusal of a drive after those of a table
+unfoldable pub refusal : Table → Drive → ℕ → ℕ
+refusal b d store = refusalBy (b .count) (overlapsAny (b .count) (b .drives) d) d store
 
 -- the drives so far with one more
 abbrev pub more : Table → Drive → Table
 more b d = record { drives = set (b .drives) (b .count) d; count = b .count + 1 }
 
--- ---- one step of the reader; a refusal names the record's start
+-- ---- "The drive table", one step of the reader; a refusal names the record's start
 
+-- what a record was, and the drives after it
 abbrev pub stepped : Step → Table → Stepped
 stepped s b = record { step = s; table = b }
 
+-- a drive with its refusal, or 0: refused at its record's start, or taken, and on behind its record
 unfoldable pub driveStep : ℕ → Drive → Table → ℕ → Stepped
 driveStep n d b at = pick (eqb n 0) (stepped (Next (at + driveLength)) (more b d)) (stepped (Refused n at) b)
 
@@ -125,26 +142,48 @@ driveStep n d b at = pick (eqb n 0) (stepped (Next (at + driveLength)) (more b d
 unfoldable pub endStep : List ℕ → ℕ → Table → Stepped
 endStep t at b = pick (ltb (at + endLength) (length t)) (stepped (Refused byteFollows (at + endLength)) b) (stepped Done b)
 
--- the step from the drive that the record's bytes say
-abbrev pub bodyStep : Drive → Table → ℕ → ℕ → Stepped
-bodyStep d b at store = driveStep (refusal b d store) d b at
+-- the step over the bytes of a drive's record, which begins at a place
+abbrev pub driveRecord : List ℕ → Table → ℕ → ℕ → Stepped
+driveRecord r b at store = driveStep (refusal b (driveOf r) store) (driveOf r) b at
 
+-- by the header: its refusal at the record's start, or the step of the record's kind over exactly its bytes
 unfoldable pub stepOf : Header → List ℕ → ℕ → Table → ℕ → Stepped
 stepOf (Bad n) t at b store = stepped (Refused n at) b
-stepOf (Whole kind) t at b store = pick (eqb kind endKind) (endStep t at b) (bodyStep (driveOf (part driveLength t at)) b at store)
+stepOf (Whole kind size) t at b store = pick (eqb kind endKind) (endStep t at b) (driveRecord (part size t at) b at store)
 
+-- the record at a place, among the drives before it
 unfoldable pub stepAt : List ℕ → ℕ → Table → ℕ → Stepped
 stepAt t at b store = stepOf (headerAt t at) t at b store
 
--- ---- the whole table
+-- the place after a record that began at `at`: behind it, or where it was, at the end of the table and at a refusal
+abbrev pub placeAfter : Step → ℕ → ℕ
+placeAfter (Next next) at = next
+placeAfter Done at = at
+placeAfter (Refused n place) at = at
+
+-- where the reading stands after a record that began at `at`
+abbrev pub cursorAfter : ℕ → Stepped → Cursor
+cursorAfter at r = record { at = placeAfter (r .step) at; step = r .step; table = r .table }
+
+-- a step from where the reading stands: what the record was, the drives after it, and the next place, which the reader remembers
+unfoldable pub advanced : List ℕ → Cursor → ℕ → Cursor
+advanced t c store = cursorAfter (c .at) (stepAt t (c .at) (c .table) store)
+
+-- ---- "The drive table", the whole table
 
 -- a place that no drive was read into
 abbrev pub zeroDrive : Drive
 zeroDrive = record { cylinders = 0; heads = 0; sectors = 0; blocks = 0; first = 0; flags = 0; c = 0; h = 0; s = 0; protection = 0; bus = replicate 4 0; interface = replicate 8 0; path = replicate 8 0; device = replicate 8 0 }
 
+-- the table with no drive
 abbrev pub emptyTable : Table
 emptyTable = record { drives = replicate mostDrives zeroDrive; count = 0 }
 
+-- before the first record
+abbrev pub begun : Cursor
+begun = record { at = 0; step = Next 0; table = emptyTable }
+
+-- what a table was, and the drives that were taken
 abbrev pub reading : Answer → Table → Reading
 reading a b = record { answer = a; table = b }
 
@@ -154,17 +193,51 @@ goOn (Next at) b f = f at b
 goOn Done b f = reading Accepted b
 goOn (Refused n at) b f = reading (AnswerRefused n at) b
 
--- at most k records from a place; the ninth drive is refused, so that nine are enough and the first clause is never met
+-- at most k records from a place; where k are enough the first clause is never met
 unfoldable pub readFrom : ℕ → List ℕ → ℕ → ℕ → Table → Reading
 readFrom zero t store at b = reading (AnswerRefused ninthDrive at) b
 readFrom (suc k) t store at b = goOn (stepAt t at b store .step) (stepAt t at b store .table) (readFrom k t store)
 
+-- enough records: eight drives, and the end record or the ninth drive, which is refused
+abbrev pub mostRecords : ℕ
+mostRecords = 9
+
 -- the drives of a table's bytes, or the refusal with its place and the drives before it
 unfoldable pub readTable : List ℕ → ℕ → Reading
-readTable t store = readFrom 9 t store 0 emptyTable
+readTable t store = readFrom mostRecords t store 0 emptyTable
 
--- ---- a list of drives that obeys the rules
+-- ---- "The drive table", a record as it is found, and a drive among the runs of blocks of those before it
 
+-- a record that ends the reading holds no drive
+abbrev pub foundEnd : Step → Found
+foundEnd s = record { step = s; drive = zeroDrive }
+
+-- by the header: its refusal, the end of the table or the byte that follows it, or the next place and the drive
+unfoldable pub foundOf : Header → List ℕ → ℕ → Found
+foundOf (Bad n) t at = foundEnd (Refused n at)
+foundOf (Whole kind size) t at =
+    pick (eqb kind endKind) (foundEnd (pick (ltb (at + size) (length t)) (Refused byteFollows (at + size)) Done))
+    (record { step = Next (at + size); drive = driveOf (part size t at) })
+
+-- the record at a place
+unfoldable pub foundAt : List ℕ → ℕ → Found
+foundAt t at = foundOf (headerAt t at) t at
+
+-- two runs of blocks share one, as two drives do
+unfoldable pub overlapRuns : ℕ → ℕ → ℕ → ℕ → Bool
+overlapRuns first blocks other others = pick (leb first other) (ltb other (first + blocks)) (ltb first (other + others))
+
+-- d shares one with one of the first n runs
+unfoldable pub overlapsRun : ℕ → List ℕ → List ℕ → Drive → Bool
+overlapsRun n firsts sizes d = someBelow n (λ i. overlapRuns (d .first) (d .blocks) (getD firsts i 0) (getD sizes i 0))
+
+-- the refusal of a drive after n others, of which it is given the runs
+unfoldable pub refusalAmong : ℕ → List ℕ → List ℕ → Drive → ℕ → ℕ
+refusalAmong n firsts sizes d store = refusalBy n (overlapsRun n firsts sizes d) d store
+
+-- ---- "The drive table", a list of drives that obeys the rules
+
+-- the drives so far with a list of more
 abbrev pub pushAll : Table → List Drive → Table
 pushAll b [] = b
 pushAll b (d ∷ ds) = pushAll (more b d) ds
@@ -174,63 +247,127 @@ pub data Taken (store : ℕ) : Table → List Drive → Type 0 where
   none : {b : Table} → Taken store b []
   one : {b : Table} {d : Drive} {ds : List Drive} → Fits d → refusal b d store ≡ 0 → Taken store (more b d) ds → Taken store b (d ∷ ds)
 
--- ---- the table written back
+-- ---- "Calls the host makes", write: the table written back
 
+-- the end record
 abbrev pub endRecord : List ℕ
 endRecord = leBytes 2 endLength ++ leBytes 2 endKind
 
-unfoldable pub recordsOf : List Drive → List ℕ
-recordsOf [] = []
-recordsOf (d ∷ ds) = recordOf d ++ recordsOf ds
+-- the records of a place: its drive's
+abbrev pub placeRecords : Table → ℕ → List ℕ
+placeRecords b i = recordOf (getD (b .drives) i noDrive)
 
--- the bytes of a list of drives
-unfoldable pub bytesOf : List Drive → List ℕ
-bytesOf ds = recordsOf ds ++ endRecord
+-- the records of the first n places
+unfoldable pub recordsOf : ℕ → Table → List ℕ
+recordsOf zero b = []
+recordsOf (suc n) b = recordsOf n b ++ placeRecords b n
+
+-- the bytes of the first n places as a table
+unfoldable pub bytesOf : ℕ → Table → List ℕ
+bytesOf n b = recordsOf n b ++ endRecord
 
 -- the drives that a table holds
 abbrev pub drivesOf : Table → List Drive
 drivesOf b = take (b .count) (b .drives)
 
+-- the table's bytes: the records of its drives' places, and the end record
 unfoldable pub tableOf : Table → List ℕ
-tableOf b = bytesOf (drivesOf b)
+tableOf b = bytesOf (length (drivesOf b)) b
 
 -- write: 19 if the buffer is shorter, which then stays; else the bytes past the table stay
 unfoldable pub writeAnswer : Table → ℕ → Written
 writeAnswer b room = pick (ltb room (length (tableOf b))) (WriteRefused shortBuffer) (Bytes (length (tableOf b)))
 
+-- what is then in the buffer
 unfoldable pub writeOut : Table → List ℕ → List ℕ
 writeOut b out = pick (ltb (length out) (length (tableOf b))) out (tableOf b ++ drop (length (tableOf b)) out)
 
--- ---- the answers as numbers: 0 and the values, or the refusal's number and its place
+-- ---- "The drive table", the answers as numbers: 0 and the values, or the refusal's number and its place; no two answers have the same
 
+-- 0, a drive's kind and the next place; 0 alone at the end; or the number and the place
 unfoldable pub stepNumbers : Step → List ℕ
-stepNumbers (Next at) = 0 ∷ at ∷ []
+stepNumbers (Next at) = 0 ∷ 1 ∷ at ∷ []
 stepNumbers Done = 0 ∷ []
 stepNumbers (Refused n at) = n ∷ at ∷ []
 
+-- 0, or the number and the place
 unfoldable pub answerNumbers : Answer → List ℕ
 answerNumbers Accepted = 0 ∷ []
 answerNumbers (AnswerRefused n at) = n ∷ at ∷ []
 
+-- 0 and how many bytes, or the house number
 unfoldable pub writtenNumbers : Written → List ℕ
 writtenNumbers (Bytes n) = 0 ∷ n ∷ []
 writtenNumbers (WriteRefused n) = n ∷ []
 
--- ---- a table that obeys the rules, as a desk holds it
+-- the numbers of a whole record of a kind and a length: the end record's, or a drive's with its refusal
+abbrev pub wholeNumbers : List ℕ → ℕ → Table → ℕ → ℕ → ℕ → List ℕ
+wholeNumbers t at b store kind size =
+    pick (eqb kind 0) (pick (ltb (at + 4) (length t)) (8 ∷ (at + 4) ∷ []) (0 ∷ []))
+    (pick (eqb (refusal b (driveOf (part size t at)) store) 0) (0 ∷ 1 ∷ (at + 68) ∷ []) (refusal b (driveOf (part size t at)) store ∷ at ∷ []))
+
+-- the numbers of a record at a place, straight from its length word, its kind and its bytes: the checks in the paper's order
+unfoldable pub recordNumbers : List ℕ → ℕ → Table → ℕ → List ℕ
+recordNumbers t at b store =
+    pick (ltb (length t - at) 4) (1 ∷ at ∷ [])
+    (pick (not (isKind (le 2 t (at + 2)))) (3 ∷ at ∷ [])
+    (pick (not (lengthOk (le 2 t (at + 2)) (le 2 t at))) (2 ∷ at ∷ [])
+    (pick (ltb (length t - at) (le 2 t at)) (1 ∷ at ∷ [])
+    (wholeNumbers t at b store (le 2 t (at + 2)) (le 2 t at)))))
+
+-- on from a record's numbers, where they name a next place
+abbrev pub onward : List ℕ → (ℕ → List ℕ) → List ℕ
+onward [] f = []
+onward (n ∷ []) f = n ∷ []
+onward (n ∷ at ∷ []) f = n ∷ at ∷ []
+onward (n ∷ kind ∷ next ∷ l) f = f next
+
+-- the numbers of a table's bytes: those of its first record that does not name a next one
+unfoldable pub numbersFrom : ℕ → List ℕ → ℕ → ℕ → Table → List ℕ
+numbersFrom zero t store at b = 4 ∷ at ∷ []
+numbersFrom (suc k) t store at b = onward (recordNumbers t at b store) (λ next. numbersFrom k t store next (stepAt t at b store .table))
+
+-- from the first record on
+unfoldable pub tableNumbers : List ℕ → ℕ → List ℕ
+tableNumbers t store = numbersFrom mostRecords t store 0 emptyTable
+
+-- the numbers of a write into room for so many bytes
+unfoldable pub writeNumbers : Table → ℕ → List ℕ
+writeNumbers b room = pick (ltb room (length (tableOf b))) (19 ∷ []) (0 ∷ length (tableOf b) ∷ [])
+
+-- ---- "The drive table", what the calls promise: the answer, and its numbers
+
+-- one record on
+pub record Advances (t : List ℕ) (c : Cursor) (store : ℕ) (r : Cursor) : Type 0 where
+  pub cursor : r ≡ advanced t c store
+  pub numbers : stepNumbers (r .step) ≡ recordNumbers t (c .at) (c .table) store
+
+-- the whole table
+pub record Reads (t : List ℕ) (store : ℕ) (r : Reading) : Type 0 where
+  pub reading : r ≡ readTable t store
+  pub numbers : answerNumbers (r .answer) ≡ tableNumbers t store
+
+-- ---- "The drive table", a table that obeys the rules, as a desk holds it
 
 -- the table of the first n drives
 abbrev pub firstDrives : List Drive → ℕ → Table
 firstDrives l n = record { drives = l; count = n }
 
+-- the drive at place i is taken after those before it
+abbrev pub takenAt : List Drive → ℕ → ℕ → Bool
+takenAt l store i = eqb (refusal (firstDrives l i) (getD l i noDrive) store) 0
+
 -- each of the first n drives is taken after those before it
 unfoldable pub soundTo : ℕ → List Drive → ℕ → Bool
-soundTo zero l store = true
-soundTo (suc n) l store = both (eqb (refusal (firstDrives l n) (getD l n noDrive) store) 0) (soundTo n l store)
+soundTo n l store = allBelow n (takenAt l store)
+
+-- place i is blank, if it is past the count
+abbrev pub blankAt : List Drive → ℕ → ℕ → Bool
+blankAt l count i = either (ltb i count) (isBlank (getD l i noDrive))
 
 -- of the first n places, those past the count are blank
 unfoldable pub blankTo : ℕ → List Drive → ℕ → Bool
-blankTo zero l count = true
-blankTo (suc n) l count = both (either (ltb n count) (isBlank (getD l n noDrive))) (blankTo n l count)
+blankTo n l count = allBelow n (blankAt l count)
 
 -- at most eight drives, each of which the reader would take, and blank places past them
 unfoldable pub isSound : Table → ℕ → Bool

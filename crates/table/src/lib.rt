@@ -1,13 +1,12 @@
 // The drive table: a cursor that reads one record, a reader that holds its bytes, the whole table, and the writer.
 use drive::Drive;
 ghost use mathlib.Core.Path.{_≡_};
-ghost use Prim.Native.Nat.{_+_, _-_, _*_, _≤_, _<_, min};
-ghost use lib.ListN.{length, take};
+ghost use Prim.Native.Nat.{_+_, _-_, _*_, _^_, _≤_, _<_, min};
+ghost use lib.ListN.{length};
 ghost use lib.Seq.{sets};
-ghost use Rattle.words.specs.Words.{part};
-ghost use Rattle.drive.specs.Drive.{driveOf, fieldsOk, inStore};
+ghost use Rattle.drive.specs.Drive.{fieldsOk, inStore};
 ghost use Rattle.logic.specs.Logic.{both};
-ghost use Rattle.table.specs.Table.{isKind, recordLength, headerAt, overlapsAny, refusal, more, endStep, bodyStep, stepAt, zeroDrive, emptyTable, readTable, recordsOf, drivesOf, tableOf, writeAnswer, writeOut, soundTo, blankTo, isSound};
+ghost use Rattle.table.specs.Table.{isKind, lengthOk, headerAt, overlapsAny, refusal, more, endStep, driveRecord, stepAt, placeAfter, Advances, begun, zeroDrive, emptyTable, Reads, recordsOf, drivesOf, tableOf, writeAnswer, writeOut, writtenNumbers, writeNumbers, soundTo, blankTo, isSound, foundEnd, foundAt, overlapRuns, overlapsRun, refusalAmong};
 
 // Document 01's refusals of a table, in the order of the checks.
 const CUT_OFF: u8 = 1;
@@ -29,13 +28,19 @@ const BYTE_FOLLOWS: u8 = 8;
 // House number of a write to a buffer shorter than the table.
 const SHORT_BUFFER: u8 = 19;
 
+// The end record.
 const END_KIND: u16 = 0;
 
-const END_LENGTH: usize = 4;
+const END_LENGTH: u16 = 4;
 
-const DRIVE_KIND: u16 = 1;
+// The length word and the kind.
+const HEADER_LENGTH: usize = 4;
 
-const DRIVE_LENGTH: usize = 68;
+// Enough records: eight drives, and the end record or the ninth drive, which is refused.
+const MOST_RECORDS: usize = 9;
+
+// Drives: 0 to 8.
+const MOST_DRIVES: usize = 8;
 
 // The drives in table order; the first `count` places are in use.
 pub struct Table {
@@ -43,9 +48,9 @@ pub struct Table {
     pub count: usize,
 }
 
-// What the first four bytes of a record and the bytes left say: a whole record of a kind, or its refusal.
+// What the first four bytes of a record and the bytes left say: a whole record of a kind and a length, or its refusal.
 enum Header {
-    Whole(u16),
+    Whole(u16, usize),
     Bad(u8),
 }
 
@@ -57,6 +62,14 @@ pub enum Step {
 }
 
 pub struct Stepped {
+    pub step: Step,
+    pub table: Table,
+}
+
+// Where a reading stands: the place of the next record, what the record before it was, and the drives so far. At the end of the table
+// and at a refusal the place stays.
+pub struct Cursor {
+    pub at: usize,
     pub step: Step,
     pub table: Table,
 }
@@ -89,23 +102,23 @@ fn bytes_left(n: usize, at: usize) -> usize
 fn is_kind(kind: u16) -> bool
     ensures { λ r. ⌜ r ≡ isKind kind ⌝ }
 {
-    logic::or(kind == END_KIND, kind == DRIVE_KIND)
+    logic::or(kind == END_KIND, kind == drive::DRIVE_KIND)
 }
 
-fn record_length(kind: u16) -> usize
-    ensures { λ r. ⌜ r ≡ recordLength kind ⌝ }
+// The length for the kind.
+fn length_ok(kind: u16, size: u16) -> bool
+    ensures { λ r. ⌜ r ≡ lengthOk kind size ⌝ }
 {
-    if kind == END_KIND {
-        return END_LENGTH;
-    }
-    DRIVE_LENGTH
+    let end = logic::and(kind == END_KIND, size == END_LENGTH);
+    let drive = logic::and(kind == drive::DRIVE_KIND, size == drive::DRIVE_LENGTH);
+    logic::or(end, drive)
 }
 
 fn header_at(t: &[u8], at: usize) -> Header
     ensures { λ r. ⌜ r ≡ headerAt (now (t .entry)) at ⌝ }
 {
     let left = bytes_left(t.len(), at);
-    if left < 4 {
+    if left < HEADER_LENGTH {
         return Header::Bad(CUT_OFF);
     }
     let size = words::get16(t, at);
@@ -113,40 +126,48 @@ fn header_at(t: &[u8], at: usize) -> Header
     if !is_kind(kind) {
         return Header::Bad(UNKNOWN_KIND);
     }
-    let whole = record_length(kind);
-    if size as usize != whole {
+    if !length_ok(kind, size) {
         return Header::Bad(WRONG_LENGTH);
     }
+    let whole = size as usize;
     if left < whole {
         return Header::Bad(CUT_OFF);
     }
-    Header::Whole(kind)
+    Header::Whole(kind, whole)
 }
 
 // ---- a drive among those before it
 
-// d overlaps one of the drives so far. `refusal_of` has tested that there are at most eight.
-fn overlaps_any(b: Table, d: Drive) -> bool
-    requires { ⌜ b .count ≤ 8 ⌝ }
-    ensures { λ r. ⌜ r ≡ overlapsAny (b .count) (b .drives) d ⌝ }
+// Two runs of blocks share one. Tested by differences, as drives are.
+fn runs_overlap(first: u64, blocks: u64, other: u64, others: u64) -> bool
+    ensures { λ r. ⌜ r ≡ overlapRuns first blocks other others ⌝ }
 {
-    let drives = b.drives;
-    let n = b.count;
+    if first <= other {
+        other - first < blocks
+    } else {
+        first - other < others
+    }
+}
+
+// d overlaps one of n runs. Numbers are lent where drives would be copied, which is most of what a reading costs.
+fn overlaps_run(d: Drive, firsts: &[u64; 8], sizes: &[u64; 8], n: usize) -> bool
+    requires { ⌜ n ≤ 8 ⌝ }
+    ensures { λ r. ⌜ r ≡ overlapsRun n (now (firsts .entry)) (now (sizes .entry)) d ⌝ }
+{
     let mut found = false;
     let mut i = 0;
     while i < n {
-        let e = drives[i];
-        found = logic::or(drive::overlaps(d, e), found);
+        found = logic::or(runs_overlap(d.first, d.blocks, firsts[i], sizes[i]), found);
         i += 1;
     }
     found
 }
 
-// The refusal of a drive, or 0.
-fn refusal_of(b: Table, d: Drive, store: u64) -> u8
-    ensures { λ r. ⌜ r ≡ refusal b d store ⌝ }
+// The refusal of a drive among n runs, or 0.
+fn refusal_among(d: Drive, store: u64, firsts: &[u64; 8], sizes: &[u64; 8], n: usize) -> u8
+    ensures { λ r. ⌜ r ≡ refusalAmong n (now (firsts .entry)) (now (sizes .entry)) d store ⌝ }
 {
-    if 8 <= b.count {
+    if MOST_DRIVES <= n {
         return NINTH_DRIVE;
     }
     if !drive::fields_ok(d) {
@@ -155,10 +176,27 @@ fn refusal_of(b: Table, d: Drive, store: u64) -> u8
     if !drive::in_store(d, store) {
         return PAST_STORE;
     }
-    if overlaps_any(b, d) {
+    if overlaps_run(d, firsts, sizes, n) {
         return OVERLAPPING;
     }
     0
+}
+
+// The refusal of a drive after those of a table, or 0.
+fn refusal_of(b: Table, d: Drive, store: u64) -> u8
+    ensures { λ r. ⌜ r ≡ refusal b d store ⌝ }
+{
+    let drives = b.drives;
+    let mut firsts = [0u64; 8];
+    let mut sizes = [0u64; 8];
+    let mut i = 0;
+    while i < 8 {
+        let e = drives[i];
+        firsts[i] = e.first;
+        sizes[i] = e.blocks;
+        i += 1;
+    }
+    refusal_among(d, store, &firsts, &sizes, b.count)
 }
 
 // The drives so far with one more, which `refusal_of` has not refused as the ninth.
@@ -180,9 +218,10 @@ fn end_step(t: &[u8], at: usize, b: Table) -> Stepped
     requires { ⌜ at + 4 ≤ length (now t) ⌝ }
     ensures { λ r. ⌜ r ≡ endStep (now (t .entry)) at b ⌝ }
 {
-    if at + END_LENGTH < t.len() {
+    let next = at + END_LENGTH as usize;
+    if next < t.len() {
         return Stepped {
-            step: Step::Refused(BYTE_FOLLOWS, at + END_LENGTH),
+            step: Step::Refused(BYTE_FOLLOWS, next),
             table: b,
         };
     }
@@ -192,17 +231,16 @@ fn end_step(t: &[u8], at: usize, b: Table) -> Stepped
     }
 }
 
-// The drive record at a place; `step_at` has seen that it is whole.
-fn drive_step(t: &[u8], at: usize, b: Table, store: u64) -> Stepped
-    requires { ⌜ at + 68 ≤ length (now t) ⌝ }
-    ensures { λ r. ⌜ r ≡ bodyStep (driveOf (part 68 (now (t .entry)) at)) b at store ⌝ }
+// The bytes of a drive's record, which begins at a place; `step_at` has seen that they are there and hands on no others.
+fn drive_step(r: &[u8], at: usize, b: Table, store: u64) -> Stepped
+    requires { ⌜ (length (now r) ≡ 68) × (at + 68 < 2 ^ 64) ⌝ }
+    ensures { λ q. ⌜ q ≡ driveRecord (now (r .entry)) b at store ⌝ }
 {
-    let next = at + DRIVE_LENGTH;
-    let d = drive::decode(&t[at..next]);
+    let d = drive::decode(r);
     let n = refusal_of(b, d, store);
     if n == 0 {
         return Stepped {
-            step: Step::Next(next),
+            step: Step::Next(at + r.len()),
             table: push(b, d),
         };
     }
@@ -213,7 +251,7 @@ fn drive_step(t: &[u8], at: usize, b: Table, store: u64) -> Stepped
 }
 
 // The record at a place, given the drives before it and the store's number of blocks.
-pub fn step_at(t: &[u8], at: usize, b: Table, store: u64) -> Stepped
+fn step_at(t: &[u8], at: usize, b: Table, store: u64) -> Stepped
     ensures { λ r. ⌜ r ≡ stepAt (now (t .entry)) at b store ⌝ }
 {
     let h = header_at(t, at);
@@ -222,55 +260,76 @@ pub fn step_at(t: &[u8], at: usize, b: Table, store: u64) -> Stepped
             step: Step::Refused(n, at),
             table: b,
         },
-        Header::Whole(kind) => {
+        Header::Whole(kind, size) => {
             if kind == END_KIND {
-                end_step(t, at, b)
-            } else {
-                drive_step(t, at, b, store)
+                return end_step(t, at, b);
             }
+            let next = at + size;
+            drive_step(&t[at..next], at, b, store)
         }
+    }
+}
+
+// The place after a record that began at `at`.
+fn place_after(s: Step, at: usize) -> usize
+    ensures { λ r. ⌜ r ≡ placeAfter s at ⌝ }
+{
+    match s {
+        Step::Next(next) => next,
+        Step::Done => at,
+        Step::Refused(_, _) => at,
+    }
+}
+
+// The record at the cursor's place, and on to the next.
+pub fn advance(t: &[u8], c: Cursor, store: u64) -> Cursor
+    ensures { λ r. ⌜ Advances (now (t .entry)) c store r ⌝ }
+{
+    let at = c.at;
+    let b = c.table;
+    let r = step_at(t, at, b, store);
+    let s = r.step;
+    let next = r.table;
+    Cursor {
+        at: place_after(s, at),
+        step: s,
+        table: next,
     }
 }
 
 // ---- the reader that holds its bytes
 
-// The bytes of a table and the place of its next record.
+// The bytes of a table, and where their reading stands.
 pub struct Reader<'a> {
     pub bytes: &'a [u8],
-    pub at: usize,
+    pub cursor: Cursor,
 }
 
 impl<'a> Reader<'a> {
-    // The reader at the first record.
-    pub fn new(bytes: &'a [u8]) -> Self
-        ensures { λ r. ⌜ (r .bytes ≡ bytes .entry) × (r .at ≡ 0) ⌝ }
+    // The reader of those bytes at a cursor.
+    pub fn new(bytes: &'a [u8], cursor: Cursor) -> Self
+        ensures { λ r. ⌜ (r .bytes ≡ bytes .entry) × (r .cursor ≡ cursor) ⌝ }
     {
-        Reader { bytes, at: 0 }
+        Reader { bytes, cursor }
     }
 
-    // The record at the reader's place.
-    pub fn step(self, b: Table, store: u64) -> Stepped
-        ensures { λ r. ⌜ r ≡ stepAt (now (self .entry .bytes)) (self .entry .at) b store ⌝ }
+    // The reader, handed back at the next place with what it found.
+    pub fn step(self, store: u64) -> Self
+        ensures { λ q. ⌜ (q .bytes ≡ self .entry .bytes) × Advances (now (self .entry .bytes)) (self .entry .cursor) store (q .cursor) ⌝ }
     {
-        step_at(self.bytes, self.at, b, store)
-    }
-
-    // The reader, handed back at the next place.
-    pub fn moved(self, at: usize) -> Self
-        ensures { λ q. ⌜ (q .bytes ≡ self .entry .bytes) × (q .at ≡ at) ⌝ }
-    {
+        let cursor = advance(self.bytes, self.cursor, store);
         Reader {
             bytes: self.bytes,
-            at,
+            cursor,
         }
     }
 }
 
-// The record at a place, by a reader.
-pub fn record_at(t: &[u8], at: usize, b: Table, store: u64) -> Stepped
-    ensures { λ r. ⌜ r ≡ stepAt (now (t .entry)) at b store ⌝ }
+// One record on, by a reader.
+pub fn record_at(t: &[u8], c: Cursor, store: u64) -> Cursor
+    ensures { λ r. ⌜ Advances (now (t .entry)) c store r ⌝ }
 {
-    Reader::new(t).moved(at).step(b, store)
+    Reader::new(t, c).step(store).cursor
 }
 
 // ---- the whole table
@@ -307,20 +366,83 @@ pub fn empty_table() -> Table
     }
 }
 
-// All drives of a table, for a store of that many blocks. Nine records are enough, since the ninth drive is refused.
+// Before the first record.
+pub fn start() -> Cursor
+    ensures { λ r. ⌜ r ≡ begun ⌝ }
+{
+    Cursor {
+        at: 0,
+        step: Step::Next(0),
+        table: empty_table(),
+    }
+}
+
+// What stands at a place, before it is tested among the drives so far: what ends the reading, or the next place and a drive.
+pub struct Found {
+    pub step: Step,
+    pub drive: Drive,
+}
+
+fn ended(step: Step) -> Found
+    ensures { λ r. ⌜ r ≡ foundEnd step ⌝ }
+{
+    Found {
+        step,
+        drive: zero_drive(),
+    }
+}
+
+fn found_at(t: &[u8], at: usize) -> Found
+    ensures { λ r. ⌜ r ≡ foundAt (now (t .entry)) at ⌝ }
+{
+    let h = header_at(t, at);
+    match h {
+        Header::Bad(n) => ended(Step::Refused(n, at)),
+        Header::Whole(kind, size) => {
+            let next = at + size;
+            if kind != END_KIND {
+                return Found {
+                    step: Step::Next(next),
+                    drive: drive::decode(&t[at..next]),
+                };
+            }
+            if next < t.len() {
+                return ended(Step::Refused(BYTE_FOLLOWS, next));
+            }
+            ended(Step::Done)
+        }
+    }
+}
+
+// All drives of a table, for a store of that many blocks. The runs of the drives so far stand beside them.
 pub fn read_table(t: &[u8], store: u64) -> Reading
-    ensures { λ r. ⌜ r ≡ readTable (now (t .entry)) store ⌝ }
+    ensures { λ r. ⌜ Reads (now (t .entry)) store r ⌝ }
 {
     let mut at = 0;
     let mut b = empty_table();
-    let mut left: usize = 9;
+    let mut firsts = [0u64; 8];
+    let mut sizes = [0u64; 8];
+    let mut left: usize = MOST_RECORDS;
     while 0 < left {
-        let r = record_at(t, at, b, store);
-        b = r.table;
-        let s = r.step;
+        let f = found_at(t, at);
+        let s = f.step;
+        let d = f.drive;
         match s {
-            Step::Next(n) => {
-                at = n;
+            Step::Next(next) => {
+                let n = b.count;
+                let number = refusal_among(d, store, &firsts, &sizes, n);
+                if number != 0 {
+                    return Reading {
+                        answer: Answer::Refused(number, at),
+                        table: b,
+                    };
+                }
+                b.drives[n] = d;
+                b.count = n + 1;
+                firsts[n] = d.first;
+                sizes[n] = d.blocks;
+                at = next;
+                left -= 1;
             }
             Step::Done => {
                 return Reading {
@@ -335,7 +457,6 @@ pub fn read_table(t: &[u8], store: u64) -> Reading
                 };
             }
         }
-        left -= 1;
     }
     Reading {
         answer: Answer::Refused(NINTH_DRIVE, at),
@@ -349,33 +470,37 @@ pub fn read_table(t: &[u8], store: u64) -> Reading
 fn held(count: usize) -> usize
     ensures { λ r. ⌜ r ≡ min count 8 ⌝ }
 {
-    if count <= 8 { count } else { 8 }
+    if count <= MOST_DRIVES {
+        count
+    } else {
+        MOST_DRIVES
+    }
 }
 
-// The length of the records of the first n drives. `write_table` asks for at most eight.
-fn records_length(drives: [Drive; 8], n: usize) -> usize
+// The length of the records of the first n places. `write_table` asks for at most eight.
+fn records_length(b: Table, n: usize) -> usize
     requires { ⌜ n ≤ 8 ⌝ }
-    ensures { λ r. ⌜ (r ≡ length (recordsOf (take n drives))) × (r ≡ 68 * n) ⌝ }
+    ensures { λ r. ⌜ (r ≡ length (recordsOf n b)) × (r ≡ 68 * n) ⌝ }
 {
     let mut total: usize = 0;
     let mut i = 0;
     while i < n {
-        let d = drives[i];
+        let d = b.drives[i];
         total += drive::record_length(d);
         i += 1;
     }
     total
 }
 
-// The records of the first n drives, laid at the start of a buffer that `write_table` has found long enough.
-fn put_records(drives: [Drive; 8], n: usize, out: &mut [u8])
+// The records of the first n places, laid at the start of a buffer that `write_table` has found long enough.
+fn put_records(b: Table, n: usize, out: &mut [u8])
     requires { ⌜ (n ≤ 8) × (68 * n + 4 ≤ length (now out)) ⌝ }
-    ensures { λ _. ⌜ now (out .exit) ≡ sets (now (out .entry)) 0 (recordsOf (take n drives)) ⌝ }
+    ensures { λ _. ⌜ now (out .exit) ≡ sets (now (out .entry)) 0 (recordsOf n b) ⌝ }
 {
     let mut at: usize = 0;
     let mut i = 0;
     while i < n {
-        let d = drives[i];
+        let d = b.drives[i];
         let r = drive::encode(d);
         words::store(out, at, &r);
         at += drive::record_length(d);
@@ -385,18 +510,18 @@ fn put_records(drives: [Drive; 8], n: usize, out: &mut [u8])
 
 // Lays the table's drives out as a table again.
 pub fn write_table(b: Table, out: &mut [u8]) -> Written
-    ensures { λ r. ⌜ (r ≡ writeAnswer b (length (now (out .entry)))) × (now (out .exit) ≡ writeOut b (now (out .entry))) ⌝ }
+    ensures { λ r. ⌜ (r ≡ writeAnswer b (length (now (out .entry)))) × (now (out .exit) ≡ writeOut b (now (out .entry))) × (writtenNumbers r ≡ writeNumbers b (length (now (out .entry)))) ⌝ }
 {
-    let drives = b.drives;
     let n = held(b.count);
-    let end = records_length(drives, n);
-    if out.len() < end + END_LENGTH {
+    let end = records_length(b, n);
+    let whole = end + END_LENGTH as usize;
+    if out.len() < whole {
         return Written::Refused(SHORT_BUFFER);
     }
-    put_records(drives, n, out);
-    words::store16(out, end, END_LENGTH as u16);
+    put_records(b, n, out);
+    words::store16(out, end, END_LENGTH);
     words::store16(out, end + 2, END_KIND);
-    Written::Bytes(end + END_LENGTH)
+    Written::Bytes(whole)
 }
 
 // ---- a table that obeys the rules
@@ -409,7 +534,7 @@ pub fn drive_count(b: Table) -> usize
 }
 
 // The fields obey their rules, and the drive ends inside the store.
-fn obeys(d: Drive, store: u64) -> bool
+pub fn obeys(d: Drive, store: u64) -> bool
     ensures { λ r. ⌜ r ≡ both (fieldsOk d) (inStore d store) ⌝ }
 {
     logic::and(drive::fields_ok(d), drive::in_store(d, store))
@@ -446,7 +571,7 @@ fn blank_past(b: Table) -> bool
     let count = b.count;
     let mut blank = true;
     let mut i = 0;
-    while i < 8 {
+    while i < MOST_DRIVES {
         let d = drives[i];
         blank = logic::and(logic::or(i < count, drive::is_blank(d)), blank);
         i += 1;
@@ -459,7 +584,7 @@ pub fn is_sound(b: Table, store: u64) -> bool
     ensures { λ r. ⌜ r ≡ isSound b store ⌝ }
 {
     let n = b.count;
-    if 8 < n {
+    if MOST_DRIVES < n {
         return false;
     }
     let drives = b.drives;

@@ -119,7 +119,7 @@ fn packet_call(b: Table, ax: u16, start: u64, count: u16, window: &mut [u8]) {
         return;
     }
     put_packet(window, 0, PACKET_SIZE, start, count);
-    say_outcome(int13::check(b, registers(ax, 0, FIRST_DRIVE), window));
+    say_outcome(int13::begin(b, registers(ax, 0, FIRST_DRIVE), window));
 }
 
 // 02h from cylinder 0, head 0, sector 1.
@@ -127,7 +127,7 @@ fn sector_call(b: Table, al: u16, window: &mut [u8]) {
     if 255 < al {
         return;
     }
-    say_outcome(int13::check(b, registers(0x0200 + al, 0x0001, FIRST_DRIVE), window));
+    say_outcome(int13::begin(b, registers(0x0200 + al, 0x0001, FIRST_DRIVE), window));
 }
 
 fn say_result(asked: u16, r: Registers, out: &[u8]) {
@@ -151,7 +151,7 @@ fn result_call(b: Table, asked: u16, window: &mut [u8]) {
         return;
     }
     words::store16(window, 0, asked);
-    let outcome = int13::check(b, registers(0x4800, 0, FIRST_DRIVE), window);
+    let outcome = int13::begin(b, registers(0x4800, 0, FIRST_DRIVE), window);
     let Outcome::Answered(r) = outcome else {
         return;
     };
@@ -168,7 +168,7 @@ fn say_call(function: u16, drive: u16) {
 
 // 08h.
 fn geometry_call(b: Table, drive: u16, window: &mut [u8]) {
-    let outcome = int13::check(b, registers(0x0800, 0, drive), window);
+    let outcome = int13::begin(b, registers(0x0800, 0, drive), window);
     let Outcome::Answered(r) = outcome else {
         return;
     };
@@ -185,7 +185,7 @@ fn extensions_call(b: Table, drive: u16, bx: u16, window: &mut [u8]) {
         bx,
         ..registers(0x4100, 0, drive)
     };
-    let outcome = int13::check(b, asked, window);
+    let outcome = int13::begin(b, asked, window);
     let Outcome::Answered(r) = outcome else {
         return;
     };
@@ -242,6 +242,11 @@ fn block_case(cylinder: u32, head: u32, sector: u32) {
     say(b"\n");
 }
 
+fn say_byte(b: u8) {
+    say(b" ");
+    io::print_hex(OUTPUT, b as u64, 2);
+}
+
 // A guest waits with 40 blocks from block 0, the packet at place 0 of its window.
 fn wait_40(desk: Desk, guest: usize, arena: &mut [u8], store: &[u8]) -> Desk {
     if 8 <= guest {
@@ -256,17 +261,36 @@ fn wait_40(desk: Desk, guest: usize, arena: &mut [u8], store: &[u8]) -> Desk {
     posted.desk
 }
 
+// A byte of the first, of the seventeenth and of the thirty-third block of a guest's buffer: what its three turns lay down.
+fn say_parts(guest: usize, arena: &[u8]) {
+    if 8 <= guest {
+        return;
+    }
+    let at = 20480 * guest;
+    if arena.len() < at + 20480 {
+        return;
+    }
+    say(b"bytes 100, 8292, 16484:");
+    say_byte(arena[at + 100]);
+    say_byte(arena[at + 8292]);
+    say_byte(arena[at + 16484]);
+    say(b"\n");
+}
+
+fn say_served(guest: usize, moved: u64, arena: &[u8]) {
+    say(b"turn: guest ");
+    io::print_decimal(OUTPUT, guest as u64);
+    say(b" moved ");
+    io::print_decimal(OUTPUT, moved);
+    say(b"\n");
+    say_parts(guest, arena);
+}
+
 fn one_turn(desk: Desk, arena: &mut [u8], store: &mut [u8]) -> Desk {
     let turned = desk.turn(arena, store);
     let answer = turned.answer;
     match answer {
-        TurnAnswer::Served(guest, moved) => {
-            say(b"turn: guest ");
-            io::print_decimal(OUTPUT, guest as u64);
-            say(b" moved ");
-            io::print_decimal(OUTPUT, moved);
-            say(b"\n");
-        }
+        TurnAnswer::Served(guest, moved) => say_served(guest, moved, &arena[..]),
         TurnAnswer::Idle => say(b"turn: idle\n"),
         TurnAnswer::Refused(_) => say(b"turn: refused\n"),
     }
@@ -375,8 +399,16 @@ fn waiting(desk: Desk, arena: &mut [u8], store: &[u8]) -> Desk {
     wait_40(one, 5, arena, store)
 }
 
+// A store in which each block, and each byte of a block, can be told: byte i is seed + 7 x its block + i, modulo 251.
+fn fill(store: &mut [u8], seed: u8) {
+    for i in 0..store.len() {
+        store[i] = ((seed as usize + 7 * (i / 512 % 64) + i % 251) % 251) as u8;
+    }
+}
+
 // P9.
 fn turns(arena: &mut [u8], store: &mut [u8]) {
+    fill(store, 1);
     let t = table_bytes(64, 1, 1, 0);
     let opening = Desk::open(&t, arena.len() as u64, store.len() as u64);
     let desk = opening.desk;
@@ -414,6 +446,11 @@ fn eight_guests(arena: &mut [u8], store: &mut [u8]) {
     nine_turns(all, arena, store);
 }
 
+fn filled_eight(arena: &mut [u8], store: &mut [u8]) {
+    fill(store, 101);
+    eight_guests(arena, store);
+}
+
 fn zero_arena() -> [u8; 163840]
     ensures { λ r. ⌜ 163840 ≡ length r ⌝ }
 {
@@ -436,8 +473,8 @@ fn main() {
     let mut arena = zero_arena();
     let mut store = zero_store();
     turns(&mut arena, &mut store);
-    eight_guests(&mut arena, &mut store);
+    filled_eight(&mut arena, &mut store);
     sources::functions(&mut window);
     sources::tables(&mut window);
-    sources::withdrawal(&mut arena, &mut store);
+    sources::filled_withdrawal(&mut arena, &mut store);
 }

@@ -3,12 +3,14 @@ use super::FIRST_DRIVE;
 use super::OUTPUT;
 use super::STORE_BLOCKS;
 use super::extensions_call;
+use super::fill;
 use super::geometry_call;
 use super::one_turn;
 use super::packet_call;
 use super::put_packet;
 use super::registers;
 use super::say;
+use super::say_byte;
 use super::say_call;
 use super::say_outcome;
 use super::say_word;
@@ -43,7 +45,7 @@ fn size_call(b: Table, size: u16, window: &mut [u8]) {
     say(b"packet size ");
     io::print_decimal(OUTPUT, size as u64);
     say(b": ");
-    say_outcome(int13::check(b, registers(0x4200, 0, FIRST_DRIVE), window));
+    say_outcome(int13::begin(b, registers(0x4200, 0, FIRST_DRIVE), window));
 }
 
 // The count word of a packet at place 0, after the call.
@@ -108,7 +110,7 @@ fn verifies(b: Table, window: &mut [u8]) {
 fn plain_call(b: Table, ax: u16, drive: u16, window: &mut [u8]) {
     say_call(ax / 256, drive);
     say(b" ");
-    say_outcome(int13::check(b, registers(ax, 0, drive), window));
+    say_outcome(int13::begin(b, registers(ax, 0, drive), window));
 }
 
 fn unknown_functions(b: Table, window: &mut [u8]) {
@@ -148,11 +150,6 @@ pub(crate) fn functions(window: &mut [u8]) {
 
 // ---- tables and results
 
-fn say_byte(b: u8) {
-    say(b" ");
-    io::print_hex(OUTPUT, b as u64, 2);
-}
-
 // Bytes of a result in hexadecimal.
 fn say_bytes(out: &[u8], from: usize, to: usize) {
     if out.len() < to {
@@ -172,7 +169,7 @@ fn result_case(t: &[u8; 72], from: usize, to: usize, window: &mut [u8]) {
     let reading = table::read_table(t, STORE_BLOCKS);
     let b = reading.table;
     words::store16(window, 0, 66);
-    let outcome = int13::check(b, registers(0x4800, 0, FIRST_DRIVE), window);
+    let outcome = int13::begin(b, registers(0x4800, 0, FIRST_DRIVE), window);
     let Outcome::Answered(_) = outcome else {
         return;
     };
@@ -283,7 +280,7 @@ pub(crate) fn tables(window: &mut [u8]) {
 // ---- the desk
 
 // Guest 0 withdraws after 16 of 40 blocks have been laid over its packet.
-pub(crate) fn withdrawal(arena: &mut [u8], store: &mut [u8]) {
+fn withdrawal(arena: &mut [u8], store: &mut [u8]) {
     let t = table_bytes(64, 1, 1, 0);
     let opening = Desk::open(&t, arena.len() as u64, store.len() as u64);
     let desk = opening.desk;
@@ -299,4 +296,9 @@ pub(crate) fn withdrawal(arena: &mut [u8], store: &mut [u8]) {
         WithdrawAnswer::Refused(_) => say(b"withdrawal refused\n"),
     }
     say_count(&arena[..]);
+}
+
+pub(crate) fn filled_withdrawal(arena: &mut [u8], store: &mut [u8]) {
+    fill(store, 201);
+    withdrawal(arena, store);
 }

@@ -1,7 +1,7 @@
 use mathlib.Core.Path.{sym, ap, _∙_}
 use borrow.Author.Tests.{not-true, not-false}
 use Rattle.chs.specs.declared.ToBlock.the-variants.{Block}
-use Rattle.chs.proofs.Chs.{blockOf-limits, blockOf-invalid, blockOf-valid}
+use Rattle.chs.proofs.ChsLaws.{blockOf-limits, blockOf-invalid, blockOf-valid, block-answered}
 use borrow.Author.Needs.{needs}
 use Rattle.chs.proofs.block_of.Statement.{statement}
 use Rattle.chs.proofs.block_of.Tie as tie
@@ -17,7 +17,7 @@ in-limits-requires c κs = search needs
 returns : tie.Need-returns
 returns c =
     let s = c .before .before in
-    sym (blockOf-limits (s .args .g) (s .args .a) (sym (c .before .in-limits .ensures) ∙ not-true _ (c .if1 .taken)))
+    block-answered (s .args .g) (s .args .a) (sym (blockOf-limits (s .args .g) (s .args .a) (sym (c .before .in-limits .ensures) ∙ not-true _ (c .if1 .taken))))
 
 is-valid-requires : tie.Need-is-valid-requires
 is-valid-requires c κs = search needs
@@ -27,7 +27,7 @@ returns-2 c =
     let s = c .before .before .before .before in
     let l = sym (c .before .before .before .in-limits .ensures) ∙ not-false _ (c .before .before .if1 .left) in
     let v = sym (c .before .is-valid .ensures) ∙ not-true _ (c .if2 .taken) in
-    sym (blockOf-invalid (s .args .g) (s .args .a) l v)
+    block-answered (s .args .g) (s .args .a) (sym (blockOf-invalid (s .args .g) (s .args .a) l v))
 
 number-requires : tie.Need-number-requires
 number-requires c κs = (sym (c .before .before .before .in-limits .ensures) ∙ not-false _ (c .before .before .if1 .left), sym (c .before .is-valid .ensures) ∙ not-false _ (c .if2 .left))
@@ -37,7 +37,7 @@ returns-3 c =
     let s = c .before .before .before .before .before in
     let l = sym (c .before .before .before .before .in-limits .ensures) ∙ not-false _ (c .before .before .before .if1 .left) in
     let v = sym (c .before .before .is-valid .ensures) ∙ not-false _ (c .before .if2 .left) in
-    ap Block (c .number .ensures) ∙ sym (blockOf-valid (s .args .g) (s .args .a) l v)
+    block-answered (s .args .g) (s .args .a) (ap Block (c .number .ensures) ∙ sym (blockOf-valid (s .args .g) (s .args .a) l v))
 
 pub block-of-spec : {M : Type 1} → statement M
 block-of-spec =

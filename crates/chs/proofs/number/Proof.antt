@@ -1,5 +1,5 @@
 use native.Mathlib.Omega.{arith}
-use Rattle.chs.proofs.Chs.{isValid-true, tracks-high, track-below, size-high, number-below}
+use Rattle.chs.proofs.ChsLaws.{isValid-true, tracks-high, track-below, size-high, number-below}
 use borrow.Author.Needs.{needs}
 use Rattle.chs.proofs.number.Statement.{statement}
 use Rattle.chs.proofs.number.Tie as tie

@@ -1,5 +1,5 @@
 use native.Mathlib.Omega.{arith}
-use Rattle.chs.proofs.Chs.{tracks-high, size-high}
+use Rattle.chs.proofs.ChsLaws.{tracks-high, size-high}
 use borrow.Author.Needs.{needs}
 use Rattle.chs.proofs.size_of.Statement.{statement}
 use Rattle.chs.proofs.size_of.Tie as tie

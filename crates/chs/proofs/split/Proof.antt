@@ -1,6 +1,6 @@
 use native.Mathlib.Nat.{mod-lt}
 use native.Mathlib.Omega.{arith}
-use Rattle.chs.proofs.Chs.{inLimits-true}
+use Rattle.chs.proofs.ChsLaws.{inLimits-true}
 use borrow.Author.Needs.{needs}
 use Rattle.chs.proofs.split.Statement.{statement}
 use Rattle.chs.proofs.split.Tie as tie

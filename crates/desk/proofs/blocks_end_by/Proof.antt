@@ -2,19 +2,17 @@ use mathlib.Core.Path.{sym}
 use Prim.Native.Nat.{_+_, _-_, _*_, _/_}
 use native.Mathlib.Omega.{arith}
 use borrow.Author.Tests.{lt-leb}
-use Rattle.logic.proofs.Logic.{leb-iff}
+use Rattle.logic.proofs.LogicLaws.{leb-iff}
 use Rattle.desk.proofs.blocks_end_by.Statement.{statement}
 use Rattle.desk.proofs.blocks_end_by.Tie as tie
 use Rattle.desk.proofs.blocks_end_by.Reads as reads
 use Rattle.desk.proofs.blocks_end_by.Lts as lts
 
--- src/lib.rt:158:9
 returns : tie.Need-returns
 returns c =
     let a = c .before .args in
     sym (lt-leb (a .place + 512 * a .n) (a .end) (omega arith))
 
--- src/lib.rt:154:1
 returns-2 : tie.Need-returns-2
 returns-2 c =
     let a = c .before .args in

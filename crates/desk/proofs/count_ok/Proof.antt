@@ -3,11 +3,9 @@ use Rattle.desk.proofs.count_ok.Tie as tie
 use Rattle.desk.proofs.count_ok.Reads as reads
 use Rattle.desk.proofs.count_ok.Lts as lts
 
--- src/lib.rt:167:9
 returns : tie.Need-returns
 returns c = rw (c .if1 .taken)
 
--- src/lib.rt:163:1
 returns-2 : tie.Need-returns-2
 returns-2 c = rw (c .if1 .left)
 

@@ -1,9 +1,4 @@
-use Rattle.desk.proofs.Acceptances.{jobOk-tests}
-use mathlib.Core.Path.{_≡_, sym, _∙_}
-use mathlib.Core.Bool.{true, false}
-use borrow.Author.Tests.{not-true, not-false}
-use Rattle.int13.specs.Steps.{isDrive}
-use Rattle.desk.specs.Acceptable.{jobOk}
+use Rattle.desk.proofs.AcceptableLaws.{job-tests}
 use borrow.Author.Needs.{needs}
 use Rattle.desk.proofs.job_ok.Statement.{statement}
 use Rattle.desk.proofs.job_ok.Tie as tie
@@ -14,108 +9,85 @@ use Rattle.desk.proofs.count_ok.Reads as count-ok-reads
 use Rattle.desk.proofs.packet_ok.Reads as packet-ok-reads
 use Rattle.desk.proofs.range_ok.Reads as range-ok-reads
 use Rattle.drive.proofs.is_protected.Reads as is-protected-reads
-use Rattle.int13.proofs.drive_at.Reads as drive-at-reads
 use Rattle.int13.proofs.function_of.Reads as function-of-reads
-use Rattle.int13.proofs.is_drive.Reads as is-drive-reads
 use Rattle.int13.proofs.is_sectors.Reads as is-sectors-reads
 use Rattle.int13.proofs.is_write.Reads as is-write-reads
 use Rattle.logic.proofs.and.Reads as and-reads
 use Rattle.logic.proofs.or.Reads as or-reads
 
--- src/lib.rt:201:9
-is-drive-requires : tie.Need-is-drive-requires
-is-drive-requires c κs = search needs
-
--- src/lib.rt:202:9
-returns : tie.Need-returns
-unfolding jobOk
-returns c =
-    let e : isDrive (c .before .before .args .b) (c .before .before .args .j .drive) ≡ false = sym (c .before .is-drive .ensures) ∙ not-true _ (c .if1 .taken) in
-    rw e
-
--- src/lib.rt:204:9
-drive-at-requires : tie.Need-drive-at-requires
-drive-at-requires c κs = sym (c .before .is-drive .ensures) ∙ not-false _ (c .if1 .left)
-
--- src/lib.rt:205:9
 function-of-requires : tie.Need-function-of-requires
 function-of-requires c κs = search needs
 
--- src/lib.rt:206:9
 is-sectors-requires : tie.Need-is-sectors-requires
 is-sectors-requires c κs = search needs
 
--- src/lib.rt:207:39
 or-requires : tie.Need-or-requires
 or-requires c κs = search needs
 
--- src/lib.rt:207:9
 or-requires-2 : tie.Need-or-requires-2
 or-requires-2 c κs = search needs
 
--- src/lib.rt:208:32
 is-write-requires : tie.Need-is-write-requires
 is-write-requires c κs = search needs
 
--- src/lib.rt:208:52
 is-protected-requires : tie.Need-is-protected-requires
 is-protected-requires c κs = search needs
 
--- src/lib.rt:208:9
 and-requires : tie.Need-and-requires
 and-requires c κs = search needs
 
--- src/lib.rt:210:9
 blocks-end-by-requires : tie.Need-blocks-end-by-requires
 blocks-end-by-requires c κs = search needs
 
--- src/lib.rt:211:20
 packet-ok-requires : tie.Need-packet-ok-requires
 packet-ok-requires c κs = search needs
 
--- src/lib.rt:211:9
 and-requires-2 : tie.Need-and-requires-2
 and-requires-2 c κs = search needs
 
--- src/lib.rt:209:9
 and-requires-3 : tie.Need-and-requires-3
 and-requires-3 c κs = search needs
 
--- src/lib.rt:213:29
 range-ok-requires : tie.Need-range-ok-requires
 range-ok-requires c κs = search needs
 
--- src/lib.rt:213:9
 and-requires-4 : tie.Need-and-requires-4
 and-requires-4 c κs = search needs
 
--- src/lib.rt:214:37
 count-ok-requires : tie.Need-count-ok-requires
 count-ok-requires c κs = search needs
 
--- src/lib.rt:214:26
 and-requires-5 : tie.Need-and-requires-5
 and-requires-5 c κs = search needs
 
--- src/lib.rt:214:5
 and-requires-6 : tie.Need-and-requires-6
 and-requires-6 c κs = search needs
 
--- src/lib.rt:197:1
-returns-2 : tie.Need-returns-2
-returns-2 c =
-    let s = c .before .before .before .before .before .before .before .before .before .before .before .before .before .before .before .before .before .before .before in
-    jobOk-tests (s .args .b) (s .args .m) (s .args .j) (sym (c .before .before .before .before .before .before .before .before .before .before .before .before .before .before .before .before .before .before .is-drive .ensures) ∙ not-false _ (c .before .before .before .before .before .before .before .before .before .before .before .before .before .before .before .before .before .if1 .left)) (c .before .before .before .before .before .before .before .before .before .before .before .before .before .before .before .before .drive-at .ensures) (c .before .before .before .before .before .before .before .before .before .before .before .before .before .before .before .function-of .ensures) (c .before .before .before .before .before .before .before .before .before .before .before .before .before .before .is-sectors .ensures)
-    (c .before .before .before .before .before .before .before .before .before .before .before .before .before .or .ensures) (c .before .before .before .before .before .before .before .before .before .before .before .before .or2 .ensures) (c .before .before .before .before .before .before .before .before .before .before .before .is-write .ensures) (c .before .before .before .before .before .before .before .before .before .before .is-protected .ensures) (c .before .before .before .before .before .before .before .before .before .and .ensures) (c .before .before .before .before .before .before .before .before .blocks-end-by .ensures) (c .before .before .before .before .before .before .before .packet-ok .ensures) (c .before .before .before .before .before .before .and2 .ensures) (c .before .before .before .before .before .and3 .ensures)
-    (c .before .before .before .before .range-ok .ensures) (c .before .before .before .and4 .ensures) (c .before .before .count-ok .ensures) (c .before .and5 .ensures) (c .and6 .ensures)
+returns : tie.Need-returns
+returns c =
+    let s = c .before .before .before .before .before .before .before .before .before .before .before .before .before .before .before .before in
+    job-tests (s .args .d) (s .args .m) (s .args .j)
+    (c .before .before .before .before .before .before .before .before .before .before .before .before .before .before .before .function-of .ensures)
+    (c .before .before .before .before .before .before .before .before .before .before .before .before .before .before .is-sectors .ensures)
+    (c .before .before .before .before .before .before .before .before .before .before .before .before .before .or .ensures)
+    (c .before .before .before .before .before .before .before .before .before .before .before .before .or2 .ensures)
+    (c .before .before .before .before .before .before .before .before .before .before .before .is-write .ensures)
+    (c .before .before .before .before .before .before .before .before .before .before .is-protected .ensures)
+    (c .before .before .before .before .before .before .before .before .before .and .ensures)
+    (c .before .before .before .before .before .before .before .before .blocks-end-by .ensures)
+    (c .before .before .before .before .before .before .before .packet-ok .ensures)
+    (c .before .before .before .before .before .before .and2 .ensures)
+    (c .before .before .before .before .before .and3 .ensures)
+    (c .before .before .before .before .range-ok .ensures)
+    (c .before .before .before .and4 .ensures)
+    (c .before .before .count-ok .ensures)
+    (c .before .and5 .ensures)
+    (c .and6 .ensures)
 
 pub job-ok-spec : {M : Type 1} → statement M
 job-ok-spec =
     tie.close
     (tie.spec
-    is-drive-requires
-    returns
-    drive-at-requires
     function-of-requires
     is-sectors-requires
     or-requires
@@ -132,4 +104,4 @@ job-ok-spec =
     count-ok-requires
     and-requires-5
     and-requires-6
-    returns-2)
+    returns)

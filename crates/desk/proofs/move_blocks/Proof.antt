@@ -12,43 +12,34 @@ use Rattle.memory.proofs.load.Reads as load-reads
 use Rattle.memory.proofs.save.Reads as save-reads
 use Rattle.memory.proofs.window_length.Reads as window-length-reads
 
--- src/lib.rt:336:9
 window-length-requires : tie.Need-window-length-requires
 window-length-requires c κs = search needs
 
--- src/lib.rt:338:9
 save-requires : tie.Need-save-requires
 save-requires c κs =
     let s = c .before .before .before .before .before .before in
     (rw (c .before .before .before .window-length .ensures) (s .pre .0), s .pre .1)
 
--- src/lib.rt:339:9
 same-length : tie.Need-same-length
 same-length c = search needs
 
--- src/lib.rt:339:9
 same-length-2 : tie.Need-same-length-2
 same-length-2 c = search needs
 
--- src/lib.rt:339:9
 returns : tie.Need-returns
 returns c = (rw (c .before .before .before .before .before .if1 .taken), rw (c .before .before .before .before .before .if1 .taken, c .before .before .save .ensures, c .before .before .before .before .before .before .window-length .ensures))
 
--- src/lib.rt:341:5
 load-requires : tie.Need-load-requires
 load-requires c κs =
     let s = c .before .before .before .before .before .before in
     (rw (c .before .before .before .window-length .ensures) (s .pre .0), s .pre .1)
 
--- src/lib.rt:324:1
 same-length-3 : tie.Need-same-length-3
 same-length-3 c = search needs
 
--- src/lib.rt:324:1
 same-length-4 : tie.Need-same-length-4
 same-length-4 c = search needs
 
--- src/lib.rt:324:1
 returns-2 : tie.Need-returns-2
 returns-2 c = (rw (c .before .before .before .before .before .if1 .left, c .before .before .load .ensures, c .before .before .before .before .before .before .window-length .ensures), rw (c .before .before .before .before .before .if1 .left))
 

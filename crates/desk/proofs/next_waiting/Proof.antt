@@ -2,7 +2,7 @@ use borrow.Author.Needs.{needs}
 use native.Mathlib.Omega.{arith}
 use Prim.Native.Nat.{ℕ, _≤_, _<_, _-_}
 use mathlib.Core.Path.{_≡_, refl, ap, sym, _∙_}
-use Rattle.desk.specs.Calls.{seek}
+use Rattle.desk.specs.Calls.{firstWaiting}
 use Rattle.desk.proofs.Searches.{seek-here, seek-on, seek-none}
 use Rattle.desk.proofs.next_waiting.Statement.{statement}
 use Rattle.desk.proofs.next_waiting.Tie as tie
@@ -11,52 +11,42 @@ use Rattle.desk.proofs.next_waiting.Lts as lts
 use Rattle.desk.proofs.waits.Reads as waits-reads
 
 abbrev Inv-loop : tie.InvT-loop
-Inv-loop pointer rows guest₀ left₀ guest left = (guest < 8) × (seek rows left guest ≡ seek rows left₀ guest₀)
+Inv-loop pointer rows guest₀ left₀ guest left = (guest < 8) × (firstWaiting rows left guest ≡ firstWaiting rows left₀ guest₀)
 
 abbrev μ-loop : tie.MeasureT-loop
 μ-loop pointer rows guest₀ left₀ guest left = left
 
--- src/lib.rt:272:5
 loop-holds : tie.Need-loop-holds Inv-loop μ-loop
 loop-holds c = (search needs, refl)
 
--- src/lib.rt:273:19
 mul-row : tie.Need-mul-row Inv-loop μ-loop
 mul-row c = search needs
 
--- src/lib.rt:273:19
 array-copy-out-row : tie.Need-array-copy-out-row Inv-loop μ-loop
 array-copy-out-row c = search needs
 
--- src/lib.rt:275:12
 waits-requires : tie.Need-waits-requires Inv-loop μ-loop
 waits-requires c κs = search needs
 
--- src/lib.rt:276:13
 returns : tie.Need-returns Inv-loop μ-loop
 returns c =
     let l = c .before .before .before .before in
     seek-here (l .before .args .t1) (l .loop .left) (l .loop .guest) (c .before .before .before .loop-test .taken) (sym (c .before .waits .ensures) ∙ c .if1 .taken) ∙ l .loop .inv .1
 
--- src/lib.rt:278:18
 add-guest : tie.Need-add-guest Inv-loop μ-loop
 add-guest c = search needs
 
--- src/lib.rt:279:9
 sub-left : tie.Need-sub-left Inv-loop μ-loop
 sub-left c = search needs
 
--- src/lib.rt:272:5
 loop-less : tie.Need-loop-less Inv-loop μ-loop
 loop-less c = search needs
 
--- src/lib.rt:272:5
 loop-again : tie.Need-loop-again Inv-loop μ-loop
 loop-again c =
     let l = c .before .before .before .before in
     (omega arith, seek-on (l .before .args .t1) (l .loop .left) (l .loop .guest) (c .before .before .before .loop-test .taken) (sym (c .before .waits .ensures) ∙ c .if1 .left) ∙ l .loop .inv .1)
 
--- src/lib.rt:266:1
 returns-2 : tie.Need-returns-2 Inv-loop μ-loop
 returns-2 c =
     let l = c .before in

@@ -5,7 +5,7 @@ use native.Mathlib.Omega.{arith}
 use denote.Ref.{now}
 use lib.ListN.{length}
 use Rattle.memory.specs.Window.{windowLength, spanLength}
-use Rattle.memory.proofs.Windows.{span-in, with-window-same}
+use Rattle.memory.proofs.WindowLaws.{span-in, with-window-same}
 use Rattle.int13.specs.Answers.{ah, isSectors}
 use Rattle.desk.proofs.Transfers.{packet-inside}
 use borrow.Author.Needs.{needs}
@@ -19,26 +19,21 @@ use Rattle.int13.proofs.is_sectors.Reads as is-sectors-reads
 use Rattle.memory.proofs.put_word_in.Reads as put-word-in-reads
 use Rattle.memory.proofs.window_length.Reads as window-length-reads
 
--- src/lib.rt:376:26
 function-of-requires : tie.Need-function-of-requires
 function-of-requires c κs = search needs
 
--- src/lib.rt:376:8
 is-sectors-requires : tie.Need-is-sectors-requires
 is-sectors-requires c κs = search needs
 
--- src/lib.rt:377:9
 returns : tie.Need-returns
 returns c =
     let a = c .before .before .before .before .before .before .args in
     let e : isSectors (ah (a .q .job .registers)) ≡ true = ap isSectors (sym (c .before .before .function-of .ensures)) ∙ sym (c .before .is-sectors .ensures) ∙ c .if1 .taken in
     rw e (sym (with-window-same (now (a .arena)) (a .guest) (windowLength (length (now (a .arena))))))
 
--- src/lib.rt:379:9
 window-length-requires : tie.Need-window-length-requires
 window-length-requires c κs = search needs
 
--- src/lib.rt:380:9
 count-place-requires : tie.Need-count-place-requires
 count-place-requires c κs =
     let s = c .before .before .before .before .before .before .before in
@@ -46,11 +41,9 @@ count-place-requires c κs =
     let e : isSectors (ah (a .q .job .registers)) ≡ false = ap isSectors (sym (c .before .before .before .function-of .ensures)) ∙ sym (c .before .before .is-sectors .ensures) ∙ c .before .if1 .left in
     omega (arith, packet-inside (ah (a .q .job .registers)) (a .q .job .packet) (windowLength (length (now (a .arena)))) e (s .pre .1), s .good .1 .1 .0 .0)
 
--- src/lib.rt:381:46
 cast-put-word-in : tie.Need-cast-put-word-in
 cast-put-word-in c = search needs
 
--- src/lib.rt:381:5
 put-word-in-requires : tie.Need-put-word-in-requires
 put-word-in-requires c κs =
     let s = c .before .before .before .before .before .before .before .before .before .before in
@@ -60,11 +53,9 @@ put-word-in-requires c κs =
     let w : spanLength n (a .guest) (windowLength n) ≡ windowLength n = span-in n (a .guest) (windowLength n) (omega arith) (s .pre .0) .1 in
     rw (c .before .before .before .window-length .ensures, w) (omega (arith, c .before .before .count-place .ensures, packet-inside (ah (a .q .job .registers)) (a .q .job .packet) (windowLength n) e (s .pre .1)))
 
--- src/lib.rt:370:1
 same-length : tie.Need-same-length
 same-length c = search needs
 
--- src/lib.rt:370:1
 returns-2 : tie.Need-returns-2
 returns-2 c =
     let a = c .before .before .before .before .before .before .before .before .before .before .before .before .before .args in

@@ -1,39 +1,46 @@
 use mathlib.Core.Path.{_≡_, sym, _∙_}
-use Rattle.desk.proofs.Acceptances.{stageOk-other}
+use borrow.Author.Tests.{not-true, not-false}
+use Rattle.desk.proofs.AcceptableLaws.{stageOk-other}
 use borrow.Author.Needs.{needs}
 use Rattle.desk.proofs.stage_ok.Statement.{statement}
 use Rattle.desk.proofs.stage_ok.Tie as tie
 use Rattle.desk.proofs.stage_ok.Reads as reads
 use Rattle.desk.proofs.stage_ok.Lts as lts
-use Rattle.desk.proofs.job_ok.Reads as job-ok-reads
-use Rattle.desk.proofs.moved_ok.Reads as moved-ok-reads
-use Rattle.logic.proofs.and.Reads as and-reads
+use Rattle.desk.proofs.request_ok.Reads as request-ok-reads
+use Rattle.int13.proofs.drive_at.Reads as drive-at-reads
+use Rattle.int13.proofs.is_drive.Reads as is-drive-reads
 
--- src/lib.rt:220:24
 enum-known-stage : tie.Need-enum-known-stage
 enum-known-stage c = search needs
 
--- src/lib.rt:221:9
 returns : tie.Need-returns
 returns c = stageOk-other (c .before .args .b) (c .before .args .m) (c .before .args .stage) (c .match .keys2)
 
--- src/lib.rt:223:16
-job-ok-requires : tie.Need-job-ok-requires
-job-ok-requires c κs = search needs
+is-drive-requires : tie.Need-is-drive-requires
+is-drive-requires c κs = search needs
 
--- src/lib.rt:223:37
-moved-ok-requires : tie.Need-moved-ok-requires
-moved-ok-requires c κs = search needs
-
--- src/lib.rt:223:5
-and-requires : tie.Need-and-requires
-and-requires c κs = search needs
-
--- src/lib.rt:217:1
 returns-2 : tie.Need-returns-2
-returns-2 c = rw (c .before .before .before .before .stage .given .1, c .and .ensures, c .before .before .job-ok .ensures, c .before .moved-ok .ensures)
+returns-2 c = rw (c .before .before .before .stage .given .1, sym (c .before .is-drive .ensures) ∙ not-true _ (c .if1 .taken))
+
+drive-at-requires : tie.Need-drive-at-requires
+drive-at-requires c κs = search needs
+
+request-ok-requires : tie.Need-request-ok-requires
+request-ok-requires c κs = search needs
+
+returns-3 : tie.Need-returns-3
+returns-3 c =
+    let known = sym (c .before .before .before .is-drive .ensures) ∙ not-false _ (c .before .before .if1 .left) in
+    rw (c .before .before .before .before .before .stage .given .1, c .request-ok .ensures, c .before .drive-at .ensures .1 known, known)
 
 pub stage-ok-spec : {M : Type 1} → statement M
 stage-ok-spec =
     tie.close
-    (tie.spec enum-known-stage returns job-ok-requires moved-ok-requires and-requires returns-2)
+    (tie.spec
+    enum-known-stage
+    returns
+    is-drive-requires
+    returns-2
+    drive-at-requires
+    request-ok-requires
+    returns-3)

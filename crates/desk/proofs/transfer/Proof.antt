@@ -1,8 +1,6 @@
-use mathlib.Core.Path.{_≡_, sym, ap, _∙_}
-use Prim.Native.Nat.{ℕ, _*_, _+_, _≤_}
-use native.Mathlib.Omega.{arith}
+use mathlib.Core.Path.{_≡_, ap, _∙_}
 use denote.Ref.{now}
-use lib.ListN.{length}
+use Rattle.int13.specs.Answers.{isWrite}
 use Rattle.desk.proofs.Transfers.{store-fits, ranges, moved-blocks}
 use borrow.Author.Needs.{needs}
 use Rattle.desk.proofs.transfer.Statement.{statement}
@@ -10,61 +8,42 @@ use Rattle.desk.proofs.transfer.Tie as tie
 use Rattle.desk.proofs.transfer.Reads as reads
 use Rattle.desk.proofs.transfer.Lts as lts
 use Rattle.desk.proofs.move_blocks.Reads as move-blocks-reads
-use Rattle.desk.proofs.quota_of.Reads as quota-of-reads
 use Rattle.desk.proofs.store_place.Reads as store-place-reads
 use Rattle.desk.proofs.window_place.Reads as window-place-reads
-use Rattle.int13.proofs.drive_at.Reads as drive-at-reads
 use Rattle.int13.proofs.function_of.Reads as function-of-reads
 use Rattle.int13.proofs.is_write.Reads as is-write-reads
 
--- src/lib.rt:351:9
-drive-at-requires : tie.Need-drive-at-requires
-drive-at-requires c κs = search needs
-
--- src/lib.rt:352:9
-quota-of-requires : tie.Need-quota-of-requires
-quota-of-requires c κs = search needs
-
--- src/lib.rt:353:9
 window-place-requires : tie.Need-window-place-requires
 window-place-requires c κs = search needs
 
--- src/lib.rt:354:9
 store-place-requires : tie.Need-store-place-requires
-store-place-requires c κs = store-fits (c .before .before .before .before .before .before .pre) (c .before .before .drive-at .ensures)
+store-place-requires c κs = search needs
 
--- src/lib.rt:356:33
 function-of-requires : tie.Need-function-of-requires
 function-of-requires c κs = search needs
 
--- src/lib.rt:356:9
 is-write-requires : tie.Need-is-write-requires
 is-write-requires c κs = search needs
 
--- src/lib.rt:357:5
 move-blocks-requires : tie.Need-move-blocks-requires
-move-blocks-requires c κs = ranges (c .before .before .before .before .before .before .before .before .before .before .before .before .pre) (c .before .before .before .before .before .before .before .before .drive-at .ensures) (c .before .before .before .before .before .before .before .quota-of .ensures) (c .before .before .before .before .before .before .window-place .ensures) (c .before .before .before .before .before .store-place .ensures)
+move-blocks-requires c κs = ranges (c .before .before .before .before .before .before .before .before .before .before .pre) (c .before .before .before .before .before .before .window-place .ensures) (c .before .before .before .before .before .store-place .ensures)
 
--- src/lib.rt:345:1
 same-length : tie.Need-same-length
 same-length c = search needs
 
--- src/lib.rt:345:1
 same-length-2 : tie.Need-same-length-2
 same-length-2 c = search needs
 
--- src/lib.rt:345:1
 returns : tie.Need-returns
 returns c =
-    let a = c .before .before .before .before .before .before .before .before .before .before .before .before .before .before .before .before .before .args in
-    moved-blocks (a .b) (a .q) (a .guest) (now (a .arena)) (now (a .store)) (c .before .before .before .before .before .before .before .before .before .before .before .before .before .drive-at .ensures) (c .before .before .before .before .before .before .before .before .before .before .before .before .quota-of .ensures) (c .before .before .before .before .before .before .before .before .before .before .before .window-place .ensures) (c .before .before .before .before .before .before .before .before .before .before .store-place .ensures) (c .before .before .before .before .before .before .before .is-write .ensures ∙ ap Rattle.int13.specs.Answers.isWrite (c .before .before .before .before .before .before .before .before .function-of .ensures)) (c .before .before .before .before .move-blocks .ensures .0) (c .before .before .before .before .move-blocks .ensures .1)
+    let a = c .before .before .before .before .before .before .before .before .before .before .before .before .before .before .before .args in
+    let w = c .before .before .before .before .before .before .before .is-write .ensures ∙ ap isWrite (c .before .before .before .before .before .before .before .before .function-of .ensures) in
+    moved-blocks (a .first) (a .q) (a .k) (a .guest) (now (a .arena)) (now (a .store)) (c .before .before .before .before .before .before .before .before .before .before .before .window-place .ensures) (c .before .before .before .before .before .before .before .before .before .before .store-place .ensures) w (c .before .before .before .before .move-blocks .ensures)
 
 pub transfer-spec : {M : Type 1} → statement M
 transfer-spec =
     tie.close
     (tie.spec
-    drive-at-requires
-    quota-of-requires
     window-place-requires
     store-place-requires
     function-of-requires

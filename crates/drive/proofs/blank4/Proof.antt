@@ -6,7 +6,7 @@ use lib.ListN.{getD, length, replicate}
 use lib.Dec.{eqb}
 use Rattle.words.specs.Words.{le}
 use Rattle.drive.specs.Drive.{same}
-use Rattle.drive.proofs.Drives.{named}
+use Rattle.drive.proofs.DriveLaws.{named}
 use borrow.Author.Needs.{needs}
 use Rattle.drive.proofs.blank4.Statement.{statement}
 use Rattle.drive.proofs.blank4.Tie as tie
@@ -14,11 +14,9 @@ use Rattle.drive.proofs.blank4.Reads as reads
 use Rattle.drive.proofs.blank4.Lts as lts
 use Rattle.words.proofs.value4.Reads as value4-reads
 
--- src/lib.rt:230:5
 value4-requires : tie.Need-value4-requires
 value4-requires c κs = search needs
 
--- src/lib.rt:227:1
 returns : tie.Need-returns
 unfolding le
 returns c =

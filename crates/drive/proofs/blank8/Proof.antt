@@ -6,7 +6,7 @@ use lib.ListN.{getD, length, replicate}
 use lib.Dec.{eqb}
 use Rattle.words.specs.Words.{le}
 use Rattle.drive.specs.Drive.{same}
-use Rattle.drive.proofs.Drives.{named}
+use Rattle.drive.proofs.DriveLaws.{named}
 use borrow.Author.Needs.{needs}
 use Rattle.drive.proofs.blank8.Statement.{statement}
 use Rattle.drive.proofs.blank8.Tie as tie
@@ -14,11 +14,9 @@ use Rattle.drive.proofs.blank8.Reads as reads
 use Rattle.drive.proofs.blank8.Lts as lts
 use Rattle.words.proofs.value8.Reads as value8-reads
 
--- src/lib.rt:236:5
 value8-requires : tie.Need-value8-requires
 value8-requires c κs = search needs
 
--- src/lib.rt:233:1
 returns : tie.Need-returns
 unfolding le
 returns c =

@@ -8,35 +8,27 @@ use Rattle.drive.proofs.blank4.Reads as blank4-reads
 use Rattle.drive.proofs.blank8.Reads as blank8-reads
 use Rattle.logic.proofs.and.Reads as and-reads
 
--- src/lib.rt:256:16
 blank4-requires : tie.Need-blank4-requires
 blank4-requires c κs = search needs
 
--- src/lib.rt:256:40
 blank8-requires : tie.Need-blank8-requires
 blank8-requires c κs = search needs
 
--- src/lib.rt:256:70
 blank8-requires-2 : tie.Need-blank8-requires-2
 blank8-requires-2 c κs = search needs
 
--- src/lib.rt:256:84
 blank8-requires-3 : tie.Need-blank8-requires-3
 blank8-requires-3 c κs = search needs
 
--- src/lib.rt:256:59
 and-requires : tie.Need-and-requires
 and-requires c κs = search needs
 
--- src/lib.rt:256:29
 and-requires-2 : tie.Need-and-requires-2
 and-requires-2 c κs = search needs
 
--- src/lib.rt:256:5
 and-requires-3 : tie.Need-and-requires-3
 and-requires-3 c κs = search needs
 
--- src/lib.rt:249:1
 returns : tie.Need-returns
 unfolding blankNames
 returns c = cc

@@ -6,43 +6,33 @@ use Rattle.drive.proofs.blank_numbers.Reads as reads
 use Rattle.drive.proofs.blank_numbers.Lts as lts
 use Rattle.logic.proofs.and.Reads as and-reads
 
--- src/lib.rt:242:49
 and-requires : tie.Need-and-requires
 and-requires c κs = search needs
 
--- src/lib.rt:242:9
 and-requires-2 : tie.Need-and-requires-2
 and-requires-2 c κs = search needs
 
--- src/lib.rt:243:9
 and-requires-3 : tie.Need-and-requires-3
 and-requires-3 c κs = search needs
 
--- src/lib.rt:244:42
 and-requires-4 : tie.Need-and-requires-4
 and-requires-4 c κs = search needs
 
--- src/lib.rt:244:9
 and-requires-5 : tie.Need-and-requires-5
 and-requires-5 c κs = search needs
 
--- src/lib.rt:245:9
 and-requires-6 : tie.Need-and-requires-6
 and-requires-6 c κs = search needs
 
--- src/lib.rt:246:44
 and-requires-7 : tie.Need-and-requires-7
 and-requires-7 c κs = search needs
 
--- src/lib.rt:246:26
 and-requires-8 : tie.Need-and-requires-8
 and-requires-8 c κs = search needs
 
--- src/lib.rt:246:5
 and-requires-9 : tie.Need-and-requires-9
 and-requires-9 c κs = search needs
 
--- src/lib.rt:239:1
 returns : tie.Need-returns
 unfolding blankNumbers
 returns c = cc

@@ -7,7 +7,7 @@ use lib.Dec.{eqb}
 use Rattle.words.specs.Words.{le}
 use Rattle.logic.specs.Logic.{either}
 use Rattle.drive.specs.Drive.{busOk, isa, pci}
-use Rattle.drive.proofs.Drives.{named}
+use Rattle.drive.proofs.DriveLaws.{named}
 use borrow.Author.Needs.{needs}
 use Rattle.drive.proofs.bus_ok.Statement.{statement}
 use Rattle.drive.proofs.bus_ok.Tie as tie
@@ -16,15 +16,12 @@ use Rattle.drive.proofs.bus_ok.Lts as lts
 use Rattle.logic.proofs.or.Reads as or-reads
 use Rattle.words.proofs.value4.Reads as value4-reads
 
--- src/lib.rt:127:9
 value4-requires : tie.Need-value4-requires
 value4-requires c κs = search needs
 
--- src/lib.rt:128:5
 or-requires : tie.Need-or-requires
 or-requires c κs = search needs
 
--- src/lib.rt:124:1
 returns : tie.Need-returns
 unfolding busOk le
 returns c =

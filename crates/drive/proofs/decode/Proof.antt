@@ -10,63 +10,48 @@ use Rattle.words.proofs.get64.Reads as get64-reads
 use Rattle.words.proofs.load4.Reads as load4-reads
 use Rattle.words.proofs.load8.Reads as load8-reads
 
--- src/lib.rt:43:20
 get32-requires : tie.Need-get32-requires
 get32-requires c κs = search needs
 
--- src/lib.rt:44:16
 get32-requires-2 : tie.Need-get32-requires-2
 get32-requires-2 c κs = search needs
 
--- src/lib.rt:45:18
 get32-requires-3 : tie.Need-get32-requires-3
 get32-requires-3 c κs = search needs
 
--- src/lib.rt:46:17
 get64-requires : tie.Need-get64-requires
 get64-requires c κs = search needs
 
--- src/lib.rt:47:16
 get64-requires-2 : tie.Need-get64-requires-2
 get64-requires-2 c κs = search needs
 
--- src/lib.rt:48:16
 get16-requires : tie.Need-get16-requires
 get16-requires c κs = search needs
 
--- src/lib.rt:49:12
 get16-requires-2 : tie.Need-get16-requires-2
 get16-requires-2 c κs = search needs
 
--- src/lib.rt:50:12
 get16-requires-3 : tie.Need-get16-requires-3
 get16-requires-3 c κs = search needs
 
--- src/lib.rt:51:12
 shared-slice-read-t11 : tie.Need-shared-slice-read-t11
 shared-slice-read-t11 c = search needs
 
--- src/lib.rt:52:21
 shared-slice-read-t13 : tie.Need-shared-slice-read-t13
 shared-slice-read-t13 c = search needs
 
--- src/lib.rt:53:14
 load4-requires : tie.Need-load4-requires
 load4-requires c κs = search needs
 
--- src/lib.rt:54:20
 load8-requires : tie.Need-load8-requires
 load8-requires c κs = search needs
 
--- src/lib.rt:55:15
 load8-requires-2 : tie.Need-load8-requires-2
 load8-requires-2 c κs = search needs
 
--- src/lib.rt:56:17
 load8-requires-3 : tie.Need-load8-requires-3
 load8-requires-3 c κs = search needs
 
--- src/lib.rt:38:1
 returns : tie.Need-returns
 unfolding driveOf
 returns c = cc

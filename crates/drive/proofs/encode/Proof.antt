@@ -2,7 +2,7 @@ use Prim.Native.Nat.{ℕ}
 use mathlib.Core.Path.{refl}
 use lib.ListN.{replicate}
 use borrow.Author.Needs.{length-unmapped}
-use Rattle.drive.proofs.Drives.{record-stores}
+use Rattle.drive.proofs.DriveLaws.{record-stores}
 use borrow.Author.Needs.{needs}
 use Rattle.drive.proofs.encode.Statement.{statement}
 use Rattle.drive.proofs.encode.Tie as tie
@@ -12,31 +12,24 @@ use Rattle.drive.proofs.put_geometry.Reads as put-geometry-reads
 use Rattle.drive.proofs.put_names.Reads as put-names-reads
 use Rattle.drive.proofs.put_sizes.Reads as put-sizes-reads
 
--- src/lib.rt:104:21
 slice-aggregate-put-geometry : tie.Need-slice-aggregate-put-geometry
 slice-aggregate-put-geometry c = search needs
 
--- src/lib.rt:104:5
 put-geometry-requires : tie.Need-put-geometry-requires
 put-geometry-requires c κs = search needs
 
--- src/lib.rt:105:18
 slice-aggregate-put-sizes : tie.Need-slice-aggregate-put-sizes
 slice-aggregate-put-sizes c = search needs
 
--- src/lib.rt:105:5
 put-sizes-requires : tie.Need-put-sizes-requires
 put-sizes-requires c κs = search needs
 
--- src/lib.rt:106:18
 slice-aggregate-put-names : tie.Need-slice-aggregate-put-names
 slice-aggregate-put-names c = search needs
 
--- src/lib.rt:106:5
 put-names-requires : tie.Need-put-names-requires
 put-names-requires c κs = search needs
 
--- src/lib.rt:100:1
 returns : tie.Need-returns
 returns c =
     let b = c .before .before .before .before .before .before .before .before .before in

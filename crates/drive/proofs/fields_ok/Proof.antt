@@ -9,39 +9,30 @@ use Rattle.drive.proofs.geometry_fits.Reads as geometry-fits-reads
 use Rattle.drive.proofs.interface_ok.Reads as interface-ok-reads
 use Rattle.logic.proofs.and.Reads as and-reads
 
--- src/lib.rt:172:28
 bus-ok-requires : tie.Need-bus-ok-requires
 bus-ok-requires c κs = search needs
 
--- src/lib.rt:172:41
 interface-ok-requires : tie.Need-interface-ok-requires
 interface-ok-requires c κs = search needs
 
--- src/lib.rt:172:9
 and-requires : tie.Need-and-requires
 and-requires c κs = search needs
 
--- src/lib.rt:173:9
 and-requires-2 : tie.Need-and-requires-2
 and-requires-2 c κs = search needs
 
--- src/lib.rt:174:68
 geometry-fits-requires : tie.Need-geometry-fits-requires
 geometry-fits-requires c κs = search needs
 
--- src/lib.rt:174:57
 and-requires-3 : tie.Need-and-requires-3
 and-requires-3 c κs = search needs
 
--- src/lib.rt:174:31
 and-requires-4 : tie.Need-and-requires-4
 and-requires-4 c κs = search needs
 
--- src/lib.rt:174:5
 and-requires-5 : tie.Need-and-requires-5
 and-requires-5 c κs = search needs
 
--- src/lib.rt:167:1
 returns : tie.Need-returns
 unfolding fieldsOk
 returns c = cc

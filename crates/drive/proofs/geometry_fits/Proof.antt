@@ -9,23 +9,18 @@ use Rattle.drive.proofs.geometry_of.Reads as geometry-of-reads
 use Rattle.drive.proofs.geometry_size.Reads as geometry-size-reads
 use Rattle.logic.proofs.and.Reads as and-reads
 
--- src/lib.rt:183:9
 geometry-size-requires : tie.Need-geometry-size-requires
 geometry-size-requires c κs = search needs
 
--- src/lib.rt:184:31
 geometry-of-requires : tie.Need-geometry-of-requires
 geometry-of-requires c κs = search needs
 
--- src/lib.rt:184:16
 in-limits-requires : tie.Need-in-limits-requires
 in-limits-requires c κs = search needs
 
--- src/lib.rt:184:5
 and-requires : tie.Need-and-requires
 and-requires c κs = search needs
 
--- src/lib.rt:180:1
 returns : tie.Need-returns
 unfolding geometryFits
 returns c = rw (c .and .ensures, c .before .before .in-limits .ensures, c .before .before .before .geometry-of .ensures, c .before .before .before .before .geometry-size .ensures)

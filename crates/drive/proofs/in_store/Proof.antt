@@ -1,16 +1,17 @@
-use Rattle.drive.proofs.Drives.{inStore-past, inStore-rest}
+use Rattle.drive.specs.Drive.{inStore}
 use Rattle.drive.proofs.in_store.Statement.{statement}
 use Rattle.drive.proofs.in_store.Tie as tie
 use Rattle.drive.proofs.in_store.Reads as reads
 use Rattle.drive.proofs.in_store.Lts as lts
+use Rattle.logic.proofs.ends_by.Reads as ends-by-reads
+use borrow.Author.Needs.{needs}
 
--- src/lib.rt:184:9
+ends-by-requires : tie.Need-ends-by-requires
+ends-by-requires c κs = search needs
+
 returns : tie.Need-returns
-returns c = inStore-past (c .before .before .args .d) (c .before .before .args .store) (c .if1 .taken)
-
--- src/lib.rt:180:1
-returns-2 : tie.Need-returns-2
-returns-2 c = inStore-rest (c .before .before .before .before .args .d) (c .before .before .before .before .args .store) (c .before .before .if1 .left)
+unfolding inStore
+returns c = c .ends-by .ensures
 
 pub in-store-spec : {M : Type 1} → statement M
-in-store-spec = tie.close (tie.spec returns returns-2)
+in-store-spec = tie.close (tie.spec ends-by-requires returns)

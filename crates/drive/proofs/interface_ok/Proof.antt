@@ -8,7 +8,7 @@ use lib.ListN.{getD, length}
 use lib.Dec.{eqb}
 use Rattle.words.specs.Words.{le}
 use Rattle.drive.specs.Drive.{interfaceOk, same, ata, atapi, scsi, usb, ieee1394, fibre}
-use Rattle.drive.proofs.Drives.{named, allBytes}
+use Rattle.drive.proofs.DriveLaws.{named, allBytes}
 use borrow.Author.Needs.{needs}
 use Rattle.drive.proofs.interface_ok.Statement.{statement}
 use Rattle.drive.proofs.interface_ok.Tie as tie
@@ -17,31 +17,24 @@ use Rattle.drive.proofs.interface_ok.Lts as lts
 use Rattle.logic.proofs.or.Reads as or-reads
 use Rattle.words.proofs.value8.Reads as value8-reads
 
--- src/lib.rt:134:9
 value8-requires : tie.Need-value8-requires
 value8-requires c κs = search needs
 
--- src/lib.rt:139:54
 or-requires : tie.Need-or-requires
 or-requires c κs = search needs
 
--- src/lib.rt:139:34
 or-requires-2 : tie.Need-or-requires-2
 or-requires-2 c κs = search needs
 
--- src/lib.rt:139:13
 or-requires-3 : tie.Need-or-requires-3
 or-requires-3 c κs = search needs
 
--- src/lib.rt:137:9
 or-requires-4 : tie.Need-or-requires-4
 or-requires-4 c κs = search needs
 
--- src/lib.rt:135:5
 or-requires-5 : tie.Need-or-requires-5
 or-requires-5 c κs = search needs
 
--- src/lib.rt:131:1
 returns : tie.Need-returns
 unfolding interfaceOk le
 returns c =

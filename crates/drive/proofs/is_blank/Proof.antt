@@ -8,19 +8,15 @@ use Rattle.drive.proofs.blank_names.Reads as blank-names-reads
 use Rattle.drive.proofs.blank_numbers.Reads as blank-numbers-reads
 use Rattle.logic.proofs.and.Reads as and-reads
 
--- src/lib.rt:263:16
 blank-numbers-requires : tie.Need-blank-numbers-requires
 blank-numbers-requires c κs = search needs
 
--- src/lib.rt:263:34
 blank-names-requires : tie.Need-blank-names-requires
 blank-names-requires c κs = search needs
 
--- src/lib.rt:263:5
 and-requires : tie.Need-and-requires
 and-requires c κs = search needs
 
--- src/lib.rt:260:1
 returns : tie.Need-returns
 unfolding isBlank
 returns c = cc

@@ -1,5 +1,5 @@
 use denote.Ref.{now}
-use Rattle.drive.proofs.Drives.{geometry-stores}
+use Rattle.drive.proofs.DriveLaws.{geometry-stores}
 use borrow.Author.Needs.{needs}
 use Rattle.drive.proofs.put_geometry.Statement.{statement}
 use Rattle.drive.proofs.put_geometry.Tie as tie
@@ -8,31 +8,24 @@ use Rattle.drive.proofs.put_geometry.Lts as lts
 use Rattle.words.proofs.store16.Reads as store16-reads
 use Rattle.words.proofs.store32.Reads as store32-reads
 
--- src/lib.rt:65:5
 store16-requires : tie.Need-store16-requires
 store16-requires c κs = search needs
 
--- src/lib.rt:66:5
 store16-requires-2 : tie.Need-store16-requires-2
 store16-requires-2 c κs = search needs
 
--- src/lib.rt:67:5
 store32-requires : tie.Need-store32-requires
 store32-requires c κs = search needs
 
--- src/lib.rt:68:5
 store32-requires-2 : tie.Need-store32-requires-2
 store32-requires-2 c κs = search needs
 
--- src/lib.rt:69:5
 store32-requires-3 : tie.Need-store32-requires-3
 store32-requires-3 c κs = search needs
 
--- src/lib.rt:61:1
 same-length : tie.Need-same-length
 same-length c = search needs
 
--- src/lib.rt:61:1
 returns : tie.Need-returns
 returns c =
     let a = c .before .before .before .before .before .before .before .before .before .before .before .before .before .before .before .before .before .before .before .before .before .args in

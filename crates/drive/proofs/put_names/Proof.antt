@@ -1,7 +1,7 @@
 use Prim.Native.Nat.{ℕ}
 use denote.Ref.{now}
 use borrow.Author.Needs.{length-unmapped}
-use Rattle.drive.proofs.Drives.{name-chain}
+use Rattle.drive.proofs.DriveLaws.{name-chain}
 use borrow.Author.Needs.{needs}
 use Rattle.drive.proofs.put_names.Statement.{statement}
 use Rattle.drive.proofs.put_names.Tie as tie
@@ -11,35 +11,27 @@ use Rattle.words.proofs.put_byte.Reads as put-byte-reads
 use Rattle.words.proofs.store4.Reads as store4-reads
 use Rattle.words.proofs.store8.Reads as store8-reads
 
--- src/lib.rt:87:5
 put-byte-requires : tie.Need-put-byte-requires
 put-byte-requires c κs = search needs
 
--- src/lib.rt:88:5
 put-byte-requires-2 : tie.Need-put-byte-requires-2
 put-byte-requires-2 c κs = search needs
 
--- src/lib.rt:93:5
 store4-requires : tie.Need-store4-requires
 store4-requires c κs = search needs
 
--- src/lib.rt:94:5
 store8-requires : tie.Need-store8-requires
 store8-requires c κs = search needs
 
--- src/lib.rt:95:5
 store8-requires-2 : tie.Need-store8-requires-2
 store8-requires-2 c κs = search needs
 
--- src/lib.rt:96:5
 store8-requires-3 : tie.Need-store8-requires-3
 store8-requires-3 c κs = search needs
 
--- src/lib.rt:83:1
 same-length : tie.Need-same-length
 same-length c = search needs
 
--- src/lib.rt:83:1
 returns : tie.Need-returns
 returns c =
     let b = c .before .before .before .before .before .before .before .before .before .before .before .before .before .before .before .before .before .before .before .before .before .before .before .before .before .before .before .before .before in

@@ -1,5 +1,5 @@
 use denote.Ref.{now}
-use Rattle.drive.proofs.Drives.{size-stores}
+use Rattle.drive.proofs.DriveLaws.{size-stores}
 use borrow.Author.Needs.{needs}
 use Rattle.drive.proofs.put_sizes.Statement.{statement}
 use Rattle.drive.proofs.put_sizes.Tie as tie
@@ -8,31 +8,24 @@ use Rattle.drive.proofs.put_sizes.Lts as lts
 use Rattle.words.proofs.store16.Reads as store16-reads
 use Rattle.words.proofs.store64.Reads as store64-reads
 
--- src/lib.rt:76:5
 store64-requires : tie.Need-store64-requires
 store64-requires c κs = search needs
 
--- src/lib.rt:77:5
 store64-requires-2 : tie.Need-store64-requires-2
 store64-requires-2 c κs = search needs
 
--- src/lib.rt:78:5
 store16-requires : tie.Need-store16-requires
 store16-requires c κs = search needs
 
--- src/lib.rt:79:5
 store16-requires-2 : tie.Need-store16-requires-2
 store16-requires-2 c κs = search needs
 
--- src/lib.rt:80:5
 store16-requires-3 : tie.Need-store16-requires-3
 store16-requires-3 c κs = search needs
 
--- src/lib.rt:72:1
 same-length : tie.Need-same-length
 same-length c = search needs
 
--- src/lib.rt:72:1
 returns : tie.Need-returns
 returns c =
     let a = c .before .before .before .before .before .before .before .before .before .before .before .before .before .before .before .before .before .before .before .before .before .args in

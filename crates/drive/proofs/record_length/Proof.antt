@@ -1,18 +1,16 @@
 use mathlib.Core.Path.{_≡_, refl, sym}
 use Prim.Native.Nat.{ℕ}
 use borrow.Author.Needs.{length-unmapped}
-use Rattle.drive.proofs.Drives.{length-record}
+use Rattle.drive.proofs.DriveLaws.{length-record}
 use borrow.Author.Needs.{needs}
 use Rattle.drive.proofs.record_length.Statement.{statement}
 use Rattle.drive.proofs.record_length.Tie as tie
 use Rattle.drive.proofs.record_length.Reads as reads
 use Rattle.drive.proofs.record_length.Lts as lts
 
--- src/lib.rt:116:5
 cast-result : tie.Need-cast-result
 cast-result c = search needs
 
--- src/lib.rt:113:1
 returns : tie.Need-returns
 returns c =
     let d = c .args .d in

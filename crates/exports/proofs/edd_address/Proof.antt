@@ -21,11 +21,11 @@ cast-result c = search needs
 
 returns : tie.Need-returns
 unfolding addressCall over addressNumbers
-returns c = rw (← c .before .before .before .address-of .ensures, c .before .answer .given .1)
+returns c = rw (← c .before .before .before .address-of .ensures .0, c .before .answer .given .1)
 
 returns-2 : tie.Need-returns-2
 unfolding addressCall over addressNumbers
-returns-2 c = rw (← c .before .before .before .address-of .ensures, c .before .answer2 .given .1)
+returns-2 c = rw (← c .before .before .before .address-of .ensures .0, c .before .answer2 .given .1)
 
 pub edd-address-spec : {M : Type 1} → statement M
 edd-address-spec =

@@ -21,11 +21,11 @@ cast-result c = search needs
 
 returns : tie.Need-returns
 unfolding blockCall over blockNumbers
-returns c = rw (← c .before .before .before .block-of .ensures, c .before .answer .given .1)
+returns c = rw (← c .before .before .before .block-of .ensures .0, c .before .answer .given .1)
 
 returns-2 : tie.Need-returns-2
 unfolding blockCall over blockNumbers
-returns-2 c = rw (← c .before .before .before .block-of .ensures, c .before .answer2 .given .1)
+returns-2 c = rw (← c .before .before .before .block-of .ensures .0, c .before .answer2 .given .1)
 
 pub edd-block-spec : {M : Type 1} → statement M
 edd-block-spec =

@@ -1,33 +1,63 @@
-use mathlib.Core.List.{[]}
+use mathlib.Core.Path.{_≡_, refl, sym, ap, subst, _∙_}
+use mathlib.Core.Bool.{true, false}
+use mathlib.Core.List.{List, [], _∷_}
+use types.Run.{OneOf}
+use denote.Enum.Declared.{tagOf}
+use Prim.Native.Nat.{ℕ, _<_}
+use lib.ListN.{length}
+use lib.Dec.{ltb}
+use borrow.Author.Tests.{ltb-true}
+use denote.Ref.{now}
+use Rattle.desk.proofs.Stage as stage
+use Rattle.desk.specs.declared.Stage.{Stage}
+use Rattle.desk.specs.declared.Stage.the-variants.{Vacant, Waiting, Finished}
+use Rattle.desk.specs.Parts.{stageAt, withStage}
+use Rattle.desk.specs.Acceptable.{accept}
+use Rattle.desk.specs.declared.CollectAnswer.the-variants.{Refused as CollectRefused}
+use Rattle.desk.specs.Calls.{houseNumber, done, collectStage, collectOf}
 use Rattle.desk.specs.Numbers.{collectNumbers}
+use Rattle.desk.proofs.CallsLaws.{house-tests, house-refused, Passed, house-passed, collect-other, collect-finished}
+use Rattle.image.specs.Image.{deskOf, accepted}
 use Rattle.exports.specs.Exports.{effect, over, collectCall}
+use Rattle.exports.proofs.Exports.{block, stage-read, put-row}
 use borrow.Author.Needs.{needs}
 use Rattle.exports.proofs.edd_collect.Statement.{statement}
 use Rattle.exports.proofs.edd_collect.Tie as tie
 use Rattle.exports.proofs.edd_collect.Reads as reads
 use Rattle.exports.proofs.edd_collect.Lts as lts
-use Rattle.desk.proofs.Desk.collect.Reads as collect-reads
+use Rattle.desk.proofs.house_number.Reads as house-number-reads
 use Rattle.exports.proofs.hand.Reads as hand-reads
-use Rattle.image.proofs.decode.Reads as decode-reads
-use Rattle.image.proofs.encode.Reads as encode-reads
+use Rattle.image.proofs.acceptable.Reads as acceptable-reads
+use Rattle.image.proofs.stage_of.Reads as stage-of-reads
+use Rattle.image.proofs.put_stage.Reads as put-stage-reads
 
-decode-requires : tie.Need-decode-requires
-decode-requires c κs = search needs
+abbrev bytes : tie.After-house-number → List ℕ
+bytes c = now (c .before .before .before .before .args .desk)
 
-collect-requires : tie.Need-collect-requires
-collect-requires c κs = search needs
+abbrev guest : tie.After-house-number → ℕ
+guest c = c .before .before .before .before .args .guest
 
-enum-known-answer : tie.Need-enum-known-answer
-enum-known-answer c = search needs
+number : (c : tie.After-house-number) → c .house-number .result ≡ houseNumber (accept (deskOf (bytes c))) true (ltb (guest c) 8)
+unfolding accepted
+number c = house-tests (c .house-number .ensures) (c .before .acceptable .ensures) refl refl
 
-encode-requires : tie.Need-encode-requires
-encode-requires c κs = search needs
+passed : (c : tie.Else1) → Passed (accept (deskOf (bytes (c .before)))) true (ltb (guest (c .before)) 8)
+passed c = house-passed _ _ _ (number (c .before)) (c .if1 .left)
 
-hand-requires : tie.Need-hand-requires
-hand-requires c κs = search needs
+below : (c : tie.Else1) → guest (c .before) < 8
+below c = ltb-true (guest (c .before)) 8 (passed c .guest)
 
-enum-known-answer-2 : tie.Need-enum-known-answer-2
-enum-known-answer-2 c = search needs
+refused : (c : tie.Then1) → done (deskOf (bytes (c .before))) (CollectRefused (c .before .house-number .result)) [] [] ≡ collectOf (deskOf (bytes (c .before))) (guest (c .before)) [] []
+unfolding collectOf
+refused c =
+    let d = deskOf (bytes (c .before)) in
+    house-refused _ _ _ (λ n. done d (CollectRefused n) [] []) (collectStage d (guest (c .before)) (stageAt d (guest (c .before))) [] []) (number (c .before)) (c .if1 .taken)
+
+acceptable-requires : tie.Need-acceptable-requires
+acceptable-requires c κs = search needs
+
+house-number-requires : tie.Need-house-number-requires
+house-number-requires c κs = search needs
 
 cast-result : tie.Need-cast-result
 cast-result c = search needs
@@ -37,27 +67,58 @@ same-length c = search needs
 
 returns : tie.Need-returns
 unfolding collectCall over collectNumbers
-returns c = rw (← c .before .before .before .before .before .before .before .before .before .before .before .before .before .before .before .before .before .decode .ensures, ← c .before .before .before .before .before .before .before .before .before .before .before .before .before .before .before .before .collect .ensures [] [], c .before .before .before .before .before .before .before .before .before .before .before .before .before .before .answer .given .1, c .before .before .before .before .before .before .before .before .before .before .before .encode .ensures, c .hand .ensures)
+returns c = rw (← refused c)
+
+stage-of-requires : tie.Need-stage-of-requires
+stage-of-requires c κs = (block (bytes (c .before .before)) (passed (c .before) .acceptable) .size, below (c .before))
+
+enum-known-stage : tie.Need-enum-known-stage
+enum-known-stage c = search needs
 
 same-length-2 : tie.Need-same-length-2
 same-length-2 c = search needs
 
 returns-2 : tie.Need-returns-2
 unfolding collectCall over collectNumbers
-returns-2 c = rw (← c .before .before .before .before .decode .ensures, ← c .before .before .before .collect .ensures [] [], c .before .answer2 .given .1)
+returns-2 c =
+    let h = c .before .before .before .before in
+    let p = passed (c .before .before .before) in
+    let s = stage-read (bytes h) (p .acceptable) (guest h) (c .before .stage-of .ensures) in
+    rw (← collect-other (deskOf (bytes h)) (guest h) [] [] p (subst (λ (x : Stage). OneOf (0 ∷ 1 ∷ []) (tagOf stage.the-type x)) s (c .match .keys2)))
+
+put-stage-requires : tie.Need-put-stage-requires
+put-stage-requires c κs = (block (bytes (c .before .before .before .before .before .before .before)) (passed (c .before .before .before .before .before .before) .acceptable) .size, below (c .before .before .before .before .before .before))
+
+hand-requires : tie.Need-hand-requires
+hand-requires c κs = search needs
+
+same-length-3 : tie.Need-same-length-3
+same-length-3 c = search needs
+
+returns-3 : tie.Need-returns-3
+unfolding collectCall over collectNumbers
+returns-3 c =
+    let h = c .before .before .before .before .before .before .before .before .before .before .before .before .before .before .before .before .before .before .before in
+    let p = passed (c .before .before .before .before .before .before .before .before .before .before .before .before .before .before .before .before .before .before) in
+    let x = c .before .before .before .before .before .before .before .before .before .before .before .before .before .before .stage in
+    let s = stage-read (bytes h) (p .acceptable) (guest h) (c .before .before .before .before .before .before .before .before .before .before .before .before .before .before .before .before .stage-of .ensures) in
+    let k = put-row (bytes h) (p .acceptable) (guest h) Vacant (below (c .before .before .before .before .before .before .before .before .before .before .before .before .before .before .before .before .before .before)) (c .before .before .before .before .before .before .before .before .before .before .before .put-stage .ensures) in
+    rw (← collect-finished (deskOf (bytes h)) (guest h) [] [] p (x .given .0 .0) (sym s ∙ x .given .1), k, c .hand .ensures)
 
 pub edd-collect-spec : {M : Type 1} → statement M
 edd-collect-spec =
     tie.close
     (tie.spec
-    decode-requires
-    collect-requires
-    enum-known-answer
-    encode-requires
-    hand-requires
-    enum-known-answer-2
+    acceptable-requires
+    house-number-requires
     cast-result
     same-length
     returns
+    stage-of-requires
+    enum-known-stage
     same-length-2
-    returns-2)
+    returns-2
+    put-stage-requires
+    hand-requires
+    same-length-3
+    returns-3)

@@ -33,11 +33,11 @@ same-length c = search needs
 
 returns-2 : tie.Need-returns-2
 unfolding openCall over openNumbers
-returns-2 c = rw (eq-eqb _ 2400 (c .before .before .before .before .before .before .before .if1 .left), ← c .before .before .before .before .before .before .«open» .ensures, c .before .before .before .before .enum-told .given .1, c .before .before .encode .ensures)
+returns-2 c = rw (eq-eqb _ 2400 (c .before .before .before .before .before .before .before .if1 .left), ← c .before .before .before .before .before .before .«open» .ensures .0, c .before .before .before .before .enum-told .given .1, c .before .before .encode .ensures)
 
 returns-3 : tie.Need-returns-3
 unfolding openCall over openNumbers
-returns-3 c = rw (eq-eqb _ 2400 (c .before .before .before .before .if1 .left), ← c .before .before .before .«open» .ensures, c .before .answer .given .1)
+returns-3 c = rw (eq-eqb _ 2400 (c .before .before .before .before .if1 .left), ← c .before .before .before .«open» .ensures .0, c .before .answer .given .1)
 
 pub edd-open-spec : {M : Type 1} → statement M
 edd-open-spec =

@@ -1,35 +1,89 @@
+use mathlib.Core.Path.{_≡_, refl, sym, ap, subst, _∙_}
+use mathlib.Core.Bool.{true, false}
+use mathlib.Core.List.{List, [], _∷_}
+use types.Run.{OneOf}
+use denote.Enum.Declared.{tagOf}
+use Prim.Native.Nat.{ℕ, _<_}
+use lib.ListN.{length}
+use lib.Dec.{ltb}
+use borrow.Author.Tests.{ltb-true}
+use denote.Ref.{now}
+use Rattle.desk.proofs.Stage as stage
+use Rattle.desk.specs.declared.Stage.{Stage}
+use Rattle.desk.specs.declared.Stage.the-variants.{Vacant, Waiting, Finished}
+use Rattle.desk.specs.Parts.{stageAt, withStage}
+use Rattle.desk.specs.Acceptable.{accept}
+use Rattle.table.specs.declared.Table.{Table}
+use Rattle.int13.specs.declared.Registers.{Registers}
+use Rattle.int13.specs.declared.Outcome.{Outcome}
+use Rattle.int13.specs.declared.Outcome.the-variants.{Answered, Waits as OutcomeWaits}
+use Rattle.int13.specs.Steps.{Checked, fed, begin}
+use Rattle.desk.specs.declared.Desk.{Desk}
+use Rattle.desk.specs.declared.PostAnswer.the-variants.{Refused as PostRefused}
+use Rattle.desk.specs.Parts.{ownWindow, withOwn}
+use Rattle.desk.specs.Calls.{isLent, done, postChecked, postRow, postOf}
 use Rattle.desk.specs.Numbers.{postNumbers}
-use Rattle.exports.specs.Exports.{effect, over, postCall}
+use Rattle.desk.proofs.CallsLaws.{house-refused, Passed, house-passed, post-other, post-vacant}
+use Rattle.image.specs.Image.{readDesk, deskOf}
+use Rattle.exports.specs.Exports.{effect, given, postCall}
+use Rattle.exports.proofs.Exports.{block, stage-read, put-row}
 use borrow.Author.Needs.{needs}
 use Rattle.exports.proofs.edd_post.Statement.{statement}
 use Rattle.exports.proofs.edd_post.Tie as tie
 use Rattle.exports.proofs.edd_post.Reads as reads
 use Rattle.exports.proofs.edd_post.Lts as lts
-use Rattle.desk.proofs.Desk.post.Reads as post-reads
+use Rattle.exports.proofs.number_at.Reads as number-at-reads
+use Rattle.exports.proofs.begun.Reads as begun-reads
 use Rattle.exports.proofs.bit.Reads as bit-reads
-use Rattle.image.proofs.decode.Reads as decode-reads
-use Rattle.image.proofs.encode.Reads as encode-reads
+use Rattle.image.proofs.stage_of.Reads as stage-of-reads
+use Rattle.image.proofs.put_stage.Reads as put-stage-reads
 
-decode-requires : tie.Need-decode-requires
-decode-requires c κs = search needs
+abbrev bytes : tie.After-number-at → List ℕ
+bytes c = now (c .before .before .before .before .before .before .before .before .before .args .desk)
 
-post-requires : tie.Need-post-requires
-post-requires c κs = search needs
+abbrev arena : tie.After-number-at → List ℕ
+arena c = now (c .before .before .before .before .before .before .before .before .before .args .arena)
 
-enum-known-answer : tie.Need-enum-known-answer
-enum-known-answer c = search needs
+abbrev store : tie.After-number-at → List ℕ
+store c = now (c .before .before .before .before .before .before .before .before .before .args .store)
 
-bit-requires : tie.Need-bit-requires
-bit-requires c κs = search needs
+abbrev guest : tie.After-number-at → ℕ
+guest c = c .before .before .before .before .before .before .before .before .before .args .guest
 
-enum-told : tie.Need-enum-told
-enum-told c = search needs
+passed : (c : tie.Else1) → Passed (accept (deskOf (bytes (c .before)))) (isLent (deskOf (bytes (c .before))) (arena (c .before)) (store (c .before))) (ltb (guest (c .before)) 8)
+passed c = house-passed _ _ _ (c .before .number-at .ensures) (c .if1 .left)
 
-encode-requires : tie.Need-encode-requires
-encode-requires c κs = search needs
+below : (c : tie.Else1) → guest (c .before) < 8
+below c = ltb-true (guest (c .before)) 8 (passed c .guest)
 
-enum-known-answer-2 : tie.Need-enum-known-answer-2
-enum-known-answer-2 c = search needs
+abbrev registers : tie.After-number-at → Registers
+registers c =
+    let a = c .before .before .before .before .before .before .before .before .before .args in
+    given (now (a .ax)) (now (a .bx)) (now (a .cx)) (now (a .dx)) (a .ds) (a .si) (a .es)
+
+refused : (c : tie.Then1) → done (deskOf (bytes (c .before))) (PostRefused (c .before .number-at .result)) (arena (c .before)) (store (c .before))
+    ≡ postOf (deskOf (bytes (c .before))) (guest (c .before)) (registers (c .before)) (arena (c .before)) (store (c .before))
+unfolding postOf
+refused c =
+    let h = c .before in
+    let d = deskOf (bytes h) in
+    house-refused _ _ _ (λ n. done d (PostRefused n) (arena h) (store h)) (postRow d (guest h) (registers h) (arena h) (store h) (stageAt d (guest h))) (h .number-at .ensures) (c .if1 .taken)
+
+-- what the steps over one drive made of it is what the call makes of it
+made : (c : tie.After-begun) (o : Outcome) → c .begun .result ≡ o
+    → let h = c .before .before .before .before .before .before .before .before in
+    let d = deskOf (bytes h) in
+    done (postChecked d (guest h) [] [] o [] .desk) (postChecked d (guest h) [] [] o [] .answer) (c .begun .last .1 .1 .1 .0) (store h) ≡ postOf d (guest h) (registers h) (arena h) (store h)
+made c o e =
+    let h = c .before .before .before .before .before .before .before .before in
+    let p = passed (c .before .before .before .before .before .before .before) in
+    let t = ap (λ (x : Desk). begin (fed (x .table)) (registers h) (ownWindow (arena h) (guest h))) (sym (block (bytes h) (p .acceptable) .desk)) in
+    let v = sym (stage-read (bytes h) (p .acceptable) (guest h) (c .before .before .before .before .before .stage-of .ensures)) ∙ c .before .before .before .enum-told .given .1 in
+    let w = c .begun .ensures .1 ∙ ap (λ (x : Checked). withOwn (arena h) (guest h) (x .window)) t in
+    rw w (post-vacant (deskOf (bytes h)) (guest h) (arena h) (store h) p (registers h) v (sym e ∙ c .begun .ensures .0 ∙ ap (λ (x : Checked). x .outcome) t) refl refl refl)
+
+number-at-requires : tie.Need-number-at-requires
+number-at-requires c κs = search needs
 
 cast-result : tie.Need-cast-result
 cast-result c = search needs
@@ -37,12 +91,41 @@ cast-result c = search needs
 same-length : tie.Need-same-length
 same-length c = search needs
 
+returns : tie.Need-returns
+unfolding postCall postNumbers
+returns c = rw (← refused c)
+
+stage-of-requires : tie.Need-stage-of-requires
+stage-of-requires c κs = (block (bytes (c .before .before)) (passed (c .before) .acceptable) .size, below (c .before))
+
+enum-told : tie.Need-enum-told
+enum-told c = search needs
+
 same-length-2 : tie.Need-same-length-2
 same-length-2 c = search needs
 
-returns : tie.Need-returns
+returns-2 : tie.Need-returns-2
 unfolding postCall postNumbers
-returns c = rw (← c .before .before .before .before .before .before .before .before .decode .ensures, ← c .before .before .before .before .before .before .post .ensures, c .before .before .answer .given .1, c .bit .ensures)
+returns-2 c =
+    let h = c .before .before .before .before in
+    let p = passed (c .before .before .before) in
+    let s = stage-read (bytes h) (p .acceptable) (guest h) (c .before .stage-of .ensures) in
+    rw (← post-other (deskOf (bytes h)) (guest h) (arena h) (store h) p (registers h) (subst (λ (x : Stage). OneOf (1 ∷ 2 ∷ []) (tagOf stage.the-type x)) s (c .match .keys2)))
+
+begun-requires : tie.Need-begun-requires
+begun-requires c κs = block (bytes (c .before .before .before .before .before .before .before)) (passed (c .before .before .before .before .before .before) .acceptable) .size
+
+enum-known-outcome : tie.Need-enum-known-outcome
+enum-known-outcome c = search needs
+
+bit-requires : tie.Need-bit-requires
+bit-requires c κs = search needs
+
+enum-known-outcome-2 : tie.Need-enum-known-outcome-2
+enum-known-outcome-2 c = search needs
+
+put-stage-requires : tie.Need-put-stage-requires
+put-stage-requires c κs = (block (bytes (c .before .before .before .before .before .before .before .before .before .before .before .before .before .before)) (passed (c .before .before .before .before .before .before .before .before .before .before .before .before .before) .acceptable) .size, below (c .before .before .before .before .before .before .before .before .before .before .before .before .before))
 
 same-length-3 : tie.Need-same-length-3
 same-length-3 c = search needs
@@ -50,9 +133,11 @@ same-length-3 c = search needs
 same-length-4 : tie.Need-same-length-4
 same-length-4 c = search needs
 
-returns-2 : tie.Need-returns-2
+returns-3 : tie.Need-returns-3
 unfolding postCall postNumbers
-returns-2 c = rw (← c .before .before .before .before .before .before .before .before .before .before .decode .ensures, ← c .before .before .before .before .before .before .before .before .post .ensures, c .before .before .before .before .enum-told .given .1, c .before .before .encode .ensures)
+returns-3 c =
+    let o = c .before .before .outcome in
+    rw (← made (c .before .before .before .before .before .before) (Answered (o .given .0 .0)) (o .given .1), c .bit .ensures)
 
 same-length-5 : tie.Need-same-length-5
 same-length-5 c = search needs
@@ -60,28 +145,35 @@ same-length-5 c = search needs
 same-length-6 : tie.Need-same-length-6
 same-length-6 c = search needs
 
-returns-3 : tie.Need-returns-3
+returns-4 : tie.Need-returns-4
 unfolding postCall postNumbers
-returns-3 c = rw (← c .before .before .before .before .before .before .before .decode .ensures, ← c .before .before .before .before .before .post .ensures, c .before .answer2 .given .1)
+returns-4 c =
+    let h = c .before .before .before .before .before .before .before .before .before .before .before .before .before .before .before .before .before in
+    let p = passed (c .before .before .before .before .before .before .before .before .before .before .before .before .before .before .before .before) in
+    let o = c .before .before .before .before .before .outcome2 in
+    let k = put-row (bytes h) (p .acceptable) (guest h) (Waiting (record { job = o .given .0 .0; moved = 0 })) (below (c .before .before .before .before .before .before .before .before .before .before .before .before .before .before .before .before)) (c .before .before .put-stage .ensures) in
+    rw (← made (c .before .before .before .before .before .before .before .before .before) (OutcomeWaits (o .given .0 .0)) (o .given .1), k)
 
 pub edd-post-spec : {M : Type 1} → statement M
 edd-post-spec =
     tie.close
     (tie.spec
-    decode-requires
-    post-requires
-    enum-known-answer
-    bit-requires
-    enum-told
-    encode-requires
-    enum-known-answer-2
+    number-at-requires
     cast-result
     same-length
-    same-length-2
     returns
+    stage-of-requires
+    enum-told
+    same-length-2
+    returns-2
+    begun-requires
+    enum-known-outcome
+    bit-requires
+    enum-known-outcome-2
+    put-stage-requires
     same-length-3
     same-length-4
-    returns-2
+    returns-3
     same-length-5
     same-length-6
-    returns-3)
+    returns-4)

@@ -1,31 +1,83 @@
+use mathlib.Core.Path.{_≡_, refl, sym, ap, subst, _∙_}
+use mathlib.Core.Bool.{true, false}
+use mathlib.Core.List.{List, [], _∷_}
+use types.Run.{OneOf}
+use denote.Enum.Declared.{tagOf}
+use Prim.Native.Nat.{ℕ, _<_}
+use native.Mathlib.Omega.{arith}
+use denote.Ref.{now}
+use Rattle.int13.specs.Steps.{driveAt}
+use Rattle.desk.proofs.Stage as stage
+use Rattle.desk.specs.declared.Stage.{Stage}
+use Rattle.desk.specs.declared.Stage.the-variants.{Waiting}
+use Rattle.desk.specs.declared.Desk.{Desk}
+use Rattle.desk.specs.declared.Next.the-variants.{Guest}
+use Rattle.desk.specs.declared.TurnAnswer.the-variants.{Refused as TurnRefused}
+use Rattle.desk.specs.Parts.{windowSize, stageAt}
+use Rattle.desk.specs.Acceptable.{accept}
+use Rattle.desk.specs.Calls.{isLent, done, firstWaiting, Transferred, turnNext, turnOf}
 use Rattle.desk.specs.Numbers.{turnNumbers}
+use Rattle.desk.proofs.AcceptableLaws.{accept-true, Waits}
+use Rattle.desk.proofs.CallsLaws.{house-refused, Passed, house-passed, turn-nobody, turn-other, turn-served, seek-below, waiting-facts, in-range}
+use Rattle.image.specs.Image.{deskOf}
 use Rattle.exports.specs.Exports.{effect, over, turnCall}
+use Rattle.exports.proofs.Exports.{block, pointer-read, next-read, stage-read, drive-read, put-turn}
 use borrow.Author.Needs.{needs}
 use Rattle.exports.proofs.edd_turn.Statement.{statement}
 use Rattle.exports.proofs.edd_turn.Tie as tie
 use Rattle.exports.proofs.edd_turn.Reads as reads
 use Rattle.exports.proofs.edd_turn.Lts as lts
-use Rattle.desk.proofs.Desk.turn.Reads as turn-reads
-use Rattle.image.proofs.decode.Reads as decode-reads
-use Rattle.image.proofs.encode.Reads as encode-reads
+use Rattle.exports.proofs.number_at.Reads as number-at-reads
+use Rattle.exports.proofs.put_served.Reads as put-served-reads
+use Rattle.image.proofs.next_of.Reads as next-of-reads
+use Rattle.image.proofs.stage_of.Reads as stage-of-reads
+use Rattle.image.proofs.drive_named.Reads as drive-named-reads
+use Rattle.desk.proofs.service_of.Reads as service-of-reads
+use Rattle.desk.proofs.transfer.Reads as transfer-reads
 
-decode-requires : tie.Need-decode-requires
-decode-requires c κs = search needs
+abbrev bytes : tie.After-number-at → List ℕ
+bytes c = now (c .before .before .before .before .before .args .desk)
 
-turn-requires : tie.Need-turn-requires
-turn-requires c κs = search needs
+abbrev desk : tie.After-number-at → Desk
+desk c = deskOf (bytes c)
 
-enum-known-answer : tie.Need-enum-known-answer
-enum-known-answer c = search needs
+abbrev arena : tie.After-number-at → List ℕ
+arena c = now (c .before .before .before .before .before .args .arena)
 
-encode-requires : tie.Need-encode-requires
-encode-requires c κs = search needs
+abbrev store : tie.After-number-at → List ℕ
+store c = now (c .before .before .before .before .before .args .store)
 
-enum-told : tie.Need-enum-told
-enum-told c = search needs
+passed : (c : tie.Else1) → Passed (accept (desk (c .before))) (isLent (desk (c .before)) (arena (c .before)) (store (c .before))) true
+passed c = house-passed _ _ _ (c .before .number-at .ensures) (c .if1 .left)
 
-enum-known-answer-2 : tie.Need-enum-known-answer-2
-enum-known-answer-2 c = search needs
+refused : (c : tie.Then1) → done (desk (c .before)) (TurnRefused (c .before .number-at .result)) (arena (c .before)) (store (c .before)) ≡ turnOf (desk (c .before)) (arena (c .before)) (store (c .before))
+unfolding turnOf
+refused c =
+    let h = c .before in
+    house-refused _ _ _ (λ n. done (desk h) (TurnRefused n) (arena h) (store h)) (turnNext (desk h) (firstWaiting (desk h .rows) 8 (desk h .pointer)) (arena h) (store h)) (h .number-at .ensures) (c .if1 .taken)
+
+-- the guest that the search found
+abbrev guest : tie.After-known-told → ℕ
+guest c = c .before .found .given .0 .0
+
+found : (c : tie.After-known-told) → firstWaiting (desk (c .before .before .before .before .before .before) .rows) 8 (desk (c .before .before .before .before .before .before) .pointer) ≡ Guest (guest c)
+found c = sym (next-read (bytes (c .before .before .before .before .before .before)) (passed (c .before .before .before .before .before) .acceptable) (c .before .before .before .next-of .ensures)) ∙ c .before .found .given .1
+
+below : (c : tie.After-known-told) → guest c < 8
+below c = let d = desk (c .before .before .before .before .before .before) in seek-below (d .rows) 8 (d .pointer) (guest c) (accept-true d (passed (c .before .before .before .before .before) .acceptable) .pointer) (found c)
+
+-- its request, and what acceptance says of it
+holds : (c : tie.After-known-told2) → stageAt (desk (c .before .before .before .before .before .before .before .before .before .before .before)) (guest (c .before .before .before .before .before)) ≡ Waiting (c .before .stage .given .0 .0)
+holds c = sym (stage-read (bytes (c .before .before .before .before .before .before .before .before .before .before .before)) (passed (c .before .before .before .before .before .before .before .before .before .before) .acceptable) (guest (c .before .before .before .before .before)) (c .before .before .before .stage-of .ensures)) ∙ c .before .stage .given .1
+
+facts : (c : tie.After-known-told2) → Waits (desk (c .before .before .before .before .before .before .before .before .before .before .before) .table) (windowSize (desk (c .before .before .before .before .before .before .before .before .before .before .before))) (c .before .stage .given .0 .0)
+facts c = waiting-facts (desk (c .before .before .before .before .before .before .before .before .before .before .before)) (guest (c .before .before .before .before .before)) (c .before .stage .given .0 .0) (passed (c .before .before .before .before .before .before .before .before .before .before) .acceptable) (below (c .before .before .before .before .before)) (holds c)
+
+named : (c : tie.After-drive-named) → c .drive-named .result ≡ driveAt (desk (c .before .before .before .before .before .before .before .before .before .before .before .before .before) .table) (c .before .before .before .stage .given .0 .0 .job .drive)
+named c = drive-read (bytes (c .before .before .before .before .before .before .before .before .before .before .before .before .before)) (passed (c .before .before .before .before .before .before .before .before .before .before .before .before) .acceptable) (c .before .before .before .stage .given .0 .0 .job .drive) (c .drive-named .ensures) (facts (c .before .before) .job .drive)
+
+number-at-requires : tie.Need-number-at-requires
+number-at-requires c κs = search needs
 
 cast-result : tie.Need-cast-result
 cast-result c = search needs
@@ -33,15 +85,62 @@ cast-result c = search needs
 same-length : tie.Need-same-length
 same-length c = search needs
 
+returns : tie.Need-returns
+unfolding turnCall over turnNumbers
+returns c = rw (← refused c)
+
+next-of-requires : tie.Need-next-of-requires
+next-of-requires c κs = let a = passed (c .before) .acceptable in (block (bytes (c .before .before)) a .size, pointer-read (bytes (c .before .before)) a)
+
+enum-known-found : tie.Need-enum-known-found
+enum-known-found c = search needs
+
+enum-told : tie.Need-enum-told
+enum-told c = search needs
+
 same-length-2 : tie.Need-same-length-2
 same-length-2 c = search needs
+
+returns-2 : tie.Need-returns-2
+unfolding turnCall over turnNumbers
+returns-2 c =
+    let h = c .before .before .before .before .before in
+    let p = passed (c .before .before .before .before) in
+    rw (← turn-nobody (desk h) (arena h) (store h) p (sym (next-read (bytes h) (p .acceptable) (c .before .before .next-of .ensures)) ∙ c .enum-told .given .1))
+
+stage-of-requires : tie.Need-stage-of-requires
+stage-of-requires c κs = (block (bytes (c .before .before .before .before .before .before .before)) (passed (c .before .before .before .before .before .before) .acceptable) .size, below (c .before))
+
+enum-known-stage : tie.Need-enum-known-stage
+enum-known-stage c = search needs
 
 same-length-3 : tie.Need-same-length-3
 same-length-3 c = search needs
 
-returns : tie.Need-returns
+returns-3 : tie.Need-returns-3
 unfolding turnCall over turnNumbers
-returns c = rw (← c .before .before .before .before .before .before .before .before .before .before .before .before .before .before .decode .ensures, ← c .before .before .before .before .before .before .before .before .before .before .before .turn .ensures, c .before .before .before .before .before .answer .given .1, c .before .before .encode .ensures)
+returns-3 c =
+    let h = c .before .before .before .before .before .before .before .before .before in
+    let w = c .before .before .before in
+    let p = passed (c .before .before .before .before .before .before .before .before) in
+    let s = stage-read (bytes h) (p .acceptable) (guest w) (c .before .stage-of .ensures) in
+    rw (← turn-other (desk h) (arena h) (store h) p (guest w) (found w) (subst (λ (x : Stage). OneOf (0 ∷ 2 ∷ []) (tagOf stage.the-type x)) s (c .match2 .keys2)))
+
+drive-named-requires : tie.Need-drive-named-requires
+drive-named-requires c κs = block (bytes (c .before .before .before .before .before .before .before .before .before .before .before .before)) (passed (c .before .before .before .before .before .before .before .before .before .before .before) .acceptable) .size
+
+service-of-requires : tie.Need-service-of-requires
+service-of-requires c κs = search needs
+
+transfer-requires : tie.Need-transfer-requires
+transfer-requires c κs =
+    let h = c .before .before .before .before .before .before .before .before .before .before .before .before .before .before .before .before in
+    let g = c .before .before .before .before .before .before .before .before .before .before .before .before .before .before .before .before .before .before .before .before .before .good in
+    let r = in-range (desk h) (arena h) (store h) (guest (c .before .before .before .before .before .before .before .before .before .before)) (c .before .before .before .before .before .before .stage .given .0 .0) (passed (c .before .before .before .before .before .before .before .before .before .before .before .before .before .before .before)) (below (c .before .before .before .before .before .before .before .before .before .before)) (holds (c .before .before .before .before .before)) (omega (arith, g .1 .0 .0)) (omega (arith, g .1 .1 .0 .0)) (c .before .before .service-of .ensures) in
+    rw (named (c .before .before .before)) r
+
+put-served-requires : tie.Need-put-served-requires
+put-served-requires c κs = (block (bytes (c .before .before .before .before .before .before .before .before .before .before .before .before .before .before .before .before .before .before .before .before .before .before)) (passed (c .before .before .before .before .before .before .before .before .before .before .before .before .before .before .before .before .before .before .before .before .before) .acceptable) .size, below (c .before .before .before .before .before .before .before .before .before .before .before .before .before .before .before .before))
 
 same-length-4 : tie.Need-same-length-4
 same-length-4 c = search needs
@@ -52,43 +151,40 @@ same-length-5 c = search needs
 same-length-6 : tie.Need-same-length-6
 same-length-6 c = search needs
 
-returns-2 : tie.Need-returns-2
+returns-4 : tie.Need-returns-4
 unfolding turnCall over turnNumbers
-returns-2 c = rw (← c .before .before .before .before .before .before .before .before .before .decode .ensures, ← c .before .before .before .before .before .before .turn .ensures, c .enum-told .given .1)
-
-same-length-7 : tie.Need-same-length-7
-same-length-7 c = search needs
-
-same-length-8 : tie.Need-same-length-8
-same-length-8 c = search needs
-
-same-length-9 : tie.Need-same-length-9
-same-length-9 c = search needs
-
-returns-3 : tie.Need-returns-3
-unfolding turnCall over turnNumbers
-returns-3 c = rw (← c .before .before .before .before .before .before .before .before .before .before .decode .ensures, ← c .before .before .before .before .before .before .before .turn .ensures, c .before .answer2 .given .1)
+returns-4 c =
+    let h = c .before .before .before .before .before .before .before .before .before .before .before .before .before .before .before .before .before .before .before .before .before .before .before .before .before in
+    let w = c .before .before .before .before .before .before .before .before .before .before .before .before .before .before .before .before .before .before .before in
+    let p = passed (c .before .before .before .before .before .before .before .before .before .before .before .before .before .before .before .before .before .before .before .before .before .before .before .before) in
+    let q = c .before .before .before .before .before .before .before .before .before .before .before .before .before .before .before .stage .given .0 .0 in
+    let s = c .before .before .before .before .before .before .before .before .before .before .before .service-of in
+    let t : Transferred (driveAt (desk h .table) (q .job .drive) .first) q (s .result .moved) (guest w) (arena h) (store h) _ _ = rw (named (c .before .before .before .before .before .before .before .before .before .before .before .before)) at (c .before .before .before .before .before .before .before .before .transfer .ensures) in
+    let k = put-turn (bytes h) (p .acceptable) (guest w) (s .result .stage) (below w) (c .before .before .put-served .ensures) in
+    rw (← turn-served (desk h) (arena h) (store h) p (guest w) q (found w) (holds (c .before .before .before .before .before .before .before .before .before .before .before .before .before .before)) (s .ensures) refl refl t, k)
 
 pub edd-turn-spec : {M : Type 1} → statement M
 edd-turn-spec =
     tie.close
     (tie.spec
-    decode-requires
-    turn-requires
-    enum-known-answer
-    encode-requires
-    enum-told
-    enum-known-answer-2
+    number-at-requires
     cast-result
     same-length
-    same-length-2
-    same-length-3
     returns
+    next-of-requires
+    enum-known-found
+    enum-told
+    same-length-2
+    returns-2
+    stage-of-requires
+    enum-known-stage
+    same-length-3
+    returns-3
+    drive-named-requires
+    service-of-requires
+    transfer-requires
+    put-served-requires
     same-length-4
     same-length-5
     same-length-6
-    returns-2
-    same-length-7
-    same-length-8
-    same-length-9
-    returns-3)
+    returns-4)

@@ -1,32 +1,73 @@
+use mathlib.Core.Path.{_≡_, refl, sym, ap, subst, _∙_}
+use mathlib.Core.Bool.{true, false}
+use mathlib.Core.List.{List, [], _∷_}
+use types.Run.{OneOf}
+use denote.Enum.Declared.{tagOf}
+use Prim.Native.Nat.{ℕ, _<_}
+use lib.ListN.{length}
+use lib.Dec.{ltb}
+use borrow.Author.Tests.{ltb-true}
+use denote.Ref.{now}
+use Rattle.desk.proofs.Stage as stage
+use Rattle.desk.specs.declared.Stage.{Stage}
+use Rattle.desk.specs.declared.Stage.the-variants.{Vacant, Waiting, Finished}
+use Rattle.desk.specs.Parts.{stageAt, withStage}
+use Rattle.desk.specs.Acceptable.{accept}
+use Rattle.desk.specs.declared.WithdrawAnswer.the-variants.{Refused as WithdrawRefused}
+use Rattle.desk.specs.Calls.{isLent, done, withdrawStage, withdrawOf}
 use Rattle.desk.specs.Numbers.{withdrawNumbers}
+use Rattle.desk.proofs.CallsLaws.{house-refused, Passed, house-passed, withdraw-other, withdraw-waiting, Report, report-facts}
+use Rattle.image.specs.Image.{deskOf}
 use Rattle.exports.specs.Exports.{effect, over, withdrawCall}
+use Rattle.exports.proofs.Exports.{block, stage-read, put-row}
 use borrow.Author.Needs.{needs}
 use Rattle.exports.proofs.edd_withdraw.Statement.{statement}
 use Rattle.exports.proofs.edd_withdraw.Tie as tie
 use Rattle.exports.proofs.edd_withdraw.Reads as reads
 use Rattle.exports.proofs.edd_withdraw.Lts as lts
-use Rattle.desk.proofs.Desk.withdraw.Reads as withdraw-reads
+use Rattle.exports.proofs.number_at.Reads as number-at-reads
 use Rattle.exports.proofs.hand.Reads as hand-reads
-use Rattle.image.proofs.decode.Reads as decode-reads
-use Rattle.image.proofs.encode.Reads as encode-reads
+use Rattle.image.proofs.stage_of.Reads as stage-of-reads
+use Rattle.image.proofs.put_stage.Reads as put-stage-reads
+use Rattle.desk.proofs.report_moved.Reads as report-moved-reads
+use Rattle.desk.proofs.given_back.Reads as given-back-reads
 
-decode-requires : tie.Need-decode-requires
-decode-requires c κs = search needs
+abbrev bytes : tie.After-number-at → List ℕ
+bytes c = now (c .before .before .before .before .before .args .desk)
 
-withdraw-requires : tie.Need-withdraw-requires
-withdraw-requires c κs = search needs
+abbrev arena : tie.After-number-at → List ℕ
+arena c = now (c .before .before .before .before .before .args .arena)
 
-enum-known-answer : tie.Need-enum-known-answer
-enum-known-answer c = search needs
+abbrev store : tie.After-number-at → List ℕ
+store c = now (c .before .before .before .before .before .args .store)
 
-encode-requires : tie.Need-encode-requires
-encode-requires c κs = search needs
+abbrev guest : tie.After-number-at → ℕ
+guest c = c .before .before .before .before .before .args .guest
 
-hand-requires : tie.Need-hand-requires
-hand-requires c κs = search needs
+passed : (c : tie.Else1) → Passed (accept (deskOf (bytes (c .before)))) (isLent (deskOf (bytes (c .before))) (arena (c .before)) (store (c .before))) (ltb (guest (c .before)) 8)
+passed c = house-passed _ _ _ (c .before .number-at .ensures) (c .if1 .left)
 
-enum-known-answer-2 : tie.Need-enum-known-answer-2
-enum-known-answer-2 c = search needs
+below : (c : tie.Else1) → guest (c .before) < 8
+below c = ltb-true (guest (c .before)) 8 (passed c .guest)
+
+refused : (c : tie.Then1) → done (deskOf (bytes (c .before))) (WithdrawRefused (c .before .number-at .result)) (arena (c .before)) (store (c .before)) ≡ withdrawOf (deskOf (bytes (c .before))) (guest (c .before)) (arena (c .before)) (store (c .before))
+unfolding withdrawOf
+refused c =
+    let h = c .before in
+    let d = deskOf (bytes h) in
+    house-refused _ _ _ (λ n. done d (WithdrawRefused n) (arena h) (store h)) (withdrawStage d (guest h) (stageAt d (guest h)) (arena h) (store h)) (h .number-at .ensures) (c .if1 .taken)
+
+-- the request that the row holds, and what acceptance says of it
+holds : (c : tie.After-known-told) → stageAt (deskOf (bytes (c .before .before .before .before .before .before))) (guest (c .before .before .before .before .before .before)) ≡ Waiting (c .before .stage .given .0 .0)
+holds c = sym (stage-read (bytes (c .before .before .before .before .before .before)) (passed (c .before .before .before .before .before) .acceptable) (guest (c .before .before .before .before .before .before)) (c .before .before .before .stage-of .ensures)) ∙ c .before .stage .given .1
+
+facts : (c : tie.After-known-told) → Report (c .before .stage .given .0 .0) (guest (c .before .before .before .before .before .before)) (length (arena (c .before .before .before .before .before .before)))
+facts c =
+    let h = c .before .before .before .before .before .before in
+    report-facts (deskOf (bytes h)) (arena h) (store h) (guest h) (c .before .stage .given .0 .0) (passed (c .before .before .before .before .before)) (holds c)
+
+number-at-requires : tie.Need-number-at-requires
+number-at-requires c κs = search needs
 
 cast-result : tie.Need-cast-result
 cast-result c = search needs
@@ -34,12 +75,38 @@ cast-result c = search needs
 same-length : tie.Need-same-length
 same-length c = search needs
 
+returns : tie.Need-returns
+unfolding withdrawCall over withdrawNumbers
+returns c = rw (← refused c)
+
+stage-of-requires : tie.Need-stage-of-requires
+stage-of-requires c κs = (block (bytes (c .before .before)) (passed (c .before) .acceptable) .size, below (c .before))
+
+enum-known-stage : tie.Need-enum-known-stage
+enum-known-stage c = search needs
+
 same-length-2 : tie.Need-same-length-2
 same-length-2 c = search needs
 
-returns : tie.Need-returns
+returns-2 : tie.Need-returns-2
 unfolding withdrawCall over withdrawNumbers
-returns c = rw (← c .before .before .before .before .before .before .before .before .before .before .before .before .before .before .before .before .before .before .before .before .decode .ensures, ← c .before .before .before .before .before .before .before .before .before .before .before .before .before .before .before .before .before .before .withdraw .ensures, c .before .before .before .before .before .before .before .before .before .before .before .before .before .before .answer .given .1, c .before .before .before .before .before .before .before .before .before .before .before .encode .ensures, c .hand .ensures)
+returns-2 c =
+    let h = c .before .before .before .before in
+    let p = passed (c .before .before .before) in
+    let s = stage-read (bytes h) (p .acceptable) (guest h) (c .before .stage-of .ensures) in
+    rw (← withdraw-other (deskOf (bytes h)) (guest h) (arena h) (store h) p (subst (λ (x : Stage). OneOf (0 ∷ 2 ∷ []) (tagOf stage.the-type x)) s (c .match .keys2)))
+
+report-moved-requires : tie.Need-report-moved-requires
+report-moved-requires c κs = let f = facts (c .before) in (f .guest, f .packet, f .moved)
+
+put-stage-requires : tie.Need-put-stage-requires
+put-stage-requires c κs = (block (bytes (c .before .before .before .before .before .before .before .before .before .before .before)) (passed (c .before .before .before .before .before .before .before .before .before .before) .acceptable) .size, below (c .before .before .before .before .before .before .before .before .before .before))
+
+given-back-requires : tie.Need-given-back-requires
+given-back-requires c κs = facts (c .before .before .before .before .before .before .before .before) .moved
+
+hand-requires : tie.Need-hand-requires
+hand-requires c κs = search needs
 
 same-length-3 : tie.Need-same-length-3
 same-length-3 c = search needs
@@ -47,24 +114,32 @@ same-length-3 c = search needs
 same-length-4 : tie.Need-same-length-4
 same-length-4 c = search needs
 
-returns-2 : tie.Need-returns-2
+returns-3 : tie.Need-returns-3
 unfolding withdrawCall over withdrawNumbers
-returns-2 c = rw (← c .before .before .before .before .before .before .before .decode .ensures, ← c .before .before .before .before .before .withdraw .ensures, c .before .answer2 .given .1)
+returns-3 c =
+    let h = c .before .before .before .before .before .before .before .before .before .before .before .before .before .before .before .before .before .before .before .before .before .before .before .before in
+    let w = c .before .before .before .before .before .before .before .before .before .before .before .before .before .before .before .before .before .before in
+    let p = passed (c .before .before .before .before .before .before .before .before .before .before .before .before .before .before .before .before .before .before .before .before .before .before .before) in
+    let q = w .before .stage .given .0 .0 in
+    let k = put-row (bytes h) (p .acceptable) (guest h) Vacant (below (c .before .before .before .before .before .before .before .before .before .before .before .before .before .before .before .before .before .before .before .before .before .before .before)) (c .before .before .before .before .before .before .before .before .before .before .before .before .put-stage .ensures) in
+    rw (← withdraw-waiting (deskOf (bytes h)) (guest h) (arena h) (store h) p q (holds w) refl refl (c .before .before .before .before .before .before .before .before .before .before .before .before .before .before .before .before .report-moved .ensures), k, c .hand .ensures, c .before .before .before .before .before .before .before .before .before .given-back .ensures)
 
 pub edd-withdraw-spec : {M : Type 1} → statement M
 edd-withdraw-spec =
     tie.close
     (tie.spec
-    decode-requires
-    withdraw-requires
-    enum-known-answer
-    encode-requires
-    hand-requires
-    enum-known-answer-2
+    number-at-requires
     cast-result
     same-length
-    same-length-2
     returns
+    stage-of-requires
+    enum-known-stage
+    same-length-2
+    returns-2
+    report-moved-requires
+    put-stage-requires
+    given-back-requires
+    hand-requires
     same-length-3
     same-length-4
-    returns-2)
+    returns-3)

@@ -1,4 +1,4 @@
-use Rattle.image.specs.Image.{laid}
+use Rattle.image.specs.Image.{deskSize, laid}
 use borrow.Author.Tests.{eq-eqb, ne-eqb}
 use mathlib.Core.Path.{_≡_}
 use borrow.Author.Needs.{needs}
@@ -16,11 +16,11 @@ same-length c = search needs
 
 returns : tie.Need-returns
 unfolding laid
-returns c = rw (eq-eqb _ 2400 (c .before .before .before .before .if1 .taken), c .before .before .lay .ensures)
+returns c = rw (eq-eqb _ deskSize (c .before .before .before .before .if1 .taken), c .before .before .lay .ensures)
 
 returns-2 : tie.Need-returns-2
 unfolding laid
-returns-2 c = rw (ne-eqb _ 2400 (c .if1 .left))
+returns-2 c = rw (ne-eqb _ deskSize (c .if1 .left))
 
 pub encode-spec : {M : Type 1} → statement M
 encode-spec = tie.close (tie.spec lay-requires same-length returns returns-2)

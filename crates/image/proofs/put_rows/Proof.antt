@@ -1,5 +1,5 @@
 use Rattle.image.proofs.Fill.{part-more, length-row}
-use Rattle.image.specs.Image.{each, flat, rowWords}
+use Rattle.image.specs.Image.{each, flat, rowWords, rowAt, deskSize}
 use denote.Ref.{now}
 use borrow.Author.Needs.{needs}
 use native.Mathlib.Omega.{arith}
@@ -15,7 +15,7 @@ use Rattle.image.proofs.put_words.Reads as put-words-reads
 use Rattle.image.proofs.stage_words.Reads as stage-words-reads
 
 abbrev Inv-loop : tie.InvT-loop
-Inv-loop out₀ rows k₀ out k = (k ≤ 8) × (length out ≡ 2400) × (out ≡ sets out₀ 0 (flat (each rowWords (take k rows))))
+Inv-loop out₀ rows k₀ out k = (k ≤ 8) × (length out ≡ deskSize) × (out ≡ sets out₀ (rowAt 0) (flat (each rowWords (take k rows))))
 
 abbrev μ-loop : tie.MeasureT-loop
 μ-loop out₀ rows k₀ out k = 8 - k
@@ -57,7 +57,7 @@ loop-again c =
       search needs,
       ap length e ∙ rw length-sets (h .loop .inv .1),
       e ∙ rw (h .loop .inv .2, c .before .before .before .before .before .stage-words .ensures)
-          (part-more rowWords 23 length-row (now (a .out)) 0 (184 * h .loop .k) (a .t2) (h .loop .k) _ (omega arith) (omega arith)),
+          (part-more rowWords 23 length-row (now (a .out)) (rowAt 0) (rowAt (h .loop .k)) (a .t2) (h .loop .k) _ (omega arith) (omega arith)),
     )
 
 same-length : tie.Need-same-length Inv-loop μ-loop
@@ -68,7 +68,7 @@ returns c =
     let h = c .before in
     let a = h .before .before .args in
     let l : length (a .t2) ≡ 8 = search needs in
-    h .loop .inv .2 ∙ ap (λ l. sets (now (a .out)) 0 (flat (each rowWords l))) (take-all (h .loop .k) (a .t2) (omega arith))
+    h .loop .inv .2 ∙ ap (λ l. sets (now (a .out)) (rowAt 0) (flat (each rowWords l))) (take-all (h .loop .k) (a .t2) (omega arith))
 
 pub put-rows-spec : {M : Type 1} → statement M
 put-rows-spec =

@@ -1,3 +1,4 @@
+use Rattle.image.specs.Image.{readDesk}
 use borrow.Author.Needs.{needs}
 use Rattle.image.proofs.table_of.Statement.{statement}
 use Rattle.image.proofs.table_of.Tie as tie
@@ -73,6 +74,7 @@ get64-requires : tie.Need-get64-requires
 get64-requires c κs = search needs
 
 returns : tie.Need-returns
+unfolding readDesk
 returns c = cc
 
 pub table-of-spec : {M : Type 1} → statement M

@@ -1,7 +1,7 @@
 use mathlib.Core.Path.{_≡_}
 use native.Mathlib.Omega.{arith}
 use lib.ListN.{length, length-map}
-use Rattle.int13.proofs.Steps.{count-most}
+use Rattle.int13.proofs.StepsLaws.{count-most}
 use borrow.Author.Needs.{needs}
 use Rattle.int13.proofs.drive_count.Statement.{statement}
 use Rattle.int13.proofs.drive_count.Tie as tie

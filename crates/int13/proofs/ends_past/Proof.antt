@@ -1,18 +1,19 @@
-use mathlib.Core.Path.{sym}
-use native.Mathlib.Omega.{arith}
-use borrow.Author.Tests.{lt-ltb}
-use Rattle.int13.proofs.Steps.{past-rest}
 use Prim.Native.Nat.{_+_}
+use borrow.Author.Needs.{needs}
+use Rattle.int13.proofs.StepsLaws.{not-leb}
 use Rattle.int13.proofs.ends_past.Statement.{statement}
 use Rattle.int13.proofs.ends_past.Tie as tie
 use Rattle.int13.proofs.ends_past.Reads as reads
 use Rattle.int13.proofs.ends_past.Lts as lts
+use Rattle.logic.proofs.ends_by.Reads as ends-by-reads
+
+ends-by-requires : tie.Need-ends-by-requires
+ends-by-requires c κs = search needs
 
 returns : tie.Need-returns
-returns c = let a = c .before .args in sym (lt-ltb (a .end) (a .start + a .count) (omega arith))
-
-returns-2 : tie.Need-returns-2
-returns-2 c = let a = c .before .args in past-rest (a .end) (a .start) (a .count) (c .if1 .left)
+returns c =
+    let a = c .before .args in
+    rw (c .ends-by .ensures) (not-leb (a .start + a .count) (a .end))
 
 pub ends-past-spec : {M : Type 1} → statement M
-ends-past-spec = tie.close (tie.spec returns returns-2)
+ends-past-spec = tie.close (tie.spec ends-by-requires returns)

@@ -3,7 +3,7 @@ use native.Mathlib.Omega.{arith}
 use denote.Ref.{now}
 use Rattle.int13.specs.declared.Plan.the-variants.{Refuse, Clear, Finish, Wait}
 use Rattle.int13.specs.Steps.{packetPlan}
-use Rattle.int13.proofs.Steps.{plan-clear}
+use Rattle.int13.proofs.StepsLaws.{plan-clear}
 use borrow.Author.Needs.{needs}
 use Rattle.int13.proofs.extended_42_43_44.Statement.{statement}
 use Rattle.int13.proofs.extended_42_43_44.Tie as tie
@@ -36,8 +36,8 @@ add-store16 c = search needs
 store16-requires : tie.Need-store16-requires
 store16-requires c κs =
     let a = c .before .before .before .before .before .before .before .before .args in
-    let plan : packetPlan (a .b) (a .r) (now (a .window)) ≡ Clear (c .before .before .before .plan2 .given .0 .0) = sym (c .before .before .before .before .before .packet-plan .ensures) ∙ c .before .before .before .plan2 .given .1 in
-    omega (arith, plan-clear (a .b) (a .r) (now (a .window)) (c .before .before .before .plan2 .given .0 .0) plan)
+    let plan : packetPlan (a .known) (a .d) (a .r) (now (a .window)) ≡ Clear (c .before .before .before .plan2 .given .0 .0) = sym (c .before .before .before .before .before .packet-plan .ensures) ∙ c .before .before .before .plan2 .given .1 in
+    omega (arith, plan-clear (a .known) (a .d) (a .r) (now (a .window)) (c .before .before .before .plan2 .given .0 .0) plan)
 
 refuse-requires-2 : tie.Need-refuse-requires-2
 refuse-requires-2 c κs = search needs
@@ -57,7 +57,7 @@ same-length c = search needs
 returns : tie.Need-returns
 returns c =
     let a = c .before .before .before .before .before .before .before .args in
-    let plan : packetPlan (a .b) (a .r) (now (a .window)) ≡ Refuse (c .before .before .plan .given .0 .0) = sym (c .before .before .before .before .packet-plan .ensures) ∙ c .before .before .plan .given .1 in
+    let plan : packetPlan (a .known) (a .d) (a .r) (now (a .window)) ≡ Refuse (c .before .before .plan .given .0 .0) = sym (c .before .before .before .before .packet-plan .ensures) ∙ c .before .before .plan .given .1 in
     (rw (plan, c .refuse .ensures), rw plan)
 
 same-length-2 : tie.Need-same-length-2
@@ -66,7 +66,7 @@ same-length-2 c = search needs
 returns-2 : tie.Need-returns-2
 returns-2 c =
     let a = c .before .before .before .before .before .before .before .before .before .before .before .before .args in
-    let plan : packetPlan (a .b) (a .r) (now (a .window)) ≡ Clear (c .before .before .before .before .before .before .before .plan2 .given .0 .0) = sym (c .before .before .before .before .before .before .before .before .before .packet-plan .ensures) ∙ c .before .before .before .before .before .before .before .plan2 .given .1 in
+    let plan : packetPlan (a .known) (a .d) (a .r) (now (a .window)) ≡ Clear (c .before .before .before .before .before .before .before .plan2 .given .0 .0) = sym (c .before .before .before .before .before .before .before .before .before .packet-plan .ensures) ∙ c .before .before .before .before .before .before .before .plan2 .given .1 in
     (rw (plan, c .refuse2 .ensures), rw (plan, c .before .before .before .store16 .ensures, c .before .before .before .before .packet-place .ensures))
 
 same-length-3 : tie.Need-same-length-3
@@ -75,7 +75,7 @@ same-length-3 c = search needs
 returns-3 : tie.Need-returns-3
 returns-3 c =
     let a = c .before .before .before .before .before .before .args in
-    let plan : packetPlan (a .b) (a .r) (now (a .window)) ≡ Finish = sym (c .before .before .before .packet-plan .ensures) ∙ c .before .enum-told .given .1 in
+    let plan : packetPlan (a .known) (a .d) (a .r) (now (a .window)) ≡ Finish = sym (c .before .before .before .packet-plan .ensures) ∙ c .before .enum-told .given .1 in
     (rw (plan, c .succeed .ensures), rw plan)
 
 same-length-4 : tie.Need-same-length-4
@@ -84,7 +84,7 @@ same-length-4 c = search needs
 returns-4 : tie.Need-returns-4
 returns-4 c =
     let a = c .before .before .before .before .before .before .args in
-    let plan : packetPlan (a .b) (a .r) (now (a .window)) ≡ Wait (c .before .plan3 .given .0 .0) = sym (c .before .before .before .packet-plan .ensures) ∙ c .before .plan3 .given .1 in
+    let plan : packetPlan (a .known) (a .d) (a .r) (now (a .window)) ≡ Wait (c .before .plan3 .given .0 .0) = sym (c .before .before .before .packet-plan .ensures) ∙ c .before .plan3 .given .1 in
     (rw plan, rw plan)
 
 pub extended-42-43-44-spec : {M : Type 1} → statement M

@@ -2,18 +2,15 @@ use mathlib.Core.Path.{_≡_, sym, _∙_}
 use mathlib.Core.Bool.{true, false, not}
 use Rattle.logic.specs.Logic.{both}
 use borrow.Author.Tests.{not-true, not-false}
-use Rattle.int13.specs.Answers.{ah, al, dl, isWrite}
-use Rattle.int13.specs.Steps.{isDrive, driveOf, verifyOk, packetPlan}
+use Rattle.int13.specs.Answers.{ah, al, isWrite}
+use Rattle.int13.specs.Steps.{verifyOk, packetPlan}
 use borrow.Author.Needs.{needs}
 use Rattle.int13.proofs.packet_plan.Statement.{statement}
 use Rattle.int13.proofs.packet_plan.Tie as tie
 use Rattle.int13.proofs.packet_plan.Reads as reads
 use Rattle.int13.proofs.packet_plan.Lts as lts
 use Rattle.int13.proofs.al.Reads as al-reads
-use Rattle.int13.proofs.dl.Reads as dl-reads
-use Rattle.int13.proofs.drive_at.Reads as drive-at-reads
 use Rattle.int13.proofs.function_of.Reads as function-of-reads
-use Rattle.int13.proofs.is_drive.Reads as is-drive-reads
 use Rattle.int13.proofs.is_write.Reads as is-write-reads
 use Rattle.int13.proofs.packet_place.Reads as packet-place-reads
 use Rattle.int13.proofs.packet_read.Reads as packet-read-reads
@@ -21,21 +18,9 @@ use Rattle.int13.proofs.verify_ok.Reads as verify-ok-reads
 use Rattle.layout.proofs.read_packet.Reads as read-packet-reads
 use Rattle.logic.proofs.and.Reads as and-reads
 
-dl-requires : tie.Need-dl-requires
-dl-requires c κs = search needs
-
-is-drive-requires : tie.Need-is-drive-requires
-is-drive-requires c κs = search needs
-
 returns : tie.Need-returns
 unfolding packetPlan
-returns c =
-    let a = c .before .before .before .before .args in
-    let known : isDrive (a .b) (dl (a .r)) ≡ false = rw (c .before .before .dl .ensures) at (sym (c .before .is-drive .ensures) ∙ not-true _ (c .if1 .taken)) in
-    rw known
-
-drive-at-requires : tie.Need-drive-at-requires
-drive-at-requires c κs = sym (c .before .is-drive .ensures) ∙ not-false _ (c .if1 .left)
+returns c = rw (not-true (c .before .before .args .known) (c .if1 .taken))
 
 al-requires : tie.Need-al-requires
 al-requires c κs = search needs
@@ -55,10 +40,9 @@ and-requires c κs = search needs
 returns-2 : tie.Need-returns-2
 unfolding packetPlan
 returns-2 c =
-    let a = c .before .before .before .before .before .before .before .before .before .before .before .args in
-    let known : isDrive (a .b) (dl (a .r)) ≡ true = rw (c .before .before .before .before .before .before .before .before .before .dl .ensures) at (sym (c .before .before .before .before .before .before .before .before .is-drive .ensures) ∙ not-false _ (c .before .before .before .before .before .before .before .if1 .left)) in
-    let verify : both (isWrite (ah (a .r))) (not (verifyOk (al (a .r)) (driveOf (a .b) (a .r) .flags))) ≡ true = rw (c .before .before .is-write .ensures, c .before .before .before .function-of .ensures, c .before .before .before .before .verify-ok .ensures, c .before .before .before .before .before .al .ensures, c .before .before .before .before .before .before .drive-at .ensures, c .before .before .before .before .before .before .before .before .before .dl .ensures) at (sym (c .before .and .ensures) ∙ c .if2 .taken) in
-    rw (known, verify)
+    let a = c .before .before .before .before .before .before .before .before .args in
+    let verify : both (isWrite (ah (a .r))) (not (verifyOk (al (a .r)) (a .d .flags))) ≡ true = rw (c .before .before .is-write .ensures, c .before .before .before .function-of .ensures, c .before .before .before .before .verify-ok .ensures, c .before .before .before .before .before .al .ensures) at (sym (c .before .and .ensures) ∙ c .if2 .taken) in
+    rw (not-false (c .before .before .before .before .before .before .before .before .args .known) (c .before .before .before .before .before .before .if1 .left), verify)
 
 packet-place-requires : tie.Need-packet-place-requires
 packet-place-requires c κs = search needs
@@ -72,19 +56,15 @@ packet-read-requires c κs = search needs
 returns-3 : tie.Need-returns-3
 unfolding packetPlan
 returns-3 c =
-    let a = c .before .before .before .before .before .before .before .before .before .before .before .before .before .before .args in
-    let known : isDrive (a .b) (dl (a .r)) ≡ true = rw (c .before .before .before .before .before .before .before .before .before .before .before .before .dl .ensures) at (sym (c .before .before .before .before .before .before .before .before .before .before .before .is-drive .ensures) ∙ not-false _ (c .before .before .before .before .before .before .before .before .before .before .if1 .left)) in
-    let verify : both (isWrite (ah (a .r))) (not (verifyOk (al (a .r)) (driveOf (a .b) (a .r) .flags))) ≡ false = rw (c .before .before .before .before .before .is-write .ensures, c .before .before .before .before .before .before .function-of .ensures, c .before .before .before .before .before .before .before .verify-ok .ensures, c .before .before .before .before .before .before .before .before .al .ensures, c .before .before .before .before .before .before .before .before .before .drive-at .ensures, c .before .before .before .before .before .before .before .before .before .before .before .before .dl .ensures) at (sym (c .before .before .before .before .and .ensures) ∙ c .before .before .before .if2 .left) in
-    rw (known, verify, c .packet-read .ensures, c .before .read-packet .ensures, c .before .before .packet-place .ensures, c .before .before .before .before .before .before .before .before .before .drive-at .ensures, c .before .before .before .before .before .before .before .before .before .before .before .before .dl .ensures)
+    let a = c .before .before .before .before .before .before .before .before .before .before .before .args in
+    let verify : both (isWrite (ah (a .r))) (not (verifyOk (al (a .r)) (a .d .flags))) ≡ false = rw (c .before .before .before .before .before .is-write .ensures, c .before .before .before .before .before .before .function-of .ensures, c .before .before .before .before .before .before .before .verify-ok .ensures, c .before .before .before .before .before .before .before .before .al .ensures) at (sym (c .before .before .before .before .and .ensures) ∙ c .before .before .before .if2 .left) in
+    rw (not-false (c .before .before .before .before .before .before .before .before .before .before .before .args .known) (c .before .before .before .before .before .before .before .before .before .if1 .left), verify, c .packet-read .ensures, c .before .read-packet .ensures .0, c .before .before .packet-place .ensures)
 
 pub packet-plan-spec : {M : Type 1} → statement M
 packet-plan-spec =
     tie.close
     (tie.spec
-    dl-requires
-    is-drive-requires
     returns
-    drive-at-requires
     al-requires
     verify-ok-requires
     function-of-requires

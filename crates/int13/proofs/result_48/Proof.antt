@@ -6,28 +6,18 @@ use lib.ListN.{length}
 use lib.Dec.{ltb}
 use denote.Ref.{now}
 use borrow.Author.Tests.{not-true, not-false, lt-ltb, le-ltb}
-use Rattle.int13.specs.Answers.{dl}
-use Rattle.int13.specs.Steps.{isDrive, packetPlace, result}
-use Rattle.int13.proofs.Steps.{lent-rest, put-rest}
+use Rattle.int13.specs.Steps.{packetPlace, result}
+use Rattle.int13.proofs.StepsLaws.{lent-rest, put-rest}
 use borrow.Author.Needs.{needs}
 use Rattle.int13.proofs.result_48.Statement.{statement}
 use Rattle.int13.proofs.result_48.Tie as tie
 use Rattle.int13.proofs.result_48.Reads as reads
 use Rattle.int13.proofs.result_48.Lts as lts
-use Rattle.int13.proofs.dl.Reads as dl-reads
-use Rattle.int13.proofs.drive_at.Reads as drive-at-reads
-use Rattle.int13.proofs.is_drive.Reads as is-drive-reads
 use Rattle.int13.proofs.packet_place.Reads as packet-place-reads
 use Rattle.int13.proofs.refuse.Reads as refuse-reads
 use Rattle.int13.proofs.result_given.Reads as result-given-reads
 use Rattle.layout.proofs.write_result.Reads as write-result-reads
 use Rattle.words.proofs.get16.Reads as get16-reads
-
-dl-requires : tie.Need-dl-requires
-dl-requires c κs = search needs
-
-is-drive-requires : tie.Need-is-drive-requires
-is-drive-requires c κs = search needs
 
 refuse-requires : tie.Need-refuse-requires
 refuse-requires c κs = search needs
@@ -35,8 +25,7 @@ refuse-requires c κs = search needs
 returns : tie.Need-returns
 unfolding result
 returns c =
-    let a = c .before .before .before .before .before .args in
-    let known : isDrive (a .b) (dl (a .r)) ≡ false = rw (c .before .before .before .dl .ensures) at (sym (c .before .before .is-drive .ensures) ∙ not-true _ (c .before .if1 .taken)) in
+    let known = not-true (c .before .before .before .args .known) (c .before .if1 .taken) in
     (rw (known, c .refuse .ensures), rw known)
 
 packet-place-requires : tie.Need-packet-place-requires
@@ -51,13 +40,10 @@ refuse-requires-2 c κs = search needs
 returns-2 : tie.Need-returns-2
 unfolding result
 returns-2 c =
-    let a = c .before .before .before .before .before .before .before .args in
-    let known : isDrive (a .b) (dl (a .r)) ≡ true = rw (c .before .before .before .before .before .dl .ensures) at (sym (c .before .before .before .before .is-drive .ensures) ∙ not-false _ (c .before .before .before .if1 .left)) in
+    let a = c .before .before .before .before .before .args in
+    let known = not-false (c .before .before .before .before .before .args .known) (c .before .before .before .if1 .left) in
     let short : ltb (length (now (a .window))) (packetPlace (a .r) + 2) ≡ true = lt-ltb (length (now (a .window))) (packetPlace (a .r) + 2) (omega arith) in
     (rw (known, short, c .refuse2 .ensures), rw (known, short))
-
-drive-at-requires : tie.Need-drive-at-requires
-drive-at-requires c κs = sym (c .before .before .before .is-drive .ensures) ∙ not-false _ (c .before .before .if1 .left)
 
 get16-requires : tie.Need-get16-requires
 get16-requires c κs = search needs
@@ -83,28 +69,27 @@ same-length c = search needs
 returns-3 : tie.Need-returns-3
 unfolding result
 returns-3 c =
-    let a = c .before .before .before .before .before .before .before .before .before .before .before .before .before .before .args in
-    let known : isDrive (a .b) (dl (a .r)) ≡ true = rw (c .before .before .before .before .before .before .before .before .before .before .before .before .dl .ensures) at (sym (c .before .before .before .before .before .before .before .before .before .before .before .is-drive .ensures) ∙ not-false _ (c .before .before .before .before .before .before .before .before .before .before .if1 .left)) in
+    let a = c .before .before .before .before .before .before .before .before .before .before .before .args in
+    let known = not-false (c .before .before .before .before .before .before .before .before .before .before .before .args .known) (c .before .before .before .before .before .before .before .before .before .if1 .left) in
     let w = now (a .window) in
     let inside : ltb (length w) (packetPlace (a .r) + 2) ≡ false = le-ltb (length w) (packetPlace (a .r) + 2) (omega arith) in
+    let asked = c .before .before .before .before .before .get16 .ensures in
+    let place = c .before .before .before .before .before .before .before .before .packet-place .ensures in
     let given = c .before .before .before .write-result .ensures in (
-      rw (known, inside, c .result-given .ensures, given .0, c .before .before .before .before .before .get16 .ensures, c .before .before .before .before .before .before .before .before .before .packet-place .ensures, lent-rest w (packetPlace (a .r)), c .before .before .before .before .before .before .before .drive-at .ensures, c .before .before .before .before .before .before .before .before .before .before .before .before .dl .ensures),
-      rw (known, inside, given .1, c .before .before .before .before .before .get16 .ensures, c .before .before .before .before .before .before .before .before .before .packet-place .ensures, lent-rest w (packetPlace (a .r)), c .before .before .before .before .before .before .before .drive-at .ensures, c .before .before .before .before .before .before .before .before .before .before .before .before .dl .ensures) (put-rest w _ (packetPlace (a .r))),
+      rw (known, inside, c .result-given .ensures, given .0, asked, place, lent-rest w (packetPlace (a .r))),
+      rw (known, inside, given .1, asked, place, lent-rest w (packetPlace (a .r))) (put-rest w _ (packetPlace (a .r))),
     )
 
 pub result-48-spec : {M : Type 1} → statement M
 result-48-spec =
     tie.close
     (tie.spec
-    dl-requires
-    is-drive-requires
     refuse-requires
     returns
     packet-place-requires
     add-if2
     refuse-requires-2
     returns-2
-    drive-at-requires
     get16-requires
     sub-write-result
     part-write-result-start

@@ -19,50 +19,39 @@ use Rattle.int13.proofs.refuse.Reads as refuse-reads
 use Rattle.int13.proofs.sector_buffer.Reads as sector-buffer-reads
 use Rattle.int13.proofs.sector_job.Reads as sector-job-reads
 
--- src/lib.rt:262:17
 al-requires : tie.Need-al-requires
 al-requires c κs = search needs
 
--- src/lib.rt:262:17
 cast-count : tie.Need-cast-count
 cast-count c = search needs
 
--- src/lib.rt:263:9
 geometry-size-requires : tie.Need-geometry-size-requires
 geometry-size-requires c κs = search needs
 
--- src/lib.rt:264:8
 ends-past-requires : tie.Need-ends-past-requires
 ends-past-requires c κs = search needs
 
--- src/lib.rt:265:34
 refuse-requires : tie.Need-refuse-requires
 refuse-requires c κs = search needs
 
--- src/lib.rt:265:9
 returns : tie.Need-returns
 returns c =
     let a = c .before .before .before .before .before .args in
     let run : ltb (size (geometryOf (a .d))) (a .start + al (a .r)) ≡ true = rw (c .before .before .before .geometry-size .ensures, c .before .before .before .before .al .ensures) at (sym (c .before .before .ends-past .ensures) ∙ c .before .if1 .taken) in
     rw (run, c .refuse .ensures)
 
--- src/lib.rt:267:33
 sector-buffer-requires : tie.Need-sector-buffer-requires
 sector-buffer-requires c κs = search needs
 
--- src/lib.rt:267:51
 mul-ends-past : tie.Need-mul-ends-past
 mul-ends-past c = search needs
 
--- src/lib.rt:267:8
 ends-past-requires-2 : tie.Need-ends-past-requires-2
 ends-past-requires-2 c κs = search needs
 
--- src/lib.rt:268:34
 refuse-requires-2 : tie.Need-refuse-requires-2
 refuse-requires-2 c κs = search needs
 
--- src/lib.rt:268:9
 returns-2 : tie.Need-returns-2
 returns-2 c =
     let a = c .before .before .before .before .before .before .before .before .args in
@@ -70,11 +59,9 @@ returns-2 c =
     let buffer : ltb (a .window) (sectorBuffer (a .r) + blockLength * al (a .r)) ≡ true = rw (c .before .before .before .sector-buffer .ensures, c .before .before .before .before .before .before .before .al .ensures) at (sym (c .before .before .ends-past2 .ensures) ∙ c .before .if2 .taken) in
     rw (run, buffer, c .refuse2 .ensures)
 
--- src/lib.rt:270:20
 sector-job-requires : tie.Need-sector-job-requires
 sector-job-requires c κs = search needs
 
--- src/lib.rt:259:1
 returns-3 : tie.Need-returns-3
 returns-3 c =
     let a = c .before .before .before .before .before .before .before .before .args in

@@ -6,9 +6,8 @@ use Rattle.logic.specs.Logic.{both}
 use Rattle.chs.specs.declared.ToBlock.the-variants.{Block, Refused}
 use Rattle.chs.specs.Chs.{blockOf, addressIn}
 use Rattle.drive.specs.Drive.{geometryOf, isProtected}
-use Rattle.int13.specs.Answers.{ah, al, dl, isWrite}
-use Rattle.int13.specs.Steps.{isDrive, driveOf, mostRun, sectors}
-use Rattle.int13.proofs.Steps.{block-limits}
+use Rattle.int13.specs.Answers.{ah, al, isWrite}
+use Rattle.int13.specs.Steps.{mostRun, sectors}
 use borrow.Author.Needs.{needs}
 use Rattle.int13.proofs.sectors_02_03.Statement.{statement}
 use Rattle.int13.proofs.sectors_02_03.Tie as tie
@@ -19,10 +18,7 @@ use Rattle.chs.proofs.block_of.Reads as block-of-reads
 use Rattle.drive.proofs.geometry_of.Reads as geometry-of-reads
 use Rattle.drive.proofs.is_protected.Reads as is-protected-reads
 use Rattle.int13.proofs.al.Reads as al-reads
-use Rattle.int13.proofs.dl.Reads as dl-reads
-use Rattle.int13.proofs.drive_at.Reads as drive-at-reads
 use Rattle.int13.proofs.function_of.Reads as function-of-reads
-use Rattle.int13.proofs.is_drive.Reads as is-drive-reads
 use Rattle.int13.proofs.is_write.Reads as is-write-reads
 use Rattle.int13.proofs.refuse.Reads as refuse-reads
 use Rattle.int13.proofs.sector_run.Reads as sector-run-reads
@@ -30,33 +26,21 @@ use Rattle.logic.proofs.and.Reads as and-reads
 
 -- what each passed test says
 
-known : (c : tie.Else1) → isDrive (c .before .before .before .args .b) (dl (c .before .before .before .args .r)) ≡ true
-known c = rw (c .before .before .dl .ensures) at (sym (c .before .is-drive .ensures) ∙ not-false _ (c .if1 .left))
-
-some : (c : tie.Else2) → eqb (al (c .before .before .before .before .before .args .r)) 0 ≡ false
+some : (c : tie.Else2) → eqb (al (c .before .before .before .args .r)) 0 ≡ false
 some c = ne-eqb _ _ (λ e. c .if2 .left (c .before .al .ensures ∙ e))
 
-few : (c : tie.Else3) → ltb mostRun (al (c .before .before .before .before .before .before .args .r)) ≡ false
+few : (c : tie.Else3) → ltb mostRun (al (c .before .before .before .before .args .r)) ≡ false
 few c = le-ltb _ _ (rw (c .before .before .al .ensures) at (c .if3 .left))
 
-allowed : (c : tie.Else4) → both (isWrite (ah (c .before .before .before .before .before .before .before .before .before .before .before .before .args .r))) (isProtected (driveOf (c .before .before .before .before .before .before .before .before .before .before .before .before .args .b) (c .before .before .before .before .before .before .before .before .before .before .before .before .args .r))) ≡ false
-allowed c = rw (c .before .before .before .is-write .ensures, c .before .before .before .before .function-of .ensures, c .before .before .is-protected .ensures, c .before .before .before .before .before .drive-at .ensures, c .before .before .before .before .before .before .before .before .before .before .before .dl .ensures) at (sym (c .before .and .ensures) ∙ c .if4 .left)
-
-dl-requires : tie.Need-dl-requires
-dl-requires c κs = search needs
-
-is-drive-requires : tie.Need-is-drive-requires
-is-drive-requires c κs = search needs
+allowed : (c : tie.Else4) → both (isWrite (ah (c .before .before .before .before .before .before .before .before .before .args .r))) (isProtected (c .before .before .before .before .before .before .before .before .before .args .d)) ≡ false
+allowed c = rw (c .before .before .before .is-write .ensures, c .before .before .before .before .function-of .ensures, c .before .before .is-protected .ensures) at (sym (c .before .and .ensures) ∙ c .if4 .left)
 
 refuse-requires : tie.Need-refuse-requires
 refuse-requires c κs = search needs
 
 returns : tie.Need-returns
 unfolding sectors
-returns c =
-    let a = c .before .before .before .before .args in
-    let known : isDrive (a .b) (dl (a .r)) ≡ false = rw (c .before .before .before .dl .ensures) at (sym (c .before .before .is-drive .ensures) ∙ not-true _ (c .before .if1 .taken)) in
-    rw (known, c .refuse .ensures)
+returns c = rw (not-true (c .before .before .args .known) (c .before .if1 .taken), c .refuse .ensures)
 
 al-requires : tie.Need-al-requires
 al-requires c κs = search needs
@@ -67,8 +51,8 @@ refuse-requires-2 c κs = search needs
 returns-2 : tie.Need-returns-2
 unfolding sectors
 returns-2 c =
-    let none : eqb (al (c .before .before .before .before .before .before .args .r)) 0 ≡ true = eq-eqb _ _ (sym (c .before .before .al .ensures) ∙ c .before .if2 .taken) in
-    rw (known (c .before .before .before), none, c .refuse2 .ensures)
+    let none : eqb (al (c .before .before .before .before .args .r)) 0 ≡ true = eq-eqb _ _ (sym (c .before .before .al .ensures) ∙ c .before .if2 .taken) in
+    rw (not-false (c .before .before .before .before .args .known) (c .before .before .before .if1 .left), none, c .refuse2 .ensures)
 
 refuse-requires-3 : tie.Need-refuse-requires-3
 refuse-requires-3 c κs = search needs
@@ -76,11 +60,8 @@ refuse-requires-3 c κs = search needs
 returns-3 : tie.Need-returns-3
 unfolding sectors
 returns-3 c =
-    let many : ltb mostRun (al (c .before .before .before .before .before .before .before .args .r)) ≡ true = lt-ltb _ _ (rw (c .before .before .before .al .ensures) at (c .before .if3 .taken)) in
-    rw (known (c .before .before .before .before), some (c .before .before), many, c .refuse3 .ensures)
-
-drive-at-requires : tie.Need-drive-at-requires
-drive-at-requires c κs = sym (c .before .before .before .before .is-drive .ensures) ∙ not-false _ (c .before .before .before .if1 .left)
+    let many : ltb mostRun (al (c .before .before .before .before .before .args .r)) ≡ true = lt-ltb _ _ (rw (c .before .before .before .al .ensures) at (c .before .if3 .taken)) in
+    rw (not-false (c .before .before .before .before .before .args .known) (c .before .before .before .before .if1 .left), some (c .before .before), many, c .refuse3 .ensures)
 
 function-of-requires : tie.Need-function-of-requires
 function-of-requires c κs = search needs
@@ -100,9 +81,9 @@ refuse-requires-4 c κs = search needs
 returns-4 : tie.Need-returns-4
 unfolding sectors
 returns-4 c =
-    let a = c .before .before .before .before .before .before .before .before .before .before .before .before .before .args in
-    let protected : both (isWrite (ah (a .r))) (isProtected (driveOf (a .b) (a .r))) ≡ true = rw (c .before .before .before .before .is-write .ensures, c .before .before .before .before .before .function-of .ensures, c .before .before .before .is-protected .ensures, c .before .before .before .before .before .before .drive-at .ensures, c .before .before .before .before .before .before .before .before .before .before .before .before .dl .ensures) at (sym (c .before .before .and .ensures) ∙ c .before .if4 .taken) in
-    rw (known (c .before .before .before .before .before .before .before .before .before .before), some (c .before .before .before .before .before .before .before .before), few (c .before .before .before .before .before .before .before), protected, c .refuse4 .ensures)
+    let a = c .before .before .before .before .before .before .before .before .before .before .args in
+    let protected : both (isWrite (ah (a .r))) (isProtected (a .d)) ≡ true = rw (c .before .before .before .before .is-write .ensures, c .before .before .before .before .before .function-of .ensures, c .before .before .before .is-protected .ensures) at (sym (c .before .before .and .ensures) ∙ c .before .if4 .taken) in
+    rw (not-false (c .before .before .before .before .before .before .before .before .before .before .args .known) (c .before .before .before .before .before .before .before .before .before .if1 .left), some (c .before .before .before .before .before .before .before), few (c .before .before .before .before .before .before), protected, c .refuse4 .ensures)
 
 geometry-of-requires : tie.Need-geometry-of-requires
 geometry-of-requires c κs = search needs
@@ -128,23 +109,21 @@ sector-run-requires c κs = search needs
 returns-5 : tie.Need-returns-5
 unfolding sectors
 returns-5 c =
-    let a = c .before .before .before .before .before .before .before .before .before .before .before .before .before .before .before .before .before .before .before .args in
-    let block : blockOf (geometryOf (driveOf (a .b) (a .r))) (addressIn (a .r .cx) (a .r .dx)) ≡ Refused (c .before .before .block .given .0 .0) = rw (c .before .before .before .before .before .before .geometry-of .ensures, c .before .before .before .before .before .address-in .ensures, c .before .before .before .before .before .before .before .before .before .before .before .before .drive-at .ensures, c .before .before .before .before .before .before .before .before .before .before .before .before .before .before .before .before .before .before .dl .ensures) at (sym (c .before .before .before .before .block-of .ensures) ∙ c .before .before .block .given .1) in
-    rw (known (c .before .before .before .before .before .before .before .before .before .before .before .before .before .before .before .before), some (c .before .before .before .before .before .before .before .before .before .before .before .before .before .before), few (c .before .before .before .before .before .before .before .before .before .before .before .before .before), allowed (c .before .before .before .before .before .before .before), block, c .refuse5 .ensures)
+    let a = c .before .before .before .before .before .before .before .before .before .before .before .before .before .before .before .before .args in
+    let block : blockOf (geometryOf (a .d)) (addressIn (a .r .cx) (a .r .dx)) ≡ Refused (c .before .before .block .given .0 .0) = rw (c .before .before .before .before .before .before .geometry-of .ensures, c .before .before .before .before .before .address-in .ensures) at (sym (c .before .before .before .before .block-of .ensures .0) ∙ c .before .before .block .given .1) in
+    rw (not-false (c .before .before .before .before .before .before .before .before .before .before .before .before .before .before .before .before .args .known) (c .before .before .before .before .before .before .before .before .before .before .before .before .before .before .before .if1 .left), some (c .before .before .before .before .before .before .before .before .before .before .before .before .before), few (c .before .before .before .before .before .before .before .before .before .before .before .before), allowed (c .before .before .before .before .before .before .before), block, c .refuse5 .ensures)
 
 returns-6 : tie.Need-returns-6
 unfolding sectors
 returns-6 c =
-    let a = c .before .before .before .before .before .before .before .before .before .before .before .before .before .before .before .before .before .before .before .args in
-    let block : blockOf (geometryOf (driveOf (a .b) (a .r))) (addressIn (a .r .cx) (a .r .dx)) ≡ Block (c .before .before .block2 .given .0 .0) = rw (c .before .before .before .before .before .before .geometry-of .ensures, c .before .before .before .before .before .address-in .ensures, c .before .before .before .before .before .before .before .before .before .before .before .before .drive-at .ensures, c .before .before .before .before .before .before .before .before .before .before .before .before .before .before .before .before .before .before .dl .ensures) at (sym (c .before .before .before .before .block-of .ensures) ∙ c .before .before .block2 .given .1) in
-    rw (known (c .before .before .before .before .before .before .before .before .before .before .before .before .before .before .before .before), some (c .before .before .before .before .before .before .before .before .before .before .before .before .before .before), few (c .before .before .before .before .before .before .before .before .before .before .before .before .before), allowed (c .before .before .before .before .before .before .before), block, c .sector-run .ensures, c .before .before .before .before .before .before .before .before .before .before .before .before .drive-at .ensures, c .before .before .before .before .before .before .before .before .before .before .before .before .before .before .before .before .before .before .dl .ensures)
+    let a = c .before .before .before .before .before .before .before .before .before .before .before .before .before .before .before .before .args in
+    let block : blockOf (geometryOf (a .d)) (addressIn (a .r .cx) (a .r .dx)) ≡ Block (c .before .before .block2 .given .0 .0) = rw (c .before .before .before .before .before .before .geometry-of .ensures, c .before .before .before .before .before .address-in .ensures) at (sym (c .before .before .before .before .block-of .ensures .0) ∙ c .before .before .block2 .given .1) in
+    rw (not-false (c .before .before .before .before .before .before .before .before .before .before .before .before .before .before .before .before .args .known) (c .before .before .before .before .before .before .before .before .before .before .before .before .before .before .before .if1 .left), some (c .before .before .before .before .before .before .before .before .before .before .before .before .before), few (c .before .before .before .before .before .before .before .before .before .before .before .before), allowed (c .before .before .before .before .before .before .before), block, c .sector-run .ensures)
 
 pub sectors-02-03-spec : {M : Type 1} → statement M
 sectors-02-03-spec =
     tie.close
     (tie.spec
-    dl-requires
-    is-drive-requires
     refuse-requires
     returns
     al-requires
@@ -152,7 +131,6 @@ sectors-02-03-spec =
     returns-2
     refuse-requires-3
     returns-3
-    drive-at-requires
     function-of-requires
     is-write-requires
     is-protected-requires

@@ -1,5 +1,5 @@
 use denote.Ref.{now}
-use Rattle.layout.proofs.ResultBuffers.{block-stores}
+use Rattle.layout.proofs.ResultBufferLaws.{block-stores}
 use borrow.Author.Needs.{needs}
 use Rattle.layout.proofs.put_blocks.Statement.{statement}
 use Rattle.layout.proofs.put_blocks.Tie as tie
@@ -26,7 +26,7 @@ same-length c = search needs
 returns : tie.Need-returns
 returns c =
     let a = c .before .before .before .before .before .before .before .before .before .before .before .before .before .before .before .before .before .args in
-    cc (block-stores (now (a .out)) (a .d))
+    cc (block-stores (now (a .out)) (a .d) (a .p))
 
 pub put-blocks-spec : {M : Type 1} → statement M
 put-blocks-spec =

@@ -1,5 +1,5 @@
 use denote.Ref.{now}
-use Rattle.layout.proofs.ResultBuffers.{geometry-stores}
+use Rattle.layout.proofs.ResultBufferLaws.{geometry-stores}
 use borrow.Author.Needs.{needs}
 use Rattle.layout.proofs.put_geometry.Statement.{statement}
 use Rattle.layout.proofs.put_geometry.Tie as tie

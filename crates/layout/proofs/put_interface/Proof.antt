@@ -1,7 +1,7 @@
 use Prim.Native.Nat.{ℕ}
 use denote.Ref.{now}
 use borrow.Author.Needs.{length-unmapped}
-use Rattle.layout.proofs.ResultBuffers.{interface-stores}
+use Rattle.layout.proofs.ResultBufferLaws.{interface-stores}
 use borrow.Author.Needs.{needs}
 use Rattle.layout.proofs.put_interface.Statement.{statement}
 use Rattle.layout.proofs.put_interface.Tie as tie

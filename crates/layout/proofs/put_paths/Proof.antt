@@ -1,7 +1,7 @@
 use Prim.Native.Nat.{ℕ}
 use denote.Ref.{now}
 use borrow.Author.Needs.{length-unmapped}
-use Rattle.layout.proofs.ResultBuffers.{path-stores}
+use Rattle.layout.proofs.ResultBufferLaws.{path-stores}
 use borrow.Author.Needs.{needs}
 use Rattle.layout.proofs.put_paths.Statement.{statement}
 use Rattle.layout.proofs.put_paths.Tie as tie

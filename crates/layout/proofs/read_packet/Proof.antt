@@ -1,7 +1,7 @@
 use native.Mathlib.Omega.{arith}
 use denote.Ref.{now}
 use Rattle.layout.specs.Packet.{packetAt}
-use Rattle.layout.proofs.Packets.{readPacket-outside, readPacket-inside}
+use Rattle.layout.proofs.PacketLaws.{readPacket-outside, readPacket-inside, packet-answered}
 use borrow.Author.Needs.{needs}
 use Rattle.layout.proofs.read_packet.Statement.{statement}
 use Rattle.layout.proofs.read_packet.Tie as tie
@@ -12,13 +12,17 @@ use Rattle.words.proofs.get16.Reads as get16-reads
 use Rattle.words.proofs.get64.Reads as get64-reads
 
 returns : tie.Need-returns
-returns c = readPacket-outside (now (c .before .before .args .window)) (c .before .before .args .at) (omega arith)
+returns c =
+    let a = c .before .before .args in
+    packet-answered (now (a .window)) (a .at) (readPacket-outside (now (a .window)) (a .at) (omega arith))
 
 sub-if2 : tie.Need-sub-if2
 sub-if2 c = search needs
 
 returns-2 : tie.Need-returns-2
-returns-2 c = readPacket-outside (now (c .before .before .before .args .window)) (c .before .before .before .args .at) (omega arith)
+returns-2 c =
+    let a = c .before .before .before .args in
+    packet-answered (now (a .window)) (a .at) (readPacket-outside (now (a .window)) (a .at) (omega arith))
 
 add-get16 : tie.Need-add-get16
 add-get16 c = search needs
@@ -54,7 +58,7 @@ returns-3 : tie.Need-returns-3
 unfolding packetAt
 returns-3 c =
     let a = c .before .before .before .before .before .before .before .before .before .args in
-    cc (readPacket-inside (now (a .window)) (a .at) (omega arith))
+    packet-answered (now (a .window)) (a .at) (cc (readPacket-inside (now (a .window)) (a .at) (omega arith)))
 
 pub read-packet-spec : {M : Type 1} → statement M
 read-packet-spec =

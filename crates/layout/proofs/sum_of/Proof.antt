@@ -7,7 +7,7 @@ use denote.Ref.{now}
 use lib.ListN.{length, take}
 use lib.Seq.{take-all}
 use Rattle.layout.specs.ResultBuffer.{sum}
-use Rattle.layout.proofs.ResultBuffers.{sum-more}
+use Rattle.layout.proofs.ResultBufferLaws.{sum-more}
 use Rattle.layout.proofs.sum_of.Statement.{statement}
 use Rattle.layout.proofs.sum_of.Tie as tie
 use Rattle.layout.proofs.sum_of.Reads as reads

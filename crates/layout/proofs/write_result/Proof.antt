@@ -5,7 +5,7 @@ use lib.ListN.{length, take, length-take}
 use lib.Seq.{sets, length-take-le}
 use denote.Ref.{now}
 use native.Mathlib.Omega.{arith}
-use Rattle.layout.proofs.ResultBuffers.{returned-most, answer-small, answer-no-room, answer-written}
+use Rattle.layout.proofs.ResultBufferLaws.{returned-most, answer-small, answer-no-room, answer-written}
 use borrow.Author.Needs.{needs}
 use Rattle.layout.proofs.write_result.Statement.{statement}
 use Rattle.layout.proofs.write_result.Tie as tie
@@ -16,7 +16,7 @@ use Rattle.layout.proofs.returned_size.Reads as returned-size-reads
 use Rattle.words.proofs.store.Reads as store-reads
 
 returns : tie.Need-returns
-returns c = let a = c .before .before .args in answer-small (a .d) (a .asked) (now (a .out)) (c .if1 .taken)
+returns c = let a = c .before .before .args in answer-small (a .d) (a .p) (a .asked) (now (a .out)) (c .if1 .taken)
 
 returned-size-requires : tie.Need-returned-size-requires
 returned-size-requires c κs = search needs
@@ -27,7 +27,7 @@ cast-size c = search needs
 returns-2 : tie.Need-returns-2
 returns-2 c =
     let a = c .before .before .before .before .args in
-    answer-no-room (a .d) (a .asked) (now (a .out)) (c .before .before .if1 .left) (omega arith)
+    answer-no-room (a .d) (a .p) (a .asked) (now (a .out)) (c .before .before .if1 .left) (omega arith)
 
 result-of-requires : tie.Need-result-of-requires
 result-of-requires c κs = search needs
@@ -58,7 +58,7 @@ returns-3 c =
     let n = c .before .before .before .before .before .before .before .returned-size in
     let r = c .before .before .before .before .before .result-of in
     let l = sym (ap length (r .ensures)) ∙ r .ok .1 .0 .1 in
-    answer-written (a .d) (a .asked) (now (a .out)) l (c .before .before .before .before .before .before .before .before .if1 .left) (n .ensures) (c .before .before .before .before .before .before .if2 .left)
+    answer-written (a .d) (a .p) (a .asked) (now (a .out)) l (c .before .before .before .before .before .before .before .before .if1 .left) (n .ensures) (c .before .before .before .before .before .before .if2 .left)
     (c .before .before .store .ensures ∙ ap (λ (x : List ℕ). sets (now (a .out)) 0 (take (n .result) x)) (r .ensures))
 
 pub write-result-spec : {M : Type 1} → statement M

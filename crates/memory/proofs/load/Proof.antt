@@ -5,8 +5,8 @@ use native.Mathlib.Omega.{arith}
 use lib.ListN.{length}
 use Rattle.memory.specs.Window.{spanLength, windowOf}
 use Rattle.memory.specs.Blocks.{blocks}
-use Rattle.memory.proofs.Windows.{length-window, with-window-lent}
-use Rattle.memory.proofs.Blocks.{blocks-length}
+use Rattle.memory.proofs.WindowLaws.{length-window, with-window-lent}
+use Rattle.memory.proofs.BlocksLaws.{blocks-length}
 use Rattle.memory.proofs.load.Statement.{statement}
 use Rattle.memory.proofs.load.Tie as tie
 use Rattle.memory.proofs.load.Reads as reads

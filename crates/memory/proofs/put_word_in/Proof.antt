@@ -6,7 +6,7 @@ use lib.ListN.{length}
 use lib.Seq.{sets, length-sets}
 use Rattle.words.specs.Words.{leBytes}
 use Rattle.memory.specs.Window.{spanLength, windowOf}
-use Rattle.memory.proofs.Windows.{length-window, with-window-lent}
+use Rattle.memory.proofs.WindowLaws.{length-window, with-window-lent}
 use Rattle.memory.proofs.put_word_in.Statement.{statement}
 use Rattle.memory.proofs.put_word_in.Tie as tie
 use Rattle.memory.proofs.put_word_in.Reads as reads

@@ -1,6 +1,6 @@
 use native.Mathlib.Omega.{arith}
 use borrow.Author.Needs.{needs}
-use Rattle.memory.proofs.Windows.{window-fits, span-in, span-wide, span-stranger}
+use Rattle.memory.proofs.WindowLaws.{window-fits, span-in, span-wide, span-stranger}
 use Rattle.memory.proofs.span_of.Statement.{statement}
 use Rattle.memory.proofs.span_of.Tie as tie
 use Rattle.memory.proofs.span_of.Reads as reads

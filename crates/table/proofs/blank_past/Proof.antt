@@ -4,7 +4,7 @@ use Prim.Native.Nat.{ℕ, _≤_, _-_}
 use mathlib.Core.Path.{_≡_, refl, ap, sym, _∙_}
 use lib.Dec.{eqb, ltb}
 use Rattle.table.specs.Table.{blankTo}
-use Rattle.table.proofs.Tables.{blankTo-more}
+use Rattle.logic.proofs.LogicLaws.{all-more}
 use Rattle.table.proofs.blank_past.Statement.{statement}
 use Rattle.table.proofs.blank_past.Tie as tie
 use Rattle.table.proofs.blank_past.Reads as reads
@@ -19,47 +19,38 @@ Inv-loop drives count blank₀ i₀ blank i = (i ≤ 8) × (blank ≡ blankTo i 
 abbrev μ-loop : tie.MeasureT-loop
 μ-loop drives count blank₀ i₀ blank i = 8 - i
 
--- src/lib.rt:448:5
 loop-holds : tie.Need-loop-holds Inv-loop μ-loop
 unfolding blankTo
 loop-holds c = (search needs, refl)
 
--- src/lib.rt:449:17
 mul-d : tie.Need-mul-d Inv-loop μ-loop
 mul-d c = search needs
 
--- src/lib.rt:449:17
 array-copy-out-d : tie.Need-array-copy-out-d Inv-loop μ-loop
 array-copy-out-d c = search needs
 
--- src/lib.rt:450:49
 is-blank-requires : tie.Need-is-blank-requires Inv-loop μ-loop
 is-blank-requires c κs = search needs
 
--- src/lib.rt:450:28
 or-requires : tie.Need-or-requires Inv-loop μ-loop
 or-requires c κs = search needs
 
--- src/lib.rt:450:9
 and-requires : tie.Need-and-requires Inv-loop μ-loop
 and-requires c κs = search needs
 
--- src/lib.rt:451:9
 add-i : tie.Need-add-i Inv-loop μ-loop
 add-i c = search needs
 
--- src/lib.rt:448:5
 loop-less : tie.Need-loop-less Inv-loop μ-loop
 loop-less c = search needs
 
--- src/lib.rt:448:5
 loop-again : tie.Need-loop-again Inv-loop μ-loop
+unfolding blankTo
 loop-again c =
     let h = c .before .before .before .before .before in
     let a = h .before .before .args in
-    (search needs, blankTo-more (h .loop .i) (a .b .drives) (a .b .count) (h .loop .inv .1) (c .and .ensures) (c .before .or .ensures ∙ ap (Rattle.logic.specs.Logic.either (ltb (h .loop .i) (a .b .count))) (c .before .before .is-blank .ensures)))
+    (search needs, all-more (h .loop .i) _ (h .loop .inv .1) (c .and .ensures) (c .before .or .ensures ∙ ap (Rattle.logic.specs.Logic.either (ltb (h .loop .i) (a .b .count))) (c .before .before .is-blank .ensures)))
 
--- src/lib.rt:441:1
 returns : tie.Need-returns Inv-loop μ-loop
 returns c =
     let h = c .before in

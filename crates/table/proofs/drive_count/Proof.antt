@@ -8,11 +8,9 @@ use Rattle.table.proofs.drive_count.Reads as reads
 use Rattle.table.proofs.drive_count.Lts as lts
 use Rattle.table.proofs.held.Reads as held-reads
 
--- src/lib.rt:408:5
 held-requires : tie.Need-held-requires
 held-requires c κs = search needs
 
--- src/lib.rt:405:1
 returns : tie.Need-returns
 returns c =
     let b = c .before .args .b in

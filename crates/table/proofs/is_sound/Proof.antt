@@ -9,24 +9,19 @@ use Rattle.logic.proofs.and.Reads as and-reads
 use Rattle.table.proofs.blank_past.Reads as blank-past-reads
 use Rattle.table.proofs.sound_to.Reads as sound-to-reads
 
--- src/lib.rt:462:9
 returns : tie.Need-returns
 unfolding isSound
 returns c = rw (lt-leb (c .before .args .b .count) 8 (c .if1 .taken))
 
--- src/lib.rt:464:16
 sound-to-requires : tie.Need-sound-to-requires
 sound-to-requires c κs = search needs
 
--- src/lib.rt:464:39
 blank-past-requires : tie.Need-blank-past-requires
 blank-past-requires c κs = search needs
 
--- src/lib.rt:464:5
 and-requires : tie.Need-and-requires
 and-requires c κs = search needs
 
--- src/lib.rt:457:1
 returns-2 : tie.Need-returns-2
 unfolding isSound
 returns-2 c = rw (le-leb (c .before .before .before .before .before .args .b .count) 8 (c .before .before .before .before .if1 .left), c .and .ensures, c .before .before .sound-to .ensures, c .before .blank-past .ensures)

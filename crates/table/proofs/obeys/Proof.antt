@@ -7,19 +7,15 @@ use Rattle.drive.proofs.fields_ok.Reads as fields-ok-reads
 use Rattle.drive.proofs.in_store.Reads as in-store-reads
 use Rattle.logic.proofs.and.Reads as and-reads
 
--- src/lib.rt:415:16
 fields-ok-requires : tie.Need-fields-ok-requires
 fields-ok-requires c κs = search needs
 
--- src/lib.rt:415:37
 in-store-requires : tie.Need-in-store-requires
 in-store-requires c κs = search needs
 
--- src/lib.rt:415:5
 and-requires : tie.Need-and-requires
 and-requires c κs = search needs
 
--- src/lib.rt:412:1
 returns : tie.Need-returns
 returns c = rw (c .and .ensures, c .before .before .fields-ok .ensures, c .before .in-store .ensures)
 

@@ -2,11 +2,11 @@ use borrow.Author.Needs.{needs}
 use native.Mathlib.Omega.{arith}
 use Prim.Native.Nat.{_≤_, _<_, _-_, _*_, _+_}
 use mathlib.Core.Path.{_≡_, refl, ap, sym, _∙_}
-use lib.ListN.{length, take, length-map}
+use lib.ListN.{length}
 use lib.Seq.{sets, length-sets}
 use denote.Ref.{now}
 use Rattle.table.specs.Table.{recordsOf}
-use Rattle.table.proofs.Tables.{length-more, sets-record}
+use Rattle.table.proofs.TableLaws.{length-more, sets-place}
 use Rattle.table.proofs.put_records.Statement.{statement}
 use Rattle.table.proofs.put_records.Tie as tie
 use Rattle.table.proofs.put_records.Reads as reads
@@ -16,73 +16,58 @@ use Rattle.drive.proofs.record_length.Reads as record-length-reads
 use Rattle.words.proofs.store.Reads as store-reads
 
 abbrev Inv-loop : tie.InvT-loop
-Inv-loop n out₀ drives at₀ i₀ out at i = (i ≤ n) × (length out ≡ length out₀) × (out ≡ sets out₀ 0 (recordsOf (take i drives))) × (at ≡ length (recordsOf (take i drives))) × (at ≡ 68 * i)
+Inv-loop n out₀ b at₀ i₀ out at i = (i ≤ n) × (length out ≡ length out₀) × (out ≡ sets out₀ 0 (recordsOf i b)) × (at ≡ length (recordsOf i b)) × (at ≡ 68 * i)
 
 abbrev μ-loop : tie.MeasureT-loop
-μ-loop n out₀ drives at₀ i₀ out at i = n - i
+μ-loop n out₀ b at₀ i₀ out at i = n - i
 
--- src/lib.rt:377:5
 loop-holds : tie.Need-loop-holds Inv-loop μ-loop
 unfolding recordsOf
 loop-holds c = (search needs, refl, refl, refl, refl)
 
--- src/lib.rt:378:17
 mul-d : tie.Need-mul-d Inv-loop μ-loop
 mul-d c = search needs
 
--- src/lib.rt:378:17
-array-copy-out-d : tie.Need-array-copy-out-d Inv-loop μ-loop
-array-copy-out-d c = search needs
+element-copy-out-d : tie.Need-element-copy-out-d Inv-loop μ-loop
+element-copy-out-d c = search needs
 
--- src/lib.rt:379:17
 encode-requires : tie.Need-encode-requires Inv-loop μ-loop
 encode-requires c κs = search needs
 
--- src/lib.rt:380:31
 slice-aggregate-store : tie.Need-slice-aggregate-store Inv-loop μ-loop
 slice-aggregate-store c = search needs
 
--- src/lib.rt:380:9
 store-requires : tie.Need-store-requires Inv-loop μ-loop
 store-requires c κs = search needs
 
--- src/lib.rt:381:15
 record-length-requires : tie.Need-record-length-requires Inv-loop μ-loop
 record-length-requires c κs = search needs
 
--- src/lib.rt:381:9
 add-at : tie.Need-add-at Inv-loop μ-loop
 add-at c = omega arith
 
--- src/lib.rt:382:9
 add-i : tie.Need-add-i Inv-loop μ-loop
 add-i c = search needs
 
--- src/lib.rt:377:5
 loop-less : tie.Need-loop-less Inv-loop μ-loop
 loop-less c = search needs
 
--- src/lib.rt:377:5
 loop-again : tie.Need-loop-again Inv-loop μ-loop
 loop-again c =
     let h = c .before .before .before .before .before .before .before .before .before in
     let a = h .before .before .args in
-    let l : length (a .t1) ≡ 8 = search needs in
-    let i : h .loop .i < length (a .t1) = omega arith in
-    let m = length-more (a .t1) (h .loop .i) i in
+    let m = length-more (h .loop .i) (a .t1) in
     let e = c .before .before .before .store .ensures in (
       search needs,
       ap length e ∙ rw length-sets (h .loop .inv .1),
-      e ∙ rw (h .loop .inv .2, c .before .before .before .before .before .before .encode .ensures) (sets-record (now (a .out)) (a .t1) (h .loop .i) (h .loop .at) i (h .loop .inv .3)),
+      e ∙ rw (h .loop .inv .2, c .before .before .before .before .before .before .encode .ensures) (sets-place (now (a .out)) (a .t1) (h .loop .i) (h .loop .at) (h .loop .inv .3)),
       omega (arith, m, c .record-length .ensures .0, h .loop .inv .3),
       omega (arith, c .record-length .ensures .1, h .loop .inv .4),
     )
 
--- src/lib.rt:371:1
 same-length : tie.Need-same-length Inv-loop μ-loop
 same-length c = search needs
 
--- src/lib.rt:371:1
 returns : tie.Need-returns Inv-loop μ-loop
 returns c =
     let h = c .before in
@@ -97,7 +82,7 @@ put-records-spec =
     μ-loop
     loop-holds
     mul-d
-    array-copy-out-d
+    element-copy-out-d
     encode-requires
     slice-aggregate-store
     store-requires

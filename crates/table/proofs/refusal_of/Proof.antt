@@ -1,61 +1,83 @@
-use mathlib.Core.Path.{sym, _∙_}
-use borrow.Author.Tests.{le-leb, lt-leb, not-true, not-false}
-use Rattle.table.specs.Table.{refusal}
 use borrow.Author.Needs.{needs}
+use native.Mathlib.Omega.{arith}
+use Prim.Native.Nat.{ℕ, _-_, _≤_, _<_}
+use mathlib.Core.Path.{_≡_, refl, sym, ap, _∙_}
+use lib.ListN.{length, length-set}
+use Rattle.table.proofs.Runs.{BesideTo, to-none, to-more, among-eight}
 use Rattle.table.proofs.refusal_of.Statement.{statement}
 use Rattle.table.proofs.refusal_of.Tie as tie
 use Rattle.table.proofs.refusal_of.Reads as reads
 use Rattle.table.proofs.refusal_of.Lts as lts
-use Rattle.drive.proofs.fields_ok.Reads as fields-ok-reads
-use Rattle.drive.proofs.in_store.Reads as in-store-reads
-use Rattle.table.proofs.overlaps_any.Reads as overlaps-any-reads
+use Rattle.table.proofs.refusal_among.Reads as refusal-among-reads
 
--- src/lib.rt:150:9
-returns : tie.Need-returns
-unfolding refusal
-returns c = rw (le-leb _ _ (c .if1 .taken))
+abbrev Inv-loop : tie.InvT-loop
+Inv-loop b d store drives firsts₀ sizes₀ i₀ firsts sizes i = (i ≤ 8) × (length firsts ≡ 8) × (length sizes ≡ 8) × BesideTo i drives firsts sizes
 
--- src/lib.rt:152:9
-fields-ok-requires : tie.Need-fields-ok-requires
-fields-ok-requires c κs = search needs
+abbrev μ-loop : tie.MeasureT-loop
+μ-loop b d store drives firsts₀ sizes₀ i₀ firsts sizes i = 8 - i
 
--- src/lib.rt:153:9
-returns-2 : tie.Need-returns-2
-unfolding refusal
-returns-2 c = rw (lt-leb _ _ (c .before .before .if1 .left), sym (c .before .fields-ok .ensures) ∙ not-true _ (c .if2 .taken))
+loop-holds : tie.Need-loop-holds Inv-loop μ-loop
+loop-holds c = (search needs, refl, refl, to-none _ _ _)
 
--- src/lib.rt:155:9
-in-store-requires : tie.Need-in-store-requires
-in-store-requires c κs = search needs
+mul-e : tie.Need-mul-e Inv-loop μ-loop
+mul-e c = search needs
 
--- src/lib.rt:156:9
-returns-3 : tie.Need-returns-3
-unfolding refusal
-returns-3 c = rw (lt-leb _ _ (c .before .before .before .before .if1 .left), sym (c .before .before .before .fields-ok .ensures) ∙ not-false _ (c .before .before .if2 .left), sym (c .before .in-store .ensures) ∙ not-true _ (c .if3 .taken))
+array-copy-out-e : tie.Need-array-copy-out-e Inv-loop μ-loop
+array-copy-out-e c = search needs
 
--- src/lib.rt:158:8
-overlaps-any-requires : tie.Need-overlaps-any-requires
-overlaps-any-requires c κs = search needs
+mul-firsts : tie.Need-mul-firsts Inv-loop μ-loop
+mul-firsts c = search needs
 
--- src/lib.rt:159:9
-returns-4 : tie.Need-returns-4
-unfolding refusal
-returns-4 c = rw (lt-leb _ _ (c .before .before .before .before .before .before .if1 .left), sym (c .before .before .before .before .before .fields-ok .ensures) ∙ not-false _ (c .before .before .before .before .if2 .left), sym (c .before .before .before .in-store .ensures) ∙ not-false _ (c .before .before .if3 .left), sym (c .before .overlaps-any .ensures) ∙ c .if4 .taken)
+array-write-firsts : tie.Need-array-write-firsts Inv-loop μ-loop
+array-write-firsts c = let l = c .before .before in omega (arith, l .loop .inv .1)
 
--- src/lib.rt:146:1
-returns-5 : tie.Need-returns-5
-unfolding refusal
-returns-5 c = rw (lt-leb _ _ (c .before .before .before .before .before .before .if1 .left), sym (c .before .before .before .before .before .fields-ok .ensures) ∙ not-false _ (c .before .before .before .before .if2 .left), sym (c .before .before .before .in-store .ensures) ∙ not-false _ (c .before .before .if3 .left), sym (c .before .overlaps-any .ensures) ∙ c .if4 .left)
+mul-sizes : tie.Need-mul-sizes Inv-loop μ-loop
+mul-sizes c = search needs
+
+array-write-sizes : tie.Need-array-write-sizes Inv-loop μ-loop
+array-write-sizes c = let l = c .before .before in omega (arith, l .loop .inv .2)
+
+add-i : tie.Need-add-i Inv-loop μ-loop
+add-i c = search needs
+
+loop-less : tie.Need-loop-less Inv-loop μ-loop
+loop-less c = search needs
+
+loop-again : tie.Need-loop-again Inv-loop μ-loop
+loop-again c =
+    let l = c .before .before in
+    let q = c .before .loop-test .taken in (
+      search needs,
+      length-set (l .loop .firsts) (l .loop .i) _ ∙ l .loop .inv .1,
+      length-set (l .loop .sizes) (l .loop .i) _ ∙ l .loop .inv .2,
+      to-more (l .loop .i) (l .before .before .args .b .drives) (l .loop .firsts) (l .loop .sizes) (omega (arith, q, l .loop .inv .1)) (omega (arith, q, l .loop .inv .2)) (l .loop .inv .3),
+    )
+
+refusal-among-requires : tie.Need-refusal-among-requires Inv-loop μ-loop
+refusal-among-requires c κs = search needs
+
+returns : tie.Need-returns Inv-loop μ-loop
+returns c =
+    let l = c .before .before .before .before in
+    let a = l .before .before .args in
+    let e : l .loop .i ≡ 8 = omega arith in
+    c .refusal-among .ensures ∙ among-eight (a .b) (l .loop .firsts) (l .loop .sizes) (a .d) (a .store) (rw e at (l .loop .inv .3))
 
 pub refusal-of-spec : {M : Type 1} → statement M
 refusal-of-spec =
     tie.close
     (tie.spec
-    returns
-    fields-ok-requires
-    returns-2
-    in-store-requires
-    returns-3
-    overlaps-any-requires
-    returns-4
-    returns-5)
+    Inv-loop
+    μ-loop
+    loop-holds
+    mul-e
+    array-copy-out-e
+    mul-firsts
+    array-write-firsts
+    mul-sizes
+    array-write-sizes
+    add-i
+    loop-less
+    loop-again
+    refusal-among-requires
+    returns)

@@ -1,4 +1,5 @@
-use Rattle.table.proofs.Tables.{overlapsAny-more, soundTo-more, taken-is}
+use Rattle.logic.proofs.LogicLaws.{some-more, all-more}
+use Rattle.table.proofs.TableLaws.{taken-is}
 use Rattle.table.specs.Table.{overlapsAny, soundTo}
 use mathlib.Core.Path.{_≡_, refl, ap, sym, _∙_}
 use Prim.Native.Nat.{ℕ, _≤_, _-_}
@@ -25,88 +26,71 @@ Inv-loop n store drives sound₀ i₀ sound i = (i ≤ n) × (sound ≡ soundTo 
 abbrev μ-loop : tie.MeasureT-loop
 μ-loop n store drives sound₀ i₀ sound i = n - i
 
--- src/lib.rt:426:5
 loop-holds : tie.Need-loop-holds Inv-loop2 μ-loop2 Inv-loop μ-loop
 unfolding soundTo
 loop-holds c = (search needs, refl)
 
--- src/lib.rt:427:17
 mul-d : tie.Need-mul-d Inv-loop2 μ-loop2 Inv-loop μ-loop
 mul-d c = search needs
 
--- src/lib.rt:427:17
 array-copy-out-d : tie.Need-array-copy-out-d Inv-loop2 μ-loop2 Inv-loop μ-loop
 array-copy-out-d c = search needs
 
--- src/lib.rt:430:9
 loop2-holds : tie.Need-loop2-holds Inv-loop2 μ-loop2 Inv-loop μ-loop
 unfolding overlapsAny
 loop2-holds c = search needs
 
--- src/lib.rt:431:21
 mul-e : tie.Need-mul-e Inv-loop2 μ-loop2 Inv-loop μ-loop
 mul-e c = search needs
 
--- src/lib.rt:431:21
 array-copy-out-e : tie.Need-array-copy-out-e Inv-loop2 μ-loop2 Inv-loop μ-loop
 array-copy-out-e c = search needs
 
--- src/lib.rt:432:31
 overlaps-requires : tie.Need-overlaps-requires Inv-loop2 μ-loop2 Inv-loop μ-loop
 overlaps-requires c κs = search needs
 
--- src/lib.rt:432:13
 or-requires : tie.Need-or-requires Inv-loop2 μ-loop2 Inv-loop μ-loop
 or-requires c κs = search needs
 
--- src/lib.rt:433:13
 add-j : tie.Need-add-j Inv-loop2 μ-loop2 Inv-loop μ-loop
 add-j c = search needs
 
--- src/lib.rt:430:9
 loop2-less : tie.Need-loop2-less Inv-loop2 μ-loop2 Inv-loop μ-loop
 loop2-less c = search needs
 
--- src/lib.rt:430:9
 loop2-again : tie.Need-loop2-again Inv-loop2 μ-loop2 Inv-loop μ-loop
+unfolding overlapsAny
 loop2-again c =
     let h = c .before .before .before .before in
-    let a = h .before .before .before .before .args in
-    (search needs, overlapsAny-more (h .loop2 .j) (a .t2) _ (h .loop2 .inv .1) (c .or .ensures) (c .before .overlaps .ensures))
+    (search needs, some-more (h .loop2 .j) _ (h .loop2 .inv .1) (c .or .ensures) (c .before .overlaps .ensures))
 
--- src/lib.rt:435:39
 obeys-requires : tie.Need-obeys-requires Inv-loop2 μ-loop2 Inv-loop μ-loop
 obeys-requires c κs = search needs
 
--- src/lib.rt:435:28
 and-requires : tie.Need-and-requires Inv-loop2 μ-loop2 Inv-loop μ-loop
 and-requires c κs = search needs
 
--- src/lib.rt:435:9
 and-requires-2 : tie.Need-and-requires-2 Inv-loop2 μ-loop2 Inv-loop μ-loop
 and-requires-2 c κs = search needs
 
--- src/lib.rt:436:9
 add-i : tie.Need-add-i Inv-loop2 μ-loop2 Inv-loop μ-loop
 add-i c = search needs
 
--- src/lib.rt:426:5
 loop-less : tie.Need-loop-less Inv-loop2 μ-loop2 Inv-loop μ-loop
 loop-less c = search needs
 
--- src/lib.rt:426:5
 loop-again : tie.Need-loop-again Inv-loop2 μ-loop2 Inv-loop μ-loop
+unfolding soundTo
 loop-again c =
     let h = c .before .before .before .before .before .before .before in
     let a = h .before .args in
     let g = c .before .before .before .before .loop2 in
     let e : g .j ≡ h .loop .i = omega arith in (
       search needs,
-      soundTo-more (h .loop .i) (a .t2) (a .store) (h .loop .inv .1) (c .and2 .ensures)
+      all-more (h .loop .i) _ (h .loop .inv .1) (c .and2 .ensures)
           (c .before .and .ensures ∙ rw (c .before .before .obeys .ensures, g .inv .1, e) (taken-is (h .loop .i) (a .t2) _ (a .store) (omega arith))),
     )
 
--- src/lib.rt:420:1
 returns : tie.Need-returns Inv-loop2 μ-loop2 Inv-loop μ-loop
 returns c =
     let h = c .before in

@@ -1,6 +1,6 @@
 use native.Mathlib.Omega.{arith}
 use denote.Ref.{now}
-use Rattle.words.proofs.Words.{le-split}
+use Rattle.words.proofs.WordsLaws.{le-split}
 use borrow.Author.Needs.{needs}
 use Rattle.words.proofs.get64.Statement.{statement}
 use Rattle.words.proofs.get64.Tie as tie

@@ -2,7 +2,7 @@ use mathlib.Core.Path.{sym}
 use native.Mathlib.Nat.{add-zero}
 use native.Mathlib.Omega.{arith}
 use denote.Ref.{now}
-use Rattle.words.proofs.Words.{part-list}
+use Rattle.words.proofs.WordsLaws.{part-list}
 use borrow.Author.Needs.{needs}
 use Rattle.words.proofs.load8.Statement.{statement}
 use Rattle.words.proofs.load8.Tie as tie

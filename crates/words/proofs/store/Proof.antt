@@ -5,7 +5,7 @@ use lib.ListN.{length, take}
 use lib.Seq.{sets, length-sets, take-all}
 use native.Mathlib.Omega.{arith}
 use denote.Ref.{now}
-use Rattle.words.proofs.Words.{sets-more}
+use Rattle.words.proofs.WordsLaws.{sets-more}
 use Rattle.words.proofs.store.Statement.{statement}
 use Rattle.words.proofs.store.Tie as tie
 use Rattle.words.proofs.store.Reads as reads

@@ -1,6 +1,6 @@
 use native.Mathlib.Omega.{arith}
 use denote.Ref.{now}
-use Rattle.words.proofs.Words.{sets-two}
+use Rattle.words.proofs.WordsLaws.{sets-two}
 use borrow.Author.Needs.{needs}
 use Rattle.words.proofs.store32.Statement.{statement}
 use Rattle.words.proofs.store32.Tie as tie

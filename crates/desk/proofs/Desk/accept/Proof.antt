@@ -8,23 +8,18 @@ use Rattle.desk.proofs.rows_ok.Reads as rows-ok-reads
 use Rattle.logic.proofs.and.Reads as and-reads
 use Rattle.table.proofs.is_sound.Reads as is-sound-reads
 
--- src/lib.rt:247:13
 is-sound-requires : tie.Need-is-sound-requires
 is-sound-requires c κs = search needs
 
--- src/lib.rt:248:13
 rows-ok-requires : tie.Need-rows-ok-requires
 rows-ok-requires c κs = search needs
 
--- src/lib.rt:249:27
 and-requires : tie.Need-and-requires
 and-requires c κs = search needs
 
--- src/lib.rt:249:9
 and-requires-2 : tie.Need-and-requires-2
 and-requires-2 c κs = search needs
 
--- src/lib.rt:242:5
 returns : tie.Need-returns
 unfolding accept
 returns c = rw (c .and2 .ensures, c .before .and .ensures, c .before .before .before .rows-ok .ensures, c .before .before .before .before .before .is-sound .ensures)

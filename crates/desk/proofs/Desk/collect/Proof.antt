@@ -1,73 +1,87 @@
-use mathlib.Core.Path.{_≡_, sym, _∙_}
-use borrow.Author.Tests.{not-true, not-false}
+use mathlib.Core.Path.{_≡_, refl}
+use mathlib.Core.Bool.{true, false}
+use Prim.Native.Nat.{ℕ, _<_}
+use native.Mathlib.Omega.{arith}
+use lib.Dec.{ltb}
+use borrow.Author.Tests.{ltb-true}
+use Rattle.desk.specs.declared.Desk.{Desk}
+use Rattle.desk.specs.declared.CollectAnswer.the-variants.{Refused as CollectRefused}
 use Rattle.desk.specs.Parts.{stageAt}
-use Rattle.desk.proofs.Callings.{collect-unacceptable, collect-guest, collect-other, collect-finished}
+use Rattle.desk.specs.Acceptable.{accept}
+use Rattle.desk.specs.Calls.{houseNumber, done, collectStage, collectOf}
+use Rattle.desk.proofs.CallsLaws.{house-tests, house-refused, Passed, house-passed, collect-other, collect-finished}
+use Rattle.desk.proofs.NumbersLaws.{collect-answered}
 use borrow.Author.Needs.{needs}
 use Rattle.desk.proofs.Desk.collect.Statement.{statement}
 use Rattle.desk.proofs.Desk.collect.Tie as tie
 use Rattle.desk.proofs.Desk.collect.Reads as reads
 use Rattle.desk.proofs.Desk.collect.Lts as lts
 use Rattle.desk.proofs.Desk.accept.Reads as accept-reads
+use Rattle.desk.proofs.house_number.Reads as house-number-reads
 
--- src/lib.rt:572:13
+abbrev desk : tie.After-house-number → Desk
+desk c = c .before .before .args .t1
+
+abbrev guest : tie.After-house-number → ℕ
+guest c = c .before .before .args .guest
+
+number : (c : tie.After-house-number) → c .house-number .result ≡ houseNumber (accept (desk c)) true (ltb (guest c) 8)
+number c = house-tests (c .house-number .ensures) (c .before .accept .ensures) refl refl
+
+passed : (c : tie.Else1) → Passed (accept (desk (c .before))) true (ltb (guest (c .before)) 8)
+passed c = house-passed _ _ _ (number (c .before)) (c .if1 .left)
+
+below : (c : tie.Else1) → guest (c .before) < 8
+below c = ltb-true (guest (c .before)) 8 (passed c .guest)
+
 accept-requires : tie.Need-accept-requires
 accept-requires c κs = search needs
 
--- src/lib.rt:573:13
+house-number-requires : tie.Need-house-number-requires
+house-number-requires c κs = search needs
+
 returns : tie.Need-returns
+unfolding collectOf
 returns c =
-    let a = c .before .before .args in
-    λ arena store. collect-unacceptable (a .t1) (sym (c .before .accept .ensures) ∙ not-true _ (c .if1 .taken)) (a .guest) arena store
+    collect-answered (desk (c .before)) (guest (c .before))
+    (λ arena store. house-refused _ _ _ (λ n. done (desk (c .before)) (CollectRefused n) arena store) (collectStage (desk (c .before)) (guest (c .before)) (stageAt (desk (c .before)) (guest (c .before))) arena store) (number (c .before)) (c .if1 .taken))
 
--- src/lib.rt:579:13
-returns-2 : tie.Need-returns-2
-returns-2 c =
-    let a = c .before .before .before .args in
-    λ arena store. collect-guest (a .t1) (sym (c .before .before .accept .ensures) ∙ not-false _ (c .before .if1 .left)) (a .guest) arena store (c .if2 .taken)
-
--- src/lib.rt:584:19
 mul-row : tie.Need-mul-row
-mul-row c = search needs
+mul-row c = omega (arith, below c)
 
--- src/lib.rt:584:19
 element-copy-out-row : tie.Need-element-copy-out-row
-element-copy-out-row c = search needs
+element-copy-out-row c = omega (arith, below c)
 
--- src/lib.rt:586:29
 enum-known-stage : tie.Need-enum-known-stage
 enum-known-stage c = search needs
 
--- src/lib.rt:587:13
+returns-2 : tie.Need-returns-2
+returns-2 c =
+    collect-answered (desk (c .before .before .before)) (guest (c .before .before .before))
+    (λ arena store. collect-other (desk (c .before .before .before)) (guest (c .before .before .before)) arena store (passed (c .before .before)) (c .match .keys2))
+
+mul-t14 : tie.Need-mul-t14
+mul-t14 c = omega (arith, below (c .before .before .before .before))
+
+element-set-from-next : tie.Need-element-set-from-next
+element-set-from-next c = omega (arith, below (c .before .before .before .before))
+
 returns-3 : tie.Need-returns-3
 returns-3 c =
-    let a = c .before .before .before .before .before .args in
-    λ arena store. collect-other (a .t1) (sym (c .before .before .before .before .accept .ensures) ∙ not-false _ (c .before .before .before .if1 .left)) (a .guest) arena store (c .before .before .if2 .left) (c .match .keys2)
-
--- src/lib.rt:593:9
-mul-t15 : tie.Need-mul-t15
-mul-t15 c = search needs
-
--- src/lib.rt:593:9
-element-set-from-next : tie.Need-element-set-from-next
-element-set-from-next c = search needs
-
--- src/lib.rt:569:5
-returns-4 : tie.Need-returns-4
-returns-4 c =
-    let a = c .before .before .before .before .before .before .before .args in
-    λ arena store. collect-finished (a .t1) (sym (c .before .before .before .before .before .before .accept .ensures) ∙ not-false _ (c .before .before .before .before .before .if1 .left)) (a .guest) (c .before .stage .given .0 .0) arena store (c .before .before .before .before .if2 .left) (c .before .stage .given .1)
+    collect-answered (desk (c .before .before .before .before .before)) (guest (c .before .before .before .before .before))
+    (λ arena store. collect-finished (desk (c .before .before .before .before .before)) (guest (c .before .before .before .before .before)) arena store (passed (c .before .before .before .before)) (c .before .stage .given .0 .0) (c .before .stage .given .1))
 
 pub collect-spec : {M : Type 1} → statement M
 collect-spec =
     tie.close
     (tie.spec
     accept-requires
+    house-number-requires
     returns
-    returns-2
     mul-row
     element-copy-out-row
     enum-known-stage
-    returns-3
-    mul-t15
+    returns-2
+    mul-t14
     element-set-from-next
-    returns-4)
+    returns-3)

@@ -1,5 +1,6 @@
 use mathlib.Core.Path.{_≡_, sym, ap, _∙_}
 use Rattle.desk.specs.Calls.{openOf}
+use Rattle.desk.proofs.NumbersLaws.{open-answered}
 use borrow.Author.Needs.{needs}
 use Rattle.desk.proofs.Desk.open.Statement.{statement}
 use Rattle.desk.proofs.Desk.open.Tie as tie
@@ -9,39 +10,31 @@ use Rattle.desk.proofs.vacant.Reads as vacant-reads
 use Rattle.table.proofs.empty_table.Reads as empty-table-reads
 use Rattle.table.proofs.read_table.Reads as read-table-reads
 
--- src/lib.rt:412:13
 read-table-requires : tie.Need-read-table-requires
 read-table-requires c κs = search needs
 
--- src/lib.rt:416:21
 enum-told : tie.Need-enum-told
 enum-told c = search needs
 
--- src/lib.rt:418:27
 vacant-requires : tie.Need-vacant-requires
 vacant-requires c κs = search needs
 
--- src/lib.rt:422:29
 enum-known-answer : tie.Need-enum-known-answer
 enum-known-answer c = search needs
 
--- src/lib.rt:423:21
 empty-table-requires : tie.Need-empty-table-requires
 empty-table-requires c κs = search needs
 
--- src/lib.rt:425:27
 vacant-requires-2 : tie.Need-vacant-requires-2
 vacant-requires-2 c κs = search needs
 
--- src/lib.rt:409:5
 returns : tie.Need-returns
 unfolding openOf
-returns c = rw (c .vacant .ensures, ← c .before .before .before .before .read-table .ensures, c .before .before .enum-told .given .1)
+returns c = open-answered _ _ _ (rw (c .vacant .ensures, ← c .before .before .before .before .read-table .ensures .reading, c .before .before .enum-told .given .1))
 
--- src/lib.rt:409:5
 returns-2 : tie.Need-returns-2
 unfolding openOf
-returns-2 c = rw (c .vacant2 .ensures, c .before .empty-table .ensures, ← c .before .before .before .before .before .read-table .ensures, c .before .before .before .answer .given .1)
+returns-2 c = open-answered _ _ _ (rw (c .vacant2 .ensures, c .before .empty-table .ensures, ← c .before .before .before .before .before .read-table .ensures .reading, c .before .before .before .answer .given .1))
 
 pub open-spec : {M : Type 1} → statement M
 open-spec =

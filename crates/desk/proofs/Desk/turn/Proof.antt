@@ -1,12 +1,19 @@
-use mathlib.Core.Path.{_≡_, sym, _∙_}
+use mathlib.Core.Path.{_≡_, refl, sym, _∙_}
 use mathlib.Core.Bool.{true, false}
+use mathlib.Core.List.{List}
 use Prim.Native.Nat.{ℕ, _<_}
 use native.Mathlib.Omega.{arith}
-use borrow.Author.Tests.{not-true, not-false}
 use denote.Ref.{now}
+use Rattle.int13.specs.Steps.{driveAt}
+use Rattle.desk.specs.declared.Desk.{Desk}
+use Rattle.desk.specs.declared.Next.the-variants.{Guest}
+use Rattle.desk.specs.declared.TurnAnswer.the-variants.{Refused as TurnRefused}
+use Rattle.desk.specs.Parts.{windowSize}
 use Rattle.desk.specs.Acceptable.{accept}
-use Rattle.desk.proofs.Acceptances.{accept-true}
-use Rattle.desk.proofs.Callings.{turn-unacceptable, turn-length, turn-nobody, turn-other, turn-served, seek-below, in-range}
+use Rattle.desk.specs.Calls.{houseNumber, isLent, done, firstWaiting, Transferred, turnNext, turnOf}
+use Rattle.desk.proofs.AcceptableLaws.{accept-true, Waits}
+use Rattle.desk.proofs.CallsLaws.{house-tests, house-refused, Passed, house-passed, turn-nobody, turn-other, turn-served, seek-below, waiting-facts, in-range}
+use Rattle.desk.proofs.NumbersLaws.{turn-answered}
 use borrow.Author.Needs.{needs}
 use Rattle.desk.proofs.Desk.turn.Statement.{statement}
 use Rattle.desk.proofs.Desk.turn.Tie as tie
@@ -15,123 +22,139 @@ use Rattle.desk.proofs.Desk.turn.Lts as lts
 use Rattle.desk.proofs.Desk.accept.Reads as accept-reads
 use Rattle.desk.proofs.Desk.is_lent.Reads as is-lent-reads
 use Rattle.desk.proofs.Desk.served.Reads as served-reads
+use Rattle.desk.proofs.house_number.Reads as house-number-reads
 use Rattle.desk.proofs.next_waiting.Reads as next-waiting-reads
+use Rattle.desk.proofs.service_of.Reads as service-of-reads
 use Rattle.desk.proofs.transfer.Reads as transfer-reads
+use Rattle.int13.proofs.drive_at.Reads as drive-at-reads
 
--- src/lib.rt:525:13
+abbrev desk : tie.After-house-number → Desk
+desk c = c .before .before .before .before .before .args .self
+
+abbrev arena : tie.After-house-number → List ℕ
+arena c = now (c .before .before .before .before .before .args .arena)
+
+abbrev store : tie.After-house-number → List ℕ
+store c = now (c .before .before .before .before .before .args .store)
+
+number : (c : tie.After-house-number) → c .house-number .result ≡ houseNumber (accept (desk c)) (isLent (desk c) (arena c) (store c)) true
+number c = house-tests (c .house-number .ensures) (c .before .before .accept .ensures) (c .before .is-lent .ensures) refl
+
+passed : (c : tie.Else1) → Passed (accept (desk (c .before))) (isLent (desk (c .before)) (arena (c .before)) (store (c .before))) true
+passed c = house-passed _ _ _ (number (c .before)) (c .if1 .left)
+
+-- the guest that the search found
+abbrev guest : tie.After-known-told → ℕ
+guest c = c .before .found .given .0 .0
+
+found : (c : tie.After-known-told) → firstWaiting (desk (c .before .before .before .before .before .before) .rows) 8 (desk (c .before .before .before .before .before .before) .pointer) ≡ Guest (guest c)
+found c = sym (c .before .before .before .next-waiting .ensures) ∙ c .before .found .given .1
+
+below : (c : tie.After-known-told) → guest c < 8
+below c = let h = c .before .before .before .before .before .before in seek-below (desk h .rows) 8 (desk h .pointer) (guest c) (accept-true (desk h) (passed (c .before .before .before .before .before) .acceptable) .pointer) (found c)
+
+-- what acceptance says of its request
+facts : (c : tie.After-known-told2) → Waits (desk (c .before .before .before .before .before .before .before .before .before .before) .table) (windowSize (desk (c .before .before .before .before .before .before .before .before .before .before))) (c .before .stage .given .0 .0)
+facts c = waiting-facts (desk (c .before .before .before .before .before .before .before .before .before .before)) (guest (c .before .before .before .before)) (c .before .stage .given .0 .0) (passed (c .before .before .before .before .before .before .before .before .before) .acceptable) (below (c .before .before .before .before)) (c .before .stage .given .1)
+
 accept-requires : tie.Need-accept-requires
 accept-requires c κs = search needs
 
--- src/lib.rt:526:13
-returns : tie.Need-returns
-returns c =
-    let a = c .before .before .before .before .args in
-    turn-unacceptable (a .self) (sym (c .before .accept .ensures) ∙ not-true _ (c .if1 .taken)) (now (a .arena)) (now (a .store))
-
--- src/lib.rt:531:13
 is-lent-requires : tie.Need-is-lent-requires
 is-lent-requires c κs = search needs
 
--- src/lib.rt:532:13
-returns-2 : tie.Need-returns-2
-returns-2 c =
-    let a = c .before .before .before .before .before .before .args in
-    turn-length (a .self) (sym (c .before .before .before .accept .ensures) ∙ not-false _ (c .before .before .if1 .left)) (now (a .arena)) (now (a .store)) (sym (c .before .is-lent .ensures) ∙ not-true _ (c .if2 .taken))
+house-number-requires : tie.Need-house-number-requires
+house-number-requires c κs = search needs
 
--- src/lib.rt:538:13
+returns : tie.Need-returns
+unfolding turnOf
+returns c =
+    let h = c .before in
+    turn-answered (desk h) (arena h) (store h)
+    (house-refused _ _ _ (λ n. done (desk h) (TurnRefused n) (arena h) (store h)) (turnNext (desk h) (firstWaiting (desk h .rows) 8 (desk h .pointer)) (arena h) (store h)) (number h) (c .if1 .taken))
+
 next-waiting-requires : tie.Need-next-waiting-requires
-next-waiting-requires c κs = accept-true (c .before .before .before .before .before .before .before .args .self) (sym (c .before .before .before .before .accept .ensures) ∙ not-false _ (c .before .before .before .if1 .left)) .pointer
+next-waiting-requires c κs = accept-true (desk (c .before .before)) (passed (c .before) .acceptable) .pointer
 
--- src/lib.rt:539:25
 enum-known-found : tie.Need-enum-known-found
 enum-known-found c = search needs
 
--- src/lib.rt:542:25
 enum-told : tie.Need-enum-told
 enum-told c = search needs
 
--- src/lib.rt:540:13
-returns-3 : tie.Need-returns-3
-returns-3 c =
-    let a = c .before .before .before .before .before .before .before .before .before .before .args in
-    turn-nobody (a .self) (sym (c .before .before .before .before .before .before .before .accept .ensures) ∙ not-false _ (c .before .before .before .before .before .before .if1 .left)) (now (a .arena)) (now (a .store)) (sym (c .before .before .before .before .before .is-lent .ensures) ∙ not-false _ (c .before .before .before .before .if2 .left)) (sym (c .before .before .next-waiting .ensures) ∙ c .enum-told .given .1)
+returns-2 : tie.Need-returns-2
+returns-2 c =
+    let h = c .before .before .before .before .before in
+    turn-answered (desk h) (arena h) (store h)
+    (turn-nobody (desk h) (arena h) (store h) (passed (c .before .before .before .before)) (sym (c .before .before .next-waiting .ensures) ∙ c .enum-told .given .1))
 
--- src/lib.rt:545:19
 mul-row : tie.Need-mul-row
-mul-row c =
-    let a = c .before .before .before .before .before .before .before .before .before .before .before .args in
-    let p = accept-true (a .self) (sym (c .before .before .before .before .before .before .before .before .accept .ensures) ∙ not-false _ (c .before .before .before .before .before .before .before .if1 .left)) .pointer in
-    let b : c .before .found .given .0 .0 < 8 = seek-below (a .self .rows) 8 (a .self .pointer) _ p (sym (c .before .before .before .next-waiting .ensures) ∙ c .before .found .given .1) in
-    omega arith
+mul-row c = omega (arith, below c)
 
--- src/lib.rt:545:19
 array-copy-out-row : tie.Need-array-copy-out-row
-array-copy-out-row c =
-    let a = c .before .before .before .before .before .before .before .before .before .before .before .args in
-    let p = accept-true (a .self) (sym (c .before .before .before .before .before .before .before .before .accept .ensures) ∙ not-false _ (c .before .before .before .before .before .before .before .if1 .left)) .pointer in
-    let b : c .before .found .given .0 .0 < 8 = seek-below (a .self .rows) 8 (a .self .pointer) _ p (sym (c .before .before .before .next-waiting .ensures) ∙ c .before .found .given .1) in
-    omega arith
+array-copy-out-row c = omega (arith, below c)
 
--- src/lib.rt:547:28
 enum-known-stage : tie.Need-enum-known-stage
 enum-known-stage c = search needs
 
--- src/lib.rt:548:13
-returns-4 : tie.Need-returns-4
-returns-4 c =
-    let a = c .before .before .before .before .before .before .before .before .before .before .before .before .before .args in
-    turn-other (a .self) (sym (c .before .before .before .before .before .before .before .before .before .before .accept .ensures) ∙ not-false _ (c .before .before .before .before .before .before .before .before .before .if1 .left)) (now (a .arena)) (now (a .store)) (sym (c .before .before .before .before .before .before .before .before .is-lent .ensures) ∙ not-false _ (c .before .before .before .before .before .before .before .if2 .left)) (c .before .before .before .found .given .0 .0) (sym (c .before .before .before .before .before .next-waiting .ensures) ∙ c .before .before .before .found .given .1) (c .match2 .keys2)
+returns-3 : tie.Need-returns-3
+returns-3 c =
+    let h = c .before .before .before .before .before .before .before .before in
+    turn-answered (desk h) (arena h) (store h)
+    (turn-other (desk h) (arena h) (store h) (passed (c .before .before .before .before .before .before .before)) (guest (c .before .before)) (found (c .before .before)) (c .match2 .keys2))
 
--- src/lib.rt:554:9
+drive-at-requires : tie.Need-drive-at-requires
+drive-at-requires c κs = search needs
+
+service-of-requires : tie.Need-service-of-requires
+service-of-requires c κs = search needs
+
 transfer-requires : tie.Need-transfer-requires
 transfer-requires c κs =
-    let a = c .before .before .before .before .before .before .before .before .before .before .before .before .before .before .before .before .before .before .args in
-    let good : accept (a .self) ≡ true = sym (c .before .before .before .before .before .before .before .before .before .before .before .before .before .before .before .accept .ensures) ∙ not-false _ (c .before .before .before .before .before .before .before .before .before .before .before .before .before .before .if1 .left) in
-    let b = seek-below (a .self .rows) 8 (a .self .pointer) (c .before .before .before .before .before .before .before .before .found .given .0 .0) (accept-true (a .self) good .pointer) (sym (c .before .before .before .before .before .before .before .before .before .before .next-waiting .ensures) ∙ c .before .before .before .before .before .before .before .before .found .given .1) in
-    in-range (a .self) (now (a .arena)) (now (a .store)) (c .before .before .before .before .before .before .before .before .found .given .0 .0) (c .before .before .before .before .stage .given .0 .0) good (sym (c .before .before .before .before .before .before .before .before .before .before .before .before .before .is-lent .ensures) ∙ not-false _ (c .before .before .before .before .before .before .before .before .before .before .before .before .if2 .left)) b (c .before .before .before .before .stage .given .1) (omega (arith, c .before .before .before .before .before .before .before .before .before .before .before .before .before .before .before .before .before .before .good .1 .0 .0)) (omega (arith, c .before .before .before .before .before .before .before .before .before .before .before .before .before .before .before .before .before .before .good .1 .1 .0 .0))
+    let h = c .before .before .before .before .before .before .before .before .before .before .before .before .before .before .before in
+    let w = c .before .before .before .before .before .before .before .before .before in
+    let s = c .before .before .before .before .before .before .stage in
+    let r = in-range (desk h) (arena h) (store h) (guest w) (s .given .0 .0) (passed (c .before .before .before .before .before .before .before .before .before .before .before .before .before .before)) (below w) (s .given .1) (omega (arith, c .before .before .before .before .before .before .before .before .before .before .before .before .before .before .before .before .before .before .before .before .good .1 .0 .0)) (omega (arith, c .before .before .before .before .before .before .before .before .before .before .before .before .before .before .before .before .before .before .before .before .good .1 .1 .0 .0)) (c .before .before .service-of .ensures) in
+    rw (c .before .before .before .drive-at .ensures .1 (facts (c .before .before .before .before .before) .job .drive)) r
 
--- src/lib.rt:555:9
 served-requires : tie.Need-served-requires
-served-requires c κs =
-    let a = c .before .before .before .before .before .before .before .before .before .before .before .before .before .before .before .before .before .before .before .before .before .before .before .args in
-    let good : accept (a .self) ≡ true = sym (c .before .before .before .before .before .before .before .before .before .before .before .before .before .before .before .before .before .before .before .before .accept .ensures) ∙ not-false _ (c .before .before .before .before .before .before .before .before .before .before .before .before .before .before .before .before .before .before .before .if1 .left) in
-    let b = seek-below (a .self .rows) 8 (a .self .pointer) (c .before .before .before .before .before .before .before .before .before .before .before .before .before .found .given .0 .0) (accept-true (a .self) good .pointer) (sym (c .before .before .before .before .before .before .before .before .before .before .before .before .before .before .before .next-waiting .ensures) ∙ c .before .before .before .before .before .before .before .before .before .before .before .before .before .found .given .1) in
-    let r = in-range (a .self) (now (a .arena)) (now (a .store)) (c .before .before .before .before .before .before .before .before .before .before .before .before .before .found .given .0 .0) (c .before .before .before .before .before .before .before .before .before .stage .given .0 .0) good (sym (c .before .before .before .before .before .before .before .before .before .before .before .before .before .before .before .before .before .before .is-lent .ensures) ∙ not-false _ (c .before .before .before .before .before .before .before .before .before .before .before .before .before .before .before .before .before .if2 .left)) b (c .before .before .before .before .before .before .before .before .before .stage .given .1) (omega (arith, c .before .before .before .before .before .before .before .before .before .before .before .before .before .before .before .before .before .before .before .before .before .before .before .good .1 .0 .0)) (omega (arith, c .before .before .before .before .before .before .before .before .before .before .before .before .before .before .before .before .before .before .before .before .before .before .before .good .1 .1 .0 .0)) in
-    (b, omega (arith, r .moved))
+served-requires c κs = below (c .before .before .before .before .before .before .before .before .before .before .before .before .before .before)
 
--- src/lib.rt:522:5
 same-length : tie.Need-same-length
 same-length c = search needs
 
--- src/lib.rt:522:5
 same-length-2 : tie.Need-same-length-2
 same-length-2 c = search needs
 
--- src/lib.rt:522:5
-returns-5 : tie.Need-returns-5
-returns-5 c =
-    let a = c .before .before .before .before .before .before .before .before .before .before .before .before .before .before .before .before .before .before .before .before .before .before .before .before .args in
-    turn-served (a .self) (sym (c .before .before .before .before .before .before .before .before .before .before .before .before .before .before .before .before .before .before .before .before .before .accept .ensures) ∙ not-false _ (c .before .before .before .before .before .before .before .before .before .before .before .before .before .before .before .before .before .before .before .before .if1 .left)) (now (a .arena)) (now (a .store)) (sym (c .before .before .before .before .before .before .before .before .before .before .before .before .before .before .before .before .before .before .before .is-lent .ensures) ∙ not-false _ (c .before .before .before .before .before .before .before .before .before .before .before .before .before .before .before .before .before .before .if2 .left))
-    (c .before .before .before .before .before .before .before .before .before .before .before .before .before .before .found .given .0 .0) (c .before .before .before .before .before .before .before .before .before .before .stage .given .0 .0) (sym (c .before .before .before .before .before .before .before .before .before .before .before .before .before .before .before .before .next-waiting .ensures) ∙ c .before .before .before .before .before .before .before .before .before .before .before .before .before .before .found .given .1) (c .before .before .before .before .before .before .before .before .before .before .stage .given .1) (c .served .ensures .0) (c .served .ensures .1) (c .before .before .before .before .before .transfer .ensures .0) (c .before .before .before .before .before .transfer .ensures .1)
+returns-4 : tie.Need-returns-4
+returns-4 c =
+    let h = c .before .before .before .before .before .before .before .before .before .before .before .before .before .before .before .before .before .before .before .before .before in
+    let w = c .before .before .before .before .before .before .before .before .before .before .before .before .before .before .before in
+    let s = c .before .before .before .before .before .before .before .before .before .before .before .before .stage in
+    let t : Transferred (driveAt (desk h .table) (s .given .0 .0 .job .drive) .first) (s .given .0 .0) (c .before .before .before .before .before .before .before .before .service-of .result .moved) (guest w) (arena h) (store h) _ _ = rw (c .before .before .before .before .before .before .before .before .before .drive-at .ensures .1 (facts (c .before .before .before .before .before .before .before .before .before .before .before) .job .drive)) at (c .before .before .before .before .before .transfer .ensures) in
+    turn-answered (desk h) (arena h) (store h)
+    (turn-served (desk h) (arena h) (store h) (passed (c .before .before .before .before .before .before .before .before .before .before .before .before .before .before .before .before .before .before .before .before)) (guest w) (s .given .0 .0) (found w) (s .given .1) (c .before .before .before .before .before .before .before .before .service-of .ensures) (c .served .ensures .0) (c .served .ensures .1) t)
 
 pub turn-spec : {M : Type 1} → statement M
 turn-spec =
     tie.close
     (tie.spec
     accept-requires
-    returns
     is-lent-requires
-    returns-2
+    house-number-requires
+    returns
     next-waiting-requires
     enum-known-found
     enum-told
-    returns-3
+    returns-2
     mul-row
     array-copy-out-row
     enum-known-stage
-    returns-4
+    returns-3
+    drive-at-requires
+    service-of-requires
     transfer-requires
     served-requires
     same-length
     same-length-2
-    returns-5)
+    returns-4)

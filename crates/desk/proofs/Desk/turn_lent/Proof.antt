@@ -43,6 +43,7 @@ use denote.Triple.Table.{entered, cited}
 use denote.Triple.Walked.{says, Stays, stay-ref, gave-slice, walkOf, AllGo, goes-ref, goes-gave-slice, Walks, ends-at, walked, walk-meets}
 use denote.Signature.{plain}
 use Rattle.desk.specs.Calls.{turnOf, done as gives}
+use Rattle.desk.specs.Numbers.{turnNumbers, turnGiven}
 use Rattle.desk.specs.declared.Desk.{Desk}
 use Rattle.desk.specs.declared.Turned.{Turned}
 use Rattle.desk.specs.declared.TurnAnswer.{TurnAnswer}
@@ -116,7 +117,7 @@ module _ {M : Type 1} (𝓤 : URA M) (H : Heap 𝓤) (A : Atoms 𝓤) (W : Given
 
   -- what `turn` ensures, of its result and of the two last lists
   abbrev Said : Turned → List ℕ → List ℕ → Type 0
-  Said r zs us = gives (r .desk) (r .answer) zs us ≡ turnOf h ys ts
+  Said r zs us = (gives (r .desk) (r .answer) zs us ≡ turnOf h ys ts) × (turnNumbers (r .answer) ≡ turnGiven h ys ts)
 
   exits : (r : Turned) (zs us : List ℕ) → Said r zs us → length zs ≡ length ys → length us ≡ length ts → Is N.the-row (r .answer) (answered (r .answer) ∷ [])
       → ent 𝓤 (⋆ 𝓤 H A (‵ (fobs γ (R .coded .code (r .desk))) ∷ ‵ (fbor κ (Body (mem R) b o γ)) ∷ ‵ (flft κ q) ∷ (‵ (flft κ₁ q₁) ⊛ ‵ (flft κ₂ q₂) ⊛ ‵ ftrue) ∷ ‵ (finally u8 γ₁ zs) ∷ ‵ (finally u8 γ₂ us) ∷ [])) (Post (answered (r .answer)))

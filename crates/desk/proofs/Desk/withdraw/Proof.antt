@@ -1,15 +1,18 @@
-use mathlib.Core.Path.{_≡_, sym, ap, _∙_}
-use mathlib.Core.Bool.{true, false}
+use mathlib.Core.Path.{_≡_, refl}
+use mathlib.Core.List.{List}
+use Prim.Native.Nat.{ℕ, _<_}
 use native.Mathlib.Omega.{arith}
-use borrow.Author.Tests.{not-true, not-false}
-use denote.Ref.{now}
-use Prim.Native.Nat.{ℕ, _/_}
 use lib.ListN.{length}
-use Rattle.memory.specs.Window.{windowLength}
-use Rattle.int13.specs.Answers.{ah}
-use Rattle.desk.specs.Parts.{windowSize}
-use Rattle.desk.specs.Acceptable.{accept, packetOk}
-use Rattle.desk.proofs.Callings.{withdraw-unacceptable, withdraw-length, withdraw-guest, withdraw-other, withdraw-waiting, waiting-facts, lent-arena}
+use lib.Dec.{ltb}
+use borrow.Author.Tests.{ltb-true}
+use denote.Ref.{now}
+use Rattle.desk.specs.declared.Desk.{Desk}
+use Rattle.desk.specs.declared.WithdrawAnswer.the-variants.{Refused as WithdrawRefused}
+use Rattle.desk.specs.Parts.{stageAt}
+use Rattle.desk.specs.Acceptable.{accept}
+use Rattle.desk.specs.Calls.{houseNumber, isLent, done, withdrawStage, withdrawOf}
+use Rattle.desk.proofs.CallsLaws.{house-tests, house-refused, Passed, house-passed, withdraw-other, withdraw-waiting, Report, report-facts}
+use Rattle.desk.proofs.NumbersLaws.{withdraw-answered}
 use borrow.Author.Needs.{needs}
 use Rattle.desk.proofs.Desk.withdraw.Statement.{statement}
 use Rattle.desk.proofs.Desk.withdraw.Tie as tie
@@ -18,92 +21,96 @@ use Rattle.desk.proofs.Desk.withdraw.Lts as lts
 use Rattle.desk.proofs.Desk.accept.Reads as accept-reads
 use Rattle.desk.proofs.Desk.is_lent.Reads as is-lent-reads
 use Rattle.desk.proofs.Desk.withdrawn.Reads as withdrawn-reads
+use Rattle.desk.proofs.house_number.Reads as house-number-reads
 use Rattle.desk.proofs.report_moved.Reads as report-moved-reads
 
--- src/lib.rt:624:13
+abbrev desk : tie.After-house-number → Desk
+desk c = c .before .before .before .before .before .args .t1
+
+abbrev arena : tie.After-house-number → List ℕ
+arena c = now (c .before .before .before .before .before .args .arena)
+
+abbrev store : tie.After-house-number → List ℕ
+store c = now (c .before .before .before .before .before .args .store)
+
+abbrev guest : tie.After-house-number → ℕ
+guest c = c .before .before .before .before .before .args .guest
+
+number : (c : tie.After-house-number) → c .house-number .result ≡ houseNumber (accept (desk c)) (isLent (desk c) (arena c) (store c)) (ltb (guest c) 8)
+number c = house-tests (c .house-number .ensures) (c .before .before .accept .ensures) (c .before .is-lent .ensures) refl
+
+passed : (c : tie.Else1) → Passed (accept (desk (c .before))) (isLent (desk (c .before)) (arena (c .before)) (store (c .before))) (ltb (guest (c .before)) 8)
+passed c = house-passed _ _ _ (number (c .before)) (c .if1 .left)
+
+below : (c : tie.Else1) → guest (c .before) < 8
+below c = ltb-true (guest (c .before)) 8 (passed c .guest)
+
+-- what acceptance says of the request, at the place where it is bound
+facts : (c : tie.After-known-told) → Report (c .before .stage .given .0 .0) (guest (c .before .before .before .before .before)) (length (arena (c .before .before .before .before .before)))
+facts c =
+    let h = c .before .before .before .before .before in
+    report-facts (desk h) (arena h) (store h) (guest h) (c .before .stage .given .0 .0) (passed (c .before .before .before .before)) (c .before .stage .given .1)
+
 accept-requires : tie.Need-accept-requires
 accept-requires c κs = search needs
 
--- src/lib.rt:625:13
-returns : tie.Need-returns
-returns c =
-    let a = c .before .before .before .before .args in
-    withdraw-unacceptable (a .t1) (sym (c .before .accept .ensures) ∙ not-true _ (c .if1 .taken)) (a .guest) (now (a .arena)) (now (a .store))
-
--- src/lib.rt:630:13
 is-lent-requires : tie.Need-is-lent-requires
 is-lent-requires c κs = search needs
 
--- src/lib.rt:631:13
-returns-2 : tie.Need-returns-2
-returns-2 c =
-    let a = c .before .before .before .before .before .before .args in
-    withdraw-length (a .t1) (sym (c .before .before .before .accept .ensures) ∙ not-false _ (c .before .before .if1 .left)) (now (a .arena)) (now (a .store)) (a .guest) (sym (c .before .is-lent .ensures) ∙ not-true _ (c .if2 .taken))
+house-number-requires : tie.Need-house-number-requires
+house-number-requires c κs = search needs
 
--- src/lib.rt:637:13
-returns-3 : tie.Need-returns-3
-returns-3 c =
-    let a = c .before .before .before .before .before .before .before .args in
-    withdraw-guest (a .t1) (sym (c .before .before .before .before .accept .ensures) ∙ not-false _ (c .before .before .before .if1 .left)) (now (a .arena)) (now (a .store)) (sym (c .before .before .is-lent .ensures) ∙ not-false _ (c .before .if2 .left)) (a .guest) (c .if3 .taken)
+returns : tie.Need-returns
+unfolding withdrawOf
+returns c =
+    let h = c .before in
+    withdraw-answered (desk h) (guest h) (arena h) (store h)
+    (house-refused _ _ _ (λ n. done (desk h) (WithdrawRefused n) (arena h) (store h)) (withdrawStage (desk h) (guest h) (stageAt (desk h) (guest h)) (arena h) (store h)) (number h) (c .if1 .taken))
 
--- src/lib.rt:642:19
 mul-row : tie.Need-mul-row
-mul-row c = search needs
+mul-row c = omega (arith, below c)
 
--- src/lib.rt:642:19
 element-copy-out-row : tie.Need-element-copy-out-row
-element-copy-out-row c = search needs
+element-copy-out-row c = omega (arith, below c)
 
--- src/lib.rt:644:28
 enum-known-stage : tie.Need-enum-known-stage
 enum-known-stage c = search needs
 
--- src/lib.rt:645:13
-returns-4 : tie.Need-returns-4
-returns-4 c =
-    let a = c .before .before .before .before .before .before .before .before .before .args in
-    withdraw-other (a .t1) (sym (c .before .before .before .before .before .before .accept .ensures) ∙ not-false _ (c .before .before .before .before .before .if1 .left)) (now (a .arena)) (now (a .store)) (sym (c .before .before .before .before .is-lent .ensures) ∙ not-false _ (c .before .before .before .if2 .left)) (a .guest) (c .before .before .if3 .left) (c .match .keys2)
+returns-2 : tie.Need-returns-2
+returns-2 c =
+    let h = c .before .before .before in
+    withdraw-answered (desk h) (guest h) (arena h) (store h)
+    (withdraw-other (desk h) (guest h) (arena h) (store h) (passed (c .before .before)) (c .match .keys2))
 
--- src/lib.rt:650:9
 report-moved-requires : tie.Need-report-moved-requires
-report-moved-requires c κs =
-    let a = c .before .before .before .before .before .before .before .before .before .before .before .before .args in
-    let lent = sym (c .before .before .before .before .before .before .before .is-lent .ensures) ∙ not-false _ (c .before .before .before .before .before .before .if2 .left) in
-    let w = waiting-facts (a .t1) (a .guest) (c .before .before .stage .given .0 .0) (sym (c .before .before .before .before .before .before .before .before .before .accept .ensures) ∙ not-false _ (c .before .before .before .before .before .before .before .before .if1 .left)) (c .before .before .before .before .before .if3 .left) (c .before .before .stage .given .1) in
-    let m : windowSize (a .t1) ≡ windowLength (length (now (a .arena))) = ap (λ (n : ℕ). n / 8) (sym (lent-arena (a .t1) (now (a .arena)) (now (a .store)) lent)) in
-    (c .before .before .before .before .before .if3 .left, ap (packetOk (ah (c .before .before .stage .given .0 .0 .job .registers)) (c .before .before .stage .given .0 .0 .job .packet)) (sym m) ∙ w .job .packet, omega (arith, w .moved, w .job .count))
+report-moved-requires c κs = let f = facts (c .before) in (f .guest, f .packet, f .moved)
 
--- src/lib.rt:651:9
 withdrawn-requires : tie.Need-withdrawn-requires
-withdrawn-requires c κs =
-    let a = c .before .before .before .before .before .before .before .before .before .before .before .before .before .before .before .args in
-    let w = waiting-facts (a .t1) (a .guest) (c .before .before .before .before .before .stage .given .0 .0) (sym (c .before .before .before .before .before .before .before .before .before .before .before .before .accept .ensures) ∙ not-false _ (c .before .before .before .before .before .before .before .before .before .before .before .if1 .left)) (c .before .before .before .before .before .before .before .before .if3 .left) (c .before .before .before .before .before .stage .given .1) in
-    (c .before .before .before .before .before .before .before .before .if3 .left, omega (arith, w .moved, w .job .count))
+withdrawn-requires c κs = let f = facts (c .before .before .before .before) in (f .guest, f .moved)
 
--- src/lib.rt:621:5
 same-length : tie.Need-same-length
 same-length c = search needs
 
--- src/lib.rt:621:5
-returns-5 : tie.Need-returns-5
-returns-5 c =
-    let a = c .before .before .before .before .before .before .before .before .before .before .before .before .before .before .before .before .args in
-    withdraw-waiting (a .t1) (sym (c .before .before .before .before .before .before .before .before .before .before .before .before .before .accept .ensures) ∙ not-false _ (c .before .before .before .before .before .before .before .before .before .before .before .before .if1 .left)) (now (a .arena)) (now (a .store)) (sym (c .before .before .before .before .before .before .before .before .before .before .before .is-lent .ensures) ∙ not-false _ (c .before .before .before .before .before .before .before .before .before .before .if2 .left)) (a .guest) (c .before .before .before .before .before .before .stage .given .0 .0) (c .before .before .before .before .before .before .before .before .before .if3 .left) (c .before .before .before .before .before .before .stage .given .1) (c .withdrawn .ensures .0) (c .withdrawn .ensures .1) (c .before .before .before .report-moved .ensures)
+returns-3 : tie.Need-returns-3
+returns-3 c =
+    let h = c .before .before .before .before .before .before .before .before .before .before in
+    let s = c .before .before .before .before .before .before .stage in
+    withdraw-answered (desk h) (guest h) (arena h) (store h)
+    (withdraw-waiting (desk h) (guest h) (arena h) (store h) (passed (c .before .before .before .before .before .before .before .before .before)) (s .given .0 .0) (s .given .1) (c .withdrawn .ensures .0) (c .withdrawn .ensures .1) (c .before .before .before .report-moved .ensures))
 
 pub withdraw-spec : {M : Type 1} → statement M
 withdraw-spec =
     tie.close
     (tie.spec
     accept-requires
-    returns
     is-lent-requires
-    returns-2
-    returns-3
+    house-number-requires
+    returns
     mul-row
     element-copy-out-row
     enum-known-stage
-    returns-4
+    returns-2
     report-moved-requires
     withdrawn-requires
     same-length
-    returns-5)
+    returns-3)

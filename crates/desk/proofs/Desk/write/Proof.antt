@@ -1,40 +1,60 @@
-use mathlib.Core.Path.{_≡_, sym, _∙_}
-use borrow.Author.Tests.{not-true, not-false}
+use mathlib.Core.Path.{_≡_, refl, _∙_}
+use mathlib.Core.Bool.{true, false}
+use lib.ListN.{length}
 use denote.Ref.{now}
-use Rattle.desk.proofs.Callings.{write-unacceptable, write-table}
+use Rattle.table.specs.declared.Written.the-variants.{Refused as WriteRefused}
+use Rattle.table.specs.Table.{writeAnswer, writeOut}
+use Rattle.desk.specs.declared.Desk.{Desk}
+use Rattle.desk.specs.Acceptable.{accept}
+use Rattle.desk.specs.Calls.{houseNumber, writtenOf, writtenOut}
+use Rattle.desk.proofs.CallsLaws.{house-tests, house-refused, house-passed, write-table}
+use Rattle.desk.proofs.NumbersLaws.{write-answered}
 use borrow.Author.Needs.{needs}
 use Rattle.desk.proofs.Desk.write.Statement.{statement}
 use Rattle.desk.proofs.Desk.write.Tie as tie
 use Rattle.desk.proofs.Desk.write.Reads as reads
 use Rattle.desk.proofs.Desk.write.Lts as lts
 use Rattle.desk.proofs.Desk.accept.Reads as accept-reads
+use Rattle.desk.proofs.house_number.Reads as house-number-reads
 use Rattle.table.proofs.write_table.Reads as write-table-reads
 
--- src/lib.rt:436:13
+abbrev desk : tie.After-house-number → Desk
+desk c = c .before .before .before .args .self
+
+number : (c : tie.After-house-number) → c .house-number .result ≡ houseNumber (accept (desk c)) true true
+number c = house-tests (c .house-number .ensures) (c .before .accept .ensures) refl refl
+
 accept-requires : tie.Need-accept-requires
 accept-requires c κs = search needs
 
--- src/lib.rt:437:13
-returns : tie.Need-returns
-returns c =
-    let a = c .before .before .before .args in
-    write-unacceptable (a .self) (sym (c .before .accept .ensures) ∙ not-true _ (c .if1 .taken)) (now (a .out))
+house-number-requires : tie.Need-house-number-requires
+house-number-requires c κs = search needs
 
--- src/lib.rt:440:9
+returns : tie.Need-returns
+unfolding writtenOf writtenOut
+returns c =
+    let out = now (c .before .before .before .before .args .out) in
+    write-answered (desk (c .before)) out (house-refused _ _ _ WriteRefused (writeAnswer (desk (c .before) .table) (length out)) (number (c .before)) (c .if1 .taken)) (house-refused _ _ _ (λ n. out) (writeOut (desk (c .before) .table) out) (number (c .before)) (c .if1 .taken))
+
 write-table-requires : tie.Need-write-table-requires
 write-table-requires c κs = search needs
 
--- src/lib.rt:433:5
 same-length : tie.Need-same-length
 same-length c = search needs
 
--- src/lib.rt:433:5
 returns-2 : tie.Need-returns-2
 returns-2 c =
-    let a = c .before .before .before .before .before .before .before .before .args in
-    let w = write-table (a .self) (sym (c .before .before .before .before .before .before .accept .ensures) ∙ not-false _ (c .before .before .before .before .before .if1 .left)) (now (a .out)) in
-    (c .before .before .write-table .ensures .0 ∙ w .0, c .before .before .write-table .ensures .1 ∙ w .1)
+    let out = now (c .before .before .before .before .before .before .before .before .before .args .out) in
+    let w = write-table (desk (c .before .before .before .before .before .before)) out (house-passed _ _ _ (number (c .before .before .before .before .before .before)) (c .before .before .before .before .before .if1 .left)) in
+    write-answered (desk (c .before .before .before .before .before .before)) out (c .before .before .write-table .ensures .0 ∙ w .0) (c .before .before .write-table .ensures .1 ∙ w .1)
 
 pub write-spec : {M : Type 1} → statement M
 write-spec =
-    tie.close (tie.spec accept-requires returns write-table-requires same-length returns-2)
+    tie.close
+    (tie.spec
+    accept-requires
+    house-number-requires
+    returns
+    write-table-requires
+    same-length
+    returns-2)

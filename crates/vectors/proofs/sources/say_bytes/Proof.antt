@@ -5,7 +5,7 @@ use Rattle.vectors.proofs.sources.say_bytes.Tie as tie
 use Rattle.vectors.proofs.sources.say_bytes.Reads as reads
 use Rattle.vectors.proofs.sources.say_bytes.Lts as lts
 use Rattle.vectors.proofs.say.Reads as say-reads
-use Rattle.vectors.proofs.sources.say_byte.Reads as say-byte-reads
+use Rattle.vectors.proofs.say_byte.Reads as say-byte-reads
 
 abbrev Inv-loop : tie.InvT-loop
 Inv-loop out from to i₀ t5 i = from ≤ i
@@ -13,43 +13,33 @@ Inv-loop out from to i₀ t5 i = from ≤ i
 abbrev μ-loop : tie.MeasureT-loop
 μ-loop out from to i₀ t5 i = to - i
 
--- src/sources.rt:159:9
 returns : tie.Need-returns Inv-loop μ-loop
 returns c = search needs
 
--- src/sources.rt:161:5
 loop-holds : tie.Need-loop-holds Inv-loop μ-loop
 loop-holds c = search needs
 
--- src/sources.rt:162:18
 shared-slice-read-say-byte : tie.Need-shared-slice-read-say-byte Inv-loop μ-loop
 shared-slice-read-say-byte c = search needs
 
--- src/sources.rt:162:9
 say-byte-requires : tie.Need-say-byte-requires Inv-loop μ-loop
 say-byte-requires c κs = search needs
 
--- src/sources.rt:161:9
 add-i : tie.Need-add-i Inv-loop μ-loop
 add-i c = search needs
 
--- src/sources.rt:161:5
 loop-less : tie.Need-loop-less Inv-loop μ-loop
 loop-less c = search needs
 
--- src/sources.rt:161:5
 loop-again : tie.Need-loop-again Inv-loop μ-loop
 loop-again c = search needs
 
--- src/sources.rt:164:9
 slice-aggregate-say : tie.Need-slice-aggregate-say Inv-loop μ-loop
 slice-aggregate-say c = search needs
 
--- src/sources.rt:164:5
 say-requires : tie.Need-say-requires Inv-loop μ-loop
 say-requires c κs = search needs
 
--- src/sources.rt:157:1
 returns-2 : tie.Need-returns-2 Inv-loop μ-loop
 returns-2 c = search needs
 

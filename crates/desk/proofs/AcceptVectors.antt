@@ -1,0 +1,348 @@
+-- Acceptance and the calls at a desk by number ("Calls the host makes"): one accepted desk in which every field has a value of its own and
+-- every limit is reached, one refused desk for each condition, which differs from it in one thing, and what the calls do at it.
+-- Assumes nothing.
+use mathlib.Core.Path.{_≡_, refl, _∙_}
+use mathlib.Core.Bool.{Bool, true, false}
+use mathlib.Core.List.{List, [], _∷_, _++_, map}
+use Prim.Native.Nat.{ℕ}
+use lib.ListN.{length, replicate, set}
+use lib.Seq.{sets}
+use Rattle.words.specs.Words.{le, leBytes}
+use Rattle.chs.specs.Chs.{inLimits, isValid, blockOf}
+use Rattle.drive.specs.declared.Drive.{Drive}
+use Rattle.drive.specs.Drive.{driveOf, recordOf, geometryBytes, sizeBytes, nameBytes, isBlank, blankNumbers, blankNames, same, busOk, interfaceOk, geometryFits, fieldsOk, inStore, overlap, isa, pci, ata, scsi}
+use Rattle.table.specs.Table.{zeroDrive, headerOf, headerAt, overlapsAny, refusal, driveStep, endStep, stepOf, stepAt, readFrom, readTable, recordsOf, bytesOf, tableOf, writeAnswer, writeOut, writtenNumbers, soundTo, blankTo, isSound}
+use Rattle.memory.specs.Window.{spanLength, windowOf, withWindow}
+use Rattle.memory.proofs.WindowLaws.{length-window}
+use Rattle.memory.specs.Blocks.{blocks}
+use Rattle.int13.specs.declared.Registers.{Registers}
+use Rattle.int13.specs.declared.Job.{Job}
+use Rattle.int13.specs.Steps.{isDrive, sectors, steps, begin}
+use Rattle.int13.specs.Alone.{moves}
+use Rattle.desk.specs.declared.Request.{Request}
+use Rattle.desk.specs.declared.Row.{Row}
+use Rattle.desk.specs.declared.Stage.{Stage}
+use Rattle.desk.specs.declared.Stage.the-variants.{Vacant, Waiting, Finished}
+use Rattle.desk.specs.declared.Desk.{Desk}
+use Rattle.desk.specs.declared.Opening.{Opening}
+use Rattle.desk.specs.declared.OpenAnswer.the-variants.{Opened}
+use Rattle.desk.specs.declared.PostAnswer.the-variants.{Waits as PostWaits}
+use Rattle.desk.specs.declared.TurnAnswer.{TurnAnswer}
+use Rattle.desk.specs.declared.TurnAnswer.the-variants.{Served}
+use Rattle.desk.specs.declared.CollectAnswer.{CollectAnswer}
+use Rattle.desk.specs.declared.CollectAnswer.the-variants.{Given as CollectGiven}
+use Rattle.desk.specs.declared.WithdrawAnswer.{WithdrawAnswer}
+use Rattle.desk.specs.declared.WithdrawAnswer.the-variants.{Given as WithdrawGiven}
+use Rattle.desk.specs.Parts.{vacantRow}
+use Rattle.desk.specs.Acceptable.{requestOk, rowsOk, accept}
+use Rattle.desk.specs.Calls.{done, openOf, writtenOf, writtenOut, postOf, firstWaiting, stageAfter, turnOf, collectOf, withdrawOf}
+
+-- ---- the table: two drives, of 4000 blocks from store block 5 and of 300 from 4010; C x H x S 459 and 280; the second is protected
+
+abbrev readable : Drive
+readable = record {
+  cylinders = 1011;
+  heads = 1012;
+  sectors = 1013;
+  blocks = 4000;
+  first = 5;
+  flags = 0x0A;
+  c = 17;
+  h = 3;
+  s = 9;
+  protection = 0;
+  bus = pci;
+  interface = ata;
+  path = 11 ∷ 12 ∷ 13 ∷ 14 ∷ 15 ∷ 16 ∷ 17 ∷ 18 ∷ [];
+  device = 21 ∷ 22 ∷ 23 ∷ 24 ∷ 25 ∷ 26 ∷ 27 ∷ 28 ∷ [];
+}
+
+-- the second, with a first store block, flags, C and a protection byte
+abbrev other : ℕ → ℕ → ℕ → ℕ → Drive
+other first flags c protection = record {
+  cylinders = 2011;
+  heads = 2012;
+  sectors = 2013;
+  blocks = 300;
+  first = first;
+  flags = flags;
+  c = c;
+  h = 7;
+  s = 8;
+  protection = protection;
+  bus = isa;
+  interface = scsi;
+  path = 31 ∷ 32 ∷ 33 ∷ 34 ∷ 35 ∷ 36 ∷ 37 ∷ 38 ∷ [];
+  device = 41 ∷ 42 ∷ 43 ∷ 44 ∷ 45 ∷ 46 ∷ 47 ∷ 48 ∷ [];
+}
+
+abbrev secondDrive : Drive
+secondDrive = other 4010 0x48 5 1
+
+-- a table's eight places, with the second drive and what stands after it
+abbrev places : Drive → Drive → List Drive
+places second third = readable ∷ second ∷ third ∷ replicate 5 zeroDrive
+
+-- ---- the rows: windows of 70,000 bytes. The registers agree with nothing in their rows but AH, and carry is set: neither is asked for
+
+abbrev registers : ℕ → Registers
+registers ax = record { ax = ax; bx = 0xB1B2; cx = 0xC1C2; dx = 0xD1D2; ds = 0xE1E2; si = 0xF1F2; es = 0xA1A2; carry = true }
+
+-- as a turn leaves them: carry clear
+abbrev success : ℕ → Registers
+success ax = record { ax = ax; bx = 0xB1B2; cx = 0xC1C2; dx = 0xD1D2; ds = 0xE1E2; si = 0xF1F2; es = 0xA1A2; carry = false }
+
+abbrev row : Stage → Row
+row s = record { stage = s }
+
+--            AX    drive  start  count  buffer packet moved
+abbrev waits : ℕ → ℕ → ℕ → ℕ → ℕ → ℕ → ℕ → Row
+waits ax drive start count buffer packet moved =
+    row (Waiting (record { job = record { registers = registers ax; drive = drive; start = start; count = count; buffer = buffer; packet = packet }; moved = moved }))
+
+-- 02h and 03h on the first drive, 42h on the protected one, 43h on the first past its geometry, finished, vacant, 02h on the protected one, 42h
+abbrev rows : List Row
+rows =
+    waits 0x0205 0x80 330 128 3952 0 112
+    ∷ waits 0x0306 0x80 442 17 7 0 16
+    ∷ waits 0x4207 0x81 172 127 4464 69984 96
+    ∷ waits 0x4308 0x80 3967 33 9 21 32
+    ∷ row (Finished (registers 0x4809))
+    ∷ vacantRow
+    ∷ waits 0x020A 0x81 41 2 68976 0 0
+    ∷ waits 0x420B 0x80 5 3 68464 33 0
+    ∷ []
+
+abbrev desk : List Drive → ℕ → ℕ → ℕ → ℕ → List Row → Desk
+desk drives count pointer arena store rows =
+    record { rows = rows; pointer = pointer; table = record { drives = drives; count = count }; arena = arena; store = store }
+
+-- an arena of 8 x 70,000 + 5 bytes, a store of 4311 x 512 + 3
+abbrev good : ℕ → Desk
+good pointer = desk (places secondDrive zeroDrive) 2 pointer 560005 2207235 rows
+
+-- the same with another row, another second drive, another store length
+abbrev withRow : ℕ → Row → Desk
+withRow g r = desk (places secondDrive zeroDrive) 2 7 560005 2207235 (set rows g r)
+
+abbrev withDrive : Drive → Desk
+withDrive d = desk (places d zeroDrive) 2 7 560005 2207235 rows
+
+abbrev withStore : ℕ → Desk
+withStore store = desk (places secondDrive zeroDrive) 2 7 560005 store rows
+
+-- ---- the conditions of acceptance, one after the other: desks on the right side of each, then desks on its wrong side
+
+-- the pointer is below 8
+abbrev pointers : List Desk
+pointers = map good (0 ∷ 1 ∷ 2 ∷ 3 ∷ 4 ∷ 5 ∷ 6 ∷ 7 ∷ [])
+
+abbrev badPointers : List Desk
+badPointers = map good (8 ∷ 18446744073709551615 ∷ [])
+
+-- the table obeys the rules: drives apart (7), inside the store (6), a field of each kind (5), at most 8 (4), unused places zero
+abbrev tables : List Desk
+tables = withDrive (other 4005 0x48 5 1) ∷ withStore 2206720 ∷ withDrive (other 4010 0x7F 5 1) ∷ withDrive (other 4010 0x48 4 1) ∷ []
+
+abbrev badTables : List Desk
+badTables =
+    withDrive (other 4004 0x48 5 1)
+    ∷ withStore 2206719
+    ∷ withDrive (other 4010 0x80 5 1)
+    ∷ withDrive (other 4010 0x48 6 1)
+    ∷ withDrive (other 4010 0x48 5 2)
+    ∷ desk (places secondDrive zeroDrive) 3 7 560005 2207235 rows
+    ∷ desk (places secondDrive zeroDrive) 9 7 560005 2207235 rows
+    ∷ desk (places secondDrive (other 4310 0x48 5 1)) 2 7 560005 2207235 rows
+    ∷ []
+
+-- the row names a drive; its function is one that waits
+abbrev badDrives : List Desk
+badDrives = withRow 7 (waits 0x420B 0x82 5 3 68464 33 0) ∷ withRow 7 (waits 0x420B 0x7F 5 3 68464 33 0) ∷ withRow 7 (waits 0x420B 0x00 5 3 68464 33 0) ∷ []
+
+abbrev badFunctions : List Desk
+badFunctions = withRow 7 (waits 0x440B 0x80 5 3 68464 33 0) ∷ withRow 7 (waits 0x470B 0x80 5 3 68464 33 0) ∷ withRow 7 (waits 0x000B 0x80 5 3 68464 33 0) ∷ []
+
+-- a count within its function's limit: 128 for 02h and 03h, 127 for 42h and 43h
+abbrev counts : List Desk
+counts = withRow 0 (waits 0x0305 0x80 330 128 3952 0 112) ∷ withRow 2 (waits 0x4307 0x80 172 127 4464 69984 96) ∷ []
+
+abbrev badCounts : List Desk
+badCounts =
+    withRow 0 (waits 0x0205 0x80 330 129 3952 0 112)
+    ∷ withRow 0 (waits 0x0305 0x80 330 129 3952 0 112)
+    ∷ withRow 2 (waits 0x4207 0x81 172 128 4464 69984 96)
+    ∷ withRow 2 (waits 0x4307 0x80 172 128 4464 69984 96)
+    ∷ []
+
+-- a range inside the drive, and for 02h and 03h inside the geometry; a start near 2 to the 64 is past both
+abbrev badRanges : List Desk
+badRanges =
+    withRow 3 (waits 0x4308 0x80 3968 33 9 21 32)
+    ∷ withRow 2 (waits 0x4207 0x81 174 127 4464 69984 96)
+    ∷ withRow 1 (waits 0x0306 0x80 443 17 7 0 16)
+    ∷ withRow 6 (waits 0x020A 0x81 279 2 68976 0 0)
+    ∷ withRow 7 (waits 0x420B 0x80 18446744073709551615 3 68464 33 0)
+    ∷ []
+
+abbrev ranges : List Desk
+ranges = withRow 2 (waits 0x4207 0x81 173 127 4464 69984 96) ∷ withRow 6 (waits 0x020A 0x81 278 2 68976 0 0) ∷ []
+
+-- a buffer inside the window, to its last byte
+abbrev badBuffers : List Desk
+badBuffers =
+    withRow 7 (waits 0x420B 0x80 5 3 68465 33 0)
+    ∷ withRow 6 (waits 0x020A 0x81 41 2 68977 0 0)
+    ∷ withRow 7 (waits 0x420B 0x80 5 3 18446744073709551615 33 0)
+    ∷ []
+
+-- any packet inside the window, to its last byte; 02h and 03h have none
+abbrev badPackets : List Desk
+badPackets =
+    withRow 2 (waits 0x4207 0x81 172 127 4464 69985 96)
+    ∷ withRow 3 (waits 0x4308 0x80 3967 33 9 18446744073709551615 32)
+    ∷ withRow 0 (waits 0x0205 0x80 330 128 3952 1 112)
+    ∷ withRow 1 (waits 0x0306 0x80 442 17 7 1 16)
+    ∷ []
+
+-- no write to a protected drive
+abbrev badWrites : List Desk
+badWrites = withRow 2 (waits 0x4307 0x81 172 127 4464 69984 96) ∷ withRow 6 (waits 0x030A 0x81 41 2 68976 0 0) ∷ []
+
+-- a moved number that is a multiple of 16 below the count; a count of 0 is below nothing
+abbrev moveds : List Desk
+moveds = withRow 2 (waits 0x4207 0x81 172 127 4464 69984 112) ∷ withRow 3 (waits 0x4308 0x80 3967 33 9 21 0) ∷ []
+
+abbrev badMoveds : List Desk
+badMoveds =
+    withRow 2 (waits 0x4207 0x81 172 127 4464 69984 104)
+    ∷ withRow 2 (waits 0x4207 0x81 172 127 4464 69984 120)
+    ∷ withRow 2 (waits 0x4207 0x81 172 127 4464 69984 97)
+    ∷ withRow 3 (waits 0x4308 0x80 3967 33 9 21 48)
+    ∷ withRow 3 (waits 0x4308 0x80 3967 32 9 21 32)
+    ∷ withRow 7 (waits 0x420B 0x80 5 0 68464 33 0)
+    ∷ []
+
+pub acceptance : map (map accept) (pointers ∷ tables ∷ counts ∷ ranges ∷ moveds ∷ [])
+    ∷ map (map accept) (badPointers ∷ badTables ∷ badDrives ∷ badFunctions ∷ badCounts ∷ badRanges ∷ badBuffers ∷ badPackets ∷ badWrites ∷ badMoveds ∷ [])
+    ∷ []
+    ≡ map (λ (n : ℕ). replicate n true) (8 ∷ 4 ∷ 2 ∷ 2 ∷ 2 ∷ [])
+    ∷ map (λ (n : ℕ). replicate n false) (2 ∷ 8 ∷ 3 ∷ 3 ∷ 4 ∷ 5 ∷ 3 ∷ 4 ∷ 2 ∷ 6 ∷ [])
+    ∷ []
+unfolding accept rowsOk requestOk isDrive isSound soundTo blankTo refusal overlapsAny overlap inStore fieldsOk geometryFits inLimits busOk interfaceOk isBlank blankNumbers blankNames same
+acceptance = refl
+
+-- ---- open: all rows vacant, the pointer 0, the table's drives in order, the two lengths each in its place
+
+abbrev tableBytes : List ℕ
+tableBytes =
+    68 ∷ 0 ∷ 1 ∷ 0 ∷ 243 ∷ 3 ∷ 0 ∷ 0 ∷ 244 ∷ 3 ∷ 0 ∷ 0 ∷ 245 ∷ 3 ∷ 0 ∷ 0 ∷ 160 ∷ 15 ∷ 0 ∷ 0 ∷ 0 ∷ 0 ∷ 0 ∷ 0
+    ∷ 5 ∷ 0 ∷ 0 ∷ 0 ∷ 0 ∷ 0 ∷ 0 ∷ 0 ∷ 10 ∷ 0 ∷ 17 ∷ 0 ∷ 3 ∷ 0 ∷ 9 ∷ 0 ∷ 80 ∷ 67 ∷ 73 ∷ 0 ∷ 65 ∷ 84 ∷ 65 ∷ 0
+    ∷ 0 ∷ 0 ∷ 0 ∷ 0 ∷ 11 ∷ 12 ∷ 13 ∷ 14 ∷ 15 ∷ 16 ∷ 17 ∷ 18 ∷ 21 ∷ 22 ∷ 23 ∷ 24 ∷ 25 ∷ 26 ∷ 27 ∷ 28 ∷ 68 ∷ 0 ∷ 1 ∷ 0
+    ∷ 219 ∷ 7 ∷ 0 ∷ 0 ∷ 220 ∷ 7 ∷ 0 ∷ 0 ∷ 221 ∷ 7 ∷ 0 ∷ 0 ∷ 44 ∷ 1 ∷ 0 ∷ 0 ∷ 0 ∷ 0 ∷ 0 ∷ 0 ∷ 170 ∷ 15 ∷ 0 ∷ 0
+    ∷ 0 ∷ 0 ∷ 0 ∷ 0 ∷ 72 ∷ 0 ∷ 5 ∷ 0 ∷ 7 ∷ 0 ∷ 8 ∷ 1 ∷ 73 ∷ 83 ∷ 65 ∷ 0 ∷ 83 ∷ 67 ∷ 83 ∷ 73 ∷ 0 ∷ 0 ∷ 0 ∷ 0
+    ∷ 31 ∷ 32 ∷ 33 ∷ 34 ∷ 35 ∷ 36 ∷ 37 ∷ 38 ∷ 41 ∷ 42 ∷ 43 ∷ 44 ∷ 45 ∷ 46 ∷ 47 ∷ 48 ∷ 4 ∷ 0 ∷ 0 ∷ 0 ∷ []
+
+pub opening : openOf tableBytes 560005 2207235
+    ≡ record { desk = desk (places secondDrive zeroDrive) 2 0 560005 2207235 (replicate 8 vacantRow); answer = Opened }
+unfolding openOf le driveOf readTable readFrom stepAt stepOf endStep driveStep headerAt headerOf refusal overlapsAny overlap inStore fieldsOk geometryFits inLimits busOk interfaceOk same
+opening = refl
+
+-- ---- write: the bytes of the opening again, in a buffer that has room; bytes past them stay
+
+pub table-written : map (λ (room : ℕ). writtenNumbers (writtenOf (good 7) room)) (139 ∷ 140 ∷ 142 ∷ []) ≡ (19 ∷ []) ∷ (0 ∷ 140 ∷ []) ∷ (0 ∷ 140 ∷ []) ∷ []
+unfolding writtenOf writtenNumbers writeAnswer tableOf bytesOf recordsOf recordOf geometryBytes sizeBytes nameBytes leBytes accept rowsOk requestOk isDrive isSound soundTo blankTo refusal overlapsAny overlap inStore fieldsOk geometryFits inLimits busOk interfaceOk isBlank blankNumbers blankNames same
+table-written = refl
+
+pub table-bytes : writtenOut (good 7) (replicate 142 9) ≡ tableBytes ++ (9 ∷ 9 ∷ [])
+unfolding writtenOut writeOut tableOf bytesOf recordsOf recordOf geometryBytes sizeBytes nameBytes leBytes accept rowsOk requestOk isDrive isSound soundTo blankTo refusal overlapsAny overlap inStore fieldsOk geometryFits inLimits busOk interfaceOk isBlank blankNumbers blankNames same
+table-bytes = refl
+
+-- ---- the calls, for every arena and store of those lengths
+
+-- 02h of three sectors of 81h, and the request that it makes
+abbrev call : Registers
+call = record { ax = 0x0203; bx = 0x0123; cx = 0x0305; dx = 0x0281; ds = 0xE1E2; si = 0xF1F2; es = 0x1001; carry = true }
+
+abbrev asked : Job
+asked = record {
+  registers = record { ax = 0x0203; bx = 0x0123; cx = 0x0305; dx = 0x0281; ds = 0xE1E2; si = 0xF1F2; es = 0x1001; carry = false };
+  drive = 0x81;
+  start = 188;
+  count = 3;
+  buffer = 0x10133;
+  packet = 0;
+}
+
+-- the desk after a call: its pointer, and another row
+abbrev after : ℕ → ℕ → Stage → Desk
+after pointer g stage = desk (places secondDrive zeroDrive) 2 pointer 560005 2207235 (set rows g (row stage))
+
+module _ (arena store : List ℕ) (la : length arena ≡ 560005) (ls : length store ≡ 2207235) where
+  -- the turn at the pointer, and the number of blocks; the pointer goes to the guest after, from 7 to 0; all moved, the row is finished
+  pub turns : map (λ (p : ℕ). turnOf (good p) arena store .answer) (0 ∷ 1 ∷ 2 ∷ 3 ∷ 4 ∷ 5 ∷ 6 ∷ 7 ∷ [])
+      ≡ Served 0 16 ∷ Served 1 1 ∷ Served 2 16 ∷ Served 3 1 ∷ Served 6 2 ∷ Served 6 2 ∷ Served 6 2 ∷ Served 7 3 ∷ []
+  unfolding turnOf firstWaiting accept rowsOk requestOk isDrive isSound soundTo blankTo refusal overlapsAny overlap inStore fieldsOk geometryFits inLimits busOk interfaceOk isBlank blankNumbers blankNames same
+  turns = rw (la, ls)
+
+  pub turn-desks : map (λ (p : ℕ). turnOf (good p) arena store .desk) (0 ∷ 1 ∷ 2 ∷ 3 ∷ 4 ∷ 7 ∷ [])
+      ≡ after 1 0 (Finished (success 0x0005))
+      ∷ after 2 1 (Finished (success 0x0006))
+      ∷ after 3 2 (waits 0x4207 0x81 172 127 4464 69984 112 .stage)
+      ∷ after 4 3 (Finished (success 0x0008))
+      ∷ after 7 6 (Finished (success 0x000A))
+      ∷ after 0 7 (Finished (success 0x000B))
+      ∷ []
+  unfolding turnOf firstWaiting stageAfter accept rowsOk requestOk isDrive isSound soundTo blankTo refusal overlapsAny overlap inStore fieldsOk geometryFits inLimits busOk interfaceOk isBlank blankNumbers blankNames same
+  turn-desks = rw (la, ls)
+
+  -- reads: to buffer + 512 x moved, from 512 x (first + start + moved)
+  pub reads : map (λ (p : ℕ). turnOf (good p) arena store .arena) (0 ∷ 2 ∷ 4 ∷ 7 ∷ [])
+      ≡ withWindow arena 0 70000 (blocks (windowOf arena 0 70000) 61296 store 228864 16)
+      ∷ withWindow arena 2 70000 (blocks (windowOf arena 2 70000) 53616 store 2190336 16)
+      ∷ withWindow arena 6 70000 (blocks (windowOf arena 6 70000) 68976 store 2074112 2)
+      ∷ withWindow arena 7 70000 (blocks (windowOf arena 7 70000) 68464 store 5120 3)
+      ∷ []
+  unfolding turnOf firstWaiting moves accept rowsOk requestOk isDrive isSound soundTo blankTo refusal overlapsAny overlap inStore fieldsOk geometryFits inLimits busOk interfaceOk isBlank blankNumbers blankNames same
+  reads = rw (la, ls)
+
+  -- writes: to 512 x (first + start + moved), from buffer + 512 x moved
+  pub writes : map (λ (p : ℕ). turnOf (good p) arena store .store) (1 ∷ 3 ∷ 7 ∷ [])
+      ≡ blocks store 237056 (windowOf arena 1 70000) 8199 1
+      ∷ blocks store 2050048 (windowOf arena 3 70000) 16393 1
+      ∷ store
+      ∷ []
+  unfolding turnOf firstWaiting moves accept rowsOk requestOk isDrive isSound soundTo blankTo refusal overlapsAny overlap inStore fieldsOk geometryFits inLimits busOk interfaceOk isBlank blankNumbers blankNames same
+  writes = rw (la, ls)
+
+  -- withdrawals: AH 80h and carry set; 02h and 03h have the blocks moved in AL, 42h and 43h in the word at packet + 2
+  pub withdrawals : map (λ (g : ℕ). withdrawOf (good 7) g arena store .answer) (0 ∷ 1 ∷ 2 ∷ 3 ∷ [])
+      ≡ map (λ (ax : ℕ). WithdrawGiven (registers ax)) (0x8070 ∷ 0x8010 ∷ 0x8007 ∷ 0x8008 ∷ [])
+  unfolding withdrawOf accept rowsOk requestOk isDrive isSound soundTo blankTo refusal overlapsAny overlap inStore fieldsOk geometryFits inLimits busOk interfaceOk isBlank blankNumbers blankNames same
+  withdrawals = rw (la, ls)
+
+  pub withdrawn-desks : map (λ (g : ℕ). withdrawOf (good 7) g arena store .desk) (1 ∷ 2 ∷ []) ≡ after 7 1 Vacant ∷ after 7 2 Vacant ∷ []
+  unfolding withdrawOf accept rowsOk requestOk isDrive isSound soundTo blankTo refusal overlapsAny overlap inStore fieldsOk geometryFits inLimits busOk interfaceOk isBlank blankNumbers blankNames same
+  withdrawn-desks = rw (la, ls)
+
+  pub count-words : map (λ (g : ℕ). withdrawOf (good 7) g arena store .arena) (2 ∷ 3 ∷ [])
+      ≡ withWindow arena 2 70000 (sets (windowOf arena 2 70000) 69986 (96 ∷ 0 ∷ []))
+      ∷ withWindow arena 3 70000 (sets (windowOf arena 3 70000) 23 (32 ∷ 0 ∷ []))
+      ∷ []
+  unfolding withdrawOf leBytes accept rowsOk requestOk isDrive isSound soundTo blankTo refusal overlapsAny overlap inStore fieldsOk geometryFits inLimits busOk interfaceOk isBlank blankNumbers blankNames same
+  count-words = rw (la, ls)
+
+  -- a post of 02h: the block of 3/2/5 in 5/7/8, the buffer at ES:BX, 10010h + 123h; it waits with nothing moved, and carry is dropped
+  window-5 : length (windowOf arena 5 70000) ≡ 70000
+  unfolding spanLength
+  window-5 = length-window arena 5 70000 ∙ rw la
+
+  pub post-waits : (postOf (good 7) 5 call arena store .answer ≡ PostWaits)
+      × (postOf (good 7) 5 call arena store .desk ≡ after 7 5 (Waiting (record { job = asked; moved = 0 })))
+  unfolding postOf begin steps sectors blockOf isValid accept rowsOk requestOk isDrive isSound soundTo blankTo refusal overlapsAny overlap inStore fieldsOk geometryFits inLimits busOk interfaceOk isBlank blankNumbers blankNames same
+  post-waits = (rw (window-5, la, ls), rw (window-5, la, ls))
+
+-- collect: the finished registers as they stand, and the row is vacant
+pub collected : collectOf (good 7) 4 [] [] ≡ done (after 7 4 Vacant) (CollectGiven (registers 0x4809)) [] []
+unfolding collectOf accept rowsOk requestOk isDrive isSound soundTo blankTo refusal overlapsAny overlap inStore fieldsOk geometryFits inLimits busOk interfaceOk isBlank blankNumbers blankNames same
+collected = refl

@@ -1,0 +1,68 @@
+use mathlib.Core.Path.{_≡_, ap, _∙_}
+use mathlib.Core.List.{List}
+use Prim.Native.Nat.{ℕ, _-_}
+use native.Mathlib.Omega.{arith}
+use lib.ListN.{length, take, drop}
+use denote.Ref.{now}
+use Rattle.memory.specs.Window.{windowLength, spanLength}
+use Rattle.memory.proofs.WindowLaws.{with-window-lent, length-window}
+use Rattle.table.specs.declared.Table.{Table}
+use Rattle.int13.specs.Steps.{fed, begin}
+use Rattle.desk.specs.Parts.{ownWindow, withOwn}
+use Rattle.image.specs.Image.{readDesk}
+use borrow.Author.Needs.{needs}
+use Rattle.exports.proofs.begun.Statement.{statement}
+use Rattle.exports.proofs.begun.Tie as tie
+use Rattle.exports.proofs.begun.Reads as reads
+use Rattle.exports.proofs.begun.Lts as lts
+use Rattle.exports.proofs.steps_at.Reads as steps-at-reads
+use Rattle.memory.proofs.window_length.Reads as window-length-reads
+use Rattle.memory.proofs.span_of.Reads as span-of-reads
+
+window-length-requires : tie.Need-window-length-requires
+window-length-requires c κs = search needs
+
+span-of-requires : tie.Need-span-of-requires
+span-of-requires c κs = search needs
+
+sub-steps-at : tie.Need-sub-steps-at
+sub-steps-at c = search needs
+
+part-steps-at-start : tie.Need-part-steps-at-start
+part-steps-at-start c = search needs
+
+part-steps-at-end : tie.Need-part-steps-at-end
+part-steps-at-end c = search needs
+
+steps-at-requires : tie.Need-steps-at-requires
+steps-at-requires c κs = search needs
+
+same-length : tie.Need-same-length
+same-length c = search needs
+
+returns : tie.Need-returns
+returns c =
+    let a = c .before .before .before .before .before .before .before .before .args in
+    let arena : List ℕ = now (a .arena) in
+    let t : Table = readDesk (now (a .desk)) .table in
+    let own : ℕ = windowLength (length arena) in
+    let o = c .before .before .before .before .span-of in
+    let m = c .before .before .before .before .before .window-length .ensures in
+    let e : o .result .end - o .result .start ≡ spanLength (length arena) (a .guest) (c .before .before .before .before .before .window-length .result) = omega arith in
+    let part : take (o .result .end - o .result .start) (drop (o .result .start) arena) ≡ ownWindow arena (a .guest) = rw (e, o .ensures .0, m) in
+    let k = c .before .before .steps-at in
+    let n : length (k .last .1 .1 .0) ≡ spanLength (length arena) (a .guest) own = k .kept .1 .1 .0 ∙ ap length part ∙ length-window arena (a .guest) own in
+    (k .ensures .0 ∙ ap (λ (x : List ℕ). begin (fed t) (a .r) x .outcome) part, rw (e, o .ensures .0, m) (with-window-lent arena (a .guest) own (k .last .1 .1 .0) n ∙ ap (withOwn arena (a .guest)) (k .ensures .1 ∙ ap (λ (x : List ℕ). begin (fed t) (a .r) x .window) part)))
+
+pub begun-spec : {M : Type 1} → statement M
+begun-spec =
+    tie.close
+    (tie.spec
+    window-length-requires
+    span-of-requires
+    sub-steps-at
+    part-steps-at-start
+    part-steps-at-end
+    steps-at-requires
+    same-length
+    returns)

@@ -1,0 +1,53 @@
+use mathlib.Core.Path.{_≡_, refl, sym, _∙_}
+use mathlib.Core.Bool.{true, false}
+use borrow.Author.Tests.{not-true, not-false}
+use denote.Ref.{now}
+use Rattle.desk.specs.Acceptable.{accept}
+use Rattle.desk.proofs.CallsLaws.{house-tests}
+use Rattle.image.specs.Image.{deskOf, accepted}
+use Rattle.exports.proofs.Exports.{block, no-desk, lent-read}
+use borrow.Author.Needs.{needs}
+use Rattle.exports.proofs.number_at.Statement.{statement}
+use Rattle.exports.proofs.number_at.Tie as tie
+use Rattle.exports.proofs.number_at.Reads as reads
+use Rattle.exports.proofs.number_at.Lts as lts
+use Rattle.desk.proofs.house_number.Reads as house-number-reads
+use Rattle.image.proofs.acceptable.Reads as acceptable-reads
+use Rattle.image.proofs.is_lent.Reads as is-lent-reads
+
+good : (c : tie.Else1) → accept (deskOf (now (c .before .before .before .args .desk))) ≡ true
+unfolding accepted
+good c = sym (c .before .acceptable .ensures) ∙ not-false _ (c .if1 .left)
+
+acceptable-requires : tie.Need-acceptable-requires
+acceptable-requires c κs = search needs
+
+house-number-requires : tie.Need-house-number-requires
+house-number-requires c κs = search needs
+
+returns : tie.Need-returns
+unfolding accepted
+returns c = no-desk (now (c .before .before .before .before .args .desk)) _ _ (c .house-number .ensures) (sym (c .before .before .acceptable .ensures) ∙ not-true _ (c .before .if1 .taken))
+
+is-lent-requires : tie.Need-is-lent-requires
+is-lent-requires c κs = block (now (c .before .before .before .args .desk)) (good c) .size
+
+house-number-requires-2 : tie.Need-house-number-requires-2
+house-number-requires-2 c κs = search needs
+
+returns-2 : tie.Need-returns-2
+returns-2 c =
+    let a = c .before .before .before .before .before .args in
+    let h = good (c .before .before) in
+    house-tests (c .house-number2 .ensures) (sym h) (lent-read (now (a .desk)) h (a .arena) (a .store) (c .before .is-lent .ensures)) refl
+
+pub number-at-spec : {M : Type 1} → statement M
+number-at-spec =
+    tie.close
+    (tie.spec
+    acceptable-requires
+    house-number-requires
+    returns
+    is-lent-requires
+    house-number-requires-2
+    returns-2)

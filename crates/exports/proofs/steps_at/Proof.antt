@@ -1,0 +1,59 @@
+use mathlib.Core.Path.{_≡_, ap, _∙_}
+use mathlib.Core.Bool.{Bool}
+use Prim.Native.Nat.{ℕ}
+use denote.Ref.{now}
+use Rattle.logic.specs.Logic.{pick}
+use Rattle.table.specs.declared.Table.{Table}
+use Rattle.int13.specs.Answers.{dl}
+use Rattle.int13.specs.Steps.{Checked, firstDrive, isDrive, driveAt}
+use Rattle.int13.proofs.StepsLaws.{begin-steps}
+use Rattle.image.specs.Image.{readDesk}
+use borrow.Author.Needs.{needs}
+use Rattle.exports.proofs.steps_at.Statement.{statement}
+use Rattle.exports.proofs.steps_at.Tie as tie
+use Rattle.exports.proofs.steps_at.Reads as reads
+use Rattle.exports.proofs.steps_at.Lts as lts
+use Rattle.image.proofs.is_drive.Reads as is-drive-reads
+use Rattle.image.proofs.count_of.Reads as count-of-reads
+use Rattle.image.proofs.drive_named.Reads as drive-named-reads
+use Rattle.int13.proofs.dl.Reads as dl-reads
+use Rattle.int13.proofs.steps.Reads as steps-reads
+
+dl-requires : tie.Need-dl-requires
+dl-requires c κs = search needs
+
+is-drive-requires : tie.Need-is-drive-requires
+is-drive-requires c κs = search needs
+
+count-of-requires : tie.Need-count-of-requires
+count-of-requires c κs = search needs
+
+drive-named-requires : tie.Need-drive-named-requires
+drive-named-requires c κs = search needs
+
+steps-requires : tie.Need-steps-requires
+steps-requires c κs = search needs
+
+same-length : tie.Need-same-length
+same-length c = search needs
+
+returns : tie.Need-returns
+returns c =
+    let a = c .before .before .before .before .before .before .before .before .before .before .args in
+    let t : Table = readDesk (now (a .desk)) .table in
+    let n = c .before .before .before .before .before .before .before .dl .ensures in
+    let s = begin-steps t (a .r) (now (a .window)) (c .before .before .before .before .before .before .is-drive .ensures ∙ ap (isDrive t) n) (c .before .before .before .before .before .count-of .ensures .0)
+    (λ k. c .before .before .before .before .drive-named .ensures ∙ ap (λ (m : ℕ). driveAt t (pick (isDrive t m) m firstDrive)) n ∙ ap (λ (x : Bool). driveAt t (pick x (dl (a .r)) firstDrive)) k) in
+    (c .before .before .steps .ensures .0 ∙ ap (λ (x : Checked). x .outcome) s, c .before .before .steps .ensures .1 ∙ ap (λ (x : Checked). x .window) s)
+
+pub steps-at-spec : {M : Type 1} → statement M
+steps-at-spec =
+    tie.close
+    (tie.spec
+    dl-requires
+    is-drive-requires
+    count-of-requires
+    drive-named-requires
+    steps-requires
+    same-length
+    returns)

@@ -1,0 +1,393 @@
+-- A desk is read back from its image, and a block that is an image is the image of what is read from it.
+-- Assumes nothing.
+use Prim.Native.Nat.{ℕ, zero, suc, _+_, _*_, _%_, _^_, _-_, _≤_, _<_}
+use native.Mathlib.Nat.{add-zero, zero-add, add-assoc, mul-zero, mul-suc, mul-le-mul-left, mod-eq-of-lt}
+use native.Mathlib.Omega.{arith}
+use mathlib.Core.Path.{_≡_, refl, sym, _∙_, ap, subst}
+use mathlib.Core.Bool.{Bool, true, false}
+use mathlib.Core.List.{List, [], _∷_, _++_, append-assoc, append-nil}
+use lib.ListN.{length, take, drop, getD, replicate, length-append, length-drop, List·getD-append}
+use lib.Seq.{getD-append-add, length-take-le, take-all}
+use lib.Dec.{eqb}
+use borrow.Author.Tests.{eq-eqb, eqb-true}
+use Rattle.logic.proofs.LogicLaws.{impossible}
+use Rattle.logic.specs.Logic.{pick, both}
+use Rattle.words.specs.Words.{Bytes, le, leBytes, part}
+use Rattle.words.proofs.WordsLaws.{le-lt, le-ext, read-write, write-read, leBytes-append, length-leBytes, bytes-leBytes, bytes-part}
+use Rattle.drive.specs.declared.Drive.{Drive}
+use Rattle.drive.specs.Drive.{Fits, same}
+use Rattle.drive.proofs.DriveLaws.{same-refl, same-true}
+use Rattle.table.specs.declared.Table.{Table}
+use Rattle.table.specs.Table.{noDrive}
+use Rattle.int13.specs.declared.Registers.{Registers}
+use Rattle.desk.specs.declared.Request.{Request}
+use Rattle.desk.specs.declared.Stage.{Stage}
+use Rattle.desk.specs.declared.Stage.the-variants.{Vacant, Waiting, Finished}
+use Rattle.desk.specs.declared.Row.{Row}
+use Rattle.desk.specs.declared.Desk.{Desk}
+use Rattle.desk.specs.Parts.{vacantRow, stageAt}
+use Rattle.int13.specs.Answers.{registerNumbers}
+use Rattle.desk.specs.Acceptable.{accept}
+use Rattle.desk.specs.Calls.{closed}
+use Rattle.desk.proofs.AcceptableLaws.{closed-refused}
+use Rattle.memory.proofs.Sets.{length-part}
+use Rattle.image.specs.Image.{each, flat, requestWords, stageWords, rowWords, rowsWords, driveWords, placesWords, tailWords, deskWords, image, placeSize, rowAt, placeAt, tailAt, deskSize, countAt, pointerAt, arenaAt, storeAt, requestPlace, finishedPlace, registersAt, requestAt, readStage, readRow, readDrive, readRows, readPlaces, readDesk, isImage, deskOf, accepted, FitsRegisters, FitsRequest, FitsStage, FitsDrive, FitsTable, FitsDesk, ImageOf, Exact}
+use Rattle.image.proofs.Fill.{length-each, length-flat, length-row, length-drive}
+use Rattle.image.proofs.Fields.{listed-is, row-of, place-of}
+
+-- ---- members of a list that is put together
+
+past : (a b : List ℕ) (m n : ℕ) → length a ≡ m → getD (a ++ b) (m + n) 0 ≡ getD b n 0
+past a b m n e = subst (λ (k : ℕ). getD (a ++ b) (k + n) 0 ≡ getD b n 0) e (getD-append-add a b n 0)
+
+module _ {A : Type 0} (f : A → List ℕ) (n : ℕ) (wide : (x : A) → length (f x) ≡ n) (e : A) where
+  each-at : (xs : List A) (t : List ℕ) (k j : ℕ) → k < length xs → j < n → getD (each f xs ++ t) (n * k + j) 0 ≡ getD (f (getD xs k e)) j 0
+  unfolding each
+  each-at [] t k j h l = absurd (omega arith)
+  each-at (x ∷ xs) t zero j h l =
+      let z : n * 0 + j ≡ j = ap (λ (m : ℕ). m + j) (mul-zero n) ∙ zero-add j in
+      rw (append-assoc, z) (List·getD-append (f x) (each f xs ++ t) 0 j (omega (arith, wide x)))
+  each-at (x ∷ xs) t (suc k) j h l =
+      let z : n * suc k + j ≡ n + (n * k + j) = rw (mul-suc n k) (omega arith) in
+      rw (append-assoc, z) (past (f x) (each f xs ++ t) n (n * k + j) (wide x) ∙ each-at xs t k j (omega arith) l)
+
+-- ---- what bytes say
+
+-- from a place the bytes are those of the words ws
+unfoldable pub Says : List ℕ → ℕ → List ℕ → Type 0
+Says s i ws = (j m : ℕ) → j < length ws → m < 8 → getD s (i + 8 * j + m) 0 ≡ getD (leBytes 8 (getD ws j 0)) m 0
+
+-- the first k bytes of a word that fits them are the word
+low : (k m v : ℕ) → v < 256 ^ k → le k (leBytes (k + m) v) 0 ≡ v
+low k m v h =
+    le-ext k (leBytes (k + m) v) (leBytes k v) 0 0
+    (λ i l. rw (leBytes-append k m v) (List·getD-append (leBytes k v) _ 0 (0 + i) (omega (arith, length-leBytes k v))))
+    ∙ read-write k v h
+
+module _ (s : List ℕ) (i : ℕ) (ws : List ℕ) (h : Says s i ws) where
+  -- a field of k bytes
+  field : (k j v : ℕ) → k ≤ 8 → j < length ws → getD ws j 0 ≡ v → v < 256 ^ k → le k s (i + 8 * j) ≡ v
+  unfolding Says
+  field k j v n l e f =
+      let z : k + (8 - k) ≡ 8 = omega arith in
+      le-ext k s (leBytes 8 (getD ws j 0)) (i + 8 * j) 0 (λ m q. rw zero-add (h j m l (omega arith)))
+      ∙ ap (λ (x : ℕ). le k (leBytes 8 x) 0) e
+      ∙ subst (λ (x : ℕ). le k (leBytes x v) 0 ≡ v) z (low k (8 - k) v f)
+
+  -- a field of one byte
+  byte : (j v : ℕ) → j < length ws → getD ws j 0 ≡ v → v < 256 → getD s (i + 8 * j) 0 ≡ v
+  unfolding leBytes Says
+  byte j v l e f = rw add-zero at (h j 0 l (omega arith)) ∙ ap (λ (x : ℕ). x % 256) e ∙ mod-eq-of-lt f
+
+  -- the bytes of a name
+  name : (k j : ℕ) (a : List ℕ) → k ≤ 8 → j < length ws → Bytes s → i + 8 * j + k ≤ length s → length a ≡ k → Bytes a → getD ws j 0 ≡ le k a 0
+      → part k s (i + 8 * j) ≡ a
+  name k j a n l bs r la ba e =
+      sym (write-read k s (i + 8 * j) bs r)
+      ∙ ap (leBytes k) (field k j (le k a 0) n l e (le-lt k a 0 ba))
+      ∙ write-read k a 0 ba (omega arith)
+      ∙ take-all k a (omega arith)
+
+-- the words of two lists
+says-left : (s : List ℕ) (i : ℕ) (a b : List ℕ) → Says s i (a ++ b) → Says s i a
+unfolding Says
+says-left s i a b h j m l q =
+    h j m (rw length-append (omega arith)) q ∙ ap (λ (x : ℕ). getD (leBytes 8 x) m 0) (List·getD-append a b 0 j l)
+
+says-right : (s : List ℕ) (i at : ℕ) (a b : List ℕ) → at ≡ i + 8 * length a → Says s i (a ++ b) → Says s at b
+unfolding Says
+says-right s i at a b e h j m l q =
+    let z : at + 8 * j + m ≡ i + 8 * (length a + j) + m = omega arith in
+    rw z (h (length a + j) m (rw length-append (omega arith)) q ∙ ap (λ (x : ℕ). getD (leBytes 8 x) m 0) (getD-append-add a b j 0))
+
+-- ---- registers, a stage, a drive
+
+carry-bit : (c : Bool) → eqb (pick c 1 0) 1 ≡ c
+carry-bit true = refl
+carry-bit false = refl
+
+bit-fits : (c : Bool) → pick c 1 0 < 256
+bit-fits true = omega arith
+bit-fits false = omega arith
+
+registers-read : (s : List ℕ) (i : ℕ) (r : Registers) → Says s i (registerNumbers r) → FitsRegisters r → registersAt s i ≡ r
+registers-read s i r h f =
+    let F = field s i (registerNumbers r) h in
+    let z : le 2 s i ≡ r .ax = rw add-zero at (F 2 0 (r .ax) (omega arith) (omega arith) refl (f .ax)) in
+    let c : eqb (getD s (i + 56) 0) 1 ≡ r .carry =
+    ap (λ (x : ℕ). eqb x 1) (byte s i (registerNumbers r) h 7 (pick (r .carry) 1 0) (omega arith) refl (bit-fits (r .carry))) ∙ carry-bit (r .carry) in
+    rw (
+      z,
+      F 2 1 (r .bx) (omega arith) (omega arith) refl (f .bx),
+      F 2 2 (r .cx) (omega arith) (omega arith) refl (f .cx),
+      F 2 3 (r .dx) (omega arith) (omega arith) refl (f .dx),
+      F 2 4 (r .ds) (omega arith) (omega arith) refl (f .ds),
+      F 2 5 (r .si) (omega arith) (omega arith) refl (f .si),
+      F 2 6 (r .es) (omega arith) (omega arith) refl (f .es),
+      c,
+    )
+
+request-read : (s : List ℕ) (i : ℕ) (q : Request) → Says s i (requestWords q) → FitsRequest q → requestAt s i ≡ q
+request-read s i q h f =
+    let F = field s i (requestWords q) h in
+    rw (
+      registers-read s i (q .job .registers) (says-left s i (registerNumbers (q .job .registers)) _ h) (f .registers),
+      byte s i (requestWords q) h 8 (q .job .drive) (omega arith) refl (f .drive),
+      F 8 9 (q .job .start) (omega arith) (omega arith) refl (f .start),
+      F 8 10 (q .job .count) (omega arith) (omega arith) refl (f .count),
+      F 8 11 (q .job .buffer) (omega arith) (omega arith) refl (f .buffer),
+      F 8 12 (q .job .packet) (omega arith) (omega arith) refl (f .packet),
+      F 8 13 (q .moved) (omega arith) (omega arith) refl (f .moved),
+    )
+
+stage-read : (s : List ℕ) (i : ℕ) (x : Stage) → Says s i (stageWords x) → FitsStage x → readStage s i ≡ x
+unfolding readStage FitsStage
+stage-read s i Vacant h f = rw (rw add-zero at (byte s i (stageWords Vacant) h 0 0 (omega arith) refl (omega arith)))
+stage-read s i (Waiting q) h f =
+    rw (
+      rw add-zero at (byte s i (stageWords (Waiting q)) h 0 1 (omega arith) refl (omega arith)),
+      request-read s (requestPlace i) q (says-left s (requestPlace i) (requestWords q) _ (says-right s i (requestPlace i) (1 ∷ []) _ refl h)) f,
+    )
+stage-read s i (Finished r) h f =
+    rw (
+      rw add-zero at (byte s i (stageWords (Finished r)) h 0 2 (omega arith) refl (omega arith)),
+      registers-read s (finishedPlace i) r (says-right s i (finishedPlace i) (2 ∷ replicate 14 0) _ refl h) f,
+    )
+
+pub drive-read : (s : List ℕ) (i : ℕ) (d : Drive) → Says s i (driveWords d) → FitsDrive d → Bytes s → i + placeSize ≤ length s → readDrive s i ≡ d
+unfolding readDrive
+drive-read s i d h f bs l =
+    let n = f .numbers in
+    let F = field s i (driveWords d) h in
+    let N = name s i (driveWords d) h in
+    let z : le 4 s i ≡ d .cylinders = rw add-zero at (F 4 0 (d .cylinders) (omega arith) (omega arith) refl (n .cylinders)) in
+    rw (
+      z,
+      F 4 1 (d .heads) (omega arith) (omega arith) refl (n .heads),
+      F 4 2 (d .sectors) (omega arith) (omega arith) refl (n .sectors),
+      F 8 3 (d .blocks) (omega arith) (omega arith) refl (n .blocks),
+      F 8 4 (d .first) (omega arith) (omega arith) refl (n .first),
+      F 2 5 (d .flags) (omega arith) (omega arith) refl (n .flags),
+      F 2 6 (d .c) (omega arith) (omega arith) refl (n .c),
+      F 2 7 (d .h) (omega arith) (omega arith) refl (n .h),
+      byte s i (driveWords d) h 8 (d .s) (omega arith) refl (f .s),
+      byte s i (driveWords d) h 9 (d .protection) (omega arith) refl (f .protection),
+      N 4 10 (d .bus) (omega arith) (omega arith) bs (omega arith) (n .bus) (f .bus) refl,
+      N 8 11 (d .interface) (omega arith) (omega arith) bs (omega arith) (n .interface) (f .interface) refl,
+      N 8 12 (d .path) (omega arith) (omega arith) bs (omega arith) (n .path) (f .path) refl,
+      N 8 13 (d .device) (omega arith) (omega arith) bs (omega arith) (n .device) (f .device) refl,
+    )
+
+-- ---- a desk's image
+
+-- member k of a list that is put together
+says-each : {A : Type 0} (f : A → List ℕ) (n : ℕ) (wide : (x : A) → length (f x) ≡ n) (e : A) (s : List ℕ) (i at : ℕ) (xs : List A) (t : List ℕ) (k : ℕ)
+    → k < length xs → at ≡ i + 8 * (n * k) → Says s i (each f xs ++ t) → Says s at (f (getD xs k e))
+unfolding Says
+says-each f n wide e s i at xs t k l p h j m q r =
+    let w : j < n = omega (arith, wide (getD xs k e)) in
+    let z : at + 8 * j + m ≡ i + 8 * (n * k + j) + m = omega arith in
+    let b : n * k + j < length (each f xs ++ t) = rw (length-append, length-each f n wide xs) (below n k j (length xs) (length t) l w) in
+    rw z (h (n * k + j) m b r ∙ ap (λ (x : ℕ). getD (leBytes 8 x) m 0) (each-at f n wide e xs t k j l w))
+  where
+    below : (n k j a b : ℕ) → k < a → j < n → n * k + j < n * a + b
+    below n k j a b l w =
+        let m : n * suc k ≤ n * a = mul-le-mul-left n l in
+        omega (arith, m, mul-suc n k)
+
+says-flat : (ws : List ℕ) → Says (flat ws) 0 ws
+unfolding Says
+says-flat ws j m l q =
+    let z : 0 + 8 * j + m ≡ 8 * j + m = omega arith in
+    rw (z, ← append-nil (flat ws)) (each-at (leBytes 8) 8 (length-leBytes 8) 0 ws [] j m l q)
+
+bytes-append : (a b : List ℕ) → Bytes a → Bytes b → Bytes (a ++ b)
+bytes-append [] b p q i = q i
+bytes-append (x ∷ a) b p q zero = p 0
+bytes-append (x ∷ a) b p q (suc i) = bytes-append a b (λ j. p (suc j)) q i
+
+bytes-flat : (ws : List ℕ) → Bytes (flat ws)
+unfolding each
+bytes-flat [] i = omega arith
+bytes-flat (x ∷ ws) i = bytes-append (leBytes 8 x) (flat ws) (bytes-leBytes 8 x) (bytes-flat ws) i
+
+module _ (d : Desk) (fit : FitsDesk d) where
+  rows-length : length (rowsWords (d .rows)) ≡ 23 * 8
+  rows-length = length-each rowWords 23 length-row (d .rows) ∙ ap (λ (m : ℕ). 23 * m) (fit .eight)
+
+  places-length : length (placesWords (d .table .drives)) ≡ 14 * 8
+  places-length = length-each driveWords 14 length-drive (d .table .drives) ∙ ap (λ (m : ℕ). 14 * m) (fit .table .eight)
+
+  pub length-image : length (image d) ≡ deskSize
+  unfolding image deskWords
+  length-image =
+      length-flat (deskWords d)
+      ∙ omega (
+        arith,
+        rows-length,
+        places-length,
+        length-append (rowsWords (d .rows)) (placesWords (d .table .drives) ++ tailWords d),
+        length-append (placesWords (d .table .drives)) (tailWords d),
+      )
+
+  -- the words of each section
+
+  says-rows : Says (image d) (rowAt 0) (rowsWords (d .rows) ++ (placesWords (d .table .drives) ++ tailWords d))
+  unfolding image deskWords
+  says-rows = says-flat (deskWords d)
+
+  says-places : Says (image d) (placeAt 0) (placesWords (d .table .drives) ++ tailWords d)
+  says-places = says-right (image d) (rowAt 0) (placeAt 0) (rowsWords (d .rows)) _ (omega (arith, rows-length)) says-rows
+
+  says-tail : Says (image d) (tailAt 0) (tailWords d)
+  says-tail = says-right (image d) (placeAt 0) (tailAt 0) (placesWords (d .table .drives)) _ (omega (arith, places-length)) says-places
+
+  -- each section is read back
+
+  rows-read : readRows (image d) ≡ d .rows
+  rows-read =
+      listed-is (λ g. readRow (image d) (rowAt g)) (d .rows) 8 vacantRow (fit .eight) (λ g l.
+      ap (λ (s : Stage). record { stage = s })
+      (stage-read (image d) (rowAt g) (stageAt d g)
+      (says-each rowWords 23 length-row vacantRow (image d) (rowAt 0) (rowAt g) (d .rows) _ g (omega (arith, fit .eight)) (omega arith) says-rows) (fit .each g l)))
+
+  places-read : readPlaces (image d) ≡ d .table .drives
+  unfolding image
+  places-read =
+      listed-is (λ i. readDrive (image d) (placeAt i)) (d .table .drives) 8 noDrive (fit .table .eight) (λ i l.
+      drive-read (image d) (placeAt i) (getD (d .table .drives) i noDrive)
+      (says-each driveWords 14 length-drive noDrive (image d) (placeAt 0) (placeAt i) (d .table .drives) _ i (omega (arith, fit .table .eight)) (omega arith) says-places)
+      (fit .table .each i l) (bytes-flat (deskWords d)) (omega (arith, length-image)))
+
+  tail-read : (j v : ℕ) → j < 4 → getD (tailWords d) j 0 ≡ v → v < 256 ^ 8 → le 8 (image d) (tailAt j) ≡ v
+  tail-read j v l e f = field (image d) (tailAt 0) (tailWords d) says-tail 8 j v (omega arith) l e f
+
+  pub read-image : readDesk (image d) ≡ d
+  unfolding readDesk
+  read-image =
+      rw (
+        rows-read,
+        places-read,
+        tail-read 0 (d .table .count) (omega arith) refl (fit .table .count),
+        tail-read 1 (d .pointer) (omega arith) refl (fit .pointer),
+        tail-read 2 (d .arena) (omega arith) refl (fit .arena),
+        tail-read 3 (d .store) (omega arith) refl (fit .store),
+      )
+
+-- the desk of a desk's image is the desk
+pub desk-image : (d : Desk) → FitsDesk d → deskOf (image d) ≡ d
+unfolding deskOf isImage
+desk-image d fit = rw (eq-eqb _ _ (length-image d fit), read-image d fit, same-refl)
+
+-- ---- what is read from bytes fits its fields
+
+module _ (b : List ℕ) (h : Bytes b) where
+  registers-fit : (i : ℕ) → FitsRegisters (registersAt b i)
+  registers-fit i =
+      record {
+        ax = le-lt 2 b i h;
+        bx = le-lt 2 b (i + 8) h;
+        cx = le-lt 2 b (i + 16) h;
+        dx = le-lt 2 b (i + 24) h;
+        ds = le-lt 2 b (i + 32) h;
+        si = le-lt 2 b (i + 40) h;
+        es = le-lt 2 b (i + 48) h;
+      }
+
+  request-fits : (i : ℕ) → FitsRequest (requestAt b i)
+  request-fits i =
+      record {
+        registers = registers-fit i;
+        drive = h (i + 64);
+        start = le-lt 8 b (i + 72) h;
+        count = le-lt 8 b (i + 80) h;
+        buffer = le-lt 8 b (i + 88) h;
+        packet = le-lt 8 b (i + 96) h;
+        moved = le-lt 8 b (i + 104) h;
+      }
+
+  stage-fits : (i : ℕ) → FitsStage (readStage b i)
+  unfolding readStage FitsStage
+  stage-fits i = go (eqb (getD b i 0) 1) (eqb (getD b i 0) 2)
+    where
+      go : (p q : Bool) → FitsStage (pick p (Waiting (requestAt b (requestPlace i))) (pick q (Finished (registersAt b (finishedPlace i))) Vacant))
+      go true q = request-fits (requestPlace i)
+      go false true = registers-fit (finishedPlace i)
+      go false false = tt
+
+  drive-fits : (i : ℕ) → i + placeSize ≤ length b → FitsDrive (readDrive b i)
+  unfolding readDrive
+  drive-fits i l =
+      record {
+        numbers =
+            record {
+              cylinders = le-lt 4 b i h;
+              heads = le-lt 4 b (i + 8) h;
+              sectors = le-lt 4 b (i + 16) h;
+              blocks = le-lt 8 b (i + 24) h;
+              first = le-lt 8 b (i + 32) h;
+              flags = le-lt 2 b (i + 40) h;
+              c = le-lt 2 b (i + 48) h;
+              h = le-lt 2 b (i + 56) h;
+              bus = length-part 4 b (i + 80) (omega arith);
+              interface = length-part 8 b (i + 88) (omega arith);
+              path = length-part 8 b (i + 96) (omega arith);
+              device = length-part 8 b (i + 104) (omega arith);
+            };
+        s = h (i + 64);
+        protection = h (i + 72);
+        bus = bytes-part 4 b (i + 80) h;
+        interface = bytes-part 8 b (i + 88) h;
+        path = bytes-part 8 b (i + 96) h;
+        device = bytes-part 8 b (i + 104) h;
+      }
+
+  table-fits : length b ≡ deskSize → FitsTable (readDesk b .table)
+  unfolding readDesk
+  table-fits l =
+      record {
+        eight = refl;
+        each = λ i q. rw (place-of b i q) (drive-fits (placeAt i) (omega arith));
+        count = le-lt 8 b countAt h;
+      }
+
+  read-fits : length b ≡ deskSize → FitsDesk (readDesk b)
+  unfolding readDesk
+  read-fits l =
+      record {
+        eight = refl;
+        each = λ g q. rw (row-of b g q) (stage-fits (rowAt g));
+        table = table-fits l;
+        pointer = le-lt 8 b pointerAt h;
+        arena = le-lt 8 b arenaAt h;
+        store = le-lt 8 b storeAt h;
+      }
+
+-- ---- accepted exactly when it is the image of an acceptable desk
+
+pub not-closed : accept (closed 0 0) ≡ true → ⊥
+not-closed e = absurd (let z : _≡_ {A = Bool} true false = sym e ∙ closed-refused 0 0 in apart z)
+  where
+    apart : _≡_ {A = Bool} true false → ⊥
+    apart z = impossible (cc)
+
+only : (b : List ℕ) → Bytes b → accepted b ≡ true → ImageOf b (deskOf b)
+unfolding accepted deskOf isImage
+only b h = go (eqb (length b) deskSize) (same b (image (readDesk b))) refl refl
+  where
+    go : (p q : Bool) → eqb (length b) deskSize ≡ p → same b (image (readDesk b)) ≡ q → accept (pick (both p q) (readDesk b) (closed 0 0)) ≡ true
+        → ImageOf b (pick (both p q) (readDesk b) (closed 0 0))
+    go true true e f k =
+        record { fits = read-fits b h (eqb-true (length b) deskSize e); acceptable = k; image = sym (same-true b (image (readDesk b)) f) }
+    go true false e f k = absurd (not-closed k)
+    go false q e f k = absurd (not-closed k)
+
+every : (b : List ℕ) (d : Desk) → ImageOf b d → (accepted b ≡ true) × (deskOf b ≡ d)
+unfolding accepted
+every b d i =
+    let e : deskOf b ≡ d = ap deskOf (sym (i .image)) ∙ desk-image d (i .fits) in
+    (ap accept e ∙ i .acceptable, e)
+
+-- both ways round
+pub exact : Exact
+exact = record { only = only; every = every }

@@ -1,0 +1,123 @@
+-- The desk block by number: a desk in which every field has a value of its own, and its 300 words as docs/BLOCK.md has them.
+-- Assumes nothing.
+use mathlib.Core.Path.{_≡_, refl}
+use mathlib.Core.Bool.{Bool, true, false}
+use mathlib.Core.List.{List, [], _∷_, _++_}
+use Prim.Native.Nat.{ℕ, zero, suc, _+_}
+use lib.ListN.{length, drop, replicate}
+use Rattle.words.specs.Words.{le, leBytes}
+use Rattle.drive.specs.declared.Drive.{Drive}
+use Rattle.table.specs.Table.{zeroDrive}
+use Rattle.int13.specs.declared.Registers.{Registers}
+use Rattle.desk.specs.declared.Request.{Request}
+use Rattle.desk.specs.declared.Stage.the-variants.{Waiting, Finished}
+use Rattle.desk.specs.declared.Row.{Row}
+use Rattle.desk.specs.declared.Desk.{Desk}
+use Rattle.desk.specs.Parts.{vacantRow}
+use Rattle.image.specs.Image.{each, deskWords, image}
+
+-- the first n words of a block: word w begins at byte 8 w, lowest byte first
+abbrev words : ℕ → List ℕ → List ℕ
+words zero b = []
+words (suc n) b = le 8 b 0 ∷ words n (drop 8 b)
+
+abbrev registers : ℕ → Bool → Registers
+registers n carry = record { ax = n + 1; bx = n + 2; cx = n + 3; dx = n + 4; ds = n + 5; si = n + 6; es = n + 7; carry = carry }
+
+abbrev waiting : Registers → ℕ → ℕ → ℕ → ℕ → ℕ → ℕ → Row
+waiting r drive start count buffer packet moved = record {
+  stage = Waiting (record { job = record { registers = r; drive = drive; start = start; count = count; buffer = buffer; packet = packet }; moved = moved });
+}
+
+abbrev finished : Registers → Row
+finished r = record { stage = Finished r }
+
+abbrev first : Drive
+first = record {
+  cylinders = 0x51000001;
+  heads = 0x51000002;
+  sectors = 0x51000003;
+  blocks = 0x5100000000000004;
+  first = 0x5100000000000005;
+  flags = 0x5106;
+  c = 0x5107;
+  h = 0x5108;
+  s = 0x51;
+  protection = 0x52;
+  bus = 0x62 ∷ 0x63 ∷ 0x64 ∷ 0x65 ∷ [];
+  interface = 0x72 ∷ 0x73 ∷ 0x74 ∷ 0x75 ∷ 0x76 ∷ 0x77 ∷ 0x78 ∷ 0x79 ∷ [];
+  path = 0x82 ∷ 0x83 ∷ 0x84 ∷ 0x85 ∷ 0x86 ∷ 0x87 ∷ 0x88 ∷ 0x89 ∷ [];
+  device = 0x92 ∷ 0x93 ∷ 0x94 ∷ 0x95 ∷ 0x96 ∷ 0x97 ∷ 0x98 ∷ 0x99 ∷ [];
+}
+
+abbrev last : Drive
+last = record {
+  cylinders = 0xB1000001;
+  heads = 0xB1000002;
+  sectors = 0xB1000003;
+  blocks = 0xB100000000000004;
+  first = 0xB100000000000005;
+  flags = 0xB106;
+  c = 0xB107;
+  h = 0xB108;
+  s = 0xB1;
+  protection = 0xB2;
+  bus = 0xC2 ∷ 0xC3 ∷ 0xC4 ∷ 0xC5 ∷ [];
+  interface = 0xD2 ∷ 0xD3 ∷ 0xD4 ∷ 0xD5 ∷ 0xD6 ∷ 0xD7 ∷ 0xD8 ∷ 0xD9 ∷ [];
+  path = 0xE2 ∷ 0xE3 ∷ 0xE4 ∷ 0xE5 ∷ 0xE6 ∷ 0xE7 ∷ 0xE8 ∷ 0xE9 ∷ [];
+  device = 0xF2 ∷ 0xF3 ∷ 0xF4 ∷ 0xF5 ∷ 0xF6 ∷ 0xF7 ∷ 0xF8 ∷ 0xF9 ∷ [];
+}
+
+-- waiting, finished and vacant rows with carry set and clear; drives at the first place and the last
+abbrev desk : Desk
+desk = record {
+  rows =
+      waiting (registers 0x1000 true) 0x80 0x10000001 0x10000002 0x10000003 0x10000004 0x10000005
+      ∷ finished (registers 0x1100 true)
+      ∷ vacantRow
+      ∷ waiting (registers 0x1300 false) 0x83 0x13000001 0x13000002 0x13000003 0x13000004 0x13000005
+      ∷ vacantRow
+      ∷ finished (registers 0x1500 false)
+      ∷ waiting (registers 0x1600 true) 0x86 0x16000001 0x16000002 0x16000003 0x16000004 0x16000005
+      ∷ finished (registers 0x1700 true) ∷ [];
+  pointer = 5;
+  table = record { drives = first ∷ (replicate 6 zeroDrive ++ (last ∷ [])); count = 7 };
+  arena = 0x7172737475767778;
+  store = 0x8182838485868788;
+}
+
+-- a row: word 0 the stage; 1 to 8 AX, BX, CX, DX, DS, SI, ES and carry as posted; 9 to 14 drive, first block, number of blocks, buffer,
+-- packet, blocks moved; 15 to 22 the registers to collect
+abbrev rowWords : List ℕ
+rowWords =
+    (1 ∷ 0x1001 ∷ 0x1002 ∷ 0x1003 ∷ 0x1004 ∷ 0x1005 ∷ 0x1006 ∷ 0x1007 ∷ 1
+    ∷ 0x80 ∷ 0x10000001 ∷ 0x10000002 ∷ 0x10000003 ∷ 0x10000004 ∷ 0x10000005 ∷ replicate 8 0)
+    ++ ((2 ∷ (replicate 14 0 ++ (0x1101 ∷ 0x1102 ∷ 0x1103 ∷ 0x1104 ∷ 0x1105 ∷ 0x1106 ∷ 0x1107 ∷ 1 ∷ [])))
+    ++ ((replicate 23 0)
+    ++ ((1 ∷ 0x1301 ∷ 0x1302 ∷ 0x1303 ∷ 0x1304 ∷ 0x1305 ∷ 0x1306 ∷ 0x1307 ∷ 0
+    ∷ 0x83 ∷ 0x13000001 ∷ 0x13000002 ∷ 0x13000003 ∷ 0x13000004 ∷ 0x13000005 ∷ replicate 8 0)
+    ++ ((replicate 23 0)
+    ++ ((2 ∷ (replicate 14 0 ++ (0x1501 ∷ 0x1502 ∷ 0x1503 ∷ 0x1504 ∷ 0x1505 ∷ 0x1506 ∷ 0x1507 ∷ 0 ∷ [])))
+    ++ ((1 ∷ 0x1601 ∷ 0x1602 ∷ 0x1603 ∷ 0x1604 ∷ 0x1605 ∷ 0x1606 ∷ 0x1607 ∷ 1
+    ∷ 0x86 ∷ 0x16000001 ∷ 0x16000002 ∷ 0x16000003 ∷ 0x16000004 ∷ 0x16000005 ∷ replicate 8 0)
+    ++ (2 ∷ (replicate 14 0 ++ (0x1701 ∷ 0x1702 ∷ 0x1703 ∷ 0x1704 ∷ 0x1705 ∷ 0x1706 ∷ 0x1707 ∷ 1 ∷ [])))))))))
+
+-- a place: physical cylinders, heads, sectors, blocks, first store block; flags, C, H, S, protection; host bus, interface type, the two paths
+abbrev placeWords : List ℕ
+placeWords =
+    0x51000001 ∷ 0x51000002 ∷ 0x51000003 ∷ 0x5100000000000004 ∷ 0x5100000000000005
+    ∷ 0x5106 ∷ 0x5107 ∷ 0x5108 ∷ 0x51 ∷ 0x52
+    ∷ 0x65646362 ∷ 0x7978777675747372 ∷ 0x8988878685848382 ∷ 0x9998979695949392
+    ∷ (replicate 84 0 ++ (
+    0xB1000001 ∷ 0xB1000002 ∷ 0xB1000003 ∷ 0xB100000000000004 ∷ 0xB100000000000005
+    ∷ 0xB106 ∷ 0xB107 ∷ 0xB108 ∷ 0xB1 ∷ 0xB2
+    ∷ 0xC5C4C3C2 ∷ 0xD9D8D7D6D5D4D3D2 ∷ 0xE9E8E7E6E5E4E3E2 ∷ 0xF9F8F7F6F5F4F3F2 ∷ []))
+
+-- number of drives, turn pointer, arena length, store length
+pub block : words 300 (image desk) ≡ rowWords ++ (placeWords ++ (7 ∷ 5 ∷ 0x7172737475767778 ∷ 0x8182838485868788 ∷ []))
+unfolding image deskWords each leBytes le
+block = refl
+
+pub block-length : length (image desk) ≡ 2400
+unfolding image deskWords each leBytes
+block-length = refl

@@ -1,0 +1,76 @@
+use native.Mathlib.Omega.{arith}
+use borrow.Author.Needs.{needs}
+use Prim.Native.Nat.{ℕ, _+_, _*_, _-_, _≤_, _<_}
+use mathlib.Core.Path.{_≡_, refl, sym, ap, _∙_}
+use mathlib.Core.Bool.{Bool, true, false}
+use lib.Dec.{leb, ltb}
+use Rattle.logic.specs.Logic.{both, allBelow}
+use Rattle.logic.proofs.LogicLaws.{all-more}
+use Rattle.words.specs.Words.{le}
+use Rattle.image.specs.Judged.{below}
+use Rattle.image.proofs.below.Statement.{statement}
+use Rattle.image.proofs.below.Tie as tie
+use Rattle.image.proofs.below.Reads as reads
+use Rattle.image.proofs.below.Lts as lts
+use Rattle.logic.proofs.and.Reads as and-reads
+use Rattle.words.proofs.get64.Reads as get64-reads
+
+abbrev Inv-loop : tie.InvT-loop
+Inv-loop b at n end good₀ j₀ good j = (j ≤ n) × (good ≡ below j end b at)
+
+abbrev μ-loop : tie.MeasureT-loop
+μ-loop b at n end good₀ j₀ good j = n - j
+
+loop-holds : tie.Need-loop-holds Inv-loop μ-loop
+unfolding below
+loop-holds c = (search needs, refl)
+
+mul-get64 : tie.Need-mul-get64 Inv-loop μ-loop
+mul-get64 c = search needs
+
+add-get64 : tie.Need-add-get64 Inv-loop μ-loop
+add-get64 c = search needs
+
+get64-requires : tie.Need-get64-requires Inv-loop μ-loop
+get64-requires c κs = search needs
+
+and-requires : tie.Need-and-requires Inv-loop μ-loop
+and-requires c κs = search needs
+
+add-j : tie.Need-add-j Inv-loop μ-loop
+add-j c = search needs
+
+loop-less : tie.Need-loop-less Inv-loop μ-loop
+loop-less c = search needs
+
+loop-again : tie.Need-loop-again Inv-loop μ-loop
+unfolding below
+loop-again c =
+    let l = c .before .before .before in
+    let a = l .before .before .args in
+    let b = a .b .now in (
+      search needs,
+      all-more (l .loop .j) (λ j. ltb (le 8 b (a .at + 8 * j)) (a .end)) (l .loop .inv .1) (c .and .ensures) (ap (λ (w : ℕ). ltb w (a .end)) (c .before .get64 .ensures)),
+    )
+
+returns : tie.Need-returns Inv-loop μ-loop
+returns c =
+    let l = c .before in
+    let e : l .loop .j ≡ l .before .before .args .n = omega arith in
+    rw (← e) (l .loop .inv .1)
+
+pub below-spec : {M : Type 1} → statement M
+below-spec =
+    tie.close
+    (tie.spec
+    Inv-loop
+    μ-loop
+    loop-holds
+    mul-get64
+    add-get64
+    get64-requires
+    and-requires
+    add-j
+    loop-less
+    loop-again
+    returns)

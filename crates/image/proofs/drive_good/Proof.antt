@@ -1,0 +1,30 @@
+use Rattle.image.specs.Judged.{driveGood}
+use borrow.Author.Needs.{needs}
+use Rattle.image.proofs.drive_good.Statement.{statement}
+use Rattle.image.proofs.drive_good.Tie as tie
+use Rattle.image.proofs.drive_good.Reads as reads
+use Rattle.image.proofs.drive_good.Lts as lts
+use Rattle.image.proofs.drive_at.Reads as drive-at-reads
+use Rattle.image.proofs.is_place.Reads as is-place-reads
+use Rattle.logic.proofs.and.Reads as and-reads
+use Rattle.table.proofs.obeys.Reads as obeys-reads
+
+is-place-requires : tie.Need-is-place-requires
+is-place-requires c κs = search needs
+
+drive-at-requires : tie.Need-drive-at-requires
+drive-at-requires c κs = search needs
+
+obeys-requires : tie.Need-obeys-requires
+obeys-requires c κs = search needs
+
+and-requires : tie.Need-and-requires
+and-requires c κs = search needs
+
+returns : tie.Need-returns
+unfolding driveGood
+returns c = rw (c .and .ensures, c .before .obeys .ensures, c .before .before .drive-at .ensures, c .before .before .before .is-place .ensures)
+
+pub drive-good-spec : {M : Type 1} → statement M
+drive-good-spec =
+    tie.close (tie.spec is-place-requires drive-at-requires obeys-requires and-requires returns)

@@ -1,0 +1,72 @@
+use native.Mathlib.Omega.{arith}
+use borrow.Author.Needs.{needs}
+use Prim.Native.Nat.{ℕ, _+_, _*_, _-_, _≤_, _<_}
+use mathlib.Core.Path.{_≡_, refl, sym, ap, _∙_}
+use mathlib.Core.Bool.{Bool, true, false}
+use Rattle.logic.specs.Logic.{both, allBelow}
+use Rattle.logic.proofs.LogicLaws.{all-more}
+use Rattle.image.specs.Image.{placeAt}
+use Rattle.image.specs.Judged.{driveGood, drivesGood}
+use Rattle.image.proofs.drives_good.Statement.{statement}
+use Rattle.image.proofs.drives_good.Tie as tie
+use Rattle.image.proofs.drives_good.Reads as reads
+use Rattle.image.proofs.drives_good.Lts as lts
+use Rattle.image.proofs.drive_good.Reads as drive-good-reads
+use Rattle.logic.proofs.and.Reads as and-reads
+
+abbrev Inv-loop : tie.InvT-loop
+Inv-loop b n store good₀ i₀ good i = (i ≤ n) × (good ≡ drivesGood i b store)
+
+abbrev μ-loop : tie.MeasureT-loop
+μ-loop b n store good₀ i₀ good i = n - i
+
+loop-holds : tie.Need-loop-holds Inv-loop μ-loop
+unfolding drivesGood
+loop-holds c = (search needs, refl)
+
+mul-drive-good : tie.Need-mul-drive-good Inv-loop μ-loop
+mul-drive-good c = search needs
+
+add-drive-good : tie.Need-add-drive-good Inv-loop μ-loop
+add-drive-good c = search needs
+
+drive-good-requires : tie.Need-drive-good-requires Inv-loop μ-loop
+drive-good-requires c κs = search needs
+
+and-requires : tie.Need-and-requires Inv-loop μ-loop
+and-requires c κs = search needs
+
+add-i : tie.Need-add-i Inv-loop μ-loop
+add-i c = search needs
+
+loop-less : tie.Need-loop-less Inv-loop μ-loop
+loop-less c = search needs
+
+loop-again : tie.Need-loop-again Inv-loop μ-loop
+unfolding drivesGood
+loop-again c =
+    let l = c .before .before .before in
+    let a = l .before .before .args in
+    (search needs, all-more (l .loop .i) (λ i. driveGood (a .b .now) (a .store) (placeAt i)) (l .loop .inv .1) (c .and .ensures) (c .before .drive-good .ensures))
+
+returns : tie.Need-returns Inv-loop μ-loop
+returns c =
+    let l = c .before in
+    let e : l .loop .i ≡ l .before .before .args .n = omega arith in
+    rw (← e) (l .loop .inv .1)
+
+pub drives-good-spec : {M : Type 1} → statement M
+drives-good-spec =
+    tie.close
+    (tie.spec
+    Inv-loop
+    μ-loop
+    loop-holds
+    mul-drive-good
+    add-drive-good
+    drive-good-requires
+    and-requires
+    add-i
+    loop-less
+    loop-again
+    returns)

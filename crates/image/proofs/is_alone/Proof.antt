@@ -1,0 +1,87 @@
+use native.Mathlib.Omega.{arith}
+use borrow.Author.Needs.{needs}
+use Prim.Native.Nat.{ℕ, _+_, _*_, _-_, _≤_, _<_}
+use mathlib.Core.Path.{_≡_, refl, sym, ap, _∙_}
+use mathlib.Core.Bool.{Bool, true, false}
+use lib.Dec.{leb, ltb}
+use Rattle.logic.specs.Logic.{both, allBelow}
+use Rattle.logic.proofs.LogicLaws.{all-more}
+use Rattle.words.specs.Words.{le}
+use Rattle.image.specs.Judged.{firstIn, blocksIn, apart, aloneTo}
+use Rattle.image.proofs.is_alone.Statement.{statement}
+use Rattle.image.proofs.is_alone.Tie as tie
+use Rattle.image.proofs.is_alone.Reads as reads
+use Rattle.image.proofs.is_alone.Lts as lts
+use Rattle.image.proofs.are_apart.Reads as are-apart-reads
+use Rattle.image.proofs.blocks_in.Reads as blocks-in-reads
+use Rattle.image.proofs.first_in.Reads as first-in-reads
+use Rattle.logic.proofs.and.Reads as and-reads
+
+abbrev Inv-loop : tie.InvT-loop
+Inv-loop b i first blocks good₀ j₀ good j = (j ≤ i) × (good ≡ allBelow j (λ k. apart first blocks (firstIn b k) (blocksIn b k)))
+
+abbrev μ-loop : tie.MeasureT-loop
+μ-loop b i first blocks good₀ j₀ good j = i - j
+
+first-in-requires : tie.Need-first-in-requires Inv-loop μ-loop
+first-in-requires c κs = search needs
+
+blocks-in-requires : tie.Need-blocks-in-requires Inv-loop μ-loop
+blocks-in-requires c κs = search needs
+
+loop-holds : tie.Need-loop-holds Inv-loop μ-loop
+loop-holds c = (search needs, refl)
+
+first-in-requires-2 : tie.Need-first-in-requires-2 Inv-loop μ-loop
+first-in-requires-2 c κs = search needs
+
+blocks-in-requires-2 : tie.Need-blocks-in-requires-2 Inv-loop μ-loop
+blocks-in-requires-2 c κs = search needs
+
+are-apart-requires : tie.Need-are-apart-requires Inv-loop μ-loop
+are-apart-requires c κs = search needs
+
+and-requires : tie.Need-and-requires Inv-loop μ-loop
+and-requires c κs = search needs
+
+add-j : tie.Need-add-j Inv-loop μ-loop
+add-j c = search needs
+
+loop-less : tie.Need-loop-less Inv-loop μ-loop
+loop-less c = search needs
+
+loop-again : tie.Need-loop-again Inv-loop μ-loop
+loop-again c =
+    let l = c .before .before .before .before .before in
+    let b = l .before .before .before .before .args .b .now in
+    let first = l .before .before .first-in .result in
+    let blocks = l .before .blocks-in .result in (
+      search needs,
+      all-more (l .loop .j) (λ k. apart first blocks (firstIn b k) (blocksIn b k)) (l .loop .inv .1) (c .and .ensures)
+          (c .before .are-apart .ensures ∙ rw (c .before .before .before .first-in2 .ensures, c .before .before .blocks-in2 .ensures)),
+    )
+
+returns : tie.Need-returns Inv-loop μ-loop
+unfolding aloneTo
+returns c =
+    let l = c .before in
+    let e : l .loop .j ≡ l .before .before .before .before .args .i = omega arith in
+    rw (← l .before .before .first-in .ensures, ← l .before .blocks-in .ensures, ← e) (l .loop .inv .1)
+
+pub is-alone-spec : {M : Type 1} → statement M
+is-alone-spec =
+    tie.close
+    (tie.spec
+    Inv-loop
+    μ-loop
+    first-in-requires
+    blocks-in-requires
+    loop-holds
+    first-in-requires-2
+    blocks-in-requires-2
+    are-apart-requires
+    and-requires
+    add-j
+    loop-less
+    loop-again
+    returns)

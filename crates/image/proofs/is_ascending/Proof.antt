@@ -1,0 +1,70 @@
+use native.Mathlib.Omega.{arith}
+use borrow.Author.Needs.{needs}
+use Prim.Native.Nat.{ℕ, _+_, _*_, _-_, _≤_, _<_}
+use mathlib.Core.Path.{_≡_, refl, sym, ap, _∙_}
+use mathlib.Core.Bool.{Bool, true, false}
+use lib.Dec.{leb, ltb}
+use Rattle.logic.specs.Logic.{both, allBelow}
+use Rattle.logic.proofs.LogicLaws.{all-more}
+use Rattle.words.specs.Words.{le}
+use Rattle.image.specs.Judged.{follows, ascending}
+use Rattle.image.proofs.is_ascending.Statement.{statement}
+use Rattle.image.proofs.is_ascending.Tie as tie
+use Rattle.image.proofs.is_ascending.Reads as reads
+use Rattle.image.proofs.is_ascending.Lts as lts
+use Rattle.image.proofs.next_follows.Reads as next-follows-reads
+use Rattle.logic.proofs.and.Reads as and-reads
+
+abbrev Inv-loop : tie.InvT-loop
+Inv-loop b n good₀ i₀ good i = (i ≤ n - 1) × (good ≡ allBelow i (λ k. follows b k))
+
+abbrev μ-loop : tie.MeasureT-loop
+μ-loop b n good₀ i₀ good i = n - i
+
+loop-holds : tie.Need-loop-holds Inv-loop μ-loop
+loop-holds c = (search needs, refl)
+
+add-loop : tie.Need-add-loop Inv-loop μ-loop
+add-loop c = search needs
+
+next-follows-requires : tie.Need-next-follows-requires Inv-loop μ-loop
+next-follows-requires c κs = search needs
+
+and-requires : tie.Need-and-requires Inv-loop μ-loop
+and-requires c κs = search needs
+
+add-i : tie.Need-add-i Inv-loop μ-loop
+add-i c = search needs
+
+loop-less : tie.Need-loop-less Inv-loop μ-loop
+loop-less c = search needs
+
+loop-again : tie.Need-loop-again Inv-loop μ-loop
+loop-again c =
+    let l = c .before .before .before in
+    let b = l .before .before .args .b .now in (
+      search needs,
+      all-more (l .loop .i) (λ k. follows b k) (l .loop .inv .1) (c .and .ensures) (c .before .next-follows .ensures),
+    )
+
+returns : tie.Need-returns Inv-loop μ-loop
+unfolding ascending
+returns c =
+    let l = c .before in
+    let e : l .loop .i ≡ l .before .before .args .n - 1 = omega arith in
+    rw (← e) (l .loop .inv .1)
+
+pub is-ascending-spec : {M : Type 1} → statement M
+is-ascending-spec =
+    tie.close
+    (tie.spec
+    Inv-loop
+    μ-loop
+    loop-holds
+    add-loop
+    next-follows-requires
+    and-requires
+    add-i
+    loop-less
+    loop-again
+    returns)

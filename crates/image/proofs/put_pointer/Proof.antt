@@ -1,0 +1,20 @@
+use Rattle.image.specs.Image.{putPointer}
+use borrow.Author.Needs.{needs}
+use Rattle.image.proofs.put_pointer.Statement.{statement}
+use Rattle.image.proofs.put_pointer.Tie as tie
+use Rattle.image.proofs.put_pointer.Reads as reads
+use Rattle.image.proofs.put_pointer.Lts as lts
+use Rattle.words.proofs.store64.Reads as store64-reads
+
+store64-requires : tie.Need-store64-requires
+store64-requires c κs = search needs
+
+same-length : tie.Need-same-length
+same-length c = search needs
+
+returns : tie.Need-returns
+unfolding putPointer
+returns c = c .before .before .store64 .ensures
+
+pub put-pointer-spec : {M : Type 1} → statement M
+put-pointer-spec = tie.close (tie.spec store64-requires same-length returns)

@@ -1,0 +1,57 @@
+use borrow.Author.Tests.{eq-eqb, ne-eqb}
+use mathlib.Core.Path.{_≡_, sym, _∙_}
+use Rattle.image.specs.Judged.{rowGood}
+use borrow.Author.Needs.{needs}
+use Rattle.image.proofs.row_good.Statement.{statement}
+use Rattle.image.proofs.row_good.Tie as tie
+use Rattle.image.proofs.row_good.Reads as reads
+use Rattle.image.proofs.row_good.Lts as lts
+use Rattle.image.proofs.below.Reads as below-reads
+use Rattle.image.proofs.finished_good.Reads as finished-good-reads
+use Rattle.image.proofs.waiting_good.Reads as waiting-good-reads
+use Rattle.words.proofs.get64.Reads as get64-reads
+
+get64-requires : tie.Need-get64-requires
+get64-requires c κs = search needs
+
+add-below : tie.Need-add-below
+add-below c = search needs
+
+below-requires : tie.Need-below-requires
+below-requires c κs = search needs
+
+returns : tie.Need-returns
+unfolding rowGood
+returns c = rw (← c .before .before .get64 .ensures, eq-eqb _ 0 (c .before .if1 .taken)) (c .below .ensures)
+
+waiting-good-requires : tie.Need-waiting-good-requires
+waiting-good-requires c κs = search needs
+
+returns-2 : tie.Need-returns-2
+unfolding rowGood
+returns-2 c = rw (← c .before .before .before .get64 .ensures, ne-eqb _ 0 (c .before .before .if1 .left), eq-eqb _ 1 (c .before .if2 .taken)) (c .waiting-good .ensures)
+
+finished-good-requires : tie.Need-finished-good-requires
+finished-good-requires c κs = search needs
+
+returns-3 : tie.Need-returns-3
+unfolding rowGood
+returns-3 c = rw (← c .before .before .before .before .get64 .ensures, ne-eqb _ 0 (c .before .before .before .if1 .left), ne-eqb _ 1 (c .before .before .if2 .left), eq-eqb _ 2 (c .before .if3 .taken)) (c .finished-good .ensures)
+
+returns-4 : tie.Need-returns-4
+unfolding rowGood
+returns-4 c = rw (← c .before .before .before .get64 .ensures, ne-eqb _ 0 (c .before .before .if1 .left), ne-eqb _ 1 (c .before .if2 .left), ne-eqb _ 2 (c .if3 .left))
+
+pub row-good-spec : {M : Type 1} → statement M
+row-good-spec =
+    tie.close
+    (tie.spec
+    get64-requires
+    add-below
+    below-requires
+    returns
+    waiting-good-requires
+    returns-2
+    finished-good-requires
+    returns-3
+    returns-4)

@@ -1,0 +1,68 @@
+use native.Mathlib.Omega.{arith}
+use borrow.Author.Needs.{needs}
+use Prim.Native.Nat.{ℕ, _+_, _*_, _-_, _≤_, _<_}
+use mathlib.Core.Path.{_≡_, refl, sym, ap, _∙_}
+use mathlib.Core.Bool.{Bool, true, false}
+use Rattle.logic.specs.Logic.{both, allBelow}
+use Rattle.logic.proofs.LogicLaws.{all-more}
+use Rattle.image.specs.Image.{rowAt}
+use Rattle.image.specs.Judged.{rowGood, rowsGood}
+use Rattle.image.proofs.rows_good.Statement.{statement}
+use Rattle.image.proofs.rows_good.Tie as tie
+use Rattle.image.proofs.rows_good.Reads as reads
+use Rattle.image.proofs.rows_good.Lts as lts
+use Rattle.image.proofs.row_good.Reads as row-good-reads
+use Rattle.logic.proofs.and.Reads as and-reads
+
+abbrev Inv-loop : tie.InvT-loop
+Inv-loop b m good₀ g₀ good g = (g ≤ 8) × (good ≡ rowsGood g b m)
+
+abbrev μ-loop : tie.MeasureT-loop
+μ-loop b m good₀ g₀ good g = 8 - g
+
+loop-holds : tie.Need-loop-holds Inv-loop μ-loop
+unfolding rowsGood
+loop-holds c = (search needs, refl)
+
+mul-row-good : tie.Need-mul-row-good Inv-loop μ-loop
+mul-row-good c = search needs
+
+row-good-requires : tie.Need-row-good-requires Inv-loop μ-loop
+row-good-requires c κs = search needs
+
+and-requires : tie.Need-and-requires Inv-loop μ-loop
+and-requires c κs = search needs
+
+add-g : tie.Need-add-g Inv-loop μ-loop
+add-g c = search needs
+
+loop-less : tie.Need-loop-less Inv-loop μ-loop
+loop-less c = search needs
+
+loop-again : tie.Need-loop-again Inv-loop μ-loop
+unfolding rowsGood
+loop-again c =
+    let l = c .before .before .before in
+    let a = l .before .before .args in
+    (search needs, all-more (l .loop .g) (λ g. rowGood (a .b .now) (a .m) (rowAt g)) (l .loop .inv .1) (c .and .ensures) (c .before .row-good .ensures))
+
+returns : tie.Need-returns Inv-loop μ-loop
+returns c =
+    let l = c .before in
+    let e : l .loop .g ≡ 8 = omega arith in
+    rw (← e) (l .loop .inv .1)
+
+pub rows-good-spec : {M : Type 1} → statement M
+rows-good-spec =
+    tie.close
+    (tie.spec
+    Inv-loop
+    μ-loop
+    loop-holds
+    mul-row-good
+    row-good-requires
+    and-requires
+    add-g
+    loop-less
+    loop-again
+    returns)

@@ -1,0 +1,22 @@
+use Rattle.image.proofs.Fields.{row-of}
+use mathlib.Core.Path.{sym, _∙_}
+use borrow.Author.Needs.{needs}
+use Rattle.image.proofs.stage_of.Statement.{statement}
+use Rattle.image.proofs.stage_of.Tie as tie
+use Rattle.image.proofs.stage_of.Reads as reads
+use Rattle.image.proofs.stage_of.Lts as lts
+use Rattle.image.proofs.stage_at.Reads as stage-at-reads
+
+mul-stage-at : tie.Need-mul-stage-at
+mul-stage-at c = search needs
+
+stage-at-requires : tie.Need-stage-at-requires
+stage-at-requires c κs = search needs
+
+returns : tie.Need-returns
+returns c =
+    let s = c .before .before in
+    c .stage-at .ensures ∙ sym (row-of (s .args .b .now) (s .args .guest) (s .pre .1))
+
+pub stage-of-spec : {M : Type 1} → statement M
+stage-of-spec = tie.close (tie.spec mul-stage-at stage-at-requires returns)

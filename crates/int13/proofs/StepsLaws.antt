@@ -1,0 +1,89 @@
+-- Laws of the steps' definitions.
+-- Assumes nothing.
+use mathlib.Core.Path.{_≡_, refl, sym, ap, _∙_}
+use mathlib.Core.Bool.{Bool, true, false, not}
+use mathlib.Core.List.{List, _++_, append-nil}
+use Prim.Native.Nat.{ℕ, _+_, _-_, _%_, _≤_, _<_}
+use native.Mathlib.Omega.{arith}
+use lib.ListN.{length, getD, take, drop, length-append, length-take, length-drop, drop-of-length-le}
+use lib.Seq.{take-all, length-sets}
+use lib.Dec.{leb, ltb, eqb}
+use borrow.Author.Tests.{leb-true, leb-false, ltb-true, ltb-false, lt-ltb, le-ltb}
+use Rattle.logic.specs.Logic.{pick, both, either}
+use Rattle.logic.proofs.LogicLaws.{both-true, impossible}
+use Rattle.drive.specs.declared.Drive.{Drive}
+use Rattle.table.specs.declared.Table.{Table}
+use Rattle.table.specs.Table.{noDrive}
+use Rattle.layout.specs.declared.PacketRead.the-variants.{Whole, Refused as NoPacket}
+use Rattle.layout.specs.Packet.{packetLength, packetAt, readPacket}
+use Rattle.int13.specs.declared.Registers.{Registers}
+use Rattle.int13.specs.declared.Outcome.the-variants.{Answered}
+use Rattle.int13.specs.declared.Plan.{Plan}
+use Rattle.int13.specs.declared.Plan.the-variants.{Refuse, Clear, Finish, Wait}
+use Rattle.int13.specs.Answers.{badParameter, ah, al, dl, isSectors, isWrite, refuse}
+use Rattle.int13.specs.Steps.{Checked, unchanged, fed, firstDrive, driveCount, isDrive, driveAt, driveIn, driveNamed, packetPlace, verifyOk, packetRead, packetPlan, carryOut, extended, seek, sectors, parameters, extensions, resultSteps, result, steps, begin}
+
+-- ---- drives
+
+-- a table's eight places hold at most eight drives
+pub count-most : (b : Table) → length (b .drives) ≡ 8 → driveCount b ≤ 8
+count-most b l = omega (arith, length-take (b .count) (b .drives))
+
+-- the number of a drive
+pub isDrive-true : (b : Table) (n : ℕ) → isDrive b n ≡ true → (firstDrive ≤ n) × (n < firstDrive + driveCount b)
+unfolding isDrive
+isDrive-true b n e = let p = both-true _ _ e in (leb-true _ _ (p .0), ltb-true _ _ (p .1))
+
+-- a drive stands in the place of its number
+pub drive-in : (b : Table) (n : ℕ) → length (b .drives) ≡ 8 → isDrive b n ≡ true → driveIn b n ≡ driveAt b n
+drive-in b n l e =
+    let t = isDrive-true b n e in
+    let p : n % 8 ≡ n - 128 = omega (arith, count-most b l) in
+    ap (λ (i : ℕ). getD (b .drives) i noDrive) p
+
+-- ---- ranges
+
+-- "not at most" is "below"
+pub not-leb : (m n : ℕ) → not (leb m n) ≡ ltb n m
+not-leb m n = by-test (leb m n) refl
+  where
+    by-test : (t : Bool) → leb m n ≡ t → not t ≡ ltb n m
+    by-test true e = sym (le-ltb n m (leb-true m n e))
+    by-test false e = sym (lt-ltb n m (leb-false m n e))
+
+-- ---- 42h, 43h, 44h
+
+-- the count word is set to 0 only where the whole packet is inside the window
+pub plan-clear : (known : Bool) (d : Drive) (r : Registers) (w : List ℕ) (code : ℕ) → packetPlan known d r w ≡ Clear code → packetPlace r + packetLength ≤ length w
+unfolding packetPlan readPacket
+plan-clear known d r w code h = by-tests known (both (isWrite (ah r)) (not (verifyOk (al r) (d .flags)))) (leb (packetPlace r + packetLength) (length w)) refl h
+  where
+    by-tests : (known verify inside : Bool) → leb (packetPlace r + packetLength) (length w) ≡ inside
+        → pick (not known) (Refuse badParameter) (pick verify (Refuse badParameter)
+        (packetRead d r (length w) (pick inside (Whole (packetAt w (packetPlace r))) (NoPacket badParameter)))) ≡ Clear code
+        → packetPlace r + packetLength ≤ length w
+    by-tests false verify inside e q = impossible (cc)
+    by-tests true true inside e q = impossible (cc)
+    by-tests true false false e q = impossible (cc)
+    by-tests true false true e q = leb-true (packetPlace r + packetLength) (length w) e
+
+-- ---- 48h: the window from a place to its end, lent and put back
+
+pub lent-rest : (w : List ℕ) (place : ℕ) → take (length w - place) (drop place w) ≡ drop place w
+lent-rest w place = take-all (length w - place) (drop place w) (omega (arith, length-drop place w))
+
+pub put-rest : (w out : List ℕ) (place : ℕ) → take place w ++ (out ++ drop (length w - place) (drop place w)) ≡ take place w ++ out
+put-rest w out place = rw (drop-of-length-le (drop place w) {i = length w - place} (omega (arith, length-drop place w)), append-nil)
+
+-- ---- the drive is not looked at where it is not known
+
+pub steps-drive : (known : Bool) (count : ℕ) (d e : Drive) (r : Registers) (w : List ℕ) → (known ≡ true → d ≡ e) → steps known count d r w ≡ steps known count e r w
+unfolding steps sectors parameters extensions packetPlan seek result
+steps-drive true count d e r w h = ap (λ (x : Drive). steps true count x r w) (h refl)
+steps-drive false count d e r w h = refl
+
+-- the steps over any drive that is the one which DL names, if it names one
+pub begin-steps : {known : Bool} {count : ℕ} {d : Drive} (b : Table) (r : Registers) (w : List ℕ) → known ≡ isDrive b (dl r) → count ≡ driveCount b
+    → (isDrive b (dl r) ≡ true → d ≡ driveNamed b r) → steps known count d r w ≡ begin (fed b) r w
+unfolding begin
+begin-steps {known} {count} {d} b r w k n h = steps-drive known count d (driveNamed b r) r w (λ e. h (sym k ∙ e)) ∙ cc

@@ -1,0 +1,48 @@
+use mathlib.Core.Path.{_≡_, sym, ap, _∙_}
+use mathlib.Core.Bool.{true}
+use denote.Ref.{now}
+use Rattle.int13.specs.Answers.{dl}
+use Rattle.int13.specs.Steps.{Checked, isDrive, driveNamed, fed, steps, begin}
+use Rattle.int13.proofs.StepsLaws.{begin-steps}
+use Rattle.int13.proofs.Numbers.{begin-answered}
+use borrow.Author.Needs.{needs}
+use Rattle.int13.proofs.begin.Statement.{statement}
+use Rattle.int13.proofs.begin.Tie as tie
+use Rattle.int13.proofs.begin.Reads as reads
+use Rattle.int13.proofs.begin.Lts as lts
+use Rattle.int13.proofs.dl.Reads as dl-reads
+use Rattle.int13.proofs.drive_at.Reads as drive-at-reads
+use Rattle.int13.proofs.drive_count.Reads as drive-count-reads
+use Rattle.int13.proofs.is_drive.Reads as is-drive-reads
+use Rattle.int13.proofs.steps.Reads as steps-reads
+
+dl-requires : tie.Need-dl-requires
+dl-requires c κs = search needs
+
+is-drive-requires : tie.Need-is-drive-requires
+is-drive-requires c κs = search needs
+
+drive-count-requires : tie.Need-drive-count-requires
+drive-count-requires c κs = search needs
+
+drive-at-requires : tie.Need-drive-at-requires
+drive-at-requires c κs = search needs
+
+steps-requires : tie.Need-steps-requires
+steps-requires c κs = search needs
+
+same-length : tie.Need-same-length
+same-length c = search needs
+
+returns : tie.Need-returns
+returns c =
+    let a = c .before .before .before .before .before .before .before .before .before .args in
+    let number = c .before .before .before .before .before .before .before .dl .ensures in
+    let known = c .before .before .before .before .before .before .is-drive .ensures ∙ ap (isDrive (a .b)) number in
+    let named : isDrive (a .b) (dl (a .r)) ≡ true → c .before .before .before .before .drive-at .result ≡ driveNamed (a .b) (a .r)
+    = λ e. rw number at (c .before .before .before .before .drive-at .ensures .1 (ap (isDrive (a .b)) number ∙ e)) in
+    let same = begin-steps (a .b) (a .r) (now (a .window)) known (c .before .before .before .before .before .drive-count .ensures .0) named in
+    begin-answered (a .b) (a .r) (now (a .window)) (c .before .before .steps .ensures .0 ∙ ap (λ (k : Checked). k .outcome) same) (c .before .before .steps .ensures .1 ∙ ap (λ (k : Checked). k .window) same)
+
+pub begin-spec : {M : Type 1} → statement M
+begin-spec = tie.close (tie.spec dl-requires is-drive-requires drive-count-requires drive-at-requires steps-requires same-length returns)

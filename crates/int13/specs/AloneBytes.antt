@@ -1,0 +1,73 @@
+-- Document 01, "The words of demand 3", Served alone, byte by byte and from outside: what a request that waits comes to. The numbers of the
+-- paper stand here as they are there, so that nothing below is proved against itself.
+-- Assumes nothing.
+use Prim.Native.Nat.{ℕ, _+_, _*_, _/_, _%_, _≤_, _<_}
+use mathlib.Core.Path.{_≡_}
+use mathlib.Core.Logic.{_⊎_}
+use mathlib.Core.Bool.{false}
+use mathlib.Core.List.{List}
+use lib.ListN.{length, getD}
+use Rattle.logic.specs.Logic.{pick}
+use Rattle.words.specs.Words.{le}
+use Rattle.table.specs.declared.Table.{Table}
+use Rattle.table.specs.declared.Answer.the-variants.{Accepted}
+use Rattle.table.specs.Table.{readTable}
+use Rattle.int13.specs.declared.Registers.{Registers}
+use Rattle.int13.specs.declared.Job.{Job}
+use Rattle.int13.specs.declared.Outcome.the-variants.{Waits}
+use Rattle.int13.specs.Answers.{ah, isSectors}
+use Rattle.int13.specs.Steps.{fed, begin}
+use Rattle.int13.specs.Alone.{Memory, Served, asked, namedFrom, alone}
+
+-- ---- "The words of demand 3", Served alone: what moves, byte by byte
+
+-- the buffer address, 16 x segment + offset: of ES:BX for 02h and 03h, else of words 6 and 4 of the packet at DS:SI
+abbrev pub askedBuffer : Registers → List ℕ → ℕ
+askedBuffer r w =
+    pick (isSectors (ah r)) (16 * r .es + r .bx)
+    (16 * le 2 w (16 * r .ds + r .si + 6) + le 2 w (16 * r .ds + r .si + 4))
+
+-- 02h and 42h copy named block i to the 512 window bytes at buffer address + 512 x i; no other byte changes
+pub record ReadBytes (n first buffer : ℕ) (m m′ : Memory) : Type 0 where
+  pub window : (i k : ℕ) → i < n → k < 512 → getD (m′ .window) (buffer + 512 * i + k) 0 ≡ getD (m .store) (512 * (first + i) + k) 0
+  pub other : (x : ℕ) → (x < buffer) ⊎ (buffer + 512 * n ≤ x) → getD (m′ .window) x 0 ≡ getD (m .window) x 0
+  pub size : length (m′ .window) ≡ length (m .window)
+  pub store : m′ .store ≡ m .store
+
+-- 03h and 43h copy the other way
+pub record WrittenBytes (n first buffer : ℕ) (m m′ : Memory) : Type 0 where
+  pub store : (i k : ℕ) → i < n → k < 512 → getD (m′ .store) (512 * (first + i) + k) 0 ≡ getD (m .window) (buffer + 512 * i + k) 0
+  pub other : (x : ℕ) → (x < 512 * first) ⊎ (512 * (first + n) ≤ x) → getD (m′ .store) x 0 ≡ getD (m .store) x 0
+  pub size : length (m′ .store) ≡ length (m .store)
+  pub window : m′ .window ≡ m .window
+
+-- the posted registers with carry clear and AH = 0
+pub record PostedWell (r x : Registers) : Type 0 where
+  pub ax : x .ax ≡ r .ax % 256
+  pub bx : x .bx ≡ r .bx
+  pub cx : x .cx ≡ r .cx
+  pub dx : x .dx ≡ r .dx
+  pub ds : x .ds ≡ r .ds
+  pub si : x .si ≡ r .si
+  pub es : x .es ≡ r .es
+  pub carry : x .carry ≡ false
+
+-- ---- "The words of demand 3", Served alone: the request that waits
+
+-- n, the first named block and the buffer by the registers, the packet and the table that was read; both runs lie inside the memory
+pub record AloneBytes (b : Table) (r : Registers) (m : Memory) (s : Served) : Type 0 where
+  pub some : 0 < asked r (m .window)
+  pub room : askedBuffer r (m .window) + 512 * asked r (m .window) ≤ length (m .window)
+  pub inside : 512 * (namedFrom b r (m .window) + asked r (m .window)) ≤ length (m .store)
+  pub registers : PostedWell r (s .registers)
+  pub function : ((ah r ≡ 0x02) ⊎ (ah r ≡ 0x42)) ⊎ ((ah r ≡ 0x03) ⊎ (ah r ≡ 0x43))
+  pub reads : (ah r ≡ 0x02) ⊎ (ah r ≡ 0x42) → ReadBytes (asked r (m .window)) (namedFrom b r (m .window)) (askedBuffer r (m .window)) m (s .memory)
+  pub writes : (ah r ≡ 0x03) ⊎ (ah r ≡ 0x43) → WrittenBytes (asked r (m .window)) (namedFrom b r (m .window)) (askedBuffer r (m .window)) m (s .memory)
+
+-- for every table that an opening accepts, registers, window and store: where the steps let the call wait, served alone moves those bytes
+abbrev pub AloneMoves : Type 0
+AloneMoves =
+    (t : List ℕ) (r : Registers) (m : Memory) (j : Job)
+    → readTable t (length (m .store) / 512) .answer ≡ Accepted
+    → begin (fed (readTable t (length (m .store) / 512) .table)) r (m .window) .outcome ≡ Waits j
+    → AloneBytes (readTable t (length (m .store) / 512) .table) r m (alone (fed t) r m)

@@ -1,0 +1,213 @@
+-- Demand 2 of the 48h result: its bytes by offset.
+-- Assumes nothing.
+use mathlib.Core.Path.{_≡_, refl, sym, ap, subst, _∙_}
+use mathlib.Core.List.{List, [], _∷_, _++_, append-assoc}
+use mathlib.Core.Bool.{Bool, true, false}
+use Prim.Native.Nat.{ℕ, _+_, _%_, _^_, _≤_, _<_}
+use native.Mathlib.Omega.{arith}
+use lib.ListN.{length, getD, take, drop, length-append}
+use lib.Seq.{take-all, take-at, drop-at, drop-drop, getD-drop}
+use lib.Dec.{leb, ltb}
+use borrow.Author.Tests.{leb-true, ltb-true, ltb-false}
+use Rattle.logic.specs.Logic.{pick, both}
+use Rattle.logic.proofs.LogicLaws.{both-true, impossible}
+use Rattle.words.specs.Words.{le, leBytes, part}
+use Rattle.words.proofs.WordsLaws.{read-write}
+use Rattle.memory.specs.Blocks.{blockLength}
+use Rattle.drive.specs.declared.Drive.{Drive}
+use Rattle.drive.specs.Drive.{Fits}
+use Rattle.drive.proofs.DriveLaws.{Arrays}
+use Rattle.layout.specs.declared.Pointer.{Pointer}
+use Rattle.layout.specs.declared.ResultAnswer.the-variants.{Written, Refused}
+use Rattle.layout.specs.Packet.{badParameter}
+use Rattle.layout.specs.ResultBuffer.{leastSize, pointerSize, pathSize, returnedSize, parameterBytes, blockBytes, interfaceBytes, pathBytes, summedBytes, sum, checksum, wholeResult, resultBytes, resultAnswer, resultOut}
+use Rattle.layout.specs.Demand2.{Parameters, Pointing, Paths, Result, FitsPointer, Demand2}
+use Rattle.layout.proofs.ResultBufferLaws.{sum-checksum, length-summed, length-whole, length-result}
+
+-- ---- the runs, each before any bytes
+
+parameters : (d : Drive) (n : ℕ) (rest : List ℕ) → Fits d → n < 256 ^ 2
+    → Parameters d n (parameterBytes d n ++ (leBytes 8 (d .blocks) ++ (leBytes 2 blockLength ++ rest)))
+unfolding parameterBytes leBytes le
+parameters d n rest f h = record {
+  at-0 = read-write 2 n h;
+  at-2 = read-write 2 (d .flags) (f .flags);
+  at-4 = read-write 4 (d .cylinders) (f .cylinders);
+  at-8 = read-write 4 (d .heads) (f .heads);
+  at-12 = read-write 4 (d .sectors) (f .sectors);
+  at-16 = read-write 8 (d .blocks) (f .blocks);
+  at-24 = refl;
+}
+
+pointing : (d : Drive) (p : Pointer) (n : ℕ) (rest : List ℕ) → FitsPointer p → Pointing p (parameterBytes d n ++ (blockBytes d p ++ rest))
+unfolding parameterBytes blockBytes leBytes le
+pointing d p n rest f = record { at-26 = read-write 2 (p .offset) (f .offset); at-28 = read-write 2 (p .segment) (f .segment) }
+
+-- the four names and what follows them
+abbrev names : Drive → List ℕ → List ℕ
+names d t = d .bus ++ (d .interface ++ (d .path ++ (d .device ++ t)))
+
+module _ (d : Drive) (t : List ℕ) (f : Arrays d) where
+  from-4 : drop 4 (names d t) ≡ d .interface ++ (d .path ++ (d .device ++ t))
+  from-4 = drop-at (d .bus) (d .interface ++ (d .path ++ (d .device ++ t))) 4 (f .bus)
+
+  from-12 : drop 12 (names d t) ≡ d .path ++ (d .device ++ t)
+  from-12 = sym (drop-drop 8 4 (names d t)) ∙ ap (drop 8) from-4 ∙ drop-at (d .interface) (d .path ++ (d .device ++ t)) 8 (f .interface)
+
+  from-20 : drop 20 (names d t) ≡ d .device ++ t
+  from-20 = sym (drop-drop 8 12 (names d t)) ∙ ap (drop 8) from-12 ∙ drop-at (d .path) (d .device ++ t) 8 (f .path)
+
+  from-28 : drop 28 (names d t) ≡ t
+  from-28 = sym (drop-drop 8 20 (names d t)) ∙ ap (drop 8) from-20 ∙ drop-at (d .device) t 8 (f .device)
+
+-- bytes 30 on: what is summed and the checksum; bytes 36 on: the names, zero and the checksum
+module _ (d : Drive) (p : Pointer) (n : ℕ) (rest : List ℕ) where
+  from-30 : drop 30 (wholeResult d p n ++ rest) ≡ (summedBytes d ++ (checksum (summedBytes d) ∷ [])) ++ rest
+  unfolding wholeResult parameterBytes blockBytes leBytes
+  from-30 = refl
+
+  from-36 : drop 36 (wholeResult d p n ++ rest) ≡ names d (0 ∷ checksum (summedBytes d) ∷ rest)
+  unfolding wholeResult parameterBytes blockBytes interfaceBytes pathBytes leBytes
+  from-36 = simp append-assoc
+
+  key : (le 2 (wholeResult d p n ++ rest) 30 ≡ 0xBEDD) × (getD (wholeResult d p n ++ rest) 32 0 ≡ 0x24)
+      × (part 3 (wholeResult d p n ++ rest) 33 ≡ 0 ∷ 0 ∷ 0 ∷ [])
+  unfolding wholeResult parameterBytes blockBytes interfaceBytes leBytes le
+  key = (refl, refl, refl)
+
+paths : (d : Drive) (p : Pointer) (n : ℕ) (rest : List ℕ) → Arrays d → Paths d (wholeResult d p n ++ rest)
+paths d p n rest f =
+    let r : List ℕ = wholeResult d p n ++ rest in
+    let t : List ℕ = 0 ∷ checksum (summedBytes d) ∷ rest in
+    let e : drop 36 r ≡ names d t = from-36 d p n rest in
+    let k = key d p n rest in
+    let x₄ : drop 40 r ≡ d .interface ++ (d .path ++ (d .device ++ t)) = sym (drop-drop 4 36 r) ∙ ap (drop 4) e ∙ from-4 d t f in
+    let x₁₂ : drop 48 r ≡ d .path ++ (d .device ++ t) = sym (drop-drop 12 36 r) ∙ ap (drop 12) e ∙ from-12 d t f in
+    let x₂₀ : drop 56 r ≡ d .device ++ t = sym (drop-drop 20 36 r) ∙ ap (drop 20) e ∙ from-20 d t f in
+    let x₂₈ : drop 64 r ≡ t = sym (drop-drop 28 36 r) ∙ ap (drop 28) e ∙ from-28 d t f in
+    let s : List ℕ = summedBytes d ++ (checksum (summedBytes d) ∷ []) in
+    let l : length s ≡ 36 = length-append (summedBytes d) (checksum (summedBytes d) ∷ []) ∙ ap (λ (m : ℕ). m + 1) (length-summed d f) in
+    let y : part 36 r 30 ≡ s = ap (take 36) (from-30 d p n rest) ∙ take-at s rest 36 l in
+    record {
+      at-30 = k .0;
+      at-32 = k .1;
+      at-33 = k .2;
+      at-36 = ap (take 4) e ∙ take-at (d .bus) (d .interface ++ (d .path ++ (d .device ++ t))) 4 (f .bus);
+      at-40 = ap (take 8) x₄ ∙ take-at (d .interface) (d .path ++ (d .device ++ t)) 8 (f .interface);
+      at-48 = ap (take 8) x₁₂ ∙ take-at (d .path) (d .device ++ t) 8 (f .path);
+      at-56 = ap (take 8) x₂₀ ∙ take-at (d .device) t 8 (f .device);
+      at-64 = sym (getD-drop 64 r 0 0) ∙ ap (λ (x : List ℕ). getD x 0 0) x₂₈;
+      at-65 = ap (λ (x : List ℕ). sum x % 256) y ∙ sum-checksum (summedBytes d);
+    }
+
+-- ---- the three sizes
+
+abbrev arrays : {d : Drive} → Fits d → Arrays d
+arrays f = record { bus = f .bus; interface = f .interface; path = f .path; device = f .device }
+
+-- the layout and the rest, of the bytes after an answer of n bytes
+pub record Laid (d : Drive) (p : Pointer) (n : ℕ) (before r : List ℕ) : Type 0 where
+  pub parameters : Parameters d n r
+  pub pointing : 30 ≤ n → Pointing p r
+  pub paths : 66 ≤ n → Paths d r
+  pub past : drop n r ≡ drop n before
+
+module _ (d : Drive) (p : Pointer) (before : List ℕ) (f : Fits d) (g : FitsPointer p) where
+  past : (n : ℕ) → n ≤ 66 → drop n (resultBytes d p n ++ drop n before) ≡ drop n before
+  past n h = drop-at (resultBytes d p n) (drop n before) n (length-result d p n (arrays f) h)
+
+  laid-26 : Laid d p 26 before (resultBytes d p 26 ++ drop 26 before)
+  unfolding resultBytes wholeResult parameterBytes blockBytes leBytes
+  laid-26 = record {
+    parameters = parameters d 26 (drop 26 before) f (omega arith);
+    pointing = λ h. absurd (omega arith);
+    paths = λ h. absurd (omega arith);
+    past = past 26 (omega arith);
+  }
+
+  laid-30 : Laid d p 30 before (resultBytes d p 30 ++ drop 30 before)
+  unfolding resultBytes wholeResult parameterBytes blockBytes leBytes
+  laid-30 = record {
+    parameters = parameters d 30 (leBytes 2 (p .offset) ++ (leBytes 2 (p .segment) ++ drop 30 before)) f (omega arith);
+    pointing = λ h. pointing d p 30 (drop 30 before) g;
+    paths = λ h. absurd (omega arith);
+    past = past 30 (omega arith);
+  }
+
+  whole-66 : resultBytes d p 66 ≡ wholeResult d p 66
+  unfolding resultBytes
+  whole-66 = take-all 66 (wholeResult d p 66) (omega (arith, length-whole d p 66 (arrays f)))
+
+  front-66 : Parameters d 66 (wholeResult d p 66 ++ drop 66 before) × Pointing p (wholeResult d p 66 ++ drop 66 before)
+  unfolding wholeResult parameterBytes blockBytes leBytes
+  front-66 =
+      let path : List ℕ = summedBytes d ++ (checksum (summedBytes d) ∷ []) in (
+        parameters d 66 (leBytes 2 (p .offset) ++ (leBytes 2 (p .segment) ++ (path ++ drop 66 before))) f (omega arith),
+        pointing d p 66 (path ++ drop 66 before) g,
+      )
+
+  laid-66 : Laid d p 66 before (resultBytes d p 66 ++ drop 66 before)
+  laid-66 = rw whole-66 (record {
+    parameters = front-66 .0;
+    pointing = λ h. front-66 .1;
+    paths = λ h. paths d p 66 (drop 66 before) (arrays f);
+    past = rw whole-66 at (past 66 (omega arith));
+  })
+
+  laid : (n : ℕ) (t u : Bool) → n ≡ pick t leastSize (pick u pointerSize pathSize) → Laid d p n before (resultBytes d p n ++ drop n before)
+  laid n true u e = rw e laid-26
+  laid n false true e = rw e laid-30
+  laid n false false e = rw e laid-66
+
+-- ---- the answer
+
+-- what an answer of n bytes says of the sizes
+pub record Sized (asked n room : ℕ) : Type 0 where
+  pub least : 26 ≤ asked
+  pub returned : n ≡ returnedSize asked
+  pub inside : n ≤ room
+
+sized : (d : Drive) (asked n room : ℕ) → resultAnswer d asked room ≡ Written n → Sized asked n room
+unfolding resultAnswer
+sized d asked n room = by-test (both (leb leastSize asked) (leb (returnedSize asked) room)) refl
+  where
+    by-test : (t : Bool) → both (leb leastSize asked) (leb (returnedSize asked) room) ≡ t
+        → pick t (Written (returnedSize asked)) (Refused badParameter) ≡ Written n → Sized asked n room
+    by-test true t e =
+        let b = both-true (leb leastSize asked) (leb (returnedSize asked) room) t in
+        let same : n ≡ returnedSize asked = cc in
+        record { least = leb-true leastSize asked (b .0); returned = same; inside = rw same (leb-true (returnedSize asked) room (b .1)) }
+    by-test false t e = impossible (cc)
+
+-- the returned size by the two tests
+returned : (asked n : ℕ) → n ≡ returnedSize asked
+    → (asked ≤ 29 → n ≡ 26) × (30 ≤ asked → asked ≤ 65 → n ≡ 30) × (66 ≤ asked → n ≡ 66)
+unfolding returnedSize
+returned asked n = by-test (ltb asked pointerSize) (ltb asked pathSize) refl refl
+  where
+    by-test : (t u : Bool) → ltb asked pointerSize ≡ t → ltb asked pathSize ≡ u → n ≡ pick t leastSize (pick u pointerSize pathSize)
+        → (asked ≤ 29 → n ≡ 26) × (30 ≤ asked → asked ≤ 65 → n ≡ 30) × (66 ≤ asked → n ≡ 66)
+    by-test true u t v e = let l = ltb-true asked 30 t in (λ h. e, λ h k. absurd (omega arith), λ h. absurd (omega arith))
+    by-test false true t v e =
+        let l = ltb-false asked 30 t in
+        let m = ltb-true asked 66 v in
+        (λ h. absurd (omega arith), λ h k. e, λ h. absurd (omega arith))
+    by-test false false t v e = let m = ltb-false asked 66 v in (λ h. absurd (omega arith), λ h k. absurd (omega arith), λ h. e)
+
+pub demand2 : Demand2
+unfolding returnedSize
+demand2 d p asked n before f g e =
+    let s = sized d asked n (length before) e in
+    let sizes = returned asked n (s .returned) in
+    let w = laid d p before f g n (ltb asked pointerSize) (ltb asked pathSize) (s .returned) in
+    rw e (record {
+      least = s .least;
+      from-26 = sizes .0;
+      from-30 = sizes .1;
+      from-66 = sizes .2;
+      inside = s .inside;
+      parameters = w .parameters;
+      pointing = w .pointing;
+      paths = w .paths;
+      past = w .past;
+    })

@@ -1,0 +1,99 @@
+-- The packet and the 48h result by number, each field with a value of its own: a definition in which two of them change places, one is not
+-- read, or a number of the paper is another, gives other numbers here.
+-- Assumes nothing.
+use mathlib.Core.Path.{_≡_, refl}
+use mathlib.Core.List.{List, [], _∷_, _++_, map}
+use Prim.Native.Nat.{ℕ}
+use lib.ListN.{replicate}
+use Rattle.words.specs.Words.{le, leBytes}
+use Rattle.drive.specs.declared.Drive.{Drive}
+use Rattle.layout.specs.declared.Pointer.{Pointer}
+use Rattle.layout.specs.Packet.{linear, packetAt, readPacket, packetNumbers, packetGiven}
+use Rattle.layout.specs.ResultBuffer.{noPointer, returnedSize, parameterBytes, blockBytes, interfaceBytes, pathBytes, sum, wholeResult, resultBytes, resultAnswer, resultOut, sizeGiven}
+
+-- ---- addresses: 16 times 1234h plus 5678h
+
+pub addresses : linear 0x1234 0x5678 ≡ 0x179B8
+addresses = refl
+
+-- ---- the packet
+
+-- three bytes, then size 24, an ignored byte, count 2221h, offset 4443h, segment 6665h, start 8887868584838281h
+abbrev window : List ℕ
+window =
+    0xF1 ∷ 0xF2 ∷ 0xF3 ∷ 24 ∷ 0x19 ∷ 0x21 ∷ 0x22 ∷ 0x43 ∷ 0x44 ∷ 0x65 ∷ 0x66
+    ∷ 0x81 ∷ 0x82 ∷ 0x83 ∷ 0x84 ∷ 0x85 ∷ 0x86 ∷ 0x87 ∷ 0x88 ∷ []
+
+-- the buffer is 66650h + 4443h; one byte further on the packet is cut off
+pub packets : map (λ at. packetNumbers (readPacket window at)) (3 ∷ 4 ∷ []) ≡ (0 ∷ 24 ∷ 0x2221 ∷ 0x6AA93 ∷ 0x8887868584838281 ∷ []) ∷ (1 ∷ []) ∷ []
+unfolding packetNumbers readPacket packetAt le
+packets = refl
+
+-- the same by the second promise
+pub packets-given : map (packetGiven window) (3 ∷ 4 ∷ []) ≡ (0 ∷ 24 ∷ 0x2221 ∷ 0x6AA93 ∷ 0x8887868584838281 ∷ []) ∷ (1 ∷ []) ∷ []
+unfolding packetGiven le
+packets-given = refl
+
+-- ---- the result
+
+-- every field another value; the geometry, the first block and the protection do not show
+abbrev drive : Drive
+drive = record {
+  cylinders = 0x44434241;
+  heads = 0x48474645;
+  sectors = 0x4C4B4A49;
+  blocks = 0x5857565554535251;
+  first = 0xE8E7E6E5E4E3E2E1;
+  flags = 0x6261;
+  c = 0xC2C1;
+  h = 0xC4C3;
+  s = 0xC5;
+  protection = 0xC6;
+  bus = 0x81 ∷ 0x82 ∷ 0x83 ∷ 0x84 ∷ [];
+  interface = 0x91 ∷ 0x92 ∷ 0x93 ∷ 0x94 ∷ 0x95 ∷ 0x96 ∷ 0x97 ∷ 0x98 ∷ [];
+  path = 0xA1 ∷ 0xA2 ∷ 0xA3 ∷ 0xA4 ∷ 0xA5 ∷ 0xA6 ∷ 0xA7 ∷ 0xA8 ∷ [];
+  device = 0xB1 ∷ 0xB2 ∷ 0xB3 ∷ 0xB4 ∷ 0xB5 ∷ 0xB6 ∷ 0xB7 ∷ 0xB8 ∷ [];
+}
+
+abbrev pointer : Pointer
+pointer = record { offset = 0x7271; segment = 0x7473 }
+
+-- offsets 2 to 25, 26 to 29, 30 to 65
+abbrev from2 : List ℕ
+from2 =
+    0x61 ∷ 0x62
+    ∷ 0x41 ∷ 0x42 ∷ 0x43 ∷ 0x44 ∷ 0x45 ∷ 0x46 ∷ 0x47 ∷ 0x48 ∷ 0x49 ∷ 0x4A ∷ 0x4B ∷ 0x4C
+    ∷ 0x51 ∷ 0x52 ∷ 0x53 ∷ 0x54 ∷ 0x55 ∷ 0x56 ∷ 0x57 ∷ 0x58 ∷ 0x00 ∷ 0x02 ∷ []
+
+abbrev from26 : List ℕ
+from26 = 0x71 ∷ 0x72 ∷ 0x73 ∷ 0x74 ∷ []
+
+abbrev from30 : List ℕ
+from30 =
+    0xDD ∷ 0xBE ∷ 0x24 ∷ 0 ∷ 0 ∷ 0 ∷ 0x81 ∷ 0x82 ∷ 0x83 ∷ 0x84
+    ∷ 0x91 ∷ 0x92 ∷ 0x93 ∷ 0x94 ∷ 0x95 ∷ 0x96 ∷ 0x97 ∷ 0x98
+    ∷ 0xA1 ∷ 0xA2 ∷ 0xA3 ∷ 0xA4 ∷ 0xA5 ∷ 0xA6 ∷ 0xA7 ∷ 0xA8
+    ∷ 0xB1 ∷ 0xB2 ∷ 0xB3 ∷ 0xB4 ∷ 0xB5 ∷ 0xB6 ∷ 0xB7 ∷ 0xB8 ∷ 0 ∷ 0xCB ∷ []
+
+-- a room of 68 bytes for each of the sizes asked: too small, the three results, each with the bytes past it as they were
+pub results : map (λ asked. resultOut drive pointer asked (replicate 68 9)) (25 ∷ 29 ∷ 65 ∷ 0x4242 ∷ [])
+    ≡ replicate 68 9
+    ∷ (26 ∷ 0 ∷ (from2 ++ replicate 42 9))
+    ∷ (30 ∷ 0 ∷ (from2 ++ (from26 ++ replicate 38 9)))
+    ∷ (66 ∷ 0 ∷ (from2 ++ (from26 ++ (from30 ++ replicate 2 9))))
+    ∷ []
+unfolding leBytes returnedSize parameterBytes blockBytes interfaceBytes pathBytes sum wholeResult resultBytes resultAnswer
+results = refl
+
+-- the pointer of today: FFFFh:FFFFh
+pub none : leBytes 2 (noPointer .offset) ++ leBytes 2 (noPointer .segment) ≡ 0xFF ∷ 0xFF ∷ 0xFF ∷ 0xFF ∷ []
+unfolding leBytes
+none = refl
+
+-- the numbers of the answer, by the size asked and the room
+pub sizes-given : map (sizeGiven 65) (29 ∷ 30 ∷ []) ∷ map (λ asked. sizeGiven asked 66) (25 ∷ 26 ∷ 29 ∷ 30 ∷ 65 ∷ 66 ∷ []) ∷ []
+    ≡ ((1 ∷ []) ∷ (0 ∷ 30 ∷ []) ∷ [])
+    ∷ ((1 ∷ []) ∷ (0 ∷ 26 ∷ []) ∷ (0 ∷ 26 ∷ []) ∷ (0 ∷ 30 ∷ []) ∷ (0 ∷ 30 ∷ []) ∷ (0 ∷ 66 ∷ []) ∷ [])
+    ∷ []
+unfolding sizeGiven returnedSize
+sizes-given = refl

@@ -1,0 +1,81 @@
+use native.Mathlib.Omega.{arith}
+use borrow.Author.Needs.{needs}
+use Prim.Native.Nat.{ℕ, _-_, _≤_}
+use mathlib.Core.Path.{_≡_, refl, ap, _∙_}
+use denote.Ref.{now}
+use lib.ListN.{getD}
+use Rattle.logic.proofs.LogicLaws.{some-more}
+use Rattle.table.specs.Table.{overlapRuns, overlapsRun}
+use Rattle.table.proofs.overlaps_run.Statement.{statement}
+use Rattle.table.proofs.overlaps_run.Tie as tie
+use Rattle.table.proofs.overlaps_run.Reads as reads
+use Rattle.table.proofs.overlaps_run.Lts as lts
+use Rattle.logic.proofs.or.Reads as or-reads
+use Rattle.table.proofs.runs_overlap.Reads as runs-overlap-reads
+
+abbrev Inv-loop : tie.InvT-loop
+Inv-loop d firsts sizes n found₀ i₀ found i = (i ≤ n) × (found ≡ overlapsRun i firsts sizes d)
+
+abbrev μ-loop : tie.MeasureT-loop
+μ-loop d firsts sizes n found₀ i₀ found i = n - i
+
+loop-holds : tie.Need-loop-holds Inv-loop μ-loop
+unfolding overlapsRun
+loop-holds c = (search needs, refl)
+
+mul-runs-overlap : tie.Need-mul-runs-overlap Inv-loop μ-loop
+mul-runs-overlap c = search needs
+
+element-copy-out-runs-overlap : tie.Need-element-copy-out-runs-overlap Inv-loop μ-loop
+element-copy-out-runs-overlap c = search needs
+
+mul-runs-overlap-2 : tie.Need-mul-runs-overlap-2 Inv-loop μ-loop
+mul-runs-overlap-2 c = search needs
+
+element-copy-out-runs-overlap-2 : tie.Need-element-copy-out-runs-overlap-2 Inv-loop μ-loop
+element-copy-out-runs-overlap-2 c = search needs
+
+runs-overlap-requires : tie.Need-runs-overlap-requires Inv-loop μ-loop
+runs-overlap-requires c κs = search needs
+
+or-requires : tie.Need-or-requires Inv-loop μ-loop
+or-requires c κs = search needs
+
+add-i : tie.Need-add-i Inv-loop μ-loop
+add-i c = search needs
+
+loop-less : tie.Need-loop-less Inv-loop μ-loop
+loop-less c = search needs
+
+loop-again : tie.Need-loop-again Inv-loop μ-loop
+unfolding overlapsRun
+loop-again c =
+    let l = c .before .before .before .before .before in
+    let a = l .before .args in (
+      search needs,
+      some-more (l .loop .i) (λ i. overlapRuns (a .d .first) (a .d .blocks) (getD (now (a .firsts)) i 0) (getD (now (a .sizes)) i 0)) (l .loop .inv .1) (c .or .ensures) (c .before .runs-overlap .ensures),
+    )
+
+returns : tie.Need-returns Inv-loop μ-loop
+returns c =
+    let l = c .before in
+    let e : l .loop .i ≡ l .before .args .n = omega arith in
+    rw (← e) (l .loop .inv .1)
+
+pub overlaps-run-spec : {M : Type 1} → statement M
+overlaps-run-spec =
+    tie.close
+    (tie.spec
+    Inv-loop
+    μ-loop
+    loop-holds
+    mul-runs-overlap
+    element-copy-out-runs-overlap
+    mul-runs-overlap-2
+    element-copy-out-runs-overlap-2
+    runs-overlap-requires
+    or-requires
+    add-i
+    loop-less
+    loop-again
+    returns)

@@ -1,0 +1,127 @@
+/*
+ * How much stack a call uses: each runs on a stack of its own, filled with a pattern, and what it has overwritten is counted. The header
+ * promises a limit to hosts whose threads have small stacks.
+ */
+#include <stdio.h>
+#include <string.h>
+#include <ucontext.h>
+
+#include "edd_desk.h"
+
+enum { STACK = 256 * 1024, PATTERN = 0xa5, WINDOW = 65536, DRIVE_BLOCKS = 64, PACKET = 0x100 };
+
+static _Alignas(64) uint8_t stack[STACK];
+static ucontext_t caller, callee;
+static uint8_t desk[EDD_DESK_SIZE], table[EDD_TABLE_SIZE_MAX], out[EDD_TABLE_SIZE_MAX];
+static uint8_t arena[EDD_GUESTS * WINDOW], store[EDD_DRIVES * DRIVE_BLOCKS * EDD_BLOCK_SIZE];
+static uint16_t ax, bx, cx, dx, ds, si, es, carry;
+static uint64_t first, second;
+static uint32_t answer, small[3];
+static size_t most;
+static int bad;
+
+static void do_open(void)
+{
+    answer = edd_open(desk, sizeof desk, table, sizeof table, sizeof arena, sizeof store, &first);
+}
+
+static void do_write(void)
+{
+    answer = edd_write(desk, sizeof desk, out, sizeof out, &first);
+}
+
+static void do_post(void)
+{
+    answer = edd_post(desk, sizeof desk, arena, sizeof arena, store, sizeof store, 7, &ax, &bx, &cx, &dx, ds, si, es, &carry);
+}
+
+static void do_turn(void)
+{
+    answer = edd_turn(desk, sizeof desk, arena, sizeof arena, store, sizeof store, &first, &second);
+}
+
+static void do_collect(void)
+{
+    answer = edd_collect(desk, sizeof desk, 7, &ax, &bx, &cx, &dx, &ds, &si, &es, &carry);
+}
+
+static void do_withdraw(void)
+{
+    answer = edd_withdraw(desk, sizeof desk, arena, sizeof arena, store, sizeof store, 7, &ax, &bx, &cx, &dx, &ds, &si, &es, &carry);
+}
+
+static void do_numbers(void)
+{
+    answer = edd_window(sizeof arena, 7, &first, &second) + edd_block(4, 1, 16, 3, 0, 16, &small[0]) +
+             edd_address(4, 1, 16, 63, &small[0], &small[1], &small[2]) + (edd_version() - EDD_VERSION) +
+             (uint32_t)(edd_desk_size() - EDD_DESK_SIZE);
+}
+
+/* A stack grows downward, so what lies below the first changed byte was never used. */
+static size_t used_stack(void)
+{
+    size_t untouched = 0;
+    while (untouched < STACK && stack[untouched] == PATTERN)
+        untouched++;
+    return STACK - untouched;
+}
+
+static void measure(void (*call)(void), const char *name, uint32_t expected)
+{
+    memset(stack, PATTERN, STACK);
+    getcontext(&callee);
+    callee.uc_stack.ss_sp = stack;
+    callee.uc_stack.ss_size = STACK;
+    callee.uc_link = &caller;
+    makecontext(&callee, call, 0);
+    swapcontext(&caller, &callee);
+    size_t used = used_stack();
+    if (answer != expected || used > EDD_STACK_MAX) {
+        printf("stack: %s: answer %u, %zu bytes of stack\n", name, (unsigned)answer, used);
+        bad = 1;
+    }
+    if (used > most)
+        most = used;
+}
+
+/* 42h of twenty blocks, with its packet in the window */
+static void set_request(void)
+{
+    static const uint8_t packet[16] = { 16, 0, 20, 0, 0, 0x10 };
+    memcpy(arena + 7 * WINDOW + PACKET, packet, sizeof packet);
+    ax = 0x4200, bx = cx = ds = es = 0, dx = 0x87, si = PACKET;
+}
+
+int main(void)
+{
+    for (unsigned i = 0; i < EDD_DRIVES; i++) {
+        uint8_t *drive = table + 68 * i;
+        drive[0] = 68, drive[2] = 1, drive[16] = DRIVE_BLOCKS, drive[34] = 4, drive[36] = 1, drive[38] = 16;
+        drive[24] = (uint8_t)(DRIVE_BLOCKS * i), drive[25] = (uint8_t)(DRIVE_BLOCKS * i >> 8);
+        memcpy(drive + 40, "PCI", 3);
+        memcpy(drive + 44, "ATA", 3);
+    }
+    table[68 * EDD_DRIVES] = 4;
+
+    measure(do_open, "open", EDD_DONE);
+    measure(do_write, "write", EDD_DONE);
+    measure(do_turn, "idle turn", EDD_NOTHING_YET);
+    set_request();
+    measure(do_post, "post 42h", EDD_NOTHING_YET);
+    measure(do_post, "refused post", EDD_ROW_NOT_VACANT);
+    measure(do_turn, "turn", EDD_DONE);
+    measure(do_turn, "last turn", EDD_DONE);
+    measure(do_collect, "collect", EDD_DONE);
+    set_request();
+    measure(do_post, "post 42h", EDD_NOTHING_YET);
+    measure(do_withdraw, "withdraw", EDD_DONE);
+    ax = 0x0214, bx = 0x1000, cx = 0x0001;
+    measure(do_post, "post 02h", EDD_NOTHING_YET);
+    measure(do_withdraw, "withdraw", EDD_DONE);
+    arena[7 * WINDOW + PACKET] = 66;
+    ax = 0x4800;
+    measure(do_post, "post 48h", EDD_DONE);
+    measure(do_numbers, "window, block, address", EDD_DONE);
+    printf("stack: a call uses at most %zu bytes, the header allows %d: %s\n", most, EDD_STACK_MAX, bad ? "FAILED" : "ok");
+    return bad;
+}
