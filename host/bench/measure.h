@@ -8,7 +8,7 @@
 
 #include <stdint.h>
 
-#define BATCHES 25
+#define BATCHES 80
 
 /* Nanoseconds per call, one for each batch: the call with what must be done before it, and that alone (0 if nothing must). */
 struct times {
