@@ -120,7 +120,7 @@ pub overlaps : overlap (at 10 10) (at 20 100) ∷ overlap (at 20 100) (at 10 10)
 unfolding driveOf le leBytes overlap
 overlaps = refl
 
--- ---- a blank place
+-- ---- a blank slot
 
 -- no field is ignored: the first and the last byte of each, set alone
 abbrev edges : List ℕ

@@ -160,7 +160,7 @@ overlap a b = pick (leb (a .first) (b .first)) (ltb (b .first) (a .first + a .bl
 abbrev pub isProtected : Drive → Bool
 isProtected d = eqb (d .protection) 1
 
--- every number is zero, as in a place of the table that holds no drive
+-- every number is zero, as in a slot of the table that holds no drive
 unfoldable pub blankNumbers : Drive → Bool
 blankNumbers d =
     both (both (eqb (d .cylinders) 0) (both (eqb (d .heads) 0) (eqb (d .sectors) 0)))
@@ -174,6 +174,6 @@ blankNames d =
     both (same (d .bus) (replicate 4 0))
     (both (same (d .interface) (replicate 8 0)) (both (same (d .path) (replicate 8 0)) (same (d .device) (replicate 8 0))))
 
--- every field is zero: a place that holds no drive
+-- every field is zero: a slot that holds no drive
 unfoldable pub isBlank : Drive → Bool
 isBlank d = both (blankNumbers d) (blankNames d)

@@ -242,10 +242,10 @@ fn blank_numbers(d: Drive) -> bool
     ensures { λ r. ⌜ r ≡ blankNumbers d ⌝ }
 {
     let physical = logic::and(d.cylinders == 0, logic::and(d.heads == 0, d.sectors == 0));
-    let place = logic::and(d.blocks == 0, d.first == 0);
+    let run = logic::and(d.blocks == 0, d.first == 0);
     let words = logic::and(d.flags == 0, logic::and(d.c == 0, d.h == 0));
     let bytes = logic::and(d.s == 0, d.protection == 0);
-    logic::and(physical, logic::and(place, logic::and(words, bytes)))
+    logic::and(physical, logic::and(run, logic::and(words, bytes)))
 }
 
 fn blank_names(d: Drive) -> bool

@@ -25,7 +25,7 @@ use Rattle.table.specs.declared.Stepped.{Stepped}
 use Rattle.table.specs.declared.Step.the-variants.{Next, Done}
 use Rattle.table.specs.declared.Header.the-variants.{Whole}
 use Rattle.table.specs.declared.Answer.the-variants.{Accepted}
-use Rattle.table.specs.Table.{mostDrives, noDrive, zeroDrive, headerAt, headerOf, refusal, more, stepped, goOn, driveStep, stepAt, reading, readFrom, readTable, emptyTable, placeRecords, recordsOf, endRecord, bytesOf, drivesOf, tableOf, firstDrives, isSound, pushAll, Taken, none, one}
+use Rattle.table.specs.Table.{mostDrives, noDrive, zeroDrive, headerAt, headerOf, refusal, more, stepped, goOn, driveStep, stepAt, reading, readFrom, readTable, emptyTable, slotRecords, recordsOf, endRecord, bytesOf, drivesOf, tableOf, firstDrives, isSound, pushAll, Taken, none, one}
 use Rattle.table.specs.Demand2.{Widths}
 use Rattle.table.proofs.TableLaws.{stepAt-cases, stepAt-end, stepAt-drive, endStep-done, driveStep-next, whole-at, refusal-room, length-drives}
 use Rattle.table.proofs.Sound.{Good, Rules, sound-rules, refusal-ext, each-more, So, so-empty, so-more, so-good}
@@ -59,7 +59,7 @@ drive-header t at d r n e =
     let whole : ltb (length t - at) 68 ≡ false = le-ltb (length t - at) 68 (omega arith) in
     rw (four, s, k, whole)
 
--- ---- the table of the first i places
+-- ---- the table of the first i slots
 
 abbrev filled : ℕ → List Drive → List Drive
 filled zero l = replicate mostDrives zeroDrive
@@ -84,7 +84,7 @@ filled-past : (i j : ℕ) (l : List Drive) → i ≤ j → j < 8 → getD (fille
 filled-past zero j l m h = getD-replicate 8 j zeroDrive noDrive h
 filled-past (suc i) j l m h = getD-set-other (filled i l) i j (getD l i noDrive) noDrive (λ y. omega arith) ∙ filled-past i j l (omega arith) h
 
--- a blank place is zero
+-- a blank slot is zero
 blank-drive : (d : Drive) → isBlank d ≡ true → d ≡ zeroDrive
 unfolding isBlank blankNumbers blankNames
 blank-drive d e =
@@ -93,7 +93,7 @@ blank-drive d e =
     let physical = both-true _ _ (q .0) in
     let physical₂ = both-true _ _ (physical .1) in
     let q₂ = both-true _ _ (q .1) in
-    let place = both-true _ _ (q₂ .0) in
+    let run = both-true _ _ (q₂ .0) in
     let q₃ = both-true _ _ (q₂ .1) in
     let words = both-true _ _ (q₃ .0) in
     let words₂ = both-true _ _ (words .1) in
@@ -105,8 +105,8 @@ blank-drive d e =
       cylinders = eqb-true (d .cylinders) 0 (physical .0) i;
       heads = eqb-true (d .heads) 0 (physical₂ .0) i;
       sectors = eqb-true (d .sectors) 0 (physical₂ .1) i;
-      blocks = eqb-true (d .blocks) 0 (place .0) i;
-      first = eqb-true (d .first) 0 (place .1) i;
+      blocks = eqb-true (d .blocks) 0 (run .0) i;
+      first = eqb-true (d .first) 0 (run .1) i;
       flags = eqb-true (d .flags) 0 (words .0) i;
       c = eqb-true (d .c) 0 (words₂ .0) i;
       h = eqb-true (d .h) 0 (words₂ .1) i;
@@ -118,7 +118,7 @@ blank-drive d e =
       device = same-true (d .device) (replicate 8 0) (names₃ .1) i;
     }
 
--- all places of a sound table are the table
+-- all slots of a sound table are the table
 filled-all : (b : Table) (store : ℕ) → length (b .drives) ≡ 8 → Rules b store → upTo b (b .count) ≡ b
 filled-all b store eight r =
     let e : filled (b .count) (b .drives) ≡ b .drives = ext-getD noDrive (filled (b .count) (b .drives)) (b .drives) (length-filled (b .count) (b .drives) ∙ sym eight) at in
@@ -134,29 +134,29 @@ filled-all b store eight r =
 
 -- ---- written and read
 
--- the records of m places from i on
+-- the records of m slots from i on
 abbrev between : Table → ℕ → ℕ → List ℕ
 between b i zero = []
-between b i (suc m) = placeRecords b i ++ between b (suc i) m
+between b i (suc m) = slotRecords b i ++ between b (suc i) m
 
 records-between : (m i : ℕ) (b : Table) → recordsOf (i + m) b ≡ recordsOf i b ++ between b i m
 unfolding recordsOf
 records-between zero i b = rw add-zero (sym (append-nil (recordsOf i b)))
 records-between (suc m) i b =
     let n : i + suc m ≡ suc i + m = omega arith in
-    rw n (records-between m (suc i) b ∙ append-assoc (recordsOf i b) (placeRecords b i) (between b (suc i) m))
+    rw n (records-between m (suc i) b ∙ append-assoc (recordsOf i b) (slotRecords b i) (between b (suc i) m))
 
--- m places that follow the first i are read from their records
-places-read : (b : Table) (store : ℕ) → Widths b → Rules b store → (t : List ℕ) (m i k at : ℕ) → i + m ≡ b .count → drop at t ≡ between b i m ++ endRecord
+-- m slots that follow the first i are read from their records
+slots-read : (b : Table) (store : ℕ) → Widths b → Rules b store → (t : List ℕ) (m i k at : ℕ) → i + m ≡ b .count → drop at t ≡ between b i m ++ endRecord
     → readFrom (m + suc k) t store at (upTo b i) ≡ reading Accepted (upTo b (b .count))
 unfolding readFrom
-places-read b store w r t zero i k at n e =
+slots-read b store w r t zero i k at n e =
     let h = end-header t at e in
     let s : stepped Done (upTo b i) ≡ stepAt t at (upTo b i) store
     = endStep-done t at (upTo b i) (omega (arith, h .1)) ∙ stepAt-end t at 0 4 (upTo b i) store (h .0) refl in
     let c : i ≡ b .count = omega arith in
     rw (zero-add, ← s) (ap (λ (x : ℕ). reading Accepted (upTo b x)) c)
-places-read b store w r t (suc m) i k at n e =
+slots-read b store w r t (suc m) i k at n e =
     let d : Drive = getD (b .drives) i noDrive in
     let rest : List ℕ = between b (suc i) m ++ endRecord in
     let l : i < b .count = omega arith in
@@ -170,7 +170,7 @@ places-read b store w r t (suc m) i k at n e =
     ∙ ap (λ (x : Drive). driveStep (refusal (upTo b i) x store) x (upTo b i) at) (sym p)
     ∙ stepAt-drive t at 1 68 (upTo b i) store (drive-header t at d rest long e′) (λ q. omega arith) in
     let on : drop (at + 68) t ≡ rest = sym (drop-drop 68 at t) ∙ ap (drop 68) e′ ∙ drop-at (recordOf d) rest 68 long in
-    rw (suc-add, ← s, add-one i) (places-read b store w r t m (suc i) k (at + 68) (omega arith) on)
+    rw (suc-add, ← s, add-one i) (slots-read b store w r t m (suc i) k (at + 68) (omega arith) on)
 
 -- demand 2: a table that obeys the rules, written and read, is that table
 pub read-written : (b : Table) (store : ℕ) → Widths b → isSound b store ≡ true → readTable (tableOf b) store ≡ reading Accepted b
@@ -181,7 +181,7 @@ read-written b store w e =
     let c : length (drivesOf b) ≡ b .count = omega (arith, length-drives b (w .eight), r .most) in
     let t : tableOf b ≡ between b 0 (b .count) ++ endRecord
     = ap (λ (x : ℕ). recordsOf x b ++ endRecord) (c ∙ sym (zero-add (b .count))) ∙ ap (λ (x : List ℕ). x ++ endRecord) (records-between (b .count) 0 b) in
-    rw n at (places-read b store w r (tableOf b) (b .count) 0 (8 - b .count) 0 (zero-add (b .count)) t)
+    rw n at (slots-read b store w r (tableOf b) (b .count) 0 (8 - b .count) 0 (zero-add (b .count)) t)
     ∙ ap (reading Accepted) (filled-all b store (w .eight) r)
 
 -- ---- drives taken one after another

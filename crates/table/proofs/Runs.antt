@@ -55,13 +55,13 @@ among-is b firsts sizes d store h = rw (some-ext (b .count) (λ i. overlapRuns (
 pub beside-more : (b : Table) (firsts sizes : List ℕ) (d : Drive) → length (b .drives) ≡ 8 → length firsts ≡ 8 → length sizes ≡ 8 → b .count < 8 → Beside b firsts sizes
     → Beside (more b d) (set firsts (b .count) (d .first)) (set sizes (b .count) (d .blocks))
 unfolding Beside
-beside-more b firsts sizes d lb lf ls r h i l = by-place (ℕ-discrete i (b .count))
+beside-more b firsts sizes d lb lf ls r h i l = by-slot (ℕ-discrete i (b .count))
   where
-    by-place : Dec (i ≡ b .count) → (getD (set firsts (b .count) (d .first)) i 0 ≡ getD (set (b .drives) (b .count) d) i noDrive .first)
+    by-slot : Dec (i ≡ b .count) → (getD (set firsts (b .count) (d .first)) i 0 ≡ getD (set (b .drives) (b .count) d) i noDrive .first)
         × (getD (set sizes (b .count) (d .blocks)) i 0 ≡ getD (set (b .drives) (b .count) d) i noDrive .blocks)
-    by-place (yes x) =
+    by-slot (yes x) =
         rw (x, getD-set-same firsts (b .count) (d .first) 0 (omega arith), getD-set-same sizes (b .count) (d .blocks) 0 (omega arith), getD-set-same (b .drives) (b .count) d noDrive (omega arith)) (refl, refl)
-    by-place (no x) =
+    by-slot (no x) =
         rw (getD-set-other firsts (b .count) i (d .first) 0 x, getD-set-other sizes (b .count) i (d .blocks) 0 x, getD-set-other (b .drives) (b .count) i d noDrive x) (h i (omega arith))
 
 -- the first n of a list of drives, as a loop finds their runs
@@ -75,11 +75,11 @@ to-none l firsts sizes i h = absurd (omega arith)
 pub to-more : (n : ℕ) (l : List Drive) (firsts sizes : List ℕ) → n < length firsts → n < length sizes → BesideTo n l firsts sizes
     → BesideTo (n + 1) l (set firsts n (getD l n noDrive .first)) (set sizes n (getD l n noDrive .blocks))
 unfolding BesideTo
-to-more n l firsts sizes lf ls h i q = by-place (ℕ-discrete i n)
+to-more n l firsts sizes lf ls h i q = by-slot (ℕ-discrete i n)
   where
-    by-place : Dec (i ≡ n) → (getD (set firsts n (getD l n noDrive .first)) i 0 ≡ getD l i noDrive .first) × (getD (set sizes n (getD l n noDrive .blocks)) i 0 ≡ getD l i noDrive .blocks)
-    by-place (yes x) = rw (x, getD-set-same firsts n (getD l n noDrive .first) 0 lf, getD-set-same sizes n (getD l n noDrive .blocks) 0 ls) (refl, refl)
-    by-place (no x) = rw (getD-set-other firsts n i (getD l n noDrive .first) 0 x, getD-set-other sizes n i (getD l n noDrive .blocks) 0 x) (h i (omega arith))
+    by-slot : Dec (i ≡ n) → (getD (set firsts n (getD l n noDrive .first)) i 0 ≡ getD l i noDrive .first) × (getD (set sizes n (getD l n noDrive .blocks)) i 0 ≡ getD l i noDrive .blocks)
+    by-slot (yes x) = rw (x, getD-set-same firsts n (getD l n noDrive .first) 0 lf, getD-set-same sizes n (getD l n noDrive .blocks) 0 ls) (refl, refl)
+    by-slot (no x) = rw (getD-set-other firsts n i (getD l n noDrive .first) 0 x, getD-set-other sizes n i (getD l n noDrive .blocks) 0 x) (h i (omega arith))
 
 beside-few : (b : Table) (firsts sizes : List ℕ) → b .count < 8
     → ((i : ℕ) → i < 8 → (getD firsts i 0 ≡ getD (b .drives) i noDrive .first) × (getD sizes i 0 ≡ getD (b .drives) i noDrive .blocks)) → Beside b firsts sizes
@@ -90,7 +90,7 @@ both-ninth : (b : Table) (firsts sizes : List ℕ) (d : Drive) (store : ℕ) →
 unfolding refusalAmong refusal
 both-ninth b firsts sizes d store l = rw (le-leb 8 (b .count) l)
 
--- the runs of all eight places are enough, whatever the count
+-- the runs of all eight slots are enough, whatever the count
 pub among-eight : (b : Table) (firsts sizes : List ℕ) (d : Drive) (store : ℕ) → BesideTo 8 (b .drives) firsts sizes → refusalAmong (b .count) firsts sizes d store ≡ refusal b d store
 unfolding BesideTo
 among-eight b firsts sizes d store h = ⊎-elim (λ l. among-is b firsts sizes d store (few l)) (λ l. many l) (lt-or-le (b .count) 8)

@@ -53,7 +53,7 @@ sound-rules b store e =
       blank = λ i l h. rw (le-ltb i (b .count) l) at (all-at 8 i (blankAt (b .drives) (b .count)) (q .1) h);
     }
 
--- what a desk's table obeys: the rules, eight places, and the lengths that the types of the names say
+-- what a desk's table obeys: the rules, eight slots, and the lengths that the types of the names say
 pub record Good (b : Table) (store : ℕ) : Type 0 where
   pub sound : isSound b store ≡ true
   pub eight : length (b .drives) ≡ 8

@@ -30,7 +30,7 @@ use Rattle.table.specs.declared.Answer.the-variants.{Accepted, Refused a
 use Rattle.table.specs.declared.Reading.{Reading}
 use Rattle.table.specs.declared.Written.{Written}
 use Rattle.table.specs.declared.Written.the-variants.{Bytes, Refused as WriteRefused}
-use Rattle.table.specs.Table.{emptyTable, badField, pastStore, overlapping, isKind, lengthOk, headerOf, headerAt, noDrive, overlapsAny, refusal, more, stepped, driveStep, endStep, driveRecord, stepOf, stepAt, placeAfter, advanced, Advances, begun, reading, goOn, stepNumbers, answerNumbers, writtenNumbers, wholeNumbers, recordNumbers, onward, numbersFrom, tableNumbers, writeNumbers, readTable, Reads, readFrom, placeRecords, recordsOf, endRecord, bytesOf, drivesOf, tableOf, writeAnswer, writeOut, firstDrives}
+use Rattle.table.specs.Table.{emptyTable, badField, pastStore, overlapping, isKind, lengthOk, headerOf, headerAt, noDrive, overlapsAny, refusal, more, stepped, driveStep, endStep, driveRecord, stepOf, stepAt, placeAfter, advanced, Advances, begun, reading, goOn, stepNumbers, answerNumbers, writtenNumbers, wholeNumbers, recordNumbers, onward, numbersFrom, tableNumbers, writeNumbers, readTable, Reads, readFrom, slotRecords, recordsOf, endRecord, bytesOf, drivesOf, tableOf, writeAnswer, writeOut, firstDrives}
 
 -- ---- the header
 
@@ -272,26 +272,26 @@ write-numbers {r} b room e = ap writtenNumbers e ∙ by-test (ltb room (length (
 
 -- ---- the bytes written
 
--- one place more
-pub recordsOf-more : (n : ℕ) (b : Table) → recordsOf (n + 1) b ≡ recordsOf n b ++ placeRecords b n
+-- one slot more
+pub recordsOf-more : (n : ℕ) (b : Table) → recordsOf (n + 1) b ≡ recordsOf n b ++ slotRecords b n
 unfolding recordsOf
 recordsOf-more n b = rw add-one
 
-pub length-more : (n : ℕ) (b : Table) → length (recordsOf (n + 1) b) ≡ length (recordsOf n b) + length (placeRecords b n)
-length-more n b = ap length (recordsOf-more n b) ∙ length-append (recordsOf n b) (placeRecords b n)
+pub length-more : (n : ℕ) (b : Table) → length (recordsOf (n + 1) b) ≡ length (recordsOf n b) + length (slotRecords b n)
+length-more n b = ap length (recordsOf-more n b) ∙ length-append (recordsOf n b) (slotRecords b n)
 
--- one place more in a buffer
-pub sets-place : (s : List ℕ) (b : Table) (i at : ℕ) → at ≡ length (recordsOf i b)
-    → sets (sets s 0 (recordsOf i b)) at (placeRecords b i) ≡ sets s 0 (recordsOf (i + 1) b)
-sets-place s b i at e = rw (recordsOf-more i b, sets-append, zero-add, e)
+-- one slot more in a buffer
+pub sets-slot : (s : List ℕ) (b : Table) (i at : ℕ) → at ≡ length (recordsOf i b)
+    → sets (sets s 0 (recordsOf i b)) at (slotRecords b i) ≡ sets s 0 (recordsOf (i + 1) b)
+sets-slot s b i at e = rw (recordsOf-more i b, sets-append, zero-add, e)
 
--- only the first n places count
+-- only the first n slots count
 pub recordsOf-ext : (n : ℕ) (b c : Table) → ((i : ℕ) → i < n → getD (b .drives) i noDrive ≡ getD (c .drives) i noDrive) → recordsOf n b ≡ recordsOf n c
 unfolding recordsOf
 recordsOf-ext zero b c f = refl
 recordsOf-ext (suc n) b c f = rw (f n (omega arith), recordsOf-ext n b c (λ i h. f i (omega arith)))
 
--- a table of eight places holds as many drives as it counts, and at most eight
+-- a table of eight slots holds as many drives as it counts, and at most eight
 pub length-drives : (b : Table) → length (b .drives) ≡ 8 → length (drivesOf b) ≡ min (b .count) 8
 length-drives b l = rw (length-take (b .count) (b .drives), l)
 

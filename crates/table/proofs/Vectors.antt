@@ -161,7 +161,7 @@ second-bytes = 68 ∷ 0 ∷ 1 ∷ 0 ∷ 31 ∷ 0 ∷ 0 ∷ 0 ∷ 32 ∷ 0 ∷ 0 
 abbrev two : Table
 two = record { drives = first-drive ∷ second-drive ∷ replicate 6 zeroDrive; count = 2 }
 
--- read: each drive at its place, with its own fields
+-- read: each drive in its slot, with its own fields
 pub two-read : readTable (first-bytes ++ second-bytes ++ end) 14000 .table ≡ two
 unfolding le leBytes inLimits driveOf same busOk interfaceOk geometryFits fieldsOk inStore overlap headerOf headerAt overlapsAny refusal driveStep endStep stepOf stepAt readFrom readTable
 two-read = refl
@@ -171,7 +171,7 @@ pub one-read : readTable (first-bytes ++ second-bytes ++ end) 4099 .table .count
 unfolding le leBytes inLimits driveOf same busOk interfaceOk geometryFits fieldsOk inStore overlap headerOf headerAt overlapsAny refusal driveStep endStep stepOf stepAt readFrom readTable
 one-read = refl
 
--- written: the records in the order of the places, then the end record
+-- written: the records in the order of the slots, then the end record
 pub two-written : tableOf two ≡ first-bytes ++ second-bytes ++ end
 unfolding leBytes recordOf geometryBytes sizeBytes nameBytes recordsOf bytesOf tableOf
 two-written = refl

@@ -13,7 +13,7 @@ use Rattle.table.specs.Table.{mostDrives, noDrive, reading, readTable, t
 
 -- ---- "The drive table", read and written
 
--- what the types say of a table: eight places, and in those in use each number fits its word and each array has its length
+-- what the types say of a table: eight slots, and in those in use each number fits its word and each array has its length
 pub record Widths (b : Table) : Type 0 where
   pub eight : length (b .drives) ≡ mostDrives
   pub each : (i : ℕ) → i < b .count → Fits (getD (b .drives) i noDrive)

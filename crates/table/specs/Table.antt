@@ -103,7 +103,7 @@ headerAt t at = headerOf (length t - at) (le 2 t at) (le 2 t (at + 2))
 abbrev pub mostDrives : ℕ
 mostDrives = 8
 
--- the value of a place that holds no drive
+-- the value of a slot that holds no drive
 abbrev pub noDrive : Drive
 noDrive = record { cylinders = 0; heads = 0; sectors = 0; blocks = 0; first = 0; flags = 0; c = 0; h = 0; s = 0; protection = 0; bus = []; interface = []; path = []; device = [] }
 
@@ -171,7 +171,7 @@ advanced t c store = cursorAfter (c .at) (stepAt t (c .at) (c .table) store)
 
 -- ---- "The drive table", the whole table
 
--- a place that no drive was read into
+-- a slot that no drive was read into
 abbrev pub zeroDrive : Drive
 zeroDrive = record { cylinders = 0; heads = 0; sectors = 0; blocks = 0; first = 0; flags = 0; c = 0; h = 0; s = 0; protection = 0; bus = replicate 4 0; interface = replicate 8 0; path = replicate 8 0; device = replicate 8 0 }
 
@@ -253,16 +253,16 @@ pub data Taken (store : ℕ) : Table → List Drive → Type 0 where
 abbrev pub endRecord : List ℕ
 endRecord = leBytes 2 endLength ++ leBytes 2 endKind
 
--- the records of a place: its drive's
-abbrev pub placeRecords : Table → ℕ → List ℕ
-placeRecords b i = recordOf (getD (b .drives) i noDrive)
+-- the records of a slot: its drive's
+abbrev pub slotRecords : Table → ℕ → List ℕ
+slotRecords b i = recordOf (getD (b .drives) i noDrive)
 
--- the records of the first n places
+-- the records of the first n slots
 unfoldable pub recordsOf : ℕ → Table → List ℕ
 recordsOf zero b = []
-recordsOf (suc n) b = recordsOf n b ++ placeRecords b n
+recordsOf (suc n) b = recordsOf n b ++ slotRecords b n
 
--- the bytes of the first n places as a table
+-- the bytes of the first n slots as a table
 unfoldable pub bytesOf : ℕ → Table → List ℕ
 bytesOf n b = recordsOf n b ++ endRecord
 
@@ -270,7 +270,7 @@ bytesOf n b = recordsOf n b ++ endRecord
 abbrev pub drivesOf : Table → List Drive
 drivesOf b = take (b .count) (b .drives)
 
--- the table's bytes: the records of its drives' places, and the end record
+-- the table's bytes: the records of its drives' slots, and the end record
 unfoldable pub tableOf : Table → List ℕ
 tableOf b = bytesOf (length (drivesOf b)) b
 
@@ -353,7 +353,7 @@ pub record Reads (t : List ℕ) (store : ℕ) (r : Reading) : Type 0 where
 abbrev pub firstDrives : List Drive → ℕ → Table
 firstDrives l n = record { drives = l; count = n }
 
--- the drive at place i is taken after those before it
+-- the drive in slot i is taken after those before it
 abbrev pub takenAt : List Drive → ℕ → ℕ → Bool
 takenAt l store i = eqb (refusal (firstDrives l i) (getD l i noDrive) store) 0
 
@@ -361,14 +361,14 @@ takenAt l store i = eqb (refusal (firstDrives l i) (getD l i noDrive) store) 0
 unfoldable pub soundTo : ℕ → List Drive → ℕ → Bool
 soundTo n l store = allBelow n (takenAt l store)
 
--- place i is blank, if it is past the count
+-- slot i is blank, if it is past the count
 abbrev pub blankAt : List Drive → ℕ → ℕ → Bool
 blankAt l count i = either (ltb i count) (isBlank (getD l i noDrive))
 
--- of the first n places, those past the count are blank
+-- of the first n slots, those past the count are blank
 unfoldable pub blankTo : ℕ → List Drive → ℕ → Bool
 blankTo n l count = allBelow n (blankAt l count)
 
--- at most eight drives, each of which the reader would take, and blank places past them
+-- at most eight drives, each of which the reader would take, and blank slots past them
 unfoldable pub isSound : Table → ℕ → Bool
 isSound b store = both (leb (b .count) mostDrives) (both (soundTo (b .count) (b .drives) store) (blankTo mostDrives (b .drives) (b .count)))

@@ -42,7 +42,7 @@ const MOST_RECORDS: usize = 9;
 // Drives: 0 to 8.
 const MOST_DRIVES: usize = 8;
 
-// The drives in table order; the first `count` places are in use.
+// The drives in table order; the first `count` slots are in use.
 pub struct Table {
     pub drives: [Drive; 8],
     pub count: usize,
@@ -477,7 +477,7 @@ fn held(count: usize) -> usize
     }
 }
 
-// The length of the records of the first n places. `write_table` asks for at most eight.
+// The length of the records of the first n slots. `write_table` asks for at most eight.
 fn records_length(b: Table, n: usize) -> usize
     requires { ⌜ n ≤ 8 ⌝ }
     ensures { λ r. ⌜ (r ≡ length (recordsOf n b)) × (r ≡ 68 * n) ⌝ }
@@ -492,7 +492,7 @@ fn records_length(b: Table, n: usize) -> usize
     total
 }
 
-// The records of the first n places, laid at the start of a buffer that `write_table` has found long enough.
+// The records of the first n slots, laid at the start of a buffer that `write_table` has found long enough.
 fn put_records(b: Table, n: usize, out: &mut [u8])
     requires { ⌜ (n ≤ 8) × (68 * n + 4 ≤ length (now out)) ⌝ }
     ensures { λ _. ⌜ now (out .exit) ≡ sets (now (out .entry)) 0 (recordsOf n b) ⌝ }
@@ -563,7 +563,7 @@ fn sound_to(n: usize, drives: [Drive; 8], store: u64) -> bool
     sound
 }
 
-// Places past the count are blank.
+// Slots past the count are blank.
 fn blank_past(b: Table) -> bool
     ensures { λ r. ⌜ r ≡ blankTo 8 (b .drives) (b .count) ⌝ }
 {
@@ -579,7 +579,7 @@ fn blank_past(b: Table) -> bool
     blank
 }
 
-// At most eight drives, each of which the reader would take after those before it, and blank places past them.
+// At most eight drives, each of which the reader would take after those before it, and blank slots past them.
 pub fn is_sound(b: Table, store: u64) -> bool
     ensures { λ r. ⌜ r ≡ isSound b store ⌝ }
 {

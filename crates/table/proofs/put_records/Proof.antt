@@ -6,7 +6,7 @@ use lib.ListN.{length}
 use lib.Seq.{sets, length-sets}
 use denote.Ref.{now}
 use Rattle.table.specs.Table.{recordsOf}
-use Rattle.table.proofs.TableLaws.{length-more, sets-place}
+use Rattle.table.proofs.TableLaws.{length-more, sets-slot}
 use Rattle.table.proofs.put_records.Statement.{statement}
 use Rattle.table.proofs.put_records.Tie as tie
 use Rattle.table.proofs.put_records.Reads as reads
@@ -60,7 +60,7 @@ loop-again c =
     let e = c .before .before .before .store .ensures in (
       search needs,
       ap length e ∙ rw length-sets (h .loop .inv .1),
-      e ∙ rw (h .loop .inv .2, c .before .before .before .before .before .before .encode .ensures) (sets-place (now (a .out)) (a .t1) (h .loop .i) (h .loop .at) (h .loop .inv .3)),
+      e ∙ rw (h .loop .inv .2, c .before .before .before .before .before .before .encode .ensures) (sets-slot (now (a .out)) (a .t1) (h .loop .i) (h .loop .at) (h .loop .inv .3)),
       omega (arith, m, c .record-length .ensures .0, h .loop .inv .3),
       omega (arith, c .record-length .ensures .1, h .loop .inv .4),
     )
