@@ -22,7 +22,7 @@ use Rattle.table.specs.declared.Table.{Table}
 use Rattle.table.specs.declared.Stepped.{Stepped}
 use Rattle.table.specs.declared.Answer.the-variants.{Accepted}
 use Rattle.table.specs.Table.{noDrive, zeroDrive, emptyTable, overlapsAny, refusal, more, goOn, readFrom, readTable, firstDrives, takenAt, soundTo, blankAt, blankTo, isSound}
-use Rattle.table.proofs.TableLaws.{stepAt-cases, whole-at, refusal-room, refusal-taken}
+use Rattle.table.proofs.TableLaws.{refusal-room, refusal-taken, length-whole, read-keeps}
 
 -- ---- a drive that is taken
 
@@ -119,20 +119,6 @@ so-more store b d s a z =
       arrays = each-more Arrays b d (s .eight) room (s .arrays) a;
     }
 
-so-read : (k : ℕ) (t : List ℕ) (store at : ℕ) (b : Table) → So store b → readFrom k t store at b .answer ≡ Accepted → So store (readFrom k t store at b .table)
-unfolding readFrom
-so-read zero t store at b s e = impossible (cc)
-so-read (suc k) t store at b s e =
-    stepAt-cases
-    (λ (x : Stepped). goOn (x .step) (x .table) (readFrom k t store) .answer ≡ Accepted → So store (goOn (x .step) (x .table) (readFrom k t store) .table)) t at b store
-    (λ n p q. impossible (cc))
-    (λ h l q. s)
-    (λ h z q.
-    let w = whole-at t at 1 68 h in
-    so-read k t store (at + 68) (more b (driveOf (part 68 t at)))
-    (so-more store b (driveOf (part 68 t at)) s (arrays-drive (part 68 t at) (length-take-le 68 (drop at t) (simp length-drop (omega (arith, w .whole, w .header))))) z) q)
-    e
-
 blank-zero : isBlank zeroDrive ≡ true
 unfolding isBlank blankNumbers blankNames same
 blank-zero = refl
@@ -156,4 +142,6 @@ so-good store b s =
 -- an accepted table is good
 pub accepted-good : (t : List ℕ) (store : ℕ) → readTable t store .answer ≡ Accepted → Good (readTable t store .table) store
 unfolding readTable
-accepted-good t store e = so-good store (readFrom 9 t store 0 emptyTable .table) (so-read 9 t store 0 emptyTable (so-empty store) e)
+accepted-good t store e =
+    let r = read-keeps (λ at. So store) t store (λ at b s h z. so-more store b (driveOf (part 68 t at)) s (arrays-drive (part 68 t at) (length-whole t at 1 68 h)) z) 9 0 emptyTable (so-empty store) in
+    so-good store (readFrom 9 t store 0 emptyTable .table) (r .1 .0)

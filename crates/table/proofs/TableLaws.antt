@@ -8,8 +8,8 @@ use Prim.Native.Nat.{ℕ, zero, suc, _+_, _-_, _*_, _≤_, _<_, min}
 use native.Mathlib.Nat.{zero-add}
 use native.Mathlib.Numerals.{add-one, sub-one}
 use native.Mathlib.Omega.{arith}
-use lib.ListN.{length, getD, take, drop, set, length-append, length-take}
-use lib.Seq.{sets}
+use lib.ListN.{length, getD, take, drop, set, length-append, length-take, length-drop}
+use lib.Seq.{sets, length-take-le}
 use lib.Dec.{ltb, leb, eqb}
 use borrow.Author.Tests.{leb-true, leb-false, lt-leb, ltb-true, ltb-false, lt-ltb, le-ltb, eq-eqb, ne-eqb, eqb-true, eqb-false, not-true, not-false}
 use Rattle.logic.specs.Logic.{pick, both, either, someBelow}
@@ -62,6 +62,21 @@ pub whole-at : (t : List ℕ) (at k n : ℕ) → headerAt t at ≡ Whole k n →
 unfolding headerAt
 whole-at t at k n h = header-whole _ _ _ k n h
 
+-- and its bytes
+pub length-whole : (t : List ℕ) (at k n : ℕ) → headerAt t at ≡ Whole k n → length (part n t at) ≡ n
+length-whole t at k n h = length-take-le n (drop at t) (rw length-drop (whole-at t at k n h .whole))
+
+-- a header is whole from four bytes, a kind with its length, and as many bytes
+pub headerOf-whole : (left size kind : ℕ) → 4 ≤ left → isKind kind ≡ true → lengthOk kind size ≡ true → size ≤ left → headerOf left size kind ≡ Whole kind size
+unfolding headerOf
+headerOf-whole left size kind f k l w = rw (le-ltb left 4 f, k, l, le-ltb left size w)
+
+-- the header from what the code read and tested
+pub header-is : {left size kind : ℕ} {k l : Bool} (t : List ℕ) (at : ℕ) → left ≡ length t - at → size ≡ le 2 t at → kind ≡ le 2 t (at + 2) → k ≡ isKind kind → l ≡ lengthOk kind size
+    → headerAt t at ≡ pick (ltb left 4) (Bad 1) (pick (not k) (Bad 3) (pick (not l) (Bad 2) (pick (ltb left size) (Bad 1) (Whole kind size))))
+unfolding headerAt headerOf
+header-is t at e s q k l = rw (k, l, e, s, q)
+
 -- the kinds with their lengths
 lengthOk-cases : (k n : ℕ) → lengthOk k n ≡ true → ((k ≡ 0) × (n ≡ 4)) ⊎ ((k ≡ 1) × (n ≡ 68))
 lengthOk-cases k n h =
@@ -75,6 +90,13 @@ lengthOk-end k n h e = ⊎-elim (λ x. x .1) (λ x. absurd (omega (arith, x .0))
 -- a kind that does not end the table is a drive's
 pub lengthOk-drive : (k n : ℕ) → lengthOk k n ≡ true → (k ≡ 0 → ⊥) → (k ≡ 1) × (n ≡ 68)
 lengthOk-drive k n h e = ⊎-elim (λ x. absurd (e (x .0))) (λ x. x) (lengthOk-cases k n h)
+
+-- a whole record of another kind than the end's has the bytes of a drive's
+pub drive-whole : (t : List ℕ) (at k n : ℕ) → headerAt t at ≡ Whole k n → (k ≡ 0 → ⊥) → (length (part n t at) ≡ 68) × (at + 68 ≤ length t)
+drive-whole t at k n h e =
+    let w = whole-at t at k n h in
+    let z = lengthOk-drive k n (w .right) e in
+    (length-whole t at k n h ∙ z .1, omega (arith, w .whole, w .header, z .1))
 
 -- no record is longer than a drive's
 pub lengthOk-most : (k n : ℕ) → lengthOk k n ≡ true → n ≤ 68
@@ -209,13 +231,6 @@ advanced-is {r} t c store e q = record { cursor = rw (q, e); numbers = rw e (ste
 pub begun-is : {b : Table} → b ≡ emptyTable → _≡_ {A = Cursor} record { at = 0; step = Next 0; table = b } begun
 begun-is e = rw e
 
--- the place after a record that was read
-pub advanced-at : {d : Cursor} {n : ℕ} (t : List ℕ) (c : Cursor) (store : ℕ) → d ≡ advanced t c store → d .step ≡ Next n → d .at ≡ n
-unfolding advanced
-advanced-at {d} t c store e q =
-    let p : d .at ≡ placeAfter (d .step) (c .at) = rw e in
-    p ∙ ap (λ (s : Step). placeAfter s (c .at)) q
-
 -- ---- the reading
 
 pub readFrom-on : (left : ℕ) (t : List ℕ) (store at : ℕ) (b : Table) → 0 < left
@@ -224,21 +239,30 @@ unfolding readFrom
 readFrom-on zero t store at b l = absurd (omega arith)
 readFrom-on (suc k) t store at b l = rw sub-one
 
--- the reading goes on from what a step found
-pub readFrom-advance : {d : Cursor} {s : Step} (left : ℕ) (t : List ℕ) (store : ℕ) (c : Cursor) → 0 < left → d ≡ advanced t c store → d .step ≡ s
-    → goOn s (d .table) (readFrom (left - 1) t store) ≡ readFrom left t store (c .at) (c .table)
-unfolding advanced
-readFrom-advance {d} {s} left t store c l e q = rw (← q, e) (readFrom-on left t store (c .at) (c .table) l)
-
--- and from a record that was read, at the next place
+-- the reader's steps, one after another, are the reading
 pub readFrom-next : {d : Cursor} {n : ℕ} (left : ℕ) (t : List ℕ) (store : ℕ) (c : Cursor) → 0 < left → d ≡ advanced t c store → d .step ≡ Next n
     → readFrom (left - 1) t store (d .at) (d .table) ≡ readFrom left t store (c .at) (c .table)
-readFrom-next {d} left t store c l e q =
-    ap (λ (x : ℕ). readFrom (left - 1) t store x (d .table)) (advanced-at t c store e q) ∙ readFrom-advance left t store c l e q
+unfolding advanced
+readFrom-next left t store c l e q = let s = rw e at q in rw (e, s) (rw s at (readFrom-on left t store (c .at) (c .table) l))
 
 pub readFrom-zero : (k : ℕ) (t : List ℕ) (store at : ℕ) (b : Table) → k ≡ 0 → reading (AnswerRefused 4 at) b ≡ readFrom k t store at b
 unfolding readFrom
 readFrom-zero k t store at b e = rw e
+
+-- what each drive that is taken keeps holds at the end of a reading, which, where the table was accepted, is its end record
+abbrev pub Kept : (ℕ → Table → Type 0) → List ℕ → Reading → Type 0
+Kept I t r = (at : ℕ) × (I at (r .table) × (r .answer ≡ Accepted → (headerAt t at ≡ Whole 0 4) × (length t ≤ at + 4)))
+
+pub read-keeps : (I : ℕ → Table → Type 0) (t : List ℕ) (store : ℕ)
+    → ((at : ℕ) (b : Table) → I at b → headerAt t at ≡ Whole 1 68 → refusal b (driveOf (part 68 t at)) store ≡ 0 → I (at + 68) (more b (driveOf (part 68 t at))))
+    → (k at : ℕ) (b : Table) → I at b → Kept I t (readFrom k t store at b)
+unfolding readFrom
+read-keeps I t store keep zero at b i = (at, (i, λ q. impossible (cc)))
+read-keeps I t store keep (suc k) at b i =
+    stepAt-cases (λ (s : Stepped). Kept I t (goOn (s .step) (s .table) (readFrom k t store))) t at b store
+    (λ n p. (at, (i, λ q. impossible (cc))))
+    (λ h l. (at, (i, λ q. (h, l))))
+    (λ h z. read-keeps I t store keep k (at + 68) (more b (driveOf (part 68 t at))) (keep at b i h z))
 
 -- ---- the reading in numbers
 

@@ -18,7 +18,7 @@ use Rattle.table.specs.declared.Stepped.{Stepped}
 use Rattle.table.specs.declared.Header.the-variants.{Whole}
 use Rattle.table.specs.declared.Answer.the-variants.{Accepted}
 use Rattle.table.specs.Table.{noDrive, headerAt, more, goOn, stepAt, readFrom, readTable, emptyTable, recordsOf, endRecord, bytesOf, drivesOf, tableOf}
-use Rattle.table.proofs.TableLaws.{stepAt-cases, whole-at, refusal-room, recordsOf-more, recordsOf-ext, length-drives}
+use Rattle.table.proofs.TableLaws.{whole-at, length-whole, refusal-room, read-keeps, recordsOf-more, recordsOf-ext, length-drives}
 
 -- the drives so far are the bytes so far
 record Read (t : List ℕ) (at : ℕ) (b : Table) : Type 0 where
@@ -38,9 +38,8 @@ module _ (t : List ℕ) (bytes : Bytes t) where
   whole-record : (at : ℕ) → headerAt t at ≡ Whole 1 68 → (recordOf (driveOf (part 68 t at)) ≡ part 68 t at) × (at + 68 ≤ length t)
   whole-record at h =
       let w = whole-at t at 1 68 h in
-      let l : at + 68 ≤ length t = omega (arith, w .whole, w .header) in
-      let n : length (part 68 t at) ≡ 68 = length-take-le 68 (drop at t) (simp length-drop (omega arith)) in (
-        record-drive (part 68 t at) (bytes-part 68 t at bytes) n (le-part 2 68 t at 0 (omega arith) ∙ rw native.Mathlib.Nat.add-zero (w .long)) (le-part 2 68 t at 2 (omega arith) ∙ w .same),
+      let l : at + 68 ≤ length t = omega (arith, w .whole, w .header) in (
+        record-drive (part 68 t at) (bytes-part 68 t at bytes) (length-whole t at 1 68 h) (le-part 2 68 t at 0 (omega arith) ∙ rw native.Mathlib.Nat.add-zero (w .long)) (le-part 2 68 t at 2 (omega arith) ∙ w .same),
         l,
       )
 
@@ -71,17 +70,10 @@ module _ (t : List ℕ) (bytes : Bytes t) where
       let rest : part 4 t at ≡ drop at t = take-all 4 (drop at t) (simp length-drop (omega arith)) in
       rw (n, r .same, e₀, e₂, two, rest) (take-append-drop at t)
 
-  back : (k store at : ℕ) (b : Table) → Read t at b → readFrom k t store at b .answer ≡ Accepted → tableOf (readFrom k t store at b .table) ≡ t
-  unfolding readFrom
-  back zero store at b r e = impossible (cc)
-  back (suc k) store at b r e =
-      stepAt-cases (λ (s : Stepped). goOn (s .step) (s .table) (readFrom k t store) .answer ≡ Accepted → tableOf (goOn (s .step) (s .table) (readFrom k t store) .table) ≡ t) t at b store
-      (λ n p q. impossible (cc))
-      (λ h l q. last-read at b r h l)
-      (λ h z q. back k store (at + 68) (more b (driveOf (part 68 t at))) (next-read at b r (refusal-room b (driveOf (part 68 t at)) store z) h) q)
-      e
-
 -- demand 2: a drive table read and written back gives the same bytes
 pub write-read-table : (t : List ℕ) (store : ℕ) → Bytes t → readTable t store .answer ≡ Accepted → tableOf (readTable t store .table) ≡ t
 unfolding readTable recordsOf
-write-read-table t store b e = back t b 9 store 0 emptyTable (record { same = refl; eight = refl; most = omega arith; inside = omega arith }) e
+write-read-table t store b e =
+    let r = read-keeps (Read t) t store (λ at b′ r h z. next-read t b at b′ r (refusal-room b′ (driveOf (part 68 t at)) store z) h) 9 0 emptyTable (record { same = refl; eight = refl; most = omega arith; inside = omega arith }) in
+    let end = r .1 .1 e in
+    last-read t b (r .0) (readFrom 9 t store 0 emptyTable .table) (r .1 .0) (end .0) (end .1)

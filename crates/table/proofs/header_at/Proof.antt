@@ -1,11 +1,6 @@
-use Rattle.table.specs.declared.Header.the-variants.{Whole}
-use mathlib.Core.Path.{_≡_, sym, _∙_, ap}
-use mathlib.Core.Bool.{Bool, true, false}
-use Prim.Native.Nat.{ℕ, _+_, _-_}
-use denote.Ref.{now}
-use borrow.Author.Tests.{lt-ltb, le-ltb, not-true, not-false}
-use Rattle.words.specs.Words.{le}
-use Rattle.table.specs.Table.{headerAt, headerOf, isKind, lengthOk}
+use mathlib.Core.Path.{refl}
+use borrow.Author.Tests.{lt-ltb, le-ltb}
+use Rattle.table.proofs.TableLaws.{header-is}
 use borrow.Author.Needs.{needs}
 use Rattle.table.proofs.header_at.Statement.{statement}
 use Rattle.table.proofs.header_at.Tie as tie
@@ -20,8 +15,7 @@ bytes-left-requires : tie.Need-bytes-left-requires
 bytes-left-requires c κs = search needs
 
 returns : tie.Need-returns
-unfolding headerAt headerOf
-returns c = rw (lt-ltb _ _ (rw (c .before .bytes-left .ensures) at (c .if1 .taken)))
+returns c = rw (header-is _ _ (c .before .bytes-left .ensures) refl refl refl refl, lt-ltb _ _ (c .if1 .taken))
 
 get16-requires : tie.Need-get16-requires
 get16-requires c κs = search needs
@@ -36,47 +30,34 @@ is-kind-requires : tie.Need-is-kind-requires
 is-kind-requires c κs = search needs
 
 returns-2 : tie.Need-returns-2
-unfolding headerAt headerOf
 returns-2 c =
-    let a = c .before .before .before .before .before .before .before .args in
-    let left = le-ltb _ _ (rw (c .before .before .before .before .before .bytes-left .ensures) at (c .before .before .before .before .if1 .left)) in
-    let kind : isKind (le 2 (now (a .t)) (a .at + 2)) ≡ false = ap isKind (sym (c .before .before .get162 .ensures)) ∙ sym (c .before .is-kind .ensures) ∙ not-true _ (c .if2 .taken) in
-    rw (left, kind)
+    let r = c .before .before in
+    let h = header-is _ _ (r .before .before .before .bytes-left .ensures) (r .before .get16 .ensures) (r .get162 .ensures) (c .before .is-kind .ensures) refl in
+    rw (h, le-ltb _ _ (r .before .before .if1 .left), c .if2 .taken)
 
 length-ok-requires : tie.Need-length-ok-requires
 length-ok-requires c κs = search needs
 
 returns-3 : tie.Need-returns-3
-unfolding headerAt headerOf
 returns-3 c =
-    let a = c .before .before .before .before .before .before .before .before .before .args in
-    let left = le-ltb _ _ (rw (c .before .before .before .before .before .before .before .bytes-left .ensures) at (c .before .before .before .before .before .before .if1 .left)) in
-    let kind : isKind (le 2 (now (a .t)) (a .at + 2)) ≡ true = ap isKind (sym (c .before .before .before .before .get162 .ensures)) ∙ sym (c .before .before .before .is-kind .ensures) ∙ not-false _ (c .before .before .if2 .left) in
-    let size : lengthOk (le 2 (now (a .t)) (a .at + 2)) (le 2 (now (a .t)) (a .at)) ≡ false = rw (c .before .before .before .before .get162 .ensures, c .before .before .before .before .before .get16 .ensures) at (sym (c .before .length-ok .ensures) ∙ not-true _ (c .if3 .taken)) in
-    rw (left, kind, size)
+    let r = c .before .before .before .before in
+    let h = header-is _ _ (r .before .before .before .bytes-left .ensures) (r .before .get16 .ensures) (r .get162 .ensures) (c .before .before .before .is-kind .ensures) (c .before .length-ok .ensures) in
+    rw (h, le-ltb _ _ (r .before .before .if1 .left), c .before .before .if2 .left, c .if3 .taken)
 
 cast-whole : tie.Need-cast-whole
 cast-whole c = search needs
 
 returns-4 : tie.Need-returns-4
-unfolding headerAt headerOf
 returns-4 c =
-    let a = c .before .before .before .before .before .before .before .before .before .before .args in
-    let left = le-ltb _ _ (rw (c .before .before .before .before .before .before .before .before .bytes-left .ensures) at (c .before .before .before .before .before .before .before .if1 .left)) in
-    let kind : isKind (le 2 (now (a .t)) (a .at + 2)) ≡ true = ap isKind (sym (c .before .before .before .before .before .get162 .ensures)) ∙ sym (c .before .before .before .before .is-kind .ensures) ∙ not-false _ (c .before .before .before .if2 .left) in
-    let size : lengthOk (le 2 (now (a .t)) (a .at + 2)) (le 2 (now (a .t)) (a .at)) ≡ true = rw (c .before .before .before .before .before .get162 .ensures, c .before .before .before .before .before .before .get16 .ensures) at (sym (c .before .before .length-ok .ensures) ∙ not-false _ (c .before .if3 .left)) in
-    let cut = lt-ltb _ _ (rw (c .before .before .before .before .before .before .before .before .bytes-left .ensures, c .before .before .before .before .before .before .get16 .ensures) at (c .if4 .taken)) in
-    rw (left, kind, size, cut)
+    let r = c .before .before .before .before .before in
+    let h = header-is _ _ (r .before .before .before .bytes-left .ensures) (r .before .get16 .ensures) (r .get162 .ensures) (c .before .before .before .before .is-kind .ensures) (c .before .before .length-ok .ensures) in
+    rw (h, le-ltb _ _ (r .before .before .if1 .left), c .before .before .before .if2 .left, c .before .if3 .left, lt-ltb _ _ (c .if4 .taken))
 
 returns-5 : tie.Need-returns-5
-unfolding headerAt headerOf
 returns-5 c =
-    let a = c .before .before .before .before .before .before .before .before .before .before .args in
-    let left = le-ltb _ _ (rw (c .before .before .before .before .before .before .before .before .bytes-left .ensures) at (c .before .before .before .before .before .before .before .if1 .left)) in
-    let kind : isKind (le 2 (now (a .t)) (a .at + 2)) ≡ true = ap isKind (sym (c .before .before .before .before .before .get162 .ensures)) ∙ sym (c .before .before .before .before .is-kind .ensures) ∙ not-false _ (c .before .before .before .if2 .left) in
-    let size : lengthOk (le 2 (now (a .t)) (a .at + 2)) (le 2 (now (a .t)) (a .at)) ≡ true = rw (c .before .before .before .before .before .get162 .ensures, c .before .before .before .before .before .before .get16 .ensures) at (sym (c .before .before .length-ok .ensures) ∙ not-false _ (c .before .if3 .left)) in
-    let whole = le-ltb _ _ (rw (c .before .before .before .before .before .before .before .before .bytes-left .ensures, c .before .before .before .before .before .before .get16 .ensures) at (c .if4 .left)) in
-    rw (left, kind, size, whole, c .before .before .before .before .before .get162 .ensures, c .before .before .before .before .before .before .get16 .ensures)
+    let r = c .before .before .before .before .before in
+    let h = header-is _ _ (r .before .before .before .bytes-left .ensures) (r .before .get16 .ensures) (r .get162 .ensures) (c .before .before .before .before .is-kind .ensures) (c .before .before .length-ok .ensures) in
+    rw (h, le-ltb _ _ (r .before .before .if1 .left), c .before .before .before .if2 .left, c .before .if3 .left, le-ltb _ _ (c .if4 .left))
 
 pub header-at-spec : {M : Type 1} → statement M
 header-at-spec =

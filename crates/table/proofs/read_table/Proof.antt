@@ -1,13 +1,8 @@
 use borrow.Author.Needs.{needs}
 use native.Mathlib.Omega.{arith}
-use Prim.Native.Nat.{ℕ, _-_, _<_}
-use mathlib.Core.Path.{_≡_, refl, sym, ap, _∙_}
-use denote.Ref.{now}
-use lib.ListN.{length, length-set}
-use Rattle.table.specs.declared.Table.{Table}
-use Rattle.table.specs.Table.{mostRecords, readFrom, readTable}
-use Rattle.table.proofs.TableLaws.{refusal-room, readFrom-zero, reads-is}
-use Rattle.table.proofs.Runs.{Beside, beside-none, beside-more, among-is, read-done, read-refused, read-bad, read-more}
+use mathlib.Core.Path.{refl}
+use Prim.Native.Nat.{_<_}
+use Rattle.table.proofs.Runs.{Stands, stands-first, slot-left, reads-end, reads-done, reads-refused, reads-bad, stands-more}
 use Rattle.table.proofs.read_table.Statement.{statement}
 use Rattle.table.proofs.read_table.Tie as tie
 use Rattle.table.proofs.read_table.Reads as reads
@@ -17,8 +12,7 @@ use Rattle.table.proofs.found_at.Reads as found-at-reads
 use Rattle.table.proofs.refusal_among.Reads as refusal-among-reads
 
 abbrev Inv-loop : tie.InvT-loop
-Inv-loop t store at₀ b₀ firsts₀ sizes₀ left₀ at b firsts sizes left =
-    (readFrom left t store at b ≡ readFrom left₀ t store at₀ b₀) × (length (b .drives) ≡ 8) × (length firsts ≡ 8) × (length sizes ≡ 8) × Beside b firsts sizes
+Inv-loop t store at₀ b₀ firsts₀ sizes₀ left₀ at b firsts sizes left = Stands t store left at b firsts sizes
 
 abbrev μ-loop : tie.MeasureT-loop
 μ-loop t store at₀ b₀ firsts₀ sizes₀ left₀ at b firsts sizes left = left
@@ -27,9 +21,7 @@ empty-table-requires : tie.Need-empty-table-requires Inv-loop μ-loop
 empty-table-requires c κs = search needs
 
 loop-holds : tie.Need-loop-holds Inv-loop μ-loop
-loop-holds c =
-    let e = c .empty-table .ensures in
-    (refl, ap (λ (b : Table). length (b .drives)) e, refl, refl, beside-none _ _ _ (ap (λ (b : Table). b .count) e))
+loop-holds c = stands-first _ _ _ _ (c .empty-table .ensures) refl refl
 
 found-at-requires : tie.Need-found-at-requires Inv-loop μ-loop
 found-at-requires c κs = search needs
@@ -41,79 +33,34 @@ refusal-among-requires : tie.Need-refusal-among-requires Inv-loop μ-loop
 refusal-among-requires c κs = search needs
 
 returns : tie.Need-returns Inv-loop μ-loop
-unfolding readTable
 returns c =
-    let l = c .before .before .before .before .before .before .before .before .before .before in
-    let a = l .before .before .before .args in
-    let f = c .before .before .before .before .before .before .before .before .found-at in
-    let r = c .before .refusal-among .ensures ∙ among-is (l .loop .b) (l .loop .firsts) (l .loop .sizes) (f .result .drive) (a .store) (l .loop .inv .4) in
-    let s = c .before .before .before .before .before .s .given in
-    reads-is (now (a .t)) (a .store)
-    (read-bad (now (a .t)) (l .loop .at) (l .loop .b) (a .store) (l .loop .left) (c .before .before .before .before .before .before .before .before .before .loop-test .taken) (f .ensures) (s .0 .0) (s .1) r (c .if1 .taken)
-    ∙ l .loop .inv .0 ∙ ap (λ (b : Table). readFrom mostRecords (now (a .t)) (a .store) 0 b) (l .before .empty-table .ensures))
+    let f = c .before .before .before .before .before .before .before .before in
+    reads-bad (f .before .before .loop .inv) (f .before .loop-test .taken) (f .found-at .ensures) _ (c .before .before .before .before .before .s .given .1) (c .before .refusal-among .ensures) (c .if1 .taken)
+
+-- the drive that was found has a slot
+slot : (c : tie.Else1 Inv-loop μ-loop) → c .before .before .before .before .before .before .before .before .before .before .loop .b .count < 8
+slot c = slot-left _ _ _ _ _ (c .before .refusal-among .ensures) (c .if1 .left)
 
 mul-d : tie.Need-mul-d Inv-loop μ-loop
-mul-d c =
-    let l = c .before .before .before .before .before .before .before .before .before .before in
-    let a = l .before .before .before .args in
-    let f = c .before .before .before .before .before .before .before .before .found-at in
-    let r = c .before .refusal-among .ensures ∙ among-is (l .loop .b) (l .loop .firsts) (l .loop .sizes) (f .result .drive) (a .store) (l .loop .inv .4) in
-    let z = refusal-room (l .loop .b) (f .result .drive) (a .store) (sym r ∙ c .if1 .left) in
-    omega (arith, z)
+mul-d c = omega (arith, slot c)
 
 element-set-from-d : tie.Need-element-set-from-d Inv-loop μ-loop
-element-set-from-d c =
-    let l = c .before .before .before .before .before .before .before .before .before .before in
-    let a = l .before .before .before .args in
-    let f = c .before .before .before .before .before .before .before .before .found-at in
-    let r = c .before .refusal-among .ensures ∙ among-is (l .loop .b) (l .loop .firsts) (l .loop .sizes) (f .result .drive) (a .store) (l .loop .inv .4) in
-    let z = refusal-room (l .loop .b) (f .result .drive) (a .store) (sym r ∙ c .if1 .left) in
-    omega (arith, l .loop .inv .1, z)
+element-set-from-d c = omega (arith, slot c, c .before .before .before .before .before .before .before .before .before .before .loop .inv .eight .0)
 
 add-b : tie.Need-add-b Inv-loop μ-loop
-add-b c =
-    let l = c .before .before .before .before .before .before .before .before .before .before in
-    let a = l .before .before .before .args in
-    let f = c .before .before .before .before .before .before .before .before .found-at in
-    let r = c .before .refusal-among .ensures ∙ among-is (l .loop .b) (l .loop .firsts) (l .loop .sizes) (f .result .drive) (a .store) (l .loop .inv .4) in
-    let z = refusal-room (l .loop .b) (f .result .drive) (a .store) (sym r ∙ c .if1 .left) in
-    omega (arith, z)
+add-b c = omega (arith, slot c)
 
 mul-firsts : tie.Need-mul-firsts Inv-loop μ-loop
-mul-firsts c =
-    let l = c .before .before .before .before .before .before .before .before .before .before in
-    let a = l .before .before .before .args in
-    let f = c .before .before .before .before .before .before .before .before .found-at in
-    let r = c .before .refusal-among .ensures ∙ among-is (l .loop .b) (l .loop .firsts) (l .loop .sizes) (f .result .drive) (a .store) (l .loop .inv .4) in
-    let z = refusal-room (l .loop .b) (f .result .drive) (a .store) (sym r ∙ c .if1 .left) in
-    omega (arith, z)
+mul-firsts c = omega (arith, slot c)
 
 array-write-firsts : tie.Need-array-write-firsts Inv-loop μ-loop
-array-write-firsts c =
-    let l = c .before .before .before .before .before .before .before .before .before .before in
-    let a = l .before .before .before .args in
-    let f = c .before .before .before .before .before .before .before .before .found-at in
-    let r = c .before .refusal-among .ensures ∙ among-is (l .loop .b) (l .loop .firsts) (l .loop .sizes) (f .result .drive) (a .store) (l .loop .inv .4) in
-    let z = refusal-room (l .loop .b) (f .result .drive) (a .store) (sym r ∙ c .if1 .left) in
-    omega (arith, l .loop .inv .2, z)
+array-write-firsts c = omega (arith, slot c, c .before .before .before .before .before .before .before .before .before .before .loop .inv .eight .1)
 
 mul-sizes : tie.Need-mul-sizes Inv-loop μ-loop
-mul-sizes c =
-    let l = c .before .before .before .before .before .before .before .before .before .before in
-    let a = l .before .before .before .args in
-    let f = c .before .before .before .before .before .before .before .before .found-at in
-    let r = c .before .refusal-among .ensures ∙ among-is (l .loop .b) (l .loop .firsts) (l .loop .sizes) (f .result .drive) (a .store) (l .loop .inv .4) in
-    let z = refusal-room (l .loop .b) (f .result .drive) (a .store) (sym r ∙ c .if1 .left) in
-    omega (arith, z)
+mul-sizes c = omega (arith, slot c)
 
 array-write-sizes : tie.Need-array-write-sizes Inv-loop μ-loop
-array-write-sizes c =
-    let l = c .before .before .before .before .before .before .before .before .before .before in
-    let a = l .before .before .before .args in
-    let f = c .before .before .before .before .before .before .before .before .found-at in
-    let r = c .before .refusal-among .ensures ∙ among-is (l .loop .b) (l .loop .firsts) (l .loop .sizes) (f .result .drive) (a .store) (l .loop .inv .4) in
-    let z = refusal-room (l .loop .b) (f .result .drive) (a .store) (sym r ∙ c .if1 .left) in
-    omega (arith, l .loop .inv .3, z)
+array-write-sizes c = omega (arith, slot c, c .before .before .before .before .before .before .before .before .before .before .loop .inv .eight .2)
 
 sub-left : tie.Need-sub-left Inv-loop μ-loop
 sub-left c = search needs
@@ -123,53 +70,23 @@ loop-less c = search needs
 
 loop-again : tie.Need-loop-again Inv-loop μ-loop
 loop-again c =
-    let l = c .before .before .before .before .before .before .before .before .before .before in
-    let a = l .before .before .before .args in
-    let f = c .before .before .before .before .before .before .before .before .found-at in
-    let r = c .before .refusal-among .ensures ∙ among-is (l .loop .b) (l .loop .firsts) (l .loop .sizes) (f .result .drive) (a .store) (l .loop .inv .4) in
-    let z = refusal-room (l .loop .b) (f .result .drive) (a .store) (sym r ∙ c .if1 .left) in
-    let s = c .before .before .before .before .before .s .given in (
-      read-more (now (a .t)) (l .loop .at) (l .loop .b) (a .store) (l .loop .left) (c .before .before .before .before .before .before .before .before .before .loop-test .taken) (f .ensures) (s .0 .0) (s .1) r (c .if1 .left)
-          ∙ l .loop .inv .0,
-      length-set (l .loop .b .drives) (l .loop .b .count) (f .result .drive) ∙ l .loop .inv .1,
-      length-set (l .loop .firsts) (l .loop .b .count) (f .result .drive .first) ∙ l .loop .inv .2,
-      length-set (l .loop .sizes) (l .loop .b .count) (f .result .drive .blocks) ∙ l .loop .inv .3,
-      beside-more (l .loop .b) (l .loop .firsts) (l .loop .sizes) (f .result .drive) (l .loop .inv .1) (l .loop .inv .2) (l .loop .inv .3) z (l .loop .inv .4),
-    )
+    let f = c .before .before .before .before .before .before .before .before in
+    stands-more (f .before .before .loop .inv) (f .before .loop-test .taken) (f .found-at .ensures) _ (c .before .before .before .before .before .s .given .1) (c .before .refusal-among .ensures) (c .if1 .left)
 
 enum-told : tie.Need-enum-told Inv-loop μ-loop
 enum-told c = search needs
 
 returns-2 : tie.Need-returns-2 Inv-loop μ-loop
-unfolding readTable
-returns-2 c =
-    let l = c .before .before .before .before .before in
-    let a = l .before .before .before .args in
-    reads-is (now (a .t)) (a .store)
-    (read-done (now (a .t)) (l .loop .at) (l .loop .b) (a .store) (l .loop .left) (c .before .before .before .before .loop-test .taken) (c .before .before .before .found-at .ensures) (c .enum-told .given .1)
-    ∙ l .loop .inv .0 ∙ ap (λ (b : Table). readFrom mostRecords (now (a .t)) (a .store) 0 b) (l .before .empty-table .ensures))
+returns-2 c = let f = c .before .before .before in reads-done (f .before .before .loop .inv) (f .before .loop-test .taken) (f .found-at .ensures) (c .enum-told .given .1)
 
 enum-known-s-2 : tie.Need-enum-known-s-2 Inv-loop μ-loop
 enum-known-s-2 c = search needs
 
 returns-3 : tie.Need-returns-3 Inv-loop μ-loop
-unfolding readTable
-returns-3 c =
-    let l = c .before .before .before .before .before .before in
-    let a = l .before .before .before .args in
-    let s = c .before .s2 .given in
-    reads-is (now (a .t)) (a .store)
-    (read-refused (now (a .t)) (l .loop .at) (l .loop .b) (a .store) (l .loop .left) (c .before .before .before .before .before .loop-test .taken) (c .before .before .before .before .found-at .ensures) (s .0 .0) (s .0 .1 .0) (s .1)
-    ∙ l .loop .inv .0 ∙ ap (λ (b : Table). readFrom mostRecords (now (a .t)) (a .store) 0 b) (l .before .empty-table .ensures))
+returns-3 c = let f = c .before .before .before .before in reads-refused (f .before .before .loop .inv) (f .before .loop-test .taken) (f .found-at .ensures) _ _ (c .before .s2 .given .1)
 
 returns-4 : tie.Need-returns-4 Inv-loop μ-loop
-unfolding readTable
-returns-4 c =
-    let l = c .before in
-    let a = l .before .before .before .args in
-    reads-is (now (a .t)) (a .store)
-    (readFrom-zero (l .loop .left) (now (a .t)) (a .store) (l .loop .at) (l .loop .b) (omega arith)
-    ∙ l .loop .inv .0 ∙ ap (λ (b : Table). readFrom mostRecords (now (a .t)) (a .store) 0 b) (l .before .empty-table .ensures))
+returns-4 c = reads-end (c .before .loop .inv) (omega arith)
 
 pub read-table-spec : {M : Type 1} → statement M
 read-table-spec =

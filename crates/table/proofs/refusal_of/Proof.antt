@@ -3,7 +3,7 @@ use native.Mathlib.Omega.{arith}
 use Prim.Native.Nat.{ℕ, _-_, _≤_, _<_}
 use mathlib.Core.Path.{_≡_, refl, sym, ap, _∙_}
 use lib.ListN.{length, length-set}
-use Rattle.table.proofs.Runs.{BesideTo, to-none, to-more, among-eight}
+use Rattle.table.proofs.Runs.{Beside, beside-none, beside-more, among-eight}
 use Rattle.table.proofs.refusal_of.Statement.{statement}
 use Rattle.table.proofs.refusal_of.Tie as tie
 use Rattle.table.proofs.refusal_of.Reads as reads
@@ -11,13 +11,13 @@ use Rattle.table.proofs.refusal_of.Lts as lts
 use Rattle.table.proofs.refusal_among.Reads as refusal-among-reads
 
 abbrev Inv-loop : tie.InvT-loop
-Inv-loop b d store drives firsts₀ sizes₀ i₀ firsts sizes i = (i ≤ 8) × (length firsts ≡ 8) × (length sizes ≡ 8) × BesideTo i drives firsts sizes
+Inv-loop b d store drives firsts₀ sizes₀ i₀ firsts sizes i = (i ≤ 8) × (length firsts ≡ 8) × (length sizes ≡ 8) × Beside i drives firsts sizes
 
 abbrev μ-loop : tie.MeasureT-loop
 μ-loop b d store drives firsts₀ sizes₀ i₀ firsts sizes i = 8 - i
 
 loop-holds : tie.Need-loop-holds Inv-loop μ-loop
-loop-holds c = (search needs, refl, refl, to-none _ _ _)
+loop-holds c = (search needs, refl, refl, beside-none 0 _ _ _ refl)
 
 mul-e : tie.Need-mul-e Inv-loop μ-loop
 mul-e c = search needs
@@ -50,7 +50,7 @@ loop-again c =
       search needs,
       length-set (l .loop .firsts) (l .loop .i) _ ∙ l .loop .inv .1,
       length-set (l .loop .sizes) (l .loop .i) _ ∙ l .loop .inv .2,
-      to-more (l .loop .i) (l .before .before .args .b .drives) (l .loop .firsts) (l .loop .sizes) (omega (arith, q, l .loop .inv .1)) (omega (arith, q, l .loop .inv .2)) (l .loop .inv .3),
+      beside-more (l .loop .i) _ _ (l .loop .firsts) (l .loop .sizes) _ (omega (arith, q, l .loop .inv .1)) (omega (arith, q, l .loop .inv .2)) refl (λ i h. refl) (l .loop .inv .3),
     )
 
 refusal-among-requires : tie.Need-refusal-among-requires Inv-loop μ-loop
