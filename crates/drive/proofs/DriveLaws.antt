@@ -30,16 +30,11 @@ pub size-stores : (s : List ℕ) (d : Drive) → sets s 16 (sizeBytes d)
 unfolding sizeBytes
 size-stores s d = simp (sets-append, length-leBytes)
 
-name-stores : (s : List ℕ) (d : Drive) → length (d .bus) ≡ 4 → length (d .interface) ≡ 8 → length (d .path) ≡ 8
+pub name-stores : (s : List ℕ) (d : Drive) → length (d .bus) ≡ 4 → length (d .interface) ≡ 8 → length (d .path) ≡ 8
     → sets s 38 (nameBytes d)
     ≡ sets (sets (sets (sets (set (set s 38 (d .s)) 39 (d .protection)) 40 (d .bus)) 44 (d .interface)) 52 (d .path)) 60 (d .device)
 unfolding nameBytes
 name-stores s d hb hi hp = simp (sets-append, hb, hi, hp)
-
-pub name-chain : {o₁ o₂ o₃ o₄ o₅ o₆ : List ℕ} (s : List ℕ) (d : Drive) → length (d .bus) ≡ 4 → length (d .interface) ≡ 8 → length (d .path) ≡ 8
-    → o₁ ≡ set s 38 (d .s) → o₂ ≡ set o₁ 39 (d .protection) → o₃ ≡ sets o₂ 40 (d .bus) → o₄ ≡ sets o₃ 44 (d .interface)
-    → o₅ ≡ sets o₄ 52 (d .path) → o₆ ≡ sets o₅ 60 (d .device) → o₆ ≡ sets s 38 (nameBytes d)
-name-chain s d hb hi hp e₁ e₂ e₃ e₄ e₅ e₆ = rw (e₆, e₅, e₄, e₃, e₂, e₁) (sym (name-stores s d hb hi hp))
 
 length-geometry : (d : Drive) → length (geometryBytes d) ≡ 16
 unfolding geometryBytes

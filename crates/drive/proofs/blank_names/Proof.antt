@@ -31,7 +31,9 @@ and-requires-3 c κs = search needs
 
 returns : tie.Need-returns
 unfolding blankNames
-returns c = cc
+returns c =
+    let n = c .before .before .before in
+    rw (c .and3 .ensures, c .before .and2 .ensures, c .before .before .and .ensures, n .blank83 .ensures, n .before .blank82 .ensures, n .before .before .blank8 .ensures, n .before .before .before .blank4 .ensures)
 
 pub blank-names-spec : {M : Type 1} → statement M
 blank-names-spec =

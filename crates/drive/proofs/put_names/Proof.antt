@@ -1,7 +1,7 @@
 use Prim.Native.Nat.{ℕ}
 use denote.Ref.{now}
 use borrow.Author.Needs.{length-unmapped}
-use Rattle.drive.proofs.DriveLaws.{name-chain}
+use Rattle.drive.proofs.DriveLaws.{name-stores}
 use borrow.Author.Needs.{needs}
 use Rattle.drive.proofs.put_names.Statement.{statement}
 use Rattle.drive.proofs.put_names.Tie as tie
@@ -34,11 +34,16 @@ same-length c = search needs
 
 returns : tie.Need-returns
 returns c =
-    let b = c .before .before .before .before .before .before .before .before .before .before .before .before .before .before .before .before .before .before .before .before .before .before .before .before .before .before .before .before .before in
-    let a = b .args in
-    let g = b .good .0 in
-    name-chain (now (a .out)) (a .d) (length-unmapped ℕ (a .d .bus) 4 (g .1 .1 .1 .1 .1 .1 .1 .1 .1 .1 .1 .1 .0 .1 .0 .1)) (length-unmapped ℕ (a .d .interface) 8 (g .1 .1 .1 .1 .1 .1 .1 .1 .1 .1 .1 .1 .1 .0 .1 .0 .1)) (length-unmapped ℕ (a .d .path) 8 (g .1 .1 .1 .1 .1 .1 .1 .1 .1 .1 .1 .1 .1 .1 .0 .1 .0 .1))
-    (c .before .before .before .before .before .before .before .before .before .before .before .before .before .before .before .before .before .before .before .before .before .before .before .before .before .before .put-byte .ensures) (c .before .before .before .before .before .before .before .before .before .before .before .before .before .before .before .before .before .before .before .before .before .before .put-byte2 .ensures) (c .before .before .before .before .before .before .before .before .before .before .before .before .before .before .store4 .ensures) (c .before .before .before .before .before .before .before .before .before .before .store8 .ensures) (c .before .before .before .before .before .before .store82 .ensures) (c .before .before .store83 .ensures)
+    let s₆ = c .before .before in
+    let s₅ = s₆ .before .before .before .before in
+    let s₄ = s₅ .before .before .before .before in
+    let s₃ = s₄ .before .before .before .before in
+    let s₂ = s₃ .before .before .before .before .before .before .before .before in
+    let s₁ = s₂ .before .before .before .before in
+    let b = s₁ .before .before .before in
+    let d = b .args .d in
+    let g = b .good .0 .1 .1 .1 .1 .1 .1 .1 .1 .1 .1 .1 .1 in
+    rw (s₆ .store83 .ensures, s₅ .store82 .ensures, s₄ .store8 .ensures, s₃ .store4 .ensures, s₂ .put-byte2 .ensures, s₁ .put-byte .ensures, name-stores (now (b .args .out)) d (length-unmapped ℕ (d .bus) 4 (g .0 .1 .0 .1)) (length-unmapped ℕ (d .interface) 8 (g .1 .0 .1 .0 .1)) (length-unmapped ℕ (d .path) 8 (g .1 .1 .0 .1 .0 .1)))
 
 pub put-names-spec : {M : Type 1} → statement M
 put-names-spec =
