@@ -4,10 +4,10 @@ use mathlib.Core.Path.{_≡_, refl, sym, ap, _∙_}
 use mathlib.Core.Bool.{Bool, true, false, not}
 use mathlib.Core.List.{List, [], _∷_}
 use Prim.Native.Nat.{ℕ, zero, suc, _+_, _-_, _*_, _≤_, _<_, min}
-use native.Mathlib.Nat.{zero-add, suc-add, add-assoc}
+use native.Mathlib.Nat.{zero-add, suc-add}
 use native.Mathlib.Omega.{arith}
 use lib.ListN.{length, take, drop, getD, length-take}
-use lib.Seq.{take-take, getD-take, take-nil, drop-nil}
+use lib.Seq.{take-take, getD-take, take-nil}
 use lib.Dec.{ltb}
 use Rattle.logic.specs.Logic.{pick}
 use Rattle.logic.proofs.LogicLaws.{leb-iff}
@@ -17,10 +17,7 @@ use Rattle.drive.specs.Drive.{driveOf}
 use Rattle.table.specs.declared.Table.{Table}
 use Rattle.table.specs.declared.Header.{Header}
 use Rattle.table.specs.declared.Header.the-variants.{Whole, Bad}
-use Rattle.table.specs.declared.Step.{Step}
-use Rattle.table.specs.declared.Step.the-variants.{Next, Done, Refused}
 use Rattle.table.specs.declared.Stepped.{Stepped}
-use Rattle.table.specs.declared.Reading.{Reading}
 use Rattle.table.specs.Table.{isKind, lengthOk, headerAt, headerOf, more, goOn, endStep, stepOf, stepAt, readFrom, readTable, emptyTable}
 use Rattle.table.proofs.TableLaws.{stepAt-cases, whole-at, lengthOk-most}
 

@@ -1,15 +1,15 @@
 -- Nine records are enough: the bound of the reader is no rule of its own.
 -- Assumes nothing.
-use mathlib.Core.Path.{_≡_, refl, sym, ap, _∙_}
+use mathlib.Core.Path.{_≡_, refl, _∙_}
 use mathlib.Core.List.{List}
-use Prim.Native.Nat.{ℕ, zero, suc, _+_, _≤_, _<_}
+use Prim.Native.Nat.{ℕ, zero, suc, _+_, _≤_}
 use native.Mathlib.Nat.{add-zero, add-suc}
 use native.Mathlib.Omega.{arith}
 use Rattle.table.specs.declared.Table.{Table}
 use Rattle.table.specs.declared.Stepped.{Stepped}
 use Rattle.drive.specs.Drive.{driveOf}
 use Rattle.words.specs.Words.{part}
-use Rattle.table.specs.Table.{more, goOn, stepAt, readFrom, readTable, emptyTable}
+use Rattle.table.specs.Table.{more, goOn, readFrom, readTable, emptyTable}
 use Rattle.table.proofs.TableLaws.{stepAt-cases, refusal-room}
 
 one-more : (k : ℕ) (t : List ℕ) (store at : ℕ) (b : Table) → b .count ≤ 8 → 9 ≤ k + b .count → readFrom (suc k) t store at b ≡ readFrom k t store at b

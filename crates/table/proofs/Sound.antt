@@ -1,27 +1,26 @@
 -- What the rules of the drive table say of each drive, and that a table which was accepted obeys them.
 -- Assumes nothing.
-use Prim.Native.Nat.{ℕ, zero, suc, _+_, _≤_, _<_}
-use mathlib.Core.Path.{_≡_, refl, sym, ap, _∙_}
+use Prim.Native.Nat.{ℕ, _+_, _≤_, _<_}
+use mathlib.Core.Path.{_≡_, refl, ap, _∙_}
 use mathlib.Core.Logic.{⊎-elim, _≢_}
-use mathlib.Core.Bool.{Bool, true, false}
+use mathlib.Core.Bool.{true}
 use mathlib.Core.List.{List}
 use native.Mathlib.Omega.{arith}
 use native.Mathlib.Numerals.{add-one}
 use native.Mathlib.Decide.{ℕ-discrete}
-use lib.ListN.{length, getD, set, drop, length-drop, length-set, getD-replicate}
-use lib.Seq.{getD-set-same, getD-set-other, length-take-le}
+use lib.ListN.{length, getD, set, length-set, getD-replicate}
+use lib.Seq.{getD-set-same, getD-set-other}
 use lib.Dec.{leb, ltb, eqb}
 use borrow.Author.Tests.{leb-true, lt-ltb, le-ltb, le-leb, eqb-true, eq-eqb}
-use Rattle.logic.specs.Logic.{both, either, allBelow, someBelow}
-use Rattle.logic.proofs.LogicLaws.{impossible, both-true, both-intro, either-left, either-right, lt-or-le, all-at, all-intro, all-ext, some-ext}
+use Rattle.logic.specs.Logic.{both}
+use Rattle.logic.proofs.LogicLaws.{both-true, both-intro, either-left, either-right, lt-or-le, all-at, all-intro, all-ext, some-ext}
 use Rattle.words.specs.Words.{part}
 use Rattle.drive.specs.declared.Drive.{Drive}
 use Rattle.drive.specs.Drive.{driveOf, fieldsOk, inStore, overlap, same, isBlank, blankNumbers, blankNames}
 use Rattle.drive.proofs.DriveLaws.{Arrays, arrays-drive}
 use Rattle.table.specs.declared.Table.{Table}
-use Rattle.table.specs.declared.Stepped.{Stepped}
 use Rattle.table.specs.declared.Answer.the-variants.{Accepted}
-use Rattle.table.specs.Table.{noDrive, zeroDrive, emptyTable, overlapsAny, refusal, more, goOn, readFrom, readTable, firstDrives, takenAt, soundTo, blankAt, blankTo, isSound}
+use Rattle.table.specs.Table.{noDrive, zeroDrive, emptyTable, overlapsAny, refusal, more, readFrom, readTable, firstDrives, takenAt, soundTo, blankAt, blankTo, isSound}
 use Rattle.table.proofs.TableLaws.{refusal-room, refusal-taken, length-whole, read-keeps}
 
 -- ---- a drive that is taken

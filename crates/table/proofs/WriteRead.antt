@@ -1,23 +1,20 @@
 -- A table that is accepted, written back, gives the same bytes.
 -- Assumes nothing.
 use mathlib.Core.Path.{_≡_, refl, sym, ap, _∙_}
-use mathlib.Core.List.{List, [], _∷_, _++_}
-use Prim.Native.Nat.{ℕ, zero, suc, _+_, _-_, _≤_, _<_}
-use native.Mathlib.Nat.{zero-add}
+use mathlib.Core.List.{List, _++_}
+use Prim.Native.Nat.{ℕ, _+_, _-_, _≤_, _<_}
 use native.Mathlib.Omega.{arith}
-use lib.ListN.{length, take, drop, getD, set, length-drop, length-set, take-append-drop}
-use lib.Seq.{take-all, take-add, length-take-le, getD-take, getD-drop, getD-set-same, getD-set-other, drop-drop}
-use Rattle.logic.proofs.LogicLaws.{impossible}
+use lib.ListN.{length, take, drop, length-drop, length-set, take-append-drop}
+use lib.Seq.{take-all, take-add, getD-take, getD-drop, getD-set-same, getD-set-other, drop-drop}
 use Rattle.words.specs.Words.{Bytes, le, leBytes, part}
 use Rattle.words.proofs.WordsLaws.{le-ext, write-read, bytes-part}
 use Rattle.drive.specs.declared.Drive.{Drive}
 use Rattle.drive.specs.Drive.{driveOf, recordOf}
 use Rattle.drive.proofs.DriveLaws.{record-drive}
 use Rattle.table.specs.declared.Table.{Table}
-use Rattle.table.specs.declared.Stepped.{Stepped}
 use Rattle.table.specs.declared.Header.the-variants.{Whole}
 use Rattle.table.specs.declared.Answer.the-variants.{Accepted}
-use Rattle.table.specs.Table.{noDrive, headerAt, more, goOn, stepAt, readFrom, readTable, emptyTable, recordsOf, endRecord, bytesOf, drivesOf, tableOf}
+use Rattle.table.specs.Table.{noDrive, headerAt, more, readFrom, readTable, emptyTable, recordsOf, bytesOf, drivesOf, tableOf}
 use Rattle.table.proofs.TableLaws.{whole-at, length-whole, refusal-room, read-keeps, recordsOf-more, recordsOf-ext, length-drives}
 
 -- the drives so far are the bytes so far

@@ -2,14 +2,14 @@
 -- Assumes nothing.
 use Prim.Native.Nat.{ℕ, zero, suc, _+_, _-_}
 use mathlib.Core.Path.{_≡_}
-use mathlib.Core.Bool.{Bool, true, false, not}
+use mathlib.Core.Bool.{Bool, not}
 use mathlib.Core.List.{List, [], _∷_, _++_}
 use lib.ListN.{length, getD, set, take, drop, replicate}
 use lib.Dec.{leb, ltb, eqb}
 use Rattle.logic.specs.Logic.{pick, both, either, allBelow, someBelow}
 use Rattle.words.specs.Words.{le, leBytes, part}
 use Rattle.drive.specs.declared.Drive.{Drive}
-use Rattle.drive.specs.Drive.{Fits, driveKind, driveLength, driveOf, recordOf, fieldsOk, inStore, overlap, isBlank}
+use Rattle.drive.specs.Drive.{driveKind, driveLength, driveOf, recordOf, fieldsOk, inStore, overlap, isBlank}
 use Rattle.table.specs.declared.Table.{Table}
 use Rattle.table.specs.declared.Header.{Header}
 use Rattle.table.specs.declared.Header.the-variants.{Whole, Bad}
@@ -234,18 +234,6 @@ overlapsRun n firsts sizes d = someBelow n (λ i. overlapRuns (d .first) (d .blo
 -- the refusal of a drive after n others, of which it is given the runs
 unfoldable pub refusalAmong : ℕ → List ℕ → List ℕ → Drive → ℕ → ℕ
 refusalAmong n firsts sizes d store = refusalBy n (overlapsRun n firsts sizes d) d store
-
--- ---- "The drive table", a list of drives that obeys the rules
-
--- the drives so far with a list of more
-abbrev pub pushAll : Table → List Drive → Table
-pushAll b [] = b
-pushAll b (d ∷ ds) = pushAll (more b d) ds
-
--- each drive fits its fields and is taken after those before it
-pub data Taken (store : ℕ) : Table → List Drive → Type 0 where
-  none : {b : Table} → Taken store b []
-  one : {b : Table} {d : Drive} {ds : List Drive} → Fits d → refusal b d store ≡ 0 → Taken store (more b d) ds → Taken store b (d ∷ ds)
 
 -- ---- "Calls the host makes", write: the table written back
 

@@ -1,4 +1,4 @@
-use mathlib.Core.Path.{_≡_, sym, _∙_}
+use mathlib.Core.Path.{sym, _∙_}
 use denote.Ref.{now}
 use Rattle.table.proofs.TableLaws.{refusal-room, record-next, record-refused}
 use borrow.Author.Needs.{needs}

@@ -1,7 +1,7 @@
 -- `table::record_at` meets its contract: a walk of its MIR, by hand. The `Reader` that `new` returns is held in a local and passed to `step`, and of the reader that comes back the cursor is the result. All that the proof knows of the two is that each meets its contract.
 -- The machine value that `new` returns is stored and passed on as it is. In a local of a body MIR erases the lifetime of the struct's type, so the value is shown to have the type at `erased`: what the struct owns does not say the lifetime's name.
 -- Assumes nothing.
-use mathlib.Core.Path.{_≡_, refl, ap, _∙_}
+use mathlib.Core.Path.{_≡_, refl, ap}
 use Prim.Native.Nat.{ℕ, _<_, _^_}
 use mathlib.Core.List.{List, [], _∷_}
 use lib.ListN.{length}

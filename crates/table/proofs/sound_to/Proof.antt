@@ -1,8 +1,8 @@
 use Rattle.logic.proofs.LogicLaws.{some-more, all-more}
 use Rattle.table.proofs.TableLaws.{taken-is}
 use Rattle.table.specs.Table.{overlapsAny, soundTo}
-use mathlib.Core.Path.{_≡_, refl, ap, sym, _∙_}
-use Prim.Native.Nat.{ℕ, _≤_, _-_}
+use mathlib.Core.Path.{_≡_, refl, _∙_}
+use Prim.Native.Nat.{_≤_, _-_}
 use native.Mathlib.Omega.{arith}
 use borrow.Author.Needs.{needs}
 use Rattle.table.proofs.sound_to.Statement.{statement}
