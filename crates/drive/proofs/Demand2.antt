@@ -1,7 +1,6 @@
 -- Each field of a drive at its offset in the record.
 -- Assumes nothing.
 use mathlib.Core.Path.{_≡_, refl, ap}
-use Prim.Native.Nat.{ℕ}
 use Rattle.words.specs.Words.{le, leBytes}
 use Rattle.drive.specs.declared.Drive.{Drive}
 use Rattle.drive.specs.Drive.{driveOf, recordOf, geometryBytes}

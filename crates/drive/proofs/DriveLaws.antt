@@ -7,16 +7,16 @@ use Prim.Native.Nat.{ℕ, zero, suc, _+_, _-_, _≤_, _<_}
 use native.Mathlib.Omega.{arith}
 use mathlib.Core.Bool.{Bool, true, false}
 use lib.Dec.{leb, ltb, eqb}
-use borrow.Author.Tests.{eq-eqb, eqb-true, eqb-false, le-leb, lt-leb, leb-true, leb-false, lt-ltb, le-ltb, ltb-true, ltb-false}
+use borrow.Author.Tests.{eq-eqb, eqb-true, eqb-false, le-leb, lt-leb, leb-true, leb-false, lt-ltb, ltb-true}
 use Rattle.logic.specs.Logic.{pick, both}
 use Rattle.logic.proofs.LogicLaws.{impossible, both-true, leb-iff}
-use lib.ListN.{length, getD, set, take, drop, replicate, length-append, length-drop}
+use lib.ListN.{length, getD, set, take, drop, length-append, length-drop}
 use lib.Seq.{sets, take-at, drop-at, drop-drop, take-all, take-add, drop-cons, length-take-le}
 use Rattle.chs.specs.Chs.{inLimits, size}
 use Rattle.words.specs.Words.{Bytes, le, leBytes, part}
 use Rattle.words.proofs.WordsLaws.{sets-append, sets-whole, length-leBytes, read-write, write-read, same-bytes, le-lt}
 use Rattle.drive.specs.declared.Drive.{Drive}
-use Rattle.drive.specs.Drive.{driveOf, recordOf, geometryBytes, sizeBytes, nameBytes, Fits, Holds, same, busOk, interfaceOk, geometryOf, geometryFits, fieldsOk, inStore, overlap}
+use Rattle.drive.specs.Drive.{driveOf, recordOf, geometryBytes, sizeBytes, nameBytes, Fits, Holds, same, busOk, interfaceOk, geometryOf, geometryFits, fieldsOk, overlap}
 
 -- ---- what the code stores
 

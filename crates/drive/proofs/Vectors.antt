@@ -1,13 +1,12 @@
 -- A drive by number: every field with a value of its own, so that no two can be exchanged and none ignored.
 -- Assumes nothing.
 use mathlib.Core.Path.{_≡_, refl}
-use mathlib.Core.Bool.{Bool, true, false}
+use mathlib.Core.Bool.{true, false}
 use mathlib.Core.List.{List, [], _∷_, _++_, map}
 use Prim.Native.Nat.{ℕ}
-use lib.ListN.{getD, set, replicate}
+use lib.ListN.{set, replicate}
 use lib.Seq.{sets}
 use Rattle.words.specs.Words.{le, leBytes}
-use Rattle.chs.specs.declared.Geometry.{Geometry}
 use Rattle.chs.specs.Chs.{inLimits}
 use Rattle.drive.specs.declared.Drive.{Drive}
 use Rattle.drive.specs.Drive.{driveOf, recordOf, geometryBytes, sizeBytes, nameBytes, same, busOk, interfaceOk, geometryOf, geometryFits, fieldsOk, inStore, overlap, isProtected, blankNumbers, blankNames, isBlank}

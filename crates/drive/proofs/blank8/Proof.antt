@@ -5,17 +5,10 @@ use mir.Syntax.{w8}
 use lib.ListN.{getD, length, replicate}
 use lib.Dec.{eqb}
 use Rattle.words.specs.Words.{le}
-use Rattle.drive.specs.Drive.{same}
 use Rattle.drive.proofs.DriveLaws.{named}
 use borrow.Author.Needs.{needs}
 use Rattle.drive.proofs.blank8.Statement.{statement}
 use Rattle.drive.proofs.blank8.Tie as tie
-use Rattle.drive.proofs.blank8.Reads as reads
-use Rattle.drive.proofs.blank8.Lts as lts
-use Rattle.words.proofs.value8.Reads as value8-reads
-
-value8-requires : tie.Need-value8-requires
-value8-requires c κs = search needs
 
 returns : tie.Need-returns
 unfolding le
@@ -26,4 +19,4 @@ returns c =
     ap (λ (n : ℕ). eqb n 0) (c .value8 .ensures) ∙ named 8 a (replicate 8 0) l refl (λ i. f i .fits) refl
 
 pub blank8-spec : {M : Type 1} → statement M
-blank8-spec = tie.close (tie.spec value8-requires returns)
+blank8-spec = tie.close (tie.spec (λ c κs. tt) returns)

@@ -6,11 +6,6 @@ use Rattle.drive.proofs.DriveLaws.{record-stores}
 use borrow.Author.Needs.{needs}
 use Rattle.drive.proofs.encode.Statement.{statement}
 use Rattle.drive.proofs.encode.Tie as tie
-use Rattle.drive.proofs.encode.Reads as reads
-use Rattle.drive.proofs.encode.Lts as lts
-use Rattle.drive.proofs.put_geometry.Reads as put-geometry-reads
-use Rattle.drive.proofs.put_names.Reads as put-names-reads
-use Rattle.drive.proofs.put_sizes.Reads as put-sizes-reads
 
 slice-aggregate-put-geometry : tie.Need-slice-aggregate-put-geometry
 slice-aggregate-put-geometry c = search needs

@@ -4,8 +4,6 @@ use Prim.Native.Nat.{_≤_}
 use borrow.Author.Needs.{needs}
 use Rattle.drive.proofs.geometry_size.Statement.{statement}
 use Rattle.drive.proofs.geometry_size.Tie as tie
-use Rattle.drive.proofs.geometry_size.Reads as reads
-use Rattle.drive.proofs.geometry_size.Lts as lts
 
 cast-result : tie.Need-cast-result
 cast-result c = search needs

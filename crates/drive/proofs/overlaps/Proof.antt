@@ -2,8 +2,6 @@ use Rattle.drive.proofs.DriveLaws.{overlap-before, overlap-after}
 use borrow.Author.Needs.{needs}
 use Rattle.drive.proofs.overlaps.Statement.{statement}
 use Rattle.drive.proofs.overlaps.Tie as tie
-use Rattle.drive.proofs.overlaps.Reads as reads
-use Rattle.drive.proofs.overlaps.Lts as lts
 
 sub-result : tie.Need-sub-result
 sub-result c = search needs

@@ -2,10 +2,6 @@ use Rattle.drive.proofs.DriveLaws.{geometry-stores}
 use borrow.Author.Needs.{needs}
 use Rattle.drive.proofs.put_geometry.Statement.{statement}
 use Rattle.drive.proofs.put_geometry.Tie as tie
-use Rattle.drive.proofs.put_geometry.Reads as reads
-use Rattle.drive.proofs.put_geometry.Lts as lts
-use Rattle.words.proofs.store16.Reads as store16-reads
-use Rattle.words.proofs.store32.Reads as store32-reads
 
 store16-requires : tie.Need-store16-requires
 store16-requires c κs = search needs

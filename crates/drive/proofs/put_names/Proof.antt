@@ -5,11 +5,6 @@ use Rattle.drive.proofs.DriveLaws.{name-stores}
 use borrow.Author.Needs.{needs}
 use Rattle.drive.proofs.put_names.Statement.{statement}
 use Rattle.drive.proofs.put_names.Tie as tie
-use Rattle.drive.proofs.put_names.Reads as reads
-use Rattle.drive.proofs.put_names.Lts as lts
-use Rattle.words.proofs.put_byte.Reads as put-byte-reads
-use Rattle.words.proofs.store4.Reads as store4-reads
-use Rattle.words.proofs.store8.Reads as store8-reads
 
 put-byte-requires : tie.Need-put-byte-requires
 put-byte-requires c κs = search needs

@@ -2,10 +2,6 @@ use Rattle.drive.proofs.DriveLaws.{size-stores}
 use borrow.Author.Needs.{needs}
 use Rattle.drive.proofs.put_sizes.Statement.{statement}
 use Rattle.drive.proofs.put_sizes.Tie as tie
-use Rattle.drive.proofs.put_sizes.Reads as reads
-use Rattle.drive.proofs.put_sizes.Lts as lts
-use Rattle.words.proofs.store16.Reads as store16-reads
-use Rattle.words.proofs.store64.Reads as store64-reads
 
 store64-requires : tie.Need-store64-requires
 store64-requires c κs = search needs

@@ -1,12 +1,10 @@
-use mathlib.Core.Path.{_≡_, refl, sym}
+use mathlib.Core.Path.{refl, sym}
 use Prim.Native.Nat.{ℕ}
 use borrow.Author.Needs.{length-unmapped}
 use Rattle.drive.proofs.DriveLaws.{length-record}
 use borrow.Author.Needs.{needs}
 use Rattle.drive.proofs.record_length.Statement.{statement}
 use Rattle.drive.proofs.record_length.Tie as tie
-use Rattle.drive.proofs.record_length.Reads as reads
-use Rattle.drive.proofs.record_length.Lts as lts
 
 cast-result : tie.Need-cast-result
 cast-result c = search needs

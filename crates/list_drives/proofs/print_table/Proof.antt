@@ -2,11 +2,6 @@ use borrow.Author.Needs.{needs}
 use Prim.Native.Nat.{_≤_, _-_}
 use Rattle.list_drives.proofs.print_table.Statement.{statement}
 use Rattle.list_drives.proofs.print_table.Tie as tie
-use Rattle.list_drives.proofs.print_table.Reads as reads
-use Rattle.list_drives.proofs.print_table.Lts as lts
-use Rattle.io.proofs.print_decimal.Reads as print-decimal-reads
-use Rattle.io.proofs.write_all.Reads as write-all-reads
-use Rattle.list_drives.proofs.print_drive.Reads as print-drive-reads
 
 abbrev Inv-loop : tie.InvT-loop
 Inv-loop count drives i₀ i = i ≤ 8

@@ -7,11 +7,6 @@ use Rattle.table.specs.Table.{blankTo}
 use Rattle.logic.proofs.LogicLaws.{all-more}
 use Rattle.table.proofs.blank_past.Statement.{statement}
 use Rattle.table.proofs.blank_past.Tie as tie
-use Rattle.table.proofs.blank_past.Reads as reads
-use Rattle.table.proofs.blank_past.Lts as lts
-use Rattle.drive.proofs.is_blank.Reads as is-blank-reads
-use Rattle.logic.proofs.and.Reads as and-reads
-use Rattle.logic.proofs.or.Reads as or-reads
 
 abbrev Inv-loop : tie.InvT-loop
 Inv-loop drives count blank₀ i₀ blank i = (i ≤ 8) × (blank ≡ blankTo i drives count)
@@ -28,15 +23,6 @@ mul-d c = search needs
 
 array-copy-out-d : tie.Need-array-copy-out-d Inv-loop μ-loop
 array-copy-out-d c = search needs
-
-is-blank-requires : tie.Need-is-blank-requires Inv-loop μ-loop
-is-blank-requires c κs = search needs
-
-or-requires : tie.Need-or-requires Inv-loop μ-loop
-or-requires c κs = search needs
-
-and-requires : tie.Need-and-requires Inv-loop μ-loop
-and-requires c κs = search needs
 
 add-i : tie.Need-add-i Inv-loop μ-loop
 add-i c = search needs
@@ -66,9 +52,9 @@ blank-past-spec =
     loop-holds
     mul-d
     array-copy-out-d
-    is-blank-requires
-    or-requires
-    and-requires
+    (λ c κs. tt)
+    (λ c κs. tt)
+    (λ c κs. tt)
     add-i
     loop-less
     loop-again

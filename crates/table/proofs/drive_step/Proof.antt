@@ -4,17 +4,9 @@ use Rattle.table.proofs.TableLaws.{refusal-room, record-next, record-re
 use borrow.Author.Needs.{needs}
 use Rattle.table.proofs.drive_step.Statement.{statement}
 use Rattle.table.proofs.drive_step.Tie as tie
-use Rattle.table.proofs.drive_step.Reads as reads
-use Rattle.table.proofs.drive_step.Lts as lts
-use Rattle.drive.proofs.decode.Reads as decode-reads
-use Rattle.table.proofs.push.Reads as push-reads
-use Rattle.table.proofs.refusal_of.Reads as refusal-of-reads
 
 decode-requires : tie.Need-decode-requires
 decode-requires c κs = search needs
-
-refusal-of-requires : tie.Need-refusal-of-requires
-refusal-of-requires c κs = search needs
 
 add-t9 : tie.Need-add-t9
 add-t9 c = search needs
@@ -37,4 +29,4 @@ returns-2 c =
 
 pub drive-step-spec : {M : Type 1} → statement M
 drive-step-spec =
-    tie.close (tie.spec decode-requires refusal-of-requires add-t9 push-requires returns returns-2)
+    tie.close (tie.spec decode-requires (λ c κs. tt) add-t9 push-requires returns returns-2)

@@ -3,8 +3,6 @@ use Rattle.table.proofs.TableLaws.{endStep-byte, endStep-done}
 use borrow.Author.Needs.{needs}
 use Rattle.table.proofs.end_step.Statement.{statement}
 use Rattle.table.proofs.end_step.Tie as tie
-use Rattle.table.proofs.end_step.Reads as reads
-use Rattle.table.proofs.end_step.Lts as lts
 
 cast-next : tie.Need-cast-next
 cast-next c = search needs

@@ -9,24 +9,13 @@ use Rattle.table.proofs.Runs.{found-bad, found-drive, found-follows, fo
 use borrow.Author.Needs.{needs}
 use Rattle.table.proofs.found_at.Statement.{statement}
 use Rattle.table.proofs.found_at.Tie as tie
-use Rattle.table.proofs.found_at.Reads as reads
-use Rattle.table.proofs.found_at.Lts as lts
-use Rattle.drive.proofs.decode.Reads as decode-reads
-use Rattle.table.proofs.ended.Reads as ended-reads
-use Rattle.table.proofs.header_at.Reads as header-at-reads
 
 -- the header of a whole record
 header : (c : tie.After-h2) → headerAt (now (c .before .before .before .before .args .t)) (c .before .before .before .before .args .at) ≡ Whole (c .h2 .given .0 .0) (c .h2 .given .0 .1 .0)
 header c = sym (c .before .before .header-at .ensures) ∙ c .h2 .given .1
 
-header-at-requires : tie.Need-header-at-requires
-header-at-requires c κs = search needs
-
 enum-known-h : tie.Need-enum-known-h
 enum-known-h c = search needs
-
-ended-requires : tie.Need-ended-requires
-ended-requires c κs = search needs
 
 enum-known-h-2 : tie.Need-enum-known-h-2
 enum-known-h-2 c = search needs
@@ -50,14 +39,8 @@ returns : tie.Need-returns
 returns c =
     rw (rw add-sub-cancel-left at (c .decode .ensures)) (found-drive _ _ _ _ (header (c .before .before .before .before)) (c .before .before .if1 .taken))
 
-ended-requires-2 : tie.Need-ended-requires-2
-ended-requires-2 c κs = search needs
-
 returns-2 : tie.Need-returns-2
 returns-2 c = c .ended2 .ensures ∙ found-follows _ _ _ _ (header (c .before .before .before .before)) (c .before .before .if1 .left) (c .before .if2 .taken)
-
-ended-requires-3 : tie.Need-ended-requires-3
-ended-requires-3 c κs = search needs
 
 returns-3 : tie.Need-returns-3
 returns-3 c = c .ended .ensures ∙ found-bad _ _ _ (sym (c .before .before .before .before .header-at .ensures) ∙ c .before .before .h .given .1)
@@ -69,9 +52,9 @@ pub found-at-spec : {M : Type 1} → statement M
 found-at-spec =
     tie.close
     (tie.spec
-    header-at-requires
+    (λ c κs. tt)
     enum-known-h
-    ended-requires
+    (λ c κs. tt)
     enum-known-h-2
     add-next
     sub-decode
@@ -79,8 +62,8 @@ found-at-spec =
     part-decode-end
     decode-requires
     returns
-    ended-requires-2
+    (λ c κs. tt)
     returns-2
-    ended-requires-3
+    (λ c κs. tt)
     returns-3
     returns-4)

@@ -4,15 +4,6 @@ use Rattle.table.proofs.TableLaws.{header-is}
 use borrow.Author.Needs.{needs}
 use Rattle.table.proofs.header_at.Statement.{statement}
 use Rattle.table.proofs.header_at.Tie as tie
-use Rattle.table.proofs.header_at.Reads as reads
-use Rattle.table.proofs.header_at.Lts as lts
-use Rattle.table.proofs.bytes_left.Reads as bytes-left-reads
-use Rattle.table.proofs.is_kind.Reads as is-kind-reads
-use Rattle.table.proofs.length_ok.Reads as length-ok-reads
-use Rattle.words.proofs.get16.Reads as get16-reads
-
-bytes-left-requires : tie.Need-bytes-left-requires
-bytes-left-requires c κs = search needs
 
 returns : tie.Need-returns
 returns c = rw (header-is _ _ (c .before .bytes-left .ensures) refl refl refl refl, lt-ltb _ _ (c .if1 .taken))
@@ -26,17 +17,11 @@ add-get16 c = search needs
 get16-requires-2 : tie.Need-get16-requires-2
 get16-requires-2 c κs = search needs
 
-is-kind-requires : tie.Need-is-kind-requires
-is-kind-requires c κs = search needs
-
 returns-2 : tie.Need-returns-2
 returns-2 c =
     let r = c .before .before in
     let h = header-is _ _ (r .before .before .before .bytes-left .ensures) (r .before .get16 .ensures) (r .get162 .ensures) (c .before .is-kind .ensures) refl in
     rw (h, le-ltb _ _ (r .before .before .if1 .left), c .if2 .taken)
-
-length-ok-requires : tie.Need-length-ok-requires
-length-ok-requires c κs = search needs
 
 returns-3 : tie.Need-returns-3
 returns-3 c =
@@ -63,14 +48,14 @@ pub header-at-spec : {M : Type 1} → statement M
 header-at-spec =
     tie.close
     (tie.spec
-    bytes-left-requires
+    (λ c κs. tt)
     returns
     get16-requires
     add-get16
     get16-requires-2
-    is-kind-requires
+    (λ c κs. tt)
     returns-2
-    length-ok-requires
+    (λ c κs. tt)
     returns-3
     cast-whole
     returns-4

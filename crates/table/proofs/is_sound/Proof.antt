@@ -3,11 +3,6 @@ use Rattle.table.specs.Table.{isSound}
 use borrow.Author.Needs.{needs}
 use Rattle.table.proofs.is_sound.Statement.{statement}
 use Rattle.table.proofs.is_sound.Tie as tie
-use Rattle.table.proofs.is_sound.Reads as reads
-use Rattle.table.proofs.is_sound.Lts as lts
-use Rattle.logic.proofs.and.Reads as and-reads
-use Rattle.table.proofs.blank_past.Reads as blank-past-reads
-use Rattle.table.proofs.sound_to.Reads as sound-to-reads
 
 returns : tie.Need-returns
 unfolding isSound
@@ -16,16 +11,10 @@ returns c = rw (lt-leb (c .before .args .b .count) 8 (c .if1 .taken))
 sound-to-requires : tie.Need-sound-to-requires
 sound-to-requires c κs = search needs
 
-blank-past-requires : tie.Need-blank-past-requires
-blank-past-requires c κs = search needs
-
-and-requires : tie.Need-and-requires
-and-requires c κs = search needs
-
 returns-2 : tie.Need-returns-2
 unfolding isSound
 returns-2 c = rw (le-leb (c .before .before .before .before .before .args .b .count) 8 (c .before .before .before .before .if1 .left), c .and .ensures, c .before .before .sound-to .ensures, c .before .blank-past .ensures)
 
 pub is-sound-spec : {M : Type 1} → statement M
 is-sound-spec =
-    tie.close (tie.spec returns sound-to-requires blank-past-requires and-requires returns-2)
+    tie.close (tie.spec returns sound-to-requires (λ c κs. tt) (λ c κs. tt) returns-2)

@@ -8,10 +8,6 @@ use Rattle.logic.proofs.LogicLaws.{some-more}
 use Rattle.table.specs.Table.{overlapRuns, overlapsRun}
 use Rattle.table.proofs.overlaps_run.Statement.{statement}
 use Rattle.table.proofs.overlaps_run.Tie as tie
-use Rattle.table.proofs.overlaps_run.Reads as reads
-use Rattle.table.proofs.overlaps_run.Lts as lts
-use Rattle.logic.proofs.or.Reads as or-reads
-use Rattle.table.proofs.runs_overlap.Reads as runs-overlap-reads
 
 abbrev Inv-loop : tie.InvT-loop
 Inv-loop d firsts sizes n found₀ i₀ found i = (i ≤ n) × (found ≡ overlapsRun i firsts sizes d)
@@ -34,12 +30,6 @@ mul-runs-overlap-2 c = search needs
 
 element-copy-out-runs-overlap-2 : tie.Need-element-copy-out-runs-overlap-2 Inv-loop μ-loop
 element-copy-out-runs-overlap-2 c = search needs
-
-runs-overlap-requires : tie.Need-runs-overlap-requires Inv-loop μ-loop
-runs-overlap-requires c κs = search needs
-
-or-requires : tie.Need-or-requires Inv-loop μ-loop
-or-requires c κs = search needs
 
 add-i : tie.Need-add-i Inv-loop μ-loop
 add-i c = search needs
@@ -73,8 +63,8 @@ overlaps-run-spec =
     element-copy-out-runs-overlap
     mul-runs-overlap-2
     element-copy-out-runs-overlap-2
-    runs-overlap-requires
-    or-requires
+    (λ c κs. tt)
+    (λ c κs. tt)
     add-i
     loop-less
     loop-again

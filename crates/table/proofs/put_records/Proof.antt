@@ -9,11 +9,6 @@ use Rattle.table.specs.Table.{recordsOf}
 use Rattle.table.proofs.TableLaws.{length-more, sets-slot}
 use Rattle.table.proofs.put_records.Statement.{statement}
 use Rattle.table.proofs.put_records.Tie as tie
-use Rattle.table.proofs.put_records.Reads as reads
-use Rattle.table.proofs.put_records.Lts as lts
-use Rattle.drive.proofs.encode.Reads as encode-reads
-use Rattle.drive.proofs.record_length.Reads as record-length-reads
-use Rattle.words.proofs.store.Reads as store-reads
 
 abbrev Inv-loop : tie.InvT-loop
 Inv-loop n out₀ b at₀ i₀ out at i = (i ≤ n) × (length out ≡ length out₀) × (out ≡ sets out₀ 0 (recordsOf i b)) × (at ≡ length (recordsOf i b)) × (at ≡ 68 * i)
@@ -31,17 +26,11 @@ mul-d c = search needs
 element-copy-out-d : tie.Need-element-copy-out-d Inv-loop μ-loop
 element-copy-out-d c = search needs
 
-encode-requires : tie.Need-encode-requires Inv-loop μ-loop
-encode-requires c κs = search needs
-
 slice-aggregate-store : tie.Need-slice-aggregate-store Inv-loop μ-loop
 slice-aggregate-store c = search needs
 
 store-requires : tie.Need-store-requires Inv-loop μ-loop
 store-requires c κs = search needs
-
-record-length-requires : tie.Need-record-length-requires Inv-loop μ-loop
-record-length-requires c κs = search needs
 
 add-at : tie.Need-add-at Inv-loop μ-loop
 add-at c = omega arith
@@ -83,10 +72,10 @@ put-records-spec =
     loop-holds
     mul-d
     element-copy-out-d
-    encode-requires
+    (λ c κs. tt)
     slice-aggregate-store
     store-requires
-    record-length-requires
+    (λ c κs. tt)
     add-at
     add-i
     loop-less

@@ -5,11 +5,6 @@ use Prim.Native.Nat.{_<_}
 use Rattle.table.proofs.Runs.{Stands, stands-first, slot-left, reads-end, reads-done, reads-refused, reads-bad, stands-more}
 use Rattle.table.proofs.read_table.Statement.{statement}
 use Rattle.table.proofs.read_table.Tie as tie
-use Rattle.table.proofs.read_table.Reads as reads
-use Rattle.table.proofs.read_table.Lts as lts
-use Rattle.table.proofs.empty_table.Reads as empty-table-reads
-use Rattle.table.proofs.found_at.Reads as found-at-reads
-use Rattle.table.proofs.refusal_among.Reads as refusal-among-reads
 
 abbrev Inv-loop : tie.InvT-loop
 Inv-loop t store at₀ b₀ firsts₀ sizes₀ left₀ at b firsts sizes left = Stands t store left at b firsts sizes
@@ -17,20 +12,11 @@ Inv-loop t store at₀ b₀ firsts₀ sizes₀ left₀ at b firsts sizes left = 
 abbrev μ-loop : tie.MeasureT-loop
 μ-loop t store at₀ b₀ firsts₀ sizes₀ left₀ at b firsts sizes left = left
 
-empty-table-requires : tie.Need-empty-table-requires Inv-loop μ-loop
-empty-table-requires c κs = search needs
-
 loop-holds : tie.Need-loop-holds Inv-loop μ-loop
 loop-holds c = stands-first _ _ _ _ (c .empty-table .ensures) refl refl
 
-found-at-requires : tie.Need-found-at-requires Inv-loop μ-loop
-found-at-requires c κs = search needs
-
 enum-known-s : tie.Need-enum-known-s Inv-loop μ-loop
 enum-known-s c = search needs
-
-refusal-among-requires : tie.Need-refusal-among-requires Inv-loop μ-loop
-refusal-among-requires c κs = search needs
 
 returns : tie.Need-returns Inv-loop μ-loop
 returns c =
@@ -94,11 +80,11 @@ read-table-spec =
     (tie.spec
     Inv-loop
     μ-loop
-    empty-table-requires
+    (λ c κs. tt)
     loop-holds
-    found-at-requires
+    (λ c κs. tt)
     enum-known-s
-    refusal-among-requires
+    (λ c κs. tt)
     returns
     mul-d
     element-set-from-d

@@ -7,9 +7,6 @@ use Rattle.table.specs.Table.{recordsOf}
 use Rattle.table.proofs.TableLaws.{length-more}
 use Rattle.table.proofs.records_length.Statement.{statement}
 use Rattle.table.proofs.records_length.Tie as tie
-use Rattle.table.proofs.records_length.Reads as reads
-use Rattle.table.proofs.records_length.Lts as lts
-use Rattle.drive.proofs.record_length.Reads as record-length-reads
 
 abbrev Inv-loop : tie.InvT-loop
 Inv-loop n b total₀ i₀ total i = (i ≤ n) × (total ≡ length (recordsOf i b)) × (total ≡ 68 * i)
@@ -26,9 +23,6 @@ mul-d c = search needs
 
 element-copy-out-d : tie.Need-element-copy-out-d Inv-loop μ-loop
 element-copy-out-d c = search needs
-
-record-length-requires : tie.Need-record-length-requires Inv-loop μ-loop
-record-length-requires c κs = search needs
 
 add-total : tie.Need-add-total Inv-loop μ-loop
 add-total c = omega arith
@@ -60,7 +54,7 @@ records-length-spec =
     loop-holds
     mul-d
     element-copy-out-d
-    record-length-requires
+    (λ c κs. tt)
     add-total
     add-i
     loop-less

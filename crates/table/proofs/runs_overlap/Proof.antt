@@ -2,8 +2,6 @@ use Rattle.table.proofs.Runs.{runs-before, runs-after}
 use borrow.Author.Needs.{needs}
 use Rattle.table.proofs.runs_overlap.Statement.{statement}
 use Rattle.table.proofs.runs_overlap.Tie as tie
-use Rattle.table.proofs.runs_overlap.Reads as reads
-use Rattle.table.proofs.runs_overlap.Lts as lts
 
 sub-result : tie.Need-sub-result
 sub-result c = search needs

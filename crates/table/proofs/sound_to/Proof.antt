@@ -7,12 +7,6 @@ use native.Mathlib.Omega.{arith}
 use borrow.Author.Needs.{needs}
 use Rattle.table.proofs.sound_to.Statement.{statement}
 use Rattle.table.proofs.sound_to.Tie as tie
-use Rattle.table.proofs.sound_to.Reads as reads
-use Rattle.table.proofs.sound_to.Lts as lts
-use Rattle.drive.proofs.overlaps.Reads as overlaps-reads
-use Rattle.logic.proofs.and.Reads as and-reads
-use Rattle.logic.proofs.or.Reads as or-reads
-use Rattle.table.proofs.obeys.Reads as obeys-reads
 
 abbrev Inv-loop2 : tie.InvT-loop2
 Inv-loop2 n store drives sound i d found₀ j₀ found j = (j ≤ i) × (found ≡ overlapsAny j drives d)
@@ -46,12 +40,6 @@ mul-e c = search needs
 array-copy-out-e : tie.Need-array-copy-out-e Inv-loop2 μ-loop2 Inv-loop μ-loop
 array-copy-out-e c = search needs
 
-overlaps-requires : tie.Need-overlaps-requires Inv-loop2 μ-loop2 Inv-loop μ-loop
-overlaps-requires c κs = search needs
-
-or-requires : tie.Need-or-requires Inv-loop2 μ-loop2 Inv-loop μ-loop
-or-requires c κs = search needs
-
 add-j : tie.Need-add-j Inv-loop2 μ-loop2 Inv-loop μ-loop
 add-j c = search needs
 
@@ -63,15 +51,6 @@ unfolding overlapsAny
 loop2-again c =
     let h = c .before .before .before .before in
     (search needs, some-more (h .loop2 .j) _ (h .loop2 .inv .1) (c .or .ensures) (c .before .overlaps .ensures))
-
-obeys-requires : tie.Need-obeys-requires Inv-loop2 μ-loop2 Inv-loop μ-loop
-obeys-requires c κs = search needs
-
-and-requires : tie.Need-and-requires Inv-loop2 μ-loop2 Inv-loop μ-loop
-and-requires c κs = search needs
-
-and-requires-2 : tie.Need-and-requires-2 Inv-loop2 μ-loop2 Inv-loop μ-loop
-and-requires-2 c κs = search needs
 
 add-i : tie.Need-add-i Inv-loop2 μ-loop2 Inv-loop μ-loop
 add-i c = search needs
@@ -111,14 +90,14 @@ sound-to-spec =
     loop2-holds
     mul-e
     array-copy-out-e
-    overlaps-requires
-    or-requires
+    (λ c κs. tt)
+    (λ c κs. tt)
     add-j
     loop2-less
     loop2-again
-    obeys-requires
-    and-requires
-    and-requires-2
+    (λ c κs. tt)
+    (λ c κs. tt)
+    (λ c κs. tt)
     add-i
     loop-less
     loop-again

@@ -8,18 +8,10 @@ use Rattle.table.proofs.TableLaws.{whole-at, drive-whole, stepAt-bad, s
 use borrow.Author.Needs.{needs}
 use Rattle.table.proofs.step_at.Statement.{statement}
 use Rattle.table.proofs.step_at.Tie as tie
-use Rattle.table.proofs.step_at.Reads as reads
-use Rattle.table.proofs.step_at.Lts as lts
-use Rattle.table.proofs.drive_step.Reads as drive-step-reads
-use Rattle.table.proofs.end_step.Reads as end-step-reads
-use Rattle.table.proofs.header_at.Reads as header-at-reads
 
 -- the header of a whole record
 header : (c : tie.After-h2) → headerAt (now (c .before .before .before .before .args .t)) (c .before .before .before .before .args .at) ≡ Whole (c .h2 .given .0 .0) (c .h2 .given .0 .1 .0)
 header c = sym (c .before .before .header-at .ensures) ∙ c .h2 .given .1
-
-header-at-requires : tie.Need-header-at-requires
-header-at-requires c κs = search needs
 
 enum-known-h : tie.Need-enum-known-h
 enum-known-h c = search needs
@@ -61,7 +53,7 @@ pub step-at-spec : {M : Type 1} → statement M
 step-at-spec =
     tie.close
     (tie.spec
-    header-at-requires
+    (λ c κs. tt)
     enum-known-h
     enum-known-h-2
     end-step-requires

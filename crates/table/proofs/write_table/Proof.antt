@@ -5,15 +5,6 @@ use Rattle.table.proofs.TableLaws.{write-short, write-done, write-numbe
 use borrow.Author.Needs.{needs}
 use Rattle.table.proofs.write_table.Statement.{statement}
 use Rattle.table.proofs.write_table.Tie as tie
-use Rattle.table.proofs.write_table.Reads as reads
-use Rattle.table.proofs.write_table.Lts as lts
-use Rattle.table.proofs.held.Reads as held-reads
-use Rattle.table.proofs.put_records.Reads as put-records-reads
-use Rattle.table.proofs.records_length.Reads as records-length-reads
-use Rattle.words.proofs.store16.Reads as store16-reads
-
-held-requires : tie.Need-held-requires
-held-requires c κs = search needs
 
 records-length-requires : tie.Need-records-length-requires
 records-length-requires c κs = search needs
@@ -62,7 +53,7 @@ pub write-table-spec : {M : Type 1} → statement M
 write-table-spec =
     tie.close
     (tie.spec
-    held-requires
+    (λ c κs. tt)
     records-length-requires
     cast-whole
     add-whole
