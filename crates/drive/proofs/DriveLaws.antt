@@ -11,7 +11,7 @@ use borrow.Author.Tests.{eq-eqb, eqb-true, eqb-false, le-leb, lt-leb, leb-true, 
 use Rattle.logic.specs.Logic.{pick, both}
 use Rattle.logic.proofs.LogicLaws.{impossible, both-true, leb-iff}
 use lib.ListN.{length, getD, set, take, drop, length-append, length-drop}
-use lib.Seq.{sets, take-at, drop-at, drop-drop, take-all, take-add, drop-cons, length-take-le}
+use lib.Seq.{sets, take-at, drop-append-add, drop-drop, take-all, take-add, drop-cons, length-take-le}
 use Rattle.chs.specs.Chs.{inLimits, size}
 use Rattle.words.specs.Words.{Bytes, le, leBytes, part}
 use Rattle.words.proofs.WordsLaws.{sets-append, sets-whole, length-leBytes, read-write, write-read, same-bytes, le-lt}
@@ -87,44 +87,32 @@ record-drive r b l e₀ e₂ =
     glue-one r 29 38 (omega arith) (glue-one r 28 39 (omega arith) (glue r 4 24 40 refl (glue r 8 16 44 refl (glue r 8 8 52 refl refl)))) in
     glue r 16 52 0 g (glue r 22 30 16 s n) ∙ take-all 68 r (omega arith)
 
-module _ (b k p v : List ℕ) (hb : length b ≡ 4) (hk : length k ≡ 8) (hp : length p ≡ 8) (hv : length v ≡ 8) where
-  from₄ : drop 4 (b ++ (k ++ (p ++ v))) ≡ k ++ (p ++ v)
-  from₄ = drop-at b (k ++ (p ++ v)) 4 hb
-
-  from₁₂ : drop 12 (b ++ (k ++ (p ++ v))) ≡ p ++ v
-  from₁₂ = sym (drop-drop 8 4 (b ++ (k ++ (p ++ v)))) ∙ ap (drop 8) from₄ ∙ drop-at k (p ++ v) 8 hk
-
-  at₀ : part 4 (b ++ (k ++ (p ++ v))) 0 ≡ b
-  at₀ = take-at b (k ++ (p ++ v)) 4 hb
-
-  at₄ : part 8 (b ++ (k ++ (p ++ v))) 4 ≡ k
-  at₄ = ap (take 8) from₄ ∙ take-at k (p ++ v) 8 hk
-
-  at₁₂ : part 8 (b ++ (k ++ (p ++ v))) 12 ≡ p
-  at₁₂ = ap (take 8) from₁₂ ∙ take-at p v 8 hp
-
-  at₂₀ : part 8 (b ++ (k ++ (p ++ v))) 20 ≡ v
-  at₂₀ = ap (take 8) (sym (drop-drop 8 12 (b ++ (k ++ (p ++ v)))) ∙ ap (drop 8) from₁₂ ∙ drop-at p v 8 hp) ∙ take-all 8 v (omega arith)
+-- a part past the first of two lists
+part-past : (k m : ℕ) {n : ℕ} (a b : List ℕ) → length a ≡ n → part k (a ++ b) (n + m) ≡ part k b m
+part-past k m a b e = rw (← e, drop-append-add)
 
 -- the record of a drive says that drive
 pub drive-record : (d : Drive) → Fits d → driveOf (recordOf d) ≡ d
 unfolding driveOf recordOf geometryBytes sizeBytes nameBytes le leBytes
-drive-record d f = λ i. record {
-  cylinders = read-write 4 (d .cylinders) (f .cylinders) i;
-  heads = read-write 4 (d .heads) (f .heads) i;
-  sectors = read-write 4 (d .sectors) (f .sectors) i;
-  blocks = read-write 8 (d .blocks) (f .blocks) i;
-  first = read-write 8 (d .first) (f .first) i;
-  flags = read-write 2 (d .flags) (f .flags) i;
-  c = read-write 2 (d .c) (f .c) i;
-  h = read-write 2 (d .h) (f .h) i;
-  s = d .s;
-  protection = d .protection;
-  bus = at₀ (d .bus) (d .interface) (d .path) (d .device) (f .bus) (f .interface) (f .path) (f .device) i;
-  interface = at₄ (d .bus) (d .interface) (d .path) (d .device) (f .bus) (f .interface) (f .path) (f .device) i;
-  path = at₁₂ (d .bus) (d .interface) (d .path) (d .device) (f .bus) (f .interface) (f .path) (f .device) i;
-  device = at₂₀ (d .bus) (d .interface) (d .path) (d .device) (f .bus) (f .interface) (f .path) (f .device) i;
-}
+drive-record d f =
+    let paths : List ℕ = d .path ++ d .device in
+    let names : List ℕ = d .interface ++ paths in
+    λ i. record {
+      cylinders = read-write 4 (d .cylinders) (f .cylinders) i;
+      heads = read-write 4 (d .heads) (f .heads) i;
+      sectors = read-write 4 (d .sectors) (f .sectors) i;
+      blocks = read-write 8 (d .blocks) (f .blocks) i;
+      first = read-write 8 (d .first) (f .first) i;
+      flags = read-write 2 (d .flags) (f .flags) i;
+      c = read-write 2 (d .c) (f .c) i;
+      h = read-write 2 (d .h) (f .h) i;
+      s = d .s;
+      protection = d .protection;
+      bus = take-at (d .bus) names 4 (f .bus) i;
+      interface = (part-past 8 0 (d .bus) names (f .bus) ∙ take-at (d .interface) paths 8 (f .interface)) i;
+      path = (part-past 8 8 (d .bus) names (f .bus) ∙ part-past 8 0 (d .interface) paths (f .interface) ∙ take-at (d .path) (d .device) 8 (f .path)) i;
+      device = (part-past 8 16 (d .bus) names (f .bus) ∙ part-past 8 8 (d .interface) paths (f .interface) ∙ part-past 8 0 (d .path) (d .device) (f .path) ∙ take-all 8 (d .device) (omega (arith, f .device))) i;
+    }
 
 pub arrays-drive : (r : List ℕ) → length r ≡ 68 → Arrays (driveOf r)
 unfolding driveOf
