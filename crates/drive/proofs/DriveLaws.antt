@@ -20,6 +20,13 @@ use Rattle.drive.specs.Drive.{driveOf, recordOf, geometryBytes, sizeByte
 
 -- ---- what the code stores
 
+-- the lengths of a drive's arrays
+pub record Arrays (d : Drive) : Type 0 where
+  pub bus : length (d .bus) ≡ 4
+  pub interface : length (d .interface) ≡ 8
+  pub path : length (d .path) ≡ 8
+  pub device : length (d .device) ≡ 8
+
 pub geometry-stores : (s : List ℕ) (d : Drive) → sets s 0 (geometryBytes d)
     ≡ sets (sets (sets (sets (sets s 0 (leBytes 2 68)) 2 (leBytes 2 1)) 4 (leBytes 4 (d .cylinders))) 8 (leBytes 4 (d .heads))) 12 (leBytes 4 (d .sectors))
 unfolding geometryBytes
@@ -30,11 +37,10 @@ pub size-stores : (s : List ℕ) (d : Drive) → sets s 16 (sizeBytes d)
 unfolding sizeBytes
 size-stores s d = simp (sets-append, length-leBytes)
 
-pub name-stores : (s : List ℕ) (d : Drive) → length (d .bus) ≡ 4 → length (d .interface) ≡ 8 → length (d .path) ≡ 8
-    → sets s 38 (nameBytes d)
+pub name-stores : (s : List ℕ) (d : Drive) → Arrays d → sets s 38 (nameBytes d)
     ≡ sets (sets (sets (sets (set (set s 38 (d .s)) 39 (d .protection)) 40 (d .bus)) 44 (d .interface)) 52 (d .path)) 60 (d .device)
 unfolding nameBytes
-name-stores s d hb hi hp = simp (sets-append, hb, hi, hp)
+name-stores s d f = simp (sets-append, f .bus, f .interface, f .path)
 
 length-geometry : (d : Drive) → length (geometryBytes d) ≡ 16
 unfolding geometryBytes
@@ -43,13 +49,6 @@ length-geometry d = simp (length-append, length-leBytes)
 length-sizes : (d : Drive) → length (sizeBytes d) ≡ 22
 unfolding sizeBytes
 length-sizes d = simp (length-append, length-leBytes)
-
--- the lengths of a drive's arrays
-pub record Arrays (d : Drive) : Type 0 where
-  pub bus : length (d .bus) ≡ 4
-  pub interface : length (d .interface) ≡ 8
-  pub path : length (d .path) ≡ 8
-  pub device : length (d .device) ≡ 8
 
 pub length-record : (d : Drive) → Arrays d → length (recordOf d) ≡ 68
 unfolding recordOf nameBytes

@@ -1,7 +1,5 @@
-use Prim.Native.Nat.{ℕ}
 use mathlib.Core.Path.{refl}
 use lib.ListN.{replicate}
-use borrow.Author.Needs.{length-unmapped}
 use Rattle.drive.proofs.DriveLaws.{record-stores}
 use borrow.Author.Needs.{needs}
 use Rattle.drive.proofs.encode.Statement.{statement}
@@ -27,11 +25,7 @@ put-names-requires c κs = search needs
 
 returns : tie.Need-returns
 returns c =
-    let b = c .before .before .before .before .before .before .before .before .before in
-    let d = b .args .d in
-    let g = b .good .0 .1 .1 .1 .1 .1 .1 .1 .1 .1 .1 .1 .1 in
-    record-stores (replicate 68 0) d
-    record { bus = length-unmapped ℕ (d .bus) 4 (g .0 .1 .0 .1); interface = length-unmapped ℕ (d .interface) 8 (g .1 .0 .1 .0 .1); path = length-unmapped ℕ (d .path) 8 (g .1 .1 .0 .1 .0 .1); device = length-unmapped ℕ (d .device) 8 (g .1 .1 .1 .0 .1 .0 .1) }
+    record-stores (replicate 68 0) _ record { bus = search needs; interface = search needs; path = search needs; device = search needs }
     refl (c .before .before .before .before .before .before .before .put-geometry .ensures) (c .before .before .before .before .put-sizes .ensures) (c .before .put-names .ensures)
 
 pub encode-spec : {M : Type 1} → statement M

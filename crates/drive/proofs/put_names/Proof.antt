@@ -1,10 +1,12 @@
-use Prim.Native.Nat.{ℕ}
 use denote.Ref.{now}
-use borrow.Author.Needs.{length-unmapped}
-use Rattle.drive.proofs.DriveLaws.{name-stores}
+use Rattle.drive.proofs.DriveLaws.{Arrays, name-stores}
 use borrow.Author.Needs.{needs}
 use Rattle.drive.proofs.put_names.Statement.{statement}
 use Rattle.drive.proofs.put_names.Tie as tie
+
+-- what the types say
+arrays : (c : tie.Start) → Arrays (c .args .d)
+arrays c = record { bus = search needs; interface = search needs; path = search needs; device = search needs }
 
 put-byte-requires : tie.Need-put-byte-requires
 put-byte-requires c κs = search needs
@@ -36,9 +38,7 @@ returns c =
     let s₂ = s₃ .before .before .before .before .before .before .before .before in
     let s₁ = s₂ .before .before .before .before in
     let b = s₁ .before .before .before in
-    let d = b .args .d in
-    let g = b .good .0 .1 .1 .1 .1 .1 .1 .1 .1 .1 .1 .1 .1 in
-    rw (s₆ .store83 .ensures, s₅ .store82 .ensures, s₄ .store8 .ensures, s₃ .store4 .ensures, s₂ .put-byte2 .ensures, s₁ .put-byte .ensures, name-stores (now (b .args .out)) d (length-unmapped ℕ (d .bus) 4 (g .0 .1 .0 .1)) (length-unmapped ℕ (d .interface) 8 (g .1 .0 .1 .0 .1)) (length-unmapped ℕ (d .path) 8 (g .1 .1 .0 .1 .0 .1)))
+    rw (s₆ .store83 .ensures, s₅ .store82 .ensures, s₄ .store8 .ensures, s₃ .store4 .ensures, s₂ .put-byte2 .ensures, s₁ .put-byte .ensures, name-stores (now (b .args .out)) (b .args .d) (arrays b))
 
 pub put-names-spec : {M : Type 1} → statement M
 put-names-spec =
