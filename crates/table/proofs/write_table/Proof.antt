@@ -6,6 +6,10 @@ use borrow.Author.Needs.{needs}
 use Rattle.table.proofs.write_table.Statement.{statement}
 use Rattle.table.proofs.write_table.Tie as tie
 
+-- what the types say
+eight : (c : tie.Start) → length (c .args .b .drives) ≡ 8
+eight c = simp length-map at (c .good .0 .1 .1 .0 .1 .0 .1)
+
 records-length-requires : tie.Need-records-length-requires
 records-length-requires c κs = search needs
 
@@ -18,10 +22,8 @@ add-whole c = search needs
 returns : tie.Need-returns
 returns c =
     let s = c .before .before .before .before in
-    let a = s .args in
-    let l : length (a .b .drives) ≡ 8 = simp length-map at (s .good .0 .1 .1 .0 .1 .0 .1) in
-    let w = write-short (a .b) (now (a .out)) (c .before .before .held .result) (c .before .records-length .result) l (c .before .before .held .ensures) (c .before .records-length .ensures .0) (c .if1 .taken) in
-    (w .0, w .1, write-numbers (a .b) (length (now (a .out))) (w .0))
+    let w = write-short (s .args .b) (now (s .args .out)) _ _ (eight s) (c .before .before .held .ensures) (c .before .records-length .ensures .0) (c .if1 .taken) in
+    (w .0, w .1, write-numbers _ _ (w .0))
 
 put-records-requires : tie.Need-put-records-requires
 put-records-requires c κs = search needs
@@ -40,14 +42,12 @@ same-length c = search needs
 
 returns-2 : tie.Need-returns-2
 returns-2 c =
-    let s = c .before .before .before .before .before .before .before .before .before .before .before .before .before .before .before .before in
-    let a = s .args in
-    let l : length (a .b .drives) ≡ 8 = simp length-map at (s .good .0 .1 .1 .0 .1 .0 .1) in
-    let held = c .before .before .before .before .before .before .before .before .before .before .before .before .before .before .held in
-    let records = c .before .before .before .before .before .before .before .before .before .before .before .before .before .records-length in
-    let w = write-done (a .b) (now (a .out)) (held .result) (records .result) l (held .ensures) (records .ensures .0) (c .before .before .before .before .before .before .before .before .before .before .before .before .if1 .left)
-    (c .before .before .before .before .before .before .before .before .before .before .put-records .ensures) (c .before .before .before .before .before .before .store16 .ensures) (c .before .before .store162 .ensures) in
-    (w .0, w .1, write-numbers (a .b) (length (now (a .out))) (w .0))
+    let put = c .before .before .before .before .before .before .before .before .before .before in
+    let short = put .before .before in
+    let s = short .before .before .before .before in
+    let w = write-done (s .args .b) (now (s .args .out)) _ _ (eight s) (short .before .before .held .ensures) (short .before .records-length .ensures .0) (short .if1 .left)
+    (put .put-records .ensures) (c .before .before .before .before .before .before .store16 .ensures) (c .before .before .store162 .ensures) in
+    (w .0, w .1, write-numbers _ _ (w .0))
 
 pub write-table-spec : {M : Type 1} → statement M
 write-table-spec =
