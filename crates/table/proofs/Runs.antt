@@ -9,8 +9,8 @@ use native.Mathlib.Omega.{arith}
 use native.Mathlib.Decide.{ℕ-discrete}
 use lib.ListN.{length, getD, set, length-set}
 use lib.Seq.{getD-set-same, getD-set-other}
-use lib.Dec.{leb, ltb, eqb}
-use borrow.Author.Tests.{eqb-true, eqb-false, eq-eqb, ne-eqb, le-leb, lt-leb, leb-false, lt-ltb, le-ltb}
+use lib.Dec.{ltb, eqb}
+use borrow.Author.Tests.{eqb-true, eqb-false, eq-eqb, ne-eqb, le-leb, lt-leb, lt-ltb, le-ltb}
 use Rattle.logic.specs.Logic.{pick}
 use Rattle.logic.proofs.LogicLaws.{leb-iff, lt-or-le, some-ext}
 use Rattle.words.specs.Words.{part}
@@ -25,7 +25,7 @@ use Rattle.table.specs.declared.Stepped.{Stepped}
 use Rattle.table.specs.declared.Found.{Found}
 use Rattle.table.specs.declared.Answer.the-variants.{Accepted, Refused as AnswerRefused}
 use Rattle.table.specs.Table.{noDrive, zeroDrive, emptyTable, headerAt, overlapsAny, refusal, more, stepped, driveStep, endStep, driveRecord, stepOf, stepAt, reading, goOn, readFrom, mostRecords, readTable, Reads, foundEnd, foundOf, foundAt, overlapRuns, overlapsRun, refusalAmong}
-use Rattle.table.proofs.TableLaws.{whole-at, lengthOk-end, lengthOk-drive, refusal-room, readFrom-on, readFrom-zero, reads-is}
+use Rattle.table.proofs.TableLaws.{whole-at, lengthOk-end, lengthOk-drive, room, refusal-room, readFrom-on, readFrom-zero, reads-is}
 
 -- ---- runs by differences
 
@@ -144,11 +144,7 @@ stands-first {b} t store firsts sizes e f s =
 -- a drive that is taken has a slot
 pub slot-left : {k : ℕ} (n : ℕ) (firsts sizes : List ℕ) (d : Drive) (store : ℕ) → k ≡ refusalAmong n firsts sizes d store → k ≡ 0 → n < 8
 unfolding refusalAmong
-slot-left n firsts sizes d store e z = leb-false 8 n (room (leb 8 n) _ (sym e ∙ z))
-  where
-    room : (a : Bool) (m : ℕ) → pick a 4 m ≡ 0 → a ≡ false
-    room true m h = absurd (omega arith)
-    room false m h = refl
+slot-left n firsts sizes d store e z = room n _ (sym e ∙ z)
 
 pub reads-end : {t : List ℕ} {store left at : ℕ} {b : Table} {firsts sizes : List ℕ} → Stands t store left at b firsts sizes → left ≡ 0 → Reads t store (reading (AnswerRefused 4 at) b)
 reads-end {t} {store} {left} {at} {b} s z = reads-is t store (readFrom-zero left t store at b z ∙ s .reads)

@@ -104,15 +104,18 @@ lengthOk-most k n h = ⊎-elim (λ x. omega (arith, x .1)) (λ x. omega (arith, 
 -- ---- a drive among those before it
 
 -- a drive that is taken has room
+pub room : (n m : ℕ) → pick (leb 8 n) 4 m ≡ 0 → n < 8
+room n m h = leb-false 8 n (by-test (leb 8 n) h)
+  where
+    by-test : (a : Bool) → pick a 4 m ≡ 0 → a ≡ false
+    by-test true h = absurd (omega arith)
+    by-test false h = refl
+
 pub refusal-room : (b : Table) (d : Drive) (store : ℕ) → refusal b d store ≡ 0 → b .count < 8
 unfolding refusal
-refusal-room b d store h = leb-false 8 (b .count) (room (leb 8 (b .count)) _ h)
-  where
-    room : (a : Bool) (n : ℕ) → pick a 4 n ≡ 0 → a ≡ false
-    room true n h = absurd (omega arith)
-    room false n h = refl
+refusal-room b d store h = room (b .count) _ h
 
--- and its fields and its place in the store are good
+-- and its fields and its blocks are good
 pub refusal-taken : (b : Table) (d : Drive) (store : ℕ) → refusal b d store ≡ 0 → (fieldsOk d ≡ true) × (inStore d store ≡ true)
 unfolding refusal
 refusal-taken b d store h = by-tests (leb 8 (b .count)) (fieldsOk d) (inStore d store) refl refl h

@@ -12,17 +12,8 @@ abbrev μ-loop : tie.MeasureT-loop
 slice-aggregate-write-all : tie.Need-slice-aggregate-write-all Inv-loop μ-loop
 slice-aggregate-write-all c = search needs
 
-write-all-requires : tie.Need-write-all-requires Inv-loop μ-loop
-write-all-requires c κs = search needs
-
-print-decimal-requires : tie.Need-print-decimal-requires Inv-loop μ-loop
-print-decimal-requires c κs = search needs
-
 slice-aggregate-write-all-2 : tie.Need-slice-aggregate-write-all-2 Inv-loop μ-loop
 slice-aggregate-write-all-2 c = search needs
-
-write-all-requires-2 : tie.Need-write-all-requires-2 Inv-loop μ-loop
-write-all-requires-2 c κs = search needs
 
 loop-holds : tie.Need-loop-holds Inv-loop μ-loop
 loop-holds c = search needs
@@ -35,9 +26,6 @@ array-copy-out-d c = search needs
 
 add-print-drive : tie.Need-add-print-drive Inv-loop μ-loop
 add-print-drive c = search needs
-
-print-drive-requires : tie.Need-print-drive-requires Inv-loop μ-loop
-print-drive-requires c κs = search needs
 
 add-i : tie.Need-add-i Inv-loop μ-loop
 add-i c = search needs
@@ -58,15 +46,15 @@ print-table-spec =
     Inv-loop
     μ-loop
     slice-aggregate-write-all
-    write-all-requires
-    print-decimal-requires
+    (λ c κs. tt)
+    (λ c κs. tt)
     slice-aggregate-write-all-2
-    write-all-requires-2
+    (λ c κs. tt)
     loop-holds
     mul-d
     array-copy-out-d
     add-print-drive
-    print-drive-requires
+    (λ c κs. tt)
     add-i
     loop-less
     loop-again
