@@ -131,36 +131,6 @@ whole-stores {o₄ = o₄} {o₅ = o₅} s d p n f l e₁ e₂ e₃ e₄ eb e₅
         let t = rw k at (sets-last s head (checksum (summedBytes d)) (omega arith)) in
         rw (e₅, eb, summed, w) (t ∙ rw e (simp append-assoc))
 
--- ---- the bytes 30 to 65
-
--- where they stand: after the first 30, and the last of them is the checksum
-pub path-part : (d : Drive) (p : Pointer) (n : ℕ) → Arrays d → part 36 (wholeResult d p n) 30 ≡ summedBytes d ++ (checksum (summedBytes d) ∷ [])
-unfolding wholeResult
-path-part d p n f =
-    let x : List ℕ = summedBytes d ++ (checksum (summedBytes d) ∷ []) in
-    let front : length (parameterBytes d n ++ blockBytes d p) ≡ 30 = simp (length-append, length-geometry, length-blocks) in
-    let a : parameterBytes d n ++ (blockBytes d p ++ x) ≡ (parameterBytes d n ++ blockBytes d p) ++ x = sym (append-assoc (parameterBytes d n) (blockBytes d p) x) in
-    let l : length x ≤ 36 = simp (length-append, length-interface d f, length-paths d f) (omega arith) in
-    rw (a, drop-at (parameterBytes d n ++ blockBytes d p) x 30 front) (take-all 36 x l)
-
--- the sum of bytes 30 to 65 is zero modulo 256
-pub sum-path : (d : Drive) (p : Pointer) → Arrays d → sum (part 36 (resultBytes d p 66) 30) % 256 ≡ 0
-unfolding resultBytes
-sum-path d p f =
-    let w : take 66 (wholeResult d p 66) ≡ wholeResult d p 66 = take-all 66 (wholeResult d p 66) (omega (arith, length-whole d p 66 f)) in
-    rw (w, path-part d p 66 f) (sum-checksum (summedBytes d))
-
--- ---- the short results
-
--- past the size word the 26- and 30-byte results are prefixes of the 66-byte one
-pub prefix-least : (d : Drive) (p : Pointer) → drop 2 (resultBytes d p 26) ≡ take 24 (drop 2 (resultBytes d p 66))
-unfolding resultBytes wholeResult parameterBytes blockBytes leBytes
-prefix-least d p = refl
-
-pub prefix-pointer : (d : Drive) (p : Pointer) → drop 2 (resultBytes d p 30) ≡ take 28 (drop 2 (resultBytes d p 66))
-unfolding resultBytes wholeResult parameterBytes blockBytes leBytes
-prefix-pointer d p = refl
-
 -- ---- the answer
 
 -- no size is above 66

@@ -10,18 +10,6 @@ use Rattle.layout.proofs.put_paths.Lts as lts
 use Rattle.words.proofs.put_byte.Reads as put-byte-reads
 use Rattle.words.proofs.store8.Reads as store8-reads
 
-store8-requires : tie.Need-store8-requires
-store8-requires c κs = search needs
-
-store8-requires-2 : tie.Need-store8-requires-2
-store8-requires-2 c κs = search needs
-
-put-byte-requires : tie.Need-put-byte-requires
-put-byte-requires c κs = search needs
-
-same-length : tie.Need-same-length
-same-length c = search needs
-
 returns : tie.Need-returns
 returns c =
     let b = c .before .before .before .before .before .before .before .before .before .before .before .before .before .before .before in
@@ -31,4 +19,4 @@ returns c =
 
 pub put-paths-spec : {M : Type 1} → statement M
 put-paths-spec =
-    tie.close (tie.spec store8-requires store8-requires-2 put-byte-requires same-length returns)
+    tie.close (tie.spec (search needs) (search needs) (search needs) (search needs) returns)

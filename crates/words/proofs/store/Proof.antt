@@ -17,9 +17,6 @@ Inv-loop out₀ at a i₀ out i = (i ≤ length a) × (out ≡ sets out₀ at (t
 abbrev μ-loop : tie.MeasureT-loop
 μ-loop out₀ at a i₀ out i = length a - i
 
-loop-holds : tie.Need-loop-holds Inv-loop μ-loop
-loop-holds c = search needs
-
 shared-slice-read-out : tie.Need-shared-slice-read-out Inv-loop μ-loop
 shared-slice-read-out c = omega arith
 
@@ -58,7 +55,7 @@ store-spec =
     (tie.spec
     Inv-loop
     μ-loop
-    loop-holds
+    (search needs)
     shared-slice-read-out
     add-out
     slice-write-out
