@@ -6,7 +6,7 @@ use Rattle.chs.proofs.address_in.Lts as lts
 use Rattle.chs.proofs.unpack.Reads as unpack-reads
 
 returns : tie.Need-returns
-returns c = cc
+returns c = rw (c .before .before .unpack .ensures)
 
 pub address-in-spec : {M : Type 1} → statement M
 address-in-spec = tie.close (tie.spec (search needs) (search needs) (search needs) (search needs) returns)

@@ -9,7 +9,7 @@ use Rattle.logic.proofs.in_range.Reads as in-range-reads
 
 returns : tie.Need-returns
 unfolding inLimits
-returns c = cc
+returns c = rw (c .and2 .ensures, c .before .and .ensures, c .before .before .in-range3 .ensures, c .before .before .before .before .in-range2 .ensures, c .before .before .before .before .before .before .in-range .ensures)
 
 pub in-limits-spec : {M : Type 1} → statement M
 in-limits-spec =

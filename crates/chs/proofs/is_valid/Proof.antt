@@ -9,7 +9,7 @@ use Rattle.logic.proofs.in_range.Reads as in-range-reads
 
 returns : tie.Need-returns
 unfolding isValid
-returns c = cc
+returns c = rw (c .and2 .ensures, c .before .and .ensures, c .before .before .in-range .ensures)
 
 pub is-valid-spec : {M : Type 1} → statement M
 is-valid-spec =

@@ -11,7 +11,7 @@ use Rattle.words.proofs.store16.Reads as store16-reads
 returns : tie.Need-returns
 returns c =
     let a = c .before .before .before .before .before .before .before .before .before .args in
-    cc (sets-two 2 2 (now (a .out)) (a .at) (a .v))
+    sets-two 2 2 (now (a .out)) (a .at) (a .v) (c .before .before .before .before .before .before .store16 .ensures) (c .before .before .store162 .ensures)
 
 pub store32-spec : {M : Type 1} → statement M
 store32-spec =

@@ -11,7 +11,7 @@ use Rattle.words.proofs.store32.Reads as store32-reads
 returns : tie.Need-returns
 returns c =
     let a = c .before .before .before .before .before .before .before .before .before .args in
-    cc (sets-two 4 4 (now (a .out)) (a .at) (a .v))
+    sets-two 4 4 (now (a .out)) (a .at) (a .v) (c .before .before .before .before .before .before .store32 .ensures) (c .before .before .store322 .ensures)
 
 pub store64-spec : {M : Type 1} → statement M
 store64-spec =
