@@ -48,15 +48,17 @@ sum-checksum l =
 
 -- ---- what the code stores
 
-pub geometry-stores : (s : List ℕ) (d : Drive) (n : ℕ) → sets s 0 (parameterBytes d n)
-    ≡ sets (sets (sets (sets (sets s 0 (leBytes 2 n)) 2 (leBytes 2 (flagsShown d))) 4 (leBytes 4 (d .cylinders))) 8 (leBytes 4 (d .heads))) 12 (leBytes 4 (d .sectors))
+pub geometry-stores : {o₁ o₂ o₃ o₄ o₅ : List ℕ} {flags : ℕ} (s : List ℕ) (d : Drive) (n : ℕ) → flags ≡ flagsShown d
+    → o₁ ≡ sets s 0 (leBytes 2 n) → o₂ ≡ sets o₁ 2 (leBytes 2 flags) → o₃ ≡ sets o₂ 4 (leBytes 4 (d .cylinders))
+    → o₄ ≡ sets o₃ 8 (leBytes 4 (d .heads)) → o₅ ≡ sets o₄ 12 (leBytes 4 (d .sectors)) → o₅ ≡ sets s 0 (parameterBytes d n)
 unfolding parameterBytes
-geometry-stores s d n = simp (sets-append, length-leBytes)
+geometry-stores s d n f e₁ e₂ e₃ e₄ e₅ = rw (e₅, e₄, e₃, e₂, e₁, f) (simp (sets-append, length-leBytes))
 
-pub block-stores : (s : List ℕ) (d : Drive) (p : Pointer) → sets s 16 (blockBytes d p)
-    ≡ sets (sets (sets (sets s 16 (leBytes 8 (d .blocks))) 24 (leBytes 2 blockLength)) 26 (leBytes 2 (p .offset))) 28 (leBytes 2 (p .segment))
+pub block-stores : {o₁ o₂ o₃ o₄ : List ℕ} (s : List ℕ) (d : Drive) (p : Pointer) → o₁ ≡ sets s 16 (leBytes 8 (d .blocks))
+    → o₂ ≡ sets o₁ 24 (leBytes 2 blockLength) → o₃ ≡ sets o₂ 26 (leBytes 2 (p .offset)) → o₄ ≡ sets o₃ 28 (leBytes 2 (p .segment))
+    → o₄ ≡ sets s 16 (blockBytes d p)
 unfolding blockBytes
-block-stores s d p = simp (sets-append, length-leBytes)
+block-stores s d p e₁ e₂ e₃ e₄ = rw (e₄, e₃, e₂, e₁) (simp (sets-append, length-leBytes))
 
 pub interface-stores : {o₁ o₂ o₃ o₄ : List ℕ} (s : List ℕ) (d : Drive) → length (d .bus) ≡ 4
     → o₁ ≡ sets s 30 (leBytes 2 pathKey) → o₂ ≡ sets o₁ 32 (leBytes 4 pathLength) → o₃ ≡ sets o₂ 36 (d .bus) → o₄ ≡ sets o₃ 40 (d .interface)
@@ -64,10 +66,10 @@ pub interface-stores : {o₁ o₂ o₃ o₄ : List ℕ} (s : List ℕ) (d : Driv
 unfolding interfaceBytes leBytes
 interface-stores s d h e₁ e₂ e₃ e₄ = rw (e₄, e₃, e₂, e₁) (simp (sets-append, h))
 
-pub path-stores : (s : List ℕ) (d : Drive) → length (d .path) ≡ 8 → length (d .device) ≡ 8 → sets s 48 (pathBytes d)
-    ≡ set (sets (sets s 48 (d .path)) 56 (d .device)) 64 0
+pub path-stores : {o₁ o₂ o₃ : List ℕ} (s : List ℕ) (d : Drive) → length (d .path) ≡ 8 → length (d .device) ≡ 8
+    → o₁ ≡ sets s 48 (d .path) → o₂ ≡ sets o₁ 56 (d .device) → o₃ ≡ set o₂ 64 0 → o₃ ≡ sets s 48 (pathBytes d)
 unfolding pathBytes
-path-stores s d hp hd = simp (sets-append, hp, hd)
+path-stores s d hp hd e₁ e₂ e₃ = rw (e₃, e₂, e₁) (simp (sets-append, hp, hd))
 
 -- ---- lengths
 

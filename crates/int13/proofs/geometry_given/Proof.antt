@@ -7,7 +7,7 @@ use Rattle.chs.proofs.pack.Reads as pack-reads
 use Rattle.int13.proofs.less_one.Reads as less-one-reads
 
 returns : tie.Need-returns
-returns c = cc
+returns c = rw (c .before .pack .ensures, c .before .before .before .less-one .ensures, c .less-one2 .ensures)
 
 pub geometry-given-spec : {M : Type 1} → statement M
 geometry-given-spec =

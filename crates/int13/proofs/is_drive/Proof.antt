@@ -9,7 +9,7 @@ use Rattle.logic.proofs.and.Reads as and-reads
 
 returns : tie.Need-returns
 unfolding isDrive
-returns c = cc
+returns c = rw (c .and .ensures, c .before .drive-count .ensures .0)
 
 pub is-drive-spec : {M : Type 1} → statement M
 is-drive-spec = tie.close (tie.spec (search needs) (search needs) (search needs) returns)

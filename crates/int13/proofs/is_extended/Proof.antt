@@ -6,7 +6,7 @@ use Rattle.int13.proofs.is_extended.Lts as lts
 use Rattle.logic.proofs.or.Reads as or-reads
 
 returns : tie.Need-returns
-returns c = cc
+returns c = rw (c .or2 .ensures, c .before .or .ensures)
 
 pub is-extended-spec : {M : Type 1} → statement M
 is-extended-spec = tie.close (tie.spec (search needs) (search needs) returns)

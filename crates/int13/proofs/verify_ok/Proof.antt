@@ -9,7 +9,7 @@ use Rattle.logic.proofs.or.Reads as or-reads
 
 returns : tie.Need-returns
 unfolding verifyOk
-returns c = cc
+returns c = rw (c .or .ensures, c .before .and .ensures)
 
 pub verify-ok-spec : {M : Type 1} → statement M
 verify-ok-spec = tie.close (tie.spec (search needs) (search needs) returns)

@@ -10,7 +10,7 @@ use Rattle.words.proofs.get64.Reads as get64-reads
 
 returns : tie.Need-returns
 unfolding packetAt
-returns c = cc
+returns c = rw (c .get64 .ensures, c .before .linear .ensures, c .before .before .get163 .ensures, c .before .before .before .before .get162 .ensures, c .before .before .before .before .before .get16 .ensures)
 
 pub packet-at-spec : {M : Type 1} → statement M
 packet-at-spec =

@@ -11,7 +11,7 @@ use Rattle.words.proofs.store64.Reads as store64-reads
 returns : tie.Need-returns
 returns c =
     let a = c .before .before .before .before .before .before .before .before .before .before .before .before .before .before .before .before .before .args in
-    cc (block-stores (now (a .out)) (a .d) (a .p))
+    block-stores (now (a .out)) (a .d) (a .p) (c .before .before .before .before .before .before .before .before .before .before .before .before .before .before .store64 .ensures) (c .before .before .before .before .before .before .before .before .before .before .store16 .ensures) (c .before .before .before .before .before .before .store162 .ensures) (c .before .before .store163 .ensures)
 
 pub put-blocks-spec : {M : Type 1} → statement M
 put-blocks-spec =

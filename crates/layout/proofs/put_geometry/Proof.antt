@@ -12,7 +12,8 @@ use Rattle.words.proofs.store32.Reads as store32-reads
 returns : tie.Need-returns
 returns c =
     let a = c .before .before .before .before .before .before .before .before .before .before .before .before .before .before .before .before .before .before .before .before .before .before .args in
-    cc (geometry-stores (now (a .out)) (a .d) (a .n))
+    geometry-stores (now (a .out)) (a .d) (a .n) (c .before .before .before .before .before .before .before .before .before .before .before .before .before .before .before .flags-shown .ensures) (c .before .before .before .before .before .before .before .before .before .before .before .before .before .before .before .before .before .before .before .store16 .ensures) (c .before .before .before .before .before .before .before .before .before .before .before .before .before .before .store162 .ensures)
+    (c .before .before .before .before .before .before .before .before .before .before .store32 .ensures) (c .before .before .before .before .before .before .store322 .ensures) (c .before .before .store323 .ensures)
 
 pub put-geometry-spec : {M : Type 1} → statement M
 put-geometry-spec =

@@ -15,7 +15,8 @@ returns c =
     let b = c .before .before .before .before .before .before .before .before .before .before .before .before .before .before .before in
     let a = b .args in
     let g = b .good .0 in
-    cc (path-stores (now (a .out)) (a .d) (length-unmapped ℕ (a .d .path) 8 (g .1 .1 .1 .1 .1 .1 .1 .1 .1 .1 .1 .1 .1 .1 .0 .1 .0 .1)) (length-unmapped ℕ (a .d .device) 8 (g .1 .1 .1 .1 .1 .1 .1 .1 .1 .1 .1 .1 .1 .1 .1 .0 .1 .0 .1)))
+    path-stores (now (a .out)) (a .d) (length-unmapped ℕ (a .d .path) 8 (g .1 .1 .1 .1 .1 .1 .1 .1 .1 .1 .1 .1 .1 .1 .0 .1 .0 .1)) (length-unmapped ℕ (a .d .device) 8 (g .1 .1 .1 .1 .1 .1 .1 .1 .1 .1 .1 .1 .1 .1 .1 .0 .1 .0 .1))
+    (c .before .before .before .before .before .before .before .before .before .before .store8 .ensures) (c .before .before .before .before .before .before .store82 .ensures) (c .before .before .put-byte .ensures)
 
 pub put-paths-spec : {M : Type 1} → statement M
 put-paths-spec =
