@@ -63,8 +63,8 @@ window-written = refl
 
 -- ---- blocks
 
--- one block and two, from byte 3 of a source whose byte i is 1000 + i, to place 7 of a target of nines
-pub blocks-laid : map (blocks (replicate 1035 9) 7 (upFrom 1030 1000) 3) (1 ∷ 2 ∷ [])
-    ≡ (replicate 7 9 ++ (upFrom 512 1003 ++ replicate 516 9)) ∷ (replicate 7 9 ++ (upFrom 1024 1003 ++ replicate 4 9)) ∷ []
+-- no block and two, from byte 3 of a source whose byte i is 1000 + i, to place 7 of a target of nines
+pub blocks-laid : map (blocks (replicate 1035 9) 7 (upFrom 1030 1000) 3) (0 ∷ 2 ∷ [])
+    ≡ replicate 1035 9 ∷ (replicate 7 9 ++ (upFrom 1024 1003 ++ replicate 4 9)) ∷ []
 unfolding blocks
 blocks-laid = refl

@@ -54,7 +54,7 @@ extended-42-43-44-spec =
     (search needs)
     (search needs)
     (search needs)
-    (search needs)
+    (λ c. omega arith)
     store16-requires
     (search needs)
     (search needs)

@@ -1,3 +1,4 @@
+use native.Mathlib.Omega.{arith}
 use mathlib.Core.Path.{_≡_, sym, _∙_}
 use mathlib.Core.Bool.{true, false}
 use Prim.Native.Nat.{_+_, _*_}
@@ -80,12 +81,12 @@ packet-tests-spec =
     (search needs)
     (search needs)
     returns-2
-    (search needs)
+    (λ c. omega arith)
     (search needs)
     returns-3
     returns-4
-    (search needs)
-    (search needs)
+    (λ c. omega arith)
+    (λ c. omega arith)
     (search needs)
     returns-5
     returns-6

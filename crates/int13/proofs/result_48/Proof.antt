@@ -54,13 +54,13 @@ result-48-spec =
     (search needs)
     returns
     (search needs)
-    (search needs)
+    (λ c. omega arith)
     (search needs)
     returns-2
-    (search needs)
-    (search needs)
-    (search needs)
-    (search needs)
+    (λ c κs. omega arith)
+    (λ c. omega arith)
+    (λ c. omega arith)
+    (λ c. omega arith)
     (search needs)
     (search needs)
     (search needs)

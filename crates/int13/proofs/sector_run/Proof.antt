@@ -1,3 +1,4 @@
+use native.Mathlib.Omega.{arith}
 use mathlib.Core.Path.{_≡_, sym, _∙_}
 use mathlib.Core.Bool.{true, false}
 use Prim.Native.Nat.{_+_, _*_}
@@ -46,13 +47,13 @@ sector-run-spec =
     tie.close
     (tie.spec
     (search needs)
-    (search needs)
+    (λ c. omega arith)
     (search needs)
     (search needs)
     (search needs)
     returns
     (search needs)
-    (search needs)
+    (λ c. omega arith)
     (search needs)
     (search needs)
     returns-2

@@ -1,3 +1,4 @@
+use native.Mathlib.Omega.{arith}
 use denote.Ref.{now}
 use Rattle.layout.proofs.ResultBufferLaws.{geometry-stores}
 use borrow.Author.Needs.{needs}
@@ -19,11 +20,11 @@ pub put-geometry-spec : {M : Type 1} → statement M
 put-geometry-spec =
     tie.close
     (tie.spec
+    (λ c κs. omega arith)
     (search needs)
-    (search needs)
-    (search needs)
-    (search needs)
-    (search needs)
-    (search needs)
+    (λ c κs. omega arith)
+    (λ c κs. omega arith)
+    (λ c κs. omega arith)
+    (λ c κs. omega arith)
     (search needs)
     returns)
