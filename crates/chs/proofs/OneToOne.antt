@@ -92,13 +92,6 @@ demand2 g limits =
       only-below = λ a n e. address-below g a n (ltb n (size g)) l refl e;
     }
 
--- each undoes the other
-pub addressOf-blockOf : (g : Geometry) (a : Address) (n : ℕ) → blockOf g a ≡ Block n → addressOf g n ≡ At a
-addressOf-blockOf g a n = one-to-one g a n .0
-
-pub blockOf-addressOf : (g : Geometry) (a : Address) (n : ℕ) → addressOf g n ≡ At a → blockOf g a ≡ Block n
-blockOf-addressOf g a n = one-to-one g a n .1
-
 -- a geometry outside the limits refuses both ways, whatever the argument
 pub outside-limits : (g : Geometry) → inLimits g ≡ false →
     ((a : Address) → blockOf g a ≡ NoBlock outside) × ((n : ℕ) → addressOf g n ≡ NoAddress outside)
@@ -121,14 +114,3 @@ unpack-pack cylinder sector c s =
     let whole : cylinder % 256 + 256 * (cylinder / 256 % 4) ≡ cylinder = omega arith in
     let rest : sector % 64 ≡ sector = omega arith in
     λ i. record { cylinder = ((λ j. f .0 j + 256 * f .1 .0 j) ∙ whole) i; sector = (f .1 .1 ∙ rest) i }
-
--- what the cylinder has, its low 8 bits and the two above
-cylinder-fields : (low high : ℕ) → low < 256 → high < 4 → ((low + 256 * high) % 256 ≡ low) × ((low + 256 * high) / 256 % 4 ≡ high)
-cylinder-fields low high l h = (omega arith, omega arith)
-
-pub pack-unpack : (cx : ℕ) → cx < 65536 → pack (unpack cx .cylinder) (unpack cx .sector) ≡ cx
-pack-unpack cx h =
-    let f = cylinder-fields (cx / 256) (cx % 256 / 64) (omega arith) (omega arith) in
-    let twice : cx % 64 % 64 ≡ cx % 64 = omega arith in
-    let whole : 256 * (cx / 256) + (64 * (cx % 256 / 64) + cx % 64) ≡ cx = omega arith in
-    (λ i. 256 * f .0 i + (64 * f .1 i + twice i)) ∙ whole

@@ -11,7 +11,7 @@ use lib.Seq.{getD-take, getD-drop}
 use lib.Dec.{leb, ltb, eqb}
 use borrow.Author.Tests.{ltb-false, eqb-true, eqb-false, not-false}
 use Rattle.logic.specs.Logic.{pick, both, either}
-use Rattle.logic.proofs.LogicLaws.{pick-cases}
+use Rattle.logic.proofs.LogicLaws.{either-true, pick-cases}
 use Rattle.words.specs.Words.{le, part}
 use Rattle.chs.specs.declared.ToBlock.{ToBlock}
 use Rattle.chs.specs.declared.ToBlock.the-variants.{Block, Refused as NoBlock}
@@ -43,10 +43,6 @@ use Rattle.int13.proofs.StepsLaws.{isDrive-true}
 
 -- ---- what a request that waits asks
 
-either-cases : (a b : Bool) → either a b ≡ true → (a ≡ true) ⊎ (b ≡ true)
-either-cases true b e = inl refl
-either-cases false b e = inr e
-
 not-third : (x y z : Bool) → either x (either y z) ≡ true → z ≡ false → either x y ≡ true
 not-third true y z e f = refl
 not-third false true z e f = refl
@@ -54,7 +50,7 @@ not-third false false z e f = sym f ∙ e
 
 -- a number that is one of two
 one-of : (f m n : ℕ) → either (eqb f m) (eqb f n) ≡ true → (f ≡ m) ⊎ (f ≡ n)
-one-of f m n e = ⊎-elim (λ x. inl (eqb-true f m x)) (λ x. inr (eqb-true f n x)) (either-cases (eqb f m) (eqb f n) e)
+one-of f m n e = ⊎-elim (λ x. inl (eqb-true f m x)) (λ x. inr (eqb-true f n x)) (either-true (eqb f m) (eqb f n) e)
 
 module _ (b : Table) (r : Registers) (w : List ℕ) where
   pub record Asks (j : Job) : Type 0 where
@@ -216,20 +212,17 @@ module _ (b : Table) (r : Registers) (w : List ℕ) where
 
 -- ---- the bytes that a move lays down
 
-blocks-byte : (d : List ℕ) (at : ℕ) (s : List ℕ) (from k x : ℕ) → at + 512 * k ≤ length d → from + 512 * k ≤ length s → x < 512 * k
-    → getD (blocks d at s from k) (at + x) 0 ≡ getD s (from + x) 0
-blocks-byte d at s from k x hd hs h =
-    let in-part : (l : List ℕ) (p : ℕ) → getD (part (512 * k) l p) x 0 ≡ getD l (p + x) 0 = λ l p. getD-take (512 * k) (drop p l) x 0 h ∙ getD-drop p l x 0 in
-    sym (in-part (blocks d at s from k) at) ∙ ap (λ (l : List ℕ). getD l x 0) (part-blocks-same d at s from k hd hs) ∙ in-part s from
+module _ (d : List ℕ) (at : ℕ) (s : List ℕ) (from k : ℕ) (hd : at + 512 * k ≤ length d) (hs : from + 512 * k ≤ length s) where
+  blocks-byte : (x y z : ℕ) → x ≡ at + z → y ≡ from + z → z < 512 * k → getD (blocks d at s from k) x 0 ≡ getD s y 0
+  blocks-byte x y z e f h =
+      let in-part : (l : List ℕ) (p : ℕ) → getD (part (512 * k) l p) z 0 ≡ getD l (p + z) 0 = λ l p. getD-take (512 * k) (drop p l) z 0 h ∙ getD-drop p l z 0 in
+      rw (e, f) (sym (in-part (blocks d at s from k) at) ∙ ap (λ (l : List ℕ). getD l z 0) (part-blocks-same d at s from k hd hs) ∙ in-part s from)
 
 module _ (n first buffer : ℕ) (m : Memory) (room : buffer + 512 * n ≤ length (m .window)) (inside : 512 * (first + n) ≤ length (m .store)) where
   read-bytes : ReadBytes n first buffer m (record { window = blocks (m .window) (buffer + 512 * 0) (m .store) (512 * (first + 0)) n; store = m .store })
   read-bytes =
       record {
-        window = λ i k hi hk.
-            let e : buffer + 512 * i + k ≡ (buffer + 512 * 0) + (512 * i + k) = omega arith in
-            let f : 512 * (first + i) + k ≡ 512 * (first + 0) + (512 * i + k) = omega arith in
-            rw (e, f) (blocks-byte (m .window) (buffer + 512 * 0) (m .store) (512 * (first + 0)) n (512 * i + k) (omega arith) (omega arith) (omega arith));
+        window = λ i k hi hk. blocks-byte (m .window) (buffer + 512 * 0) (m .store) (512 * (first + 0)) n (omega arith) (omega arith) _ _ (512 * i + k) (omega arith) (omega arith) (omega arith);
         other = λ x o. getD-blocks-outside (m .window) (buffer + 512 * 0) (m .store) (512 * (first + 0)) n x (⊎-elim (λ y. inl (omega arith)) (λ y. inr (omega arith)) o);
         size = blocks-length (m .window) (buffer + 512 * 0) (m .store) (512 * (first + 0)) n;
         store = refl;
@@ -238,10 +231,7 @@ module _ (n first buffer : ℕ) (m : Memory) (room : buffer + 512 * n ≤ length
   written-bytes : WrittenBytes n first buffer m (record { window = m .window; store = blocks (m .store) (512 * (first + 0)) (m .window) (buffer + 512 * 0) n })
   written-bytes =
       record {
-        store = λ i k hi hk.
-            let e : 512 * (first + i) + k ≡ 512 * (first + 0) + (512 * i + k) = omega arith in
-            let f : buffer + 512 * i + k ≡ (buffer + 512 * 0) + (512 * i + k) = omega arith in
-            rw (e, f) (blocks-byte (m .store) (512 * (first + 0)) (m .window) (buffer + 512 * 0) n (512 * i + k) (omega arith) (omega arith) (omega arith));
+        store = λ i k hi hk. blocks-byte (m .store) (512 * (first + 0)) (m .window) (buffer + 512 * 0) n (omega arith) (omega arith) _ _ (512 * i + k) (omega arith) (omega arith) (omega arith);
         other = λ x o. getD-blocks-outside (m .store) (512 * (first + 0)) (m .window) (buffer + 512 * 0) n x (⊎-elim (λ y. inl (omega arith)) (λ y. inr (omega arith)) o);
         size = blocks-length (m .store) (512 * (first + 0)) (m .window) (buffer + 512 * 0) n;
         window = refl;

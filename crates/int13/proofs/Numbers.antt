@@ -2,7 +2,7 @@
 -- that the paper's tests give, in its order.
 -- Assumes nothing.
 use Prim.Native.Nat.{ℕ, _+_, _*_, _%_}
-use mathlib.Core.Path.{_≡_, refl, ap, _∙_}
+use mathlib.Core.Path.{_≡_, refl, sym, ap, _∙_}
 use mathlib.Core.Bool.{Bool, true, false, not}
 use mathlib.Core.List.{List, [], _∷_}
 use native.Mathlib.Omega.{arith}
@@ -10,14 +10,15 @@ use lib.ListN.{length, getD, drop}
 use lib.Dec.{leb, ltb, eqb}
 use Rattle.logic.specs.Logic.{pick, both, either}
 use Rattle.words.specs.Words.{le}
-use Rattle.chs.specs.declared.ToBlock.the-variants.{Block, Refused as NoBlock}
+use Rattle.chs.specs.declared.ToBlock.{ToBlock}
+use Rattle.chs.specs.declared.ToBlock.the-variants.{Block}
 use Rattle.chs.specs.Chs.{inLimits, isValid, blockOf, addressIn, number as blockNumber}
 use Rattle.drive.specs.declared.Drive.{Drive}
 use Rattle.drive.specs.Drive.{geometryOf, isProtected}
 use Rattle.table.specs.declared.Table.{Table}
 use Rattle.layout.specs.declared.Packet.{Packet}
-use Rattle.layout.specs.declared.PacketRead.the-variants.{Whole, Refused as NoPacket}
-use Rattle.layout.specs.declared.ResultAnswer.the-variants.{Written, Refused as NoResult}
+use Rattle.layout.specs.declared.PacketRead.{PacketRead}
+use Rattle.layout.specs.declared.ResultAnswer.{ResultAnswer}
 use Rattle.layout.specs.Packet.{packetAt, readPacket}
 use Rattle.layout.specs.ResultBuffer.{returnedSize, resultAnswer}
 use Rattle.int13.specs.declared.Registers.{Registers}
@@ -92,12 +93,10 @@ through f false a b = b
 
 -- ---- the numbers of each function
 
-run-numbers : (d : Drive) (r : Registers) (M n : ℕ) (t : Bool)
-    → outcomeNumbers (sectorRun d r M (pick t (Block n) (NoBlock 0x04))) ≡ pick t (runGiven d r M n) (refusedNumbers 0x04 r)
-run-numbers d r M n true =
+run-numbers : (d : Drive) (r : Registers) (M n : ℕ) → outcomeNumbers (sectorRun d r M (Block n)) ≡ runGiven d r M n
+run-numbers d r M n =
     through outcomeNumbers (ltb (d .c * d .h * d .s) (n + al r)) (refused 0x04 r)
     (through outcomeNumbers (ltb M (16 * r .es + r .bx + 512 * al r)) (refused 0x09 r) (waits n (al r) (16 * r .es + r .bx) 0 r))
-run-numbers d r M n false = refused 0x04 r
 
 sectors-numbers : (known : Bool) (d : Drive) (r : Registers) (M : ℕ) → outcomeNumbers (sectors known d r M) ≡ sectorsGiven known d r M
 unfolding sectors sectorsGiven blockOf
@@ -106,8 +105,8 @@ sectors-numbers known d r M =
     (through outcomeNumbers (eqb (al r) 0) (refused 0x01 r)
     (through outcomeNumbers (ltb 128 (al r)) (refused 0x09 r)
     (through outcomeNumbers (both (isWrite (ah r)) (isProtected d)) (refused 0x03 r)
-    (run-numbers d r M (blockNumber (geometryOf d) (addressIn (r .cx) (r .dx)))
-    (both (inLimits (geometryOf d)) (isValid (geometryOf d) (addressIn (r .cx) (r .dx))))))))
+    (through (λ (x : ToBlock). outcomeNumbers (sectorRun d r M x)) (both (inLimits (geometryOf d)) (isValid (geometryOf d) (addressIn (r .cx) (r .dx))))
+    (run-numbers d r M (blockNumber (geometryOf d) (addressIn (r .cx) (r .dx)))) (refused 0x04 r)))))
 
 parameters-numbers : (known : Bool) (count : ℕ) (d : Drive) (r : Registers) → outcomeNumbers (parameters known count d r) ≡ parametersGiven known count d r
 unfolding parameters parametersGiven
@@ -135,13 +134,9 @@ tests-numbers d r w M p =
 
 packet-numbers : (d : Drive) (r : Registers) (w : List ℕ) (place : ℕ) → planned r w (packetRead d r (length w) (readPacket w place)) ≡ packetNumbersAt d r w place
 unfolding readPacket packetAt packetNumbersAt
-packet-numbers d r w place = by-test (leb (place + 16) (length w))
-  where
-    by-test : (t : Bool) → planned r w (packetRead d r (length w) (pick t (Whole (packetAt w place)) (NoPacket 0x01)))
-        ≡ pick t (pick (ltb (getD w place 0) 16) (refusedNumbers 0x01 r)
-        (packetTestsGiven d r (length w) (le 2 w (place + 2)) (16 * le 2 w (place + 6) + le 2 w (place + 4)) (le 8 w (place + 8)))) (refusedNumbers 0x01 r)
-    by-test true = through (planned r w) (ltb (getD w place 0) 16) (refused 0x01 r) (tests-numbers d r w (length w) (packetAt w place))
-    by-test false = refused 0x01 r
+packet-numbers d r w place =
+    through (λ (p : PacketRead). planned r w (packetRead d r (length w) p)) (leb (place + 16) (length w))
+    (through (planned r w) (ltb (getD w place 0) 16) (refused 0x01 r) (tests-numbers d r w (length w) (packetAt w place))) (refused 0x01 r)
 
 extended-numbers : (known : Bool) (d : Drive) (r : Registers) (w : List ℕ) → planned r w (packetPlan known d r w) ≡ extendedGiven known d r w
 unfolding packetPlan extendedGiven
@@ -151,15 +146,12 @@ extended-numbers known d r w =
 
 seek-numbers : (known : Bool) (d : Drive) (r : Registers) (w : List ℕ) → outcomeNumbers (seek known d r w) ≡ seekGiven known d r w
 unfolding seek seekGiven readPacket packetAt
-seek-numbers known d r w = through outcomeNumbers (not known) (refused 0x01 r) (by-test (leb (16 * r .ds + r .si + 16) (length w)))
-  where
-    by-test : (t : Bool) → outcomeNumbers (seekRead d r (pick t (Whole (packetAt w (16 * r .ds + r .si))) (NoPacket 0x01)))
-        ≡ pick t (pick (ltb (getD w (16 * r .ds + r .si) 0) 16) (refusedNumbers 0x01 r)
-        (pick (leb (d .blocks) (le 8 w (16 * r .ds + r .si + 8))) (refusedNumbers 0x04 r) (doneNumbers r))) (refusedNumbers 0x01 r)
-    by-test true =
-        through outcomeNumbers (ltb (getD w (16 * r .ds + r .si) 0) 16) (refused 0x01 r)
-        (through outcomeNumbers (leb (d .blocks) (le 8 w (16 * r .ds + r .si + 8))) (refused 0x04 r) (finished r))
-    by-test false = refused 0x01 r
+seek-numbers known d r w =
+    through outcomeNumbers (not known) (refused 0x01 r)
+    (through (λ (p : PacketRead). outcomeNumbers (seekRead d r p)) (leb (16 * r .ds + r .si + 16) (length w))
+    (through outcomeNumbers (ltb (getD w (16 * r .ds + r .si) 0) 16) (refused 0x01 r)
+    (through outcomeNumbers (leb (d .blocks) (le 8 w (16 * r .ds + r .si + 8))) (refused 0x04 r) (finished r)))
+    (refused 0x01 r))
 
 -- the numbers of an answer with its window
 abbrev checked : Checked → List ℕ
@@ -171,11 +163,8 @@ result-numbers known d r w =
     let asked = le 2 w (16 * r .ds + r .si) in
     through checked (not known) (refused 0x01 r)
     (through checked (ltb (length w) (16 * r .ds + r .si + 2)) (refused 0x01 r)
-    (by-test asked (both (leb 26 asked) (leb (returnedSize asked) (length (drop (16 * r .ds + r .si) w))))))
-  where
-    by-test : (asked : ℕ) (t : Bool) → outcomeNumbers (resultGiven (pick t (Written (returnedSize asked)) (NoResult 0x01)) r) ≡ pick t (doneNumbers r) (refusedNumbers 0x01 r)
-    by-test asked true = finished r
-    by-test asked false = refused 0x01 r
+    (through (λ (x : ResultAnswer). outcomeNumbers (resultGiven x r)) (both (leb 26 asked) (leb (returnedSize asked) (length (drop (16 * r .ds + r .si) w))))
+    (finished r) (refused 0x01 r)))
 
 steps-numbers : (known : Bool) (count : ℕ) (d : Drive) (r : Registers) (w : List ℕ) → checked (steps known count d r w) ≡ stepsGiven known count d r w
 unfolding steps stepsGiven
@@ -190,10 +179,12 @@ steps-numbers known count d r w =
 
 -- whoever answers with the definition answers with the paper's numbers
 
-pub steps-answered : {o : Outcome} {v : List ℕ} (known : Bool) (count : ℕ) (d : Drive) (r : Registers) (w : List ℕ)
-    → o ≡ steps known count d r w .outcome → v ≡ steps known count d r w .window
+pub steps-answered : {o : Outcome} {v : List ℕ} {k : Checked} (known : Bool) (count : ℕ) (d : Drive) (r : Registers) (w : List ℕ)
+    → steps known count d r w ≡ k → o ≡ k .outcome → v ≡ k .window
     → (o ≡ steps known count d r w .outcome) × (v ≡ steps known count d r w .window) × (outcomeNumbers o ≡ stepsGiven known count d r w)
-steps-answered known count d r w e f = (e, f, ap outcomeNumbers e ∙ steps-numbers known count d r w)
+steps-answered known count d r w s e f =
+    let outcome = e ∙ ap (λ (k : Checked). k .outcome) (sym s) in
+    (outcome, f ∙ ap (λ (k : Checked). k .window) (sym s), ap outcomeNumbers outcome ∙ steps-numbers known count d r w)
 
 pub begin-answered : {o : Outcome} {v : List ℕ} (b : Table) (r : Registers) (w : List ℕ) → o ≡ begin (fed b) r w .outcome → v ≡ begin (fed b) r w .window
     → (o ≡ begin (fed b) r w .outcome) × (v ≡ begin (fed b) r w .window) × (outcomeNumbers o ≡ beginGiven b r w)

@@ -3,14 +3,15 @@
 use mathlib.Core.Path.{_≡_, refl, sym, ap, _∙_}
 use mathlib.Core.Bool.{Bool, true, false, not}
 use mathlib.Core.List.{List, _++_, append-nil}
+use mathlib.Core.Logic.{⊎-elim}
 use Prim.Native.Nat.{ℕ, _+_, _-_, _%_, _≤_, _<_}
 use native.Mathlib.Omega.{arith}
 use lib.ListN.{length, getD, take, drop, length-append, length-take, length-drop, drop-of-length-le}
 use lib.Seq.{take-all, length-sets}
 use lib.Dec.{leb, ltb, eqb}
-use borrow.Author.Tests.{leb-true, leb-false, ltb-true, ltb-false, lt-ltb, le-ltb}
+use borrow.Author.Tests.{leb-true, leb-false, ltb-true, lt-ltb, le-ltb, eqb-true, ne-eqb}
 use Rattle.logic.specs.Logic.{pick, both, either}
-use Rattle.logic.proofs.LogicLaws.{both-true, impossible}
+use Rattle.logic.proofs.LogicLaws.{both-true, either-true, impossible}
 use Rattle.drive.specs.declared.Drive.{Drive}
 use Rattle.table.specs.declared.Table.{Table}
 use Rattle.table.specs.Table.{noDrive}
@@ -74,6 +75,41 @@ lent-rest w place = take-all (length w - place) (drop place w) (omega (arith, le
 
 pub put-rest : (w out : List ℕ) (place : ℕ) → take place w ++ (out ++ drop (length w - place) (drop place w)) ≡ take place w ++ out
 put-rest w out place = rw (drop-of-length-le (drop place w) {i = length w - place} (omega (arith, length-drop place w)), append-nil)
+
+-- ---- every function by its number
+
+module _ (known : Bool) (count : ℕ) (d : Drive) (r : Registers) (w : List ℕ) {f : ℕ} (q : f ≡ ah r) where
+  pub steps-02-03 : isSectors f ≡ true → steps known count d r w ≡ unchanged w (sectors known d r (length w))
+  unfolding steps
+  steps-02-03 e = rw (← q, e)
+
+  pub steps-08 : f ≡ 0x08 → steps known count d r w ≡ unchanged w (parameters known count d r)
+  unfolding steps
+  steps-08 e = rw (sym q ∙ e)
+
+  pub steps-41 : f ≡ 0x41 → steps known count d r w ≡ unchanged w (extensions known r)
+  unfolding steps
+  steps-41 e = rw (sym q ∙ e)
+
+  pub steps-42-43-44 : either (eqb f 0x42) (either (eqb f 0x43) (eqb f 0x44)) ≡ true → steps known count d r w ≡ extended known d r w
+  unfolding steps
+  steps-42-43-44 e =
+      ⊎-elim (λ x. rw (sym q ∙ eqb-true f 0x42 x))
+      (λ y. ⊎-elim (λ x. rw (sym q ∙ eqb-true f 0x43 x)) (λ x. rw (sym q ∙ eqb-true f 0x44 x)) (either-true (eqb f 0x43) (eqb f 0x44) y))
+      (either-true (eqb f 0x42) (either (eqb f 0x43) (eqb f 0x44)) e)
+
+  pub steps-47 : f ≡ 0x47 → steps known count d r w ≡ unchanged w (seek known d r w)
+  unfolding steps
+  steps-47 e = rw (sym q ∙ e)
+
+  pub steps-48 : f ≡ 0x48 → steps known count d r w ≡ result known d r w
+  unfolding steps
+  steps-48 e = rw (sym q ∙ e)
+
+  pub steps-other : isSectors f ≡ false → (f ≡ 0x08 → ⊥) → (f ≡ 0x41 → ⊥) → either (eqb f 0x42) (either (eqb f 0x43) (eqb f 0x44)) ≡ false
+      → (f ≡ 0x47 → ⊥) → (f ≡ 0x48 → ⊥) → steps known count d r w ≡ unchanged w (Answered (refuse badParameter r))
+  unfolding steps
+  steps-other e₁ n₂ n₃ e₄ n₅ n₆ = rw (← q, e₁, ne-eqb f 0x08 n₂, ne-eqb f 0x41 n₃, e₄, ne-eqb f 0x47 n₅, ne-eqb f 0x48 n₆)
 
 -- ---- the drive is not looked at where it is not known
 

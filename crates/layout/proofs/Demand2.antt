@@ -47,18 +47,9 @@ pointing d p n rest f = record { at-26 = read-write 2 (p .offset) (f .offset); a
 abbrev names : Drive → List ℕ → List ℕ
 names d t = d .bus ++ (d .interface ++ (d .path ++ (d .device ++ t)))
 
-module _ (d : Drive) (t : List ℕ) (f : Arrays d) where
-  from-4 : drop 4 (names d t) ≡ d .interface ++ (d .path ++ (d .device ++ t))
-  from-4 = drop-at (d .bus) (d .interface ++ (d .path ++ (d .device ++ t))) 4 (f .bus)
-
-  from-12 : drop 12 (names d t) ≡ d .path ++ (d .device ++ t)
-  from-12 = sym (drop-drop 8 4 (names d t)) ∙ ap (drop 8) from-4 ∙ drop-at (d .interface) (d .path ++ (d .device ++ t)) 8 (f .interface)
-
-  from-20 : drop 20 (names d t) ≡ d .device ++ t
-  from-20 = sym (drop-drop 8 12 (names d t)) ∙ ap (drop 8) from-12 ∙ drop-at (d .path) (d .device ++ t) 8 (f .path)
-
-  from-28 : drop 28 (names d t) ≡ t
-  from-28 = sym (drop-drop 8 20 (names d t)) ∙ ap (drop 8) from-20 ∙ drop-at (d .device) t 8 (f .device)
+-- a run at a place of r, and the place behind it
+next : {a b : List ℕ} (r : List ℕ) (i k : ℕ) → drop i r ≡ a ++ b → length a ≡ k → (part k r i ≡ a) × (drop (i + k) r ≡ b)
+next {a} {b} r i k e l = (ap (take k) e ∙ take-at a b k l, sym (drop-drop k i r) ∙ ap (drop k) e ∙ drop-at a b k l)
 
 -- bytes 30 on: what is summed and the checksum; bytes 36 on: the names, zero and the checksum
 module _ (d : Drive) (p : Pointer) (n : ℕ) (rest : List ℕ) where
@@ -78,13 +69,11 @@ module _ (d : Drive) (p : Pointer) (n : ℕ) (rest : List ℕ) where
 paths : (d : Drive) (p : Pointer) (n : ℕ) (rest : List ℕ) → Arrays d → Paths d (wholeResult d p n ++ rest)
 paths d p n rest f =
     let r : List ℕ = wholeResult d p n ++ rest in
-    let t : List ℕ = 0 ∷ checksum (summedBytes d) ∷ rest in
-    let e : drop 36 r ≡ names d t = from-36 d p n rest in
     let k = key d p n rest in
-    let x₄ : drop 40 r ≡ d .interface ++ (d .path ++ (d .device ++ t)) = sym (drop-drop 4 36 r) ∙ ap (drop 4) e ∙ from-4 d t f in
-    let x₁₂ : drop 48 r ≡ d .path ++ (d .device ++ t) = sym (drop-drop 12 36 r) ∙ ap (drop 12) e ∙ from-12 d t f in
-    let x₂₀ : drop 56 r ≡ d .device ++ t = sym (drop-drop 20 36 r) ∙ ap (drop 20) e ∙ from-20 d t f in
-    let x₂₈ : drop 64 r ≡ t = sym (drop-drop 28 36 r) ∙ ap (drop 28) e ∙ from-28 d t f in
+    let bus = next r 36 4 (from-36 d p n rest) (f .bus) in
+    let interface = next r 40 8 (bus .1) (f .interface) in
+    let path = next r 48 8 (interface .1) (f .path) in
+    let device = next r 56 8 (path .1) (f .device) in
     let s : List ℕ = summedBytes d ++ (checksum (summedBytes d) ∷ []) in
     let l : length s ≡ 36 = length-append (summedBytes d) (checksum (summedBytes d) ∷ []) ∙ ap (λ (m : ℕ). m + 1) (length-summed d f) in
     let y : part 36 r 30 ≡ s = ap (take 36) (from-30 d p n rest) ∙ take-at s rest 36 l in
@@ -92,11 +81,11 @@ paths d p n rest f =
       at-30 = k .0;
       at-32 = k .1;
       at-33 = k .2;
-      at-36 = ap (take 4) e ∙ take-at (d .bus) (d .interface ++ (d .path ++ (d .device ++ t))) 4 (f .bus);
-      at-40 = ap (take 8) x₄ ∙ take-at (d .interface) (d .path ++ (d .device ++ t)) 8 (f .interface);
-      at-48 = ap (take 8) x₁₂ ∙ take-at (d .path) (d .device ++ t) 8 (f .path);
-      at-56 = ap (take 8) x₂₀ ∙ take-at (d .device) t 8 (f .device);
-      at-64 = sym (getD-drop 64 r 0 0) ∙ ap (λ (x : List ℕ). getD x 0 0) x₂₈;
+      at-36 = bus .0;
+      at-40 = interface .0;
+      at-48 = path .0;
+      at-56 = device .0;
+      at-64 = sym (getD-drop 64 r 0 0) ∙ ap (λ (x : List ℕ). getD x 0 0) (device .1);
       at-65 = ap (λ (x : List ℕ). sum x % 256) y ∙ sum-checksum (summedBytes d);
     }
 

@@ -3,25 +3,15 @@
 use mathlib.Core.Path.{_≡_, refl, ap, _∙_}
 use mathlib.Core.Bool.{Bool, true, false}
 use mathlib.Core.List.{List, [], _∷_}
-use Prim.Native.Nat.{ℕ, _+_, _*_, _≤_, _<_}
-use native.Mathlib.Omega.{arith}
+use Prim.Native.Nat.{ℕ, _+_, _*_}
 use lib.ListN.{length, getD}
 use lib.Dec.{leb}
-use borrow.Author.Tests.{le-leb, lt-leb}
 use Rattle.logic.proofs.LogicLaws.{impossible}
 use Rattle.logic.specs.Logic.{pick}
 use Rattle.words.specs.Words.{le}
 use Rattle.layout.specs.declared.PacketRead.{PacketRead}
 use Rattle.layout.specs.declared.PacketRead.the-variants.{Whole, Refused}
 use Rattle.layout.specs.Packet.{badParameter, packetLength, packetAt, readPacket, packetNumbers, packetGiven}
-
-pub readPacket-outside : (window : List ℕ) (at : ℕ) → length window < at + packetLength → Refused badParameter ≡ readPacket window at
-unfolding readPacket
-readPacket-outside window at h = rw (lt-leb (at + packetLength) (length window) h)
-
-pub readPacket-inside : (window : List ℕ) (at : ℕ) → at + packetLength ≤ length window → Whole (packetAt window at) ≡ readPacket window at
-unfolding readPacket
-readPacket-inside window at h = rw (le-leb (at + packetLength) (length window) h)
 
 -- whoever answers with the definition answers with the paper's numbers
 pub packet-answered : {r : PacketRead} (window : List ℕ) (at : ℕ) → r ≡ readPacket window at

@@ -48,15 +48,17 @@ sum-checksum l =
 
 -- ---- what the code stores
 
-pub geometry-stores : (s : List ℕ) (d : Drive) (n : ℕ) → sets s 0 (parameterBytes d n)
-    ≡ sets (sets (sets (sets (sets s 0 (leBytes 2 n)) 2 (leBytes 2 (flagsShown d))) 4 (leBytes 4 (d .cylinders))) 8 (leBytes 4 (d .heads))) 12 (leBytes 4 (d .sectors))
+pub geometry-stores : {o₁ o₂ o₃ o₄ o₅ : List ℕ} {flags : ℕ} (s : List ℕ) (d : Drive) (n : ℕ) → flags ≡ flagsShown d
+    → o₁ ≡ sets s 0 (leBytes 2 n) → o₂ ≡ sets o₁ 2 (leBytes 2 flags) → o₃ ≡ sets o₂ 4 (leBytes 4 (d .cylinders))
+    → o₄ ≡ sets o₃ 8 (leBytes 4 (d .heads)) → o₅ ≡ sets o₄ 12 (leBytes 4 (d .sectors)) → o₅ ≡ sets s 0 (parameterBytes d n)
 unfolding parameterBytes
-geometry-stores s d n = simp (sets-append, length-leBytes)
+geometry-stores s d n f e₁ e₂ e₃ e₄ e₅ = rw (e₅, e₄, e₃, e₂, e₁, f) (simp (sets-append, length-leBytes))
 
-pub block-stores : (s : List ℕ) (d : Drive) (p : Pointer) → sets s 16 (blockBytes d p)
-    ≡ sets (sets (sets (sets s 16 (leBytes 8 (d .blocks))) 24 (leBytes 2 blockLength)) 26 (leBytes 2 (p .offset))) 28 (leBytes 2 (p .segment))
+pub block-stores : {o₁ o₂ o₃ o₄ : List ℕ} (s : List ℕ) (d : Drive) (p : Pointer) → o₁ ≡ sets s 16 (leBytes 8 (d .blocks))
+    → o₂ ≡ sets o₁ 24 (leBytes 2 blockLength) → o₃ ≡ sets o₂ 26 (leBytes 2 (p .offset)) → o₄ ≡ sets o₃ 28 (leBytes 2 (p .segment))
+    → o₄ ≡ sets s 16 (blockBytes d p)
 unfolding blockBytes
-block-stores s d p = simp (sets-append, length-leBytes)
+block-stores s d p e₁ e₂ e₃ e₄ = rw (e₄, e₃, e₂, e₁) (simp (sets-append, length-leBytes))
 
 pub interface-stores : {o₁ o₂ o₃ o₄ : List ℕ} (s : List ℕ) (d : Drive) → length (d .bus) ≡ 4
     → o₁ ≡ sets s 30 (leBytes 2 pathKey) → o₂ ≡ sets o₁ 32 (leBytes 4 pathLength) → o₃ ≡ sets o₂ 36 (d .bus) → o₄ ≡ sets o₃ 40 (d .interface)
@@ -64,10 +66,10 @@ pub interface-stores : {o₁ o₂ o₃ o₄ : List ℕ} (s : List ℕ) (d : Driv
 unfolding interfaceBytes leBytes
 interface-stores s d h e₁ e₂ e₃ e₄ = rw (e₄, e₃, e₂, e₁) (simp (sets-append, h))
 
-pub path-stores : (s : List ℕ) (d : Drive) → length (d .path) ≡ 8 → length (d .device) ≡ 8 → sets s 48 (pathBytes d)
-    ≡ set (sets (sets s 48 (d .path)) 56 (d .device)) 64 0
+pub path-stores : {o₁ o₂ o₃ : List ℕ} (s : List ℕ) (d : Drive) → length (d .path) ≡ 8 → length (d .device) ≡ 8
+    → o₁ ≡ sets s 48 (d .path) → o₂ ≡ sets o₁ 56 (d .device) → o₃ ≡ set o₂ 64 0 → o₃ ≡ sets s 48 (pathBytes d)
 unfolding pathBytes
-path-stores s d hp hd = simp (sets-append, hp, hd)
+path-stores s d hp hd e₁ e₂ e₃ = rw (e₃, e₂, e₁) (simp (sets-append, hp, hd))
 
 -- ---- lengths
 
@@ -130,36 +132,6 @@ whole-stores {o₄ = o₄} {o₅ = o₅} s d p n f l e₁ e₂ e₃ e₄ eb e₅
         let summed : part 35 o₄ 30 ≡ summedBytes d = rw (w, sets-front s head (omega arith), e) q in
         let t = rw k at (sets-last s head (checksum (summedBytes d)) (omega arith)) in
         rw (e₅, eb, summed, w) (t ∙ rw e (simp append-assoc))
-
--- ---- the bytes 30 to 65
-
--- where they stand: after the first 30, and the last of them is the checksum
-pub path-part : (d : Drive) (p : Pointer) (n : ℕ) → Arrays d → part 36 (wholeResult d p n) 30 ≡ summedBytes d ++ (checksum (summedBytes d) ∷ [])
-unfolding wholeResult
-path-part d p n f =
-    let x : List ℕ = summedBytes d ++ (checksum (summedBytes d) ∷ []) in
-    let front : length (parameterBytes d n ++ blockBytes d p) ≡ 30 = simp (length-append, length-geometry, length-blocks) in
-    let a : parameterBytes d n ++ (blockBytes d p ++ x) ≡ (parameterBytes d n ++ blockBytes d p) ++ x = sym (append-assoc (parameterBytes d n) (blockBytes d p) x) in
-    let l : length x ≤ 36 = simp (length-append, length-interface d f, length-paths d f) (omega arith) in
-    rw (a, drop-at (parameterBytes d n ++ blockBytes d p) x 30 front) (take-all 36 x l)
-
--- the sum of bytes 30 to 65 is zero modulo 256
-pub sum-path : (d : Drive) (p : Pointer) → Arrays d → sum (part 36 (resultBytes d p 66) 30) % 256 ≡ 0
-unfolding resultBytes
-sum-path d p f =
-    let w : take 66 (wholeResult d p 66) ≡ wholeResult d p 66 = take-all 66 (wholeResult d p 66) (omega (arith, length-whole d p 66 f)) in
-    rw (w, path-part d p 66 f) (sum-checksum (summedBytes d))
-
--- ---- the short results
-
--- past the size word the 26- and 30-byte results are prefixes of the 66-byte one
-pub prefix-least : (d : Drive) (p : Pointer) → drop 2 (resultBytes d p 26) ≡ take 24 (drop 2 (resultBytes d p 66))
-unfolding resultBytes wholeResult parameterBytes blockBytes leBytes
-prefix-least d p = refl
-
-pub prefix-pointer : (d : Drive) (p : Pointer) → drop 2 (resultBytes d p 30) ≡ take 28 (drop 2 (resultBytes d p 66))
-unfolding resultBytes wholeResult parameterBytes blockBytes leBytes
-prefix-pointer d p = refl
 
 -- ---- the answer
 

@@ -2,10 +2,10 @@
 // which it writes.
 use drive::Drive;
 ghost use mathlib.Core.Path.{_≡_};
-ghost use Prim.Native.Nat.{_%_, _≤_};
+ghost use Prim.Native.Nat.{_+_, _%_, _≤_};
 ghost use lib.ListN.{length};
 ghost use lib.Seq.{sets};
-ghost use Rattle.layout.specs.Packet.{linear, readPacket, packetNumbers, packetGiven};
+ghost use Rattle.layout.specs.Packet.{linear, packetLength, packetAt, readPacket, packetNumbers, packetGiven};
 ghost use Rattle.layout.specs.ResultBuffer.{pathSize, returnedSize, flagsShown, parameterBytes, blockBytes, interfaceBytes, pathBytes, sum, checksum, wholeResult, resultAnswer, resultOut, resultNumbers, sizeGiven};
 
 // AH 01h.
@@ -36,27 +36,31 @@ pub enum PacketRead {
     Refused(u8),
 }
 
-const PACKET_LENGTH: usize = 16;
+const PACKET_LENGTH: u64 = 16;
 
-// The packet at a place of the window. Refused with 01h: a packet that is not wholly inside. Tested by difference, since the place
-// may be any number.
-pub fn read_packet(window: &[u8], at: usize) -> PacketRead
-    ensures { λ r. ⌜ (r ≡ readPacket (now (window .entry)) at) × (packetNumbers r ≡ packetGiven (now (window .entry)) at) ⌝ }
+// The fields of a packet that is wholly inside the window.
+fn packet_at(window: &[u8], at: usize) -> Packet
+    requires { ⌜ at + packetLength ≤ length (now window) ⌝ }
+    ensures { λ r. ⌜ r ≡ packetAt (now (window .entry)) at ⌝ }
 {
-    if window.len() < PACKET_LENGTH {
-        return PacketRead::Refused(BAD_PARAMETER);
-    }
-    if window.len() - PACKET_LENGTH < at {
-        return PacketRead::Refused(BAD_PARAMETER);
-    }
     let offset = words::get16(window, at + 4);
     let segment = words::get16(window, at + 6);
-    PacketRead::Whole(Packet {
+    Packet {
         size: window[at],
         count: words::get16(window, at + 2),
         buffer: linear(segment, offset),
         start: words::get64(window, at + 8),
-    })
+    }
+}
+
+// The packet at a place of the window, which may be any number. Refused with 01h: a packet that is not wholly inside.
+pub fn read_packet(window: &[u8], at: usize) -> PacketRead
+    ensures { λ r. ⌜ (r ≡ readPacket (now (window .entry)) at) × (packetNumbers r ≡ packetGiven (now (window .entry)) at) ⌝ }
+{
+    if logic::ends_by(at as u64, PACKET_LENGTH, window.len() as u64) {
+        return PacketRead::Whole(packet_at(window, at));
+    }
+    PacketRead::Refused(BAD_PARAMETER)
 }
 
 // ---- the bytes of the result buffer

@@ -11,8 +11,6 @@ use lib.Seq.{sets, length-sets, take-add, drop-drop, getD-take, getD-drop}
 use Rattle.words.specs.Words.{part}
 use Rattle.words.proofs.WordsLaws.{sets-append}
 use Rattle.memory.specs.Blocks.{blockLength, blocks}
-use Rattle.memory.specs.Window.{spanLength, windowOf, withWindow}
-use Rattle.memory.proofs.WindowLaws.{length-window, window-with-same, with-window-twice}
 use Rattle.memory.proofs.Sets.{length-part, length-part-le, part-sets-before, part-sets-after, part-sets-same}
 
 pub blocks-length : (d : List ℕ) (at : ℕ) (s : List ℕ) (from k : ℕ) → length (blocks d at s from k) ≡ length d
@@ -83,20 +81,3 @@ part-blocks-same d at s from k hd hs =
 pub blocks-source : (d : List ℕ) (at : ℕ) (s t : List ℕ) (from k : ℕ) → from + blockLength * k ≤ length s → from + blockLength * k ≤ length t →
     part (blockLength * k) s from ≡ part (blockLength * k) t from → blocks d at s from k ≡ blocks d at t from k
 blocks-source d at s t from k hs ht e = blocks-splice d at s from k hs ∙ ap (sets d at) e ∙ sym (blocks-splice d at t from k ht)
-
--- ---- moves into a window
-
--- the arena that a read leaves, as in the promise of load
-abbrev pub loaded : List ℕ → ℕ → ℕ → ℕ → List ℕ → ℕ → ℕ → List ℕ
-loaded a g m at s from k = withWindow a g m (blocks (windowOf a g m) at s from k)
-
--- two reads of a guest, the second where the first ended, are one longer read
-pub load-append : (a : List ℕ) (g m at : ℕ) (s : List ℕ) (from j k : ℕ) →
-    loaded (loaded a g m at s from j) g m (at + blockLength * j) s (from + blockLength * j) k ≡ loaded a g m at s from (j + k)
-load-append a g m at s from j k =
-    let w : List ℕ = windowOf a g m in
-    let b : List ℕ = blocks w at s from j in
-    let c : List ℕ = blocks w at s from (j + k) in
-    let eb : length b ≡ spanLength (length a) g m = blocks-length w at s from j ∙ length-window a g m in
-    let ec : length c ≡ spanLength (length a) g m = blocks-length w at s from (j + k) ∙ length-window a g m in
-    rw (window-with-same a g m b eb, ← blocks-append w at s from j k) (with-window-twice a g m b c eb ec)

@@ -2,9 +2,9 @@
 -- blocks in which guest, length, places and number of blocks each have a value of their own.
 -- Assumes nothing.
 use mathlib.Core.Path.{_≡_, refl}
-use mathlib.Core.List.{List, [], _∷_, map}
+use mathlib.Core.List.{List, [], _∷_, _++_, map}
 use Prim.Native.Nat.{ℕ, zero, suc}
-use lib.ListN.{getD, replicate}
+use lib.ListN.{replicate}
 use Rattle.memory.specs.Window.{windowLength, spanStart, spanLength, windowOf, withWindow}
 use Rattle.memory.specs.Blocks.{blocks}
 
@@ -63,12 +63,8 @@ window-written = refl
 
 -- ---- blocks
 
--- the bytes around the ends of two blocks at place 7
-abbrev around : List ℕ → List ℕ
-around r = getD r 6 0 ∷ getD r 7 0 ∷ getD r 518 0 ∷ getD r 519 0 ∷ getD r 1030 0 ∷ getD r 1031 0 ∷ []
-
--- one block and two, from byte 3 of a source whose byte i is 1000 + i, to place 7 of a target of nines
-pub blocks-laid : around (blocks (replicate 1035 9) 7 (upFrom 1030 1000) 3 1) ∷ around (blocks (replicate 1035 9) 7 (upFrom 1030 1000) 3 2) ∷ []
-    ≡ (9 ∷ 1003 ∷ 1514 ∷ 9 ∷ 9 ∷ 9 ∷ []) ∷ (9 ∷ 1003 ∷ 1514 ∷ 1515 ∷ 2026 ∷ 9 ∷ []) ∷ []
+-- no block and two, from byte 3 of a source whose byte i is 1000 + i, to place 7 of a target of nines
+pub blocks-laid : map (blocks (replicate 1035 9) 7 (upFrom 1030 1000) 3) (0 ∷ 2 ∷ [])
+    ≡ replicate 1035 9 ∷ (replicate 7 9 ++ (upFrom 1024 1003 ++ replicate 4 9)) ∷ []
 unfolding blocks
 blocks-laid = refl

@@ -147,8 +147,9 @@ sets-append s at [] b = rw add-zero
 sets-append s at (x ∷ a) b = rw (sets-append (set s at x) (suc at) a b, suc-add, ← add-suc)
 
 -- the stores of a word's halves are the store of the word
-pub sets-two : (j k : ℕ) (s : List ℕ) (at v : ℕ) → sets s at (leBytes (j + k) v) ≡ sets (sets s at (leBytes j (v % 256 ^ j))) (at + j) (leBytes k (v / 256 ^ j))
-sets-two j k s at v = rw (leBytes-split, sets-append, length-leBytes)
+pub sets-two : {o₁ o₂ : List ℕ} (j k : ℕ) (s : List ℕ) (at v : ℕ)
+    → o₁ ≡ sets s at (leBytes j (v % 256 ^ j)) → o₂ ≡ sets o₁ (at + j) (leBytes k (v / 256 ^ j)) → o₂ ≡ sets s at (leBytes (j + k) v)
+sets-two j k s at v e₁ e₂ = rw (e₂, e₁, leBytes-split, sets-append, length-leBytes)
 
 -- one store more
 pub sets-more : (s : List ℕ) (at : ℕ) (a : List ℕ) (i : ℕ) → i < length a → set (sets s at (take i a)) (at + i) (getD a i 0) ≡ sets s at (take (i + 1) a)

@@ -11,9 +11,6 @@ use Rattle.chs.proofs.in_limits.Reads as in-limits-reads
 use Rattle.chs.proofs.size_of.Reads as size-of-reads
 use Rattle.chs.proofs.split.Reads as split-reads
 
-in-limits-requires : tie.Need-in-limits-requires
-in-limits-requires c κs = search needs
-
 returns : tie.Need-returns
 returns c =
     let s = c .before .before in
@@ -21,12 +18,6 @@ returns c =
 
 size-of-requires : tie.Need-size-of-requires
 size-of-requires c κs = sym (c .before .in-limits .ensures) ∙ not-false _ (c .if1 .left)
-
-cast-if2 : tie.Need-cast-if2
-cast-if2 c = search needs
-
-cast-split : tie.Need-cast-split
-cast-split c = search needs
 
 split-requires : tie.Need-split-requires
 split-requires c κs = sym (c .before .before .before .in-limits .ensures) ∙ not-false _ (c .before .before .if1 .left)
@@ -49,11 +40,11 @@ pub address-of-spec : {M : Type 1} → statement M
 address-of-spec =
     tie.close
     (tie.spec
-    in-limits-requires
+    (search needs)
     returns
     size-of-requires
-    cast-if2
-    cast-split
+    (search needs)
+    (search needs)
     split-requires
     returns-2
     returns-3)

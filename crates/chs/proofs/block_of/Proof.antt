@@ -11,16 +11,10 @@ use Rattle.chs.proofs.in_limits.Reads as in-limits-reads
 use Rattle.chs.proofs.is_valid.Reads as is-valid-reads
 use Rattle.chs.proofs.number.Reads as number-reads
 
-in-limits-requires : tie.Need-in-limits-requires
-in-limits-requires c κs = search needs
-
 returns : tie.Need-returns
 returns c =
     let s = c .before .before in
     block-answered (s .args .g) (s .args .a) (sym (blockOf-limits (s .args .g) (s .args .a) (sym (c .before .in-limits .ensures) ∙ not-true _ (c .if1 .taken))))
-
-is-valid-requires : tie.Need-is-valid-requires
-is-valid-requires c κs = search needs
 
 returns-2 : tie.Need-returns-2
 returns-2 c =
@@ -42,4 +36,4 @@ returns-3 c =
 pub block-of-spec : {M : Type 1} → statement M
 block-of-spec =
     tie.close
-    (tie.spec in-limits-requires returns is-valid-requires returns-2 number-requires returns-3)
+    (tie.spec (search needs) returns (search needs) returns-2 number-requires returns-3)

@@ -31,9 +31,6 @@ add-result-2 c =
 sub-result : tie.Need-sub-result
 sub-result c = let s = c .before .before .before .before .before in omega (arith, isValid-true (s .args .g) (s .args .a) (s .pre .1) .sector-pos)
 
-returns : tie.Need-returns
-returns c = search needs
-
 pub number-spec : {M : Type 1} → statement M
 number-spec =
-    tie.close (tie.spec mul-result add-result mul-result-2 add-result-2 sub-result returns)
+    tie.close (tie.spec mul-result add-result mul-result-2 add-result-2 sub-result (search needs))

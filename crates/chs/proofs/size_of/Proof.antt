@@ -12,8 +12,5 @@ mul-result c = let s = c .before in omega (arith, tracks-high (s .args .g) (s .p
 mul-result-2 : tie.Need-mul-result-2
 mul-result-2 c = let s = c .before .before in omega (arith, size-high (s .args .g) (s .pre))
 
-returns : tie.Need-returns
-returns c = search needs
-
 pub size-of-spec : {M : Type 1} → statement M
-size-of-spec = tie.close (tie.spec mul-result mul-result-2 returns)
+size-of-spec = tie.close (tie.spec mul-result mul-result-2 (search needs))

@@ -28,8 +28,5 @@ add-t8 c =
     let limits = inLimits-true (s .args .g) (s .pre) in
     omega (arith, mod-lt (s .args .n) (limits .s-low), limits .s-high)
 
-returns : tie.Need-returns
-returns c = search needs
-
 pub split-spec : {M : Type 1} → statement M
-split-spec = tie.close (tie.spec div-t3 div-t4 div-t5 rem-t6 rem-t7 add-t8 returns)
+split-spec = tie.close (tie.spec div-t3 div-t4 div-t5 rem-t6 rem-t7 add-t8 (search needs))

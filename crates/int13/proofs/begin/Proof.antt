@@ -16,24 +16,6 @@ use Rattle.int13.proofs.drive_count.Reads as drive-count-reads
 use Rattle.int13.proofs.is_drive.Reads as is-drive-reads
 use Rattle.int13.proofs.steps.Reads as steps-reads
 
-dl-requires : tie.Need-dl-requires
-dl-requires c κs = search needs
-
-is-drive-requires : tie.Need-is-drive-requires
-is-drive-requires c κs = search needs
-
-drive-count-requires : tie.Need-drive-count-requires
-drive-count-requires c κs = search needs
-
-drive-at-requires : tie.Need-drive-at-requires
-drive-at-requires c κs = search needs
-
-steps-requires : tie.Need-steps-requires
-steps-requires c κs = search needs
-
-same-length : tie.Need-same-length
-same-length c = search needs
-
 returns : tie.Need-returns
 returns c =
     let a = c .before .before .before .before .before .before .before .before .before .args in
@@ -45,4 +27,4 @@ returns c =
     begin-answered (a .b) (a .r) (now (a .window)) (c .before .before .steps .ensures .0 ∙ ap (λ (k : Checked). k .outcome) same) (c .before .before .steps .ensures .1 ∙ ap (λ (k : Checked). k .window) same)
 
 pub begin-spec : {M : Type 1} → statement M
-begin-spec = tie.close (tie.spec dl-requires is-drive-requires drive-count-requires drive-at-requires steps-requires same-length returns)
+begin-spec = tie.close (tie.spec (search needs) (search needs) (search needs) (search needs) (search needs) (search needs) returns)

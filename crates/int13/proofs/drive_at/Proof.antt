@@ -8,12 +8,6 @@ use Rattle.int13.proofs.drive_at.Tie as tie
 use Rattle.int13.proofs.drive_at.Reads as reads
 use Rattle.int13.proofs.drive_at.Lts as lts
 
-cast-place : tie.Need-cast-place
-cast-place c = search needs
-
-mul-result : tie.Need-mul-result
-mul-result c = search needs
-
 array-copy-out-result : tie.Need-array-copy-out-result
 array-copy-out-result c =
     let l : length (c .before .args .b .drives) ≡ 8 = simp length-map at (c .before .good .0 .1 .1 .0 .1 .0 .1) in
@@ -26,4 +20,4 @@ returns c =
     (refl, same)
 
 pub drive-at-spec : {M : Type 1} → statement M
-drive-at-spec = tie.close (tie.spec cast-place mul-result array-copy-out-result returns)
+drive-at-spec = tie.close (tie.spec (search needs) (search needs) array-copy-out-result returns)

@@ -9,9 +9,6 @@ use Rattle.int13.proofs.drive_count.Reads as reads
 use Rattle.int13.proofs.drive_count.Lts as lts
 use Rattle.table.proofs.drive_count.Reads as drive-count-reads
 
-drive-count-requires : tie.Need-drive-count-requires
-drive-count-requires c κs = search needs
-
 cast-result : tie.Need-cast-result
 cast-result c =
     let b = c .before .args .b in
@@ -25,4 +22,4 @@ returns c =
     (c .drive-count .ensures, omega (arith, count-most b l))
 
 pub drive-count-spec : {M : Type 1} → statement M
-drive-count-spec = tie.close (tie.spec drive-count-requires cast-result returns)
+drive-count-spec = tie.close (tie.spec (search needs) cast-result returns)

@@ -7,13 +7,10 @@ use Rattle.int13.proofs.ends_past.Reads as reads
 use Rattle.int13.proofs.ends_past.Lts as lts
 use Rattle.logic.proofs.ends_by.Reads as ends-by-reads
 
-ends-by-requires : tie.Need-ends-by-requires
-ends-by-requires c κs = search needs
-
 returns : tie.Need-returns
 returns c =
     let a = c .before .args in
     rw (c .ends-by .ensures) (not-leb (a .start + a .count) (a .end))
 
 pub ends-past-spec : {M : Type 1} → statement M
-ends-past-spec = tie.close (tie.spec ends-by-requires returns)
+ends-past-spec = tie.close (tie.spec (search needs) returns)

@@ -15,44 +15,11 @@ use Rattle.int13.proofs.refuse.Reads as refuse-reads
 use Rattle.int13.proofs.succeed.Reads as succeed-reads
 use Rattle.words.proofs.store16.Reads as store16-reads
 
-packet-plan-requires : tie.Need-packet-plan-requires
-packet-plan-requires c κs = search needs
-
-enum-known-plan : tie.Need-enum-known-plan
-enum-known-plan c = search needs
-
-refuse-requires : tie.Need-refuse-requires
-refuse-requires c κs = search needs
-
-enum-known-plan-2 : tie.Need-enum-known-plan-2
-enum-known-plan-2 c = search needs
-
-packet-place-requires : tie.Need-packet-place-requires
-packet-place-requires c κs = search needs
-
-add-store16 : tie.Need-add-store16
-add-store16 c = search needs
-
 store16-requires : tie.Need-store16-requires
 store16-requires c κs =
     let a = c .before .before .before .before .before .before .before .before .args in
     let plan : packetPlan (a .known) (a .d) (a .r) (now (a .window)) ≡ Clear (c .before .before .before .plan2 .given .0 .0) = sym (c .before .before .before .before .before .packet-plan .ensures) ∙ c .before .before .before .plan2 .given .1 in
     omega (arith, plan-clear (a .known) (a .d) (a .r) (now (a .window)) (c .before .before .before .plan2 .given .0 .0) plan)
-
-refuse-requires-2 : tie.Need-refuse-requires-2
-refuse-requires-2 c κs = search needs
-
-enum-told : tie.Need-enum-told
-enum-told c = search needs
-
-succeed-requires : tie.Need-succeed-requires
-succeed-requires c κs = search needs
-
-enum-known-plan-3 : tie.Need-enum-known-plan-3
-enum-known-plan-3 c = search needs
-
-same-length : tie.Need-same-length
-same-length c = search needs
 
 returns : tie.Need-returns
 returns c =
@@ -60,26 +27,17 @@ returns c =
     let plan : packetPlan (a .known) (a .d) (a .r) (now (a .window)) ≡ Refuse (c .before .before .plan .given .0 .0) = sym (c .before .before .before .before .packet-plan .ensures) ∙ c .before .before .plan .given .1 in
     (rw (plan, c .refuse .ensures), rw plan)
 
-same-length-2 : tie.Need-same-length-2
-same-length-2 c = search needs
-
 returns-2 : tie.Need-returns-2
 returns-2 c =
     let a = c .before .before .before .before .before .before .before .before .before .before .before .before .args in
     let plan : packetPlan (a .known) (a .d) (a .r) (now (a .window)) ≡ Clear (c .before .before .before .before .before .before .before .plan2 .given .0 .0) = sym (c .before .before .before .before .before .before .before .before .before .packet-plan .ensures) ∙ c .before .before .before .before .before .before .before .plan2 .given .1 in
     (rw (plan, c .refuse2 .ensures), rw (plan, c .before .before .before .store16 .ensures, c .before .before .before .before .packet-place .ensures))
 
-same-length-3 : tie.Need-same-length-3
-same-length-3 c = search needs
-
 returns-3 : tie.Need-returns-3
 returns-3 c =
     let a = c .before .before .before .before .before .before .args in
     let plan : packetPlan (a .known) (a .d) (a .r) (now (a .window)) ≡ Finish = sym (c .before .before .before .packet-plan .ensures) ∙ c .before .enum-told .given .1 in
     (rw (plan, c .succeed .ensures), rw plan)
-
-same-length-4 : tie.Need-same-length-4
-same-length-4 c = search needs
 
 returns-4 : tie.Need-returns-4
 returns-4 c =
@@ -91,22 +49,22 @@ pub extended-42-43-44-spec : {M : Type 1} → statement M
 extended-42-43-44-spec =
     tie.close
     (tie.spec
-    packet-plan-requires
-    enum-known-plan
-    refuse-requires
-    enum-known-plan-2
-    packet-place-requires
-    add-store16
+    (search needs)
+    (search needs)
+    (search needs)
+    (search needs)
+    (search needs)
+    (λ c. omega arith)
     store16-requires
-    refuse-requires-2
-    enum-told
-    succeed-requires
-    enum-known-plan-3
-    same-length
+    (search needs)
+    (search needs)
+    (search needs)
+    (search needs)
+    (search needs)
     returns
-    same-length-2
+    (search needs)
     returns-2
-    same-length-3
+    (search needs)
     returns-3
-    same-length-4
+    (search needs)
     returns-4)

@@ -9,18 +9,9 @@ use Rattle.int13.proofs.extensions_given.Reads as extensions-given-read
 use Rattle.int13.proofs.refuse.Reads as refuse-reads
 use Rattle.logic.proofs.and.Reads as and-reads
 
-and-requires : tie.Need-and-requires
-and-requires c κs = search needs
-
-extensions-given-requires : tie.Need-extensions-given-requires
-extensions-given-requires c κs = search needs
-
 returns : tie.Need-returns
 unfolding extensions
 returns c = rw (sym (c .before .before .and .ensures) ∙ c .before .if1 .taken, c .extensions-given .ensures)
-
-refuse-requires : tie.Need-refuse-requires
-refuse-requires c κs = search needs
 
 returns-2 : tie.Need-returns-2
 unfolding extensions
@@ -30,8 +21,8 @@ pub extensions-41-spec : {M : Type 1} → statement M
 extensions-41-spec =
     tie.close
     (tie.spec
-    and-requires
-    extensions-given-requires
+    (search needs)
+    (search needs)
     returns
-    refuse-requires
+    (search needs)
     returns-2)

@@ -7,18 +7,9 @@ use Rattle.int13.proofs.is_drive.Lts as lts
 use Rattle.int13.proofs.drive_count.Reads as drive-count-reads
 use Rattle.logic.proofs.and.Reads as and-reads
 
-drive-count-requires : tie.Need-drive-count-requires
-drive-count-requires c κs = search needs
-
-add-end : tie.Need-add-end
-add-end c = search needs
-
-and-requires : tie.Need-and-requires
-and-requires c κs = search needs
-
 returns : tie.Need-returns
 unfolding isDrive
-returns c = cc
+returns c = rw (c .and .ensures, c .before .drive-count .ensures .0)
 
 pub is-drive-spec : {M : Type 1} → statement M
-is-drive-spec = tie.close (tie.spec drive-count-requires add-end and-requires returns)
+is-drive-spec = tie.close (tie.spec (search needs) (search needs) (search needs) returns)

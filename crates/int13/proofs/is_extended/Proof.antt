@@ -5,14 +5,8 @@ use Rattle.int13.proofs.is_extended.Reads as reads
 use Rattle.int13.proofs.is_extended.Lts as lts
 use Rattle.logic.proofs.or.Reads as or-reads
 
-or-requires : tie.Need-or-requires
-or-requires c κs = search needs
-
-or-requires-2 : tie.Need-or-requires-2
-or-requires-2 c κs = search needs
-
 returns : tie.Need-returns
-returns c = cc
+returns c = rw (c .or2 .ensures, c .before .or .ensures)
 
 pub is-extended-spec : {M : Type 1} → statement M
-is-extended-spec = tie.close (tie.spec or-requires or-requires-2 returns)
+is-extended-spec = tie.close (tie.spec (search needs) (search needs) returns)

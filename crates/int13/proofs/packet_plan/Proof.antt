@@ -22,36 +22,12 @@ returns : tie.Need-returns
 unfolding packetPlan
 returns c = rw (not-true (c .before .before .args .known) (c .if1 .taken))
 
-al-requires : tie.Need-al-requires
-al-requires c κs = search needs
-
-verify-ok-requires : tie.Need-verify-ok-requires
-verify-ok-requires c κs = search needs
-
-function-of-requires : tie.Need-function-of-requires
-function-of-requires c κs = search needs
-
-is-write-requires : tie.Need-is-write-requires
-is-write-requires c κs = search needs
-
-and-requires : tie.Need-and-requires
-and-requires c κs = search needs
-
 returns-2 : tie.Need-returns-2
 unfolding packetPlan
 returns-2 c =
     let a = c .before .before .before .before .before .before .before .before .args in
     let verify : both (isWrite (ah (a .r))) (not (verifyOk (al (a .r)) (a .d .flags))) ≡ true = rw (c .before .before .is-write .ensures, c .before .before .before .function-of .ensures, c .before .before .before .before .verify-ok .ensures, c .before .before .before .before .before .al .ensures) at (sym (c .before .and .ensures) ∙ c .if2 .taken) in
     rw (not-false (c .before .before .before .before .before .before .before .before .args .known) (c .before .before .before .before .before .before .if1 .left), verify)
-
-packet-place-requires : tie.Need-packet-place-requires
-packet-place-requires c κs = search needs
-
-read-packet-requires : tie.Need-read-packet-requires
-read-packet-requires c κs = search needs
-
-packet-read-requires : tie.Need-packet-read-requires
-packet-read-requires c κs = search needs
 
 returns-3 : tie.Need-returns-3
 unfolding packetPlan
@@ -65,13 +41,13 @@ packet-plan-spec =
     tie.close
     (tie.spec
     returns
-    al-requires
-    verify-ok-requires
-    function-of-requires
-    is-write-requires
-    and-requires
+    (search needs)
+    (search needs)
+    (search needs)
+    (search needs)
+    (search needs)
     returns-2
-    packet-place-requires
-    read-packet-requires
-    packet-read-requires
+    (search needs)
+    (search needs)
+    (search needs)
     returns-3)

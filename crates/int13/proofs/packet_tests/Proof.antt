@@ -1,3 +1,4 @@
+use native.Mathlib.Omega.{arith}
 use mathlib.Core.Path.{_≡_, sym, _∙_}
 use mathlib.Core.Bool.{true, false}
 use Prim.Native.Nat.{_+_, _*_}
@@ -41,30 +42,12 @@ returns : tie.Need-returns
 unfolding packetTests
 returns c = rw (lt-ltb _ _ (c .if1 .taken))
 
-function-of-requires : tie.Need-function-of-requires
-function-of-requires c κs = search needs
-
-is-write-requires : tie.Need-is-write-requires
-is-write-requires c κs = search needs
-
-is-protected-requires : tie.Need-is-protected-requires
-is-protected-requires c κs = search needs
-
-and-requires : tie.Need-and-requires
-and-requires c κs = search needs
-
 returns-2 : tie.Need-returns-2
 unfolding packetTests
 returns-2 c =
     let a = c .before .before .before .before .before .before .before .args in
     let protected : both (isWrite (ah (a .r))) (isProtected (a .d)) ≡ true = rw (c .before .before .before .is-write .ensures, c .before .before .before .before .function-of .ensures, c .before .before .is-protected .ensures) at (sym (c .before .and .ensures) ∙ c .if2 .taken) in
     rw (few (c .before .before .before .before .before), protected)
-
-cast-count : tie.Need-cast-count
-cast-count c = search needs
-
-ends-past-requires : tie.Need-ends-past-requires
-ends-past-requires c κs = search needs
 
 returns-3 : tie.Need-returns-3
 unfolding packetTests
@@ -76,15 +59,6 @@ returns-4 c =
     let verify : eqb (ah (c .before .before .before .before .before .before .before .before .before .before .before .args .r)) 0x44 ≡ true = eq-eqb _ _ (sym (c .before .before .before .before .before .before .before .before .function-of .ensures) ∙ c .if4 .taken) in
     rw (few (c .before .before .before .before .before .before .before .before .before), allowed (c .before .before .before .before), inside (c .before), verify)
 
-cast-ends-past : tie.Need-cast-ends-past
-cast-ends-past c = search needs
-
-mul-ends-past : tie.Need-mul-ends-past
-mul-ends-past c = search needs
-
-ends-past-requires-2 : tie.Need-ends-past-requires-2
-ends-past-requires-2 c κs = search needs
-
 returns-5 : tie.Need-returns-5
 unfolding packetTests
 returns-5 c = rw (few (c .before .before .before .before .before .before .before .before .before .before .before .before), allowed (c .before .before .before .before .before .before .before), inside (c .before .before .before .before), moving (c .before .before .before), sym (c .before .ends-past2 .ensures) ∙ c .if5 .taken)
@@ -92,9 +66,6 @@ returns-5 c = rw (few (c .before .before .before .before .before .before .before
 returns-6 : tie.Need-returns-6
 unfolding packetTests
 returns-6 c = rw (few (c .before .before .before .before .before .before .before .before .before .before .before .before .before .before), allowed (c .before .before .before .before .before .before .before .before .before), inside (c .before .before .before .before .before .before), moving (c .before .before .before .before .before), fitting (c .before .before), eq-eqb _ _ (c .if6 .taken))
-
-packet-job-requires : tie.Need-packet-job-requires
-packet-job-requires c κs = search needs
 
 returns-7 : tie.Need-returns-7
 unfolding packetTests
@@ -105,19 +76,19 @@ packet-tests-spec =
     tie.close
     (tie.spec
     returns
-    function-of-requires
-    is-write-requires
-    is-protected-requires
-    and-requires
+    (search needs)
+    (search needs)
+    (search needs)
+    (search needs)
     returns-2
-    cast-count
-    ends-past-requires
+    (λ c. omega arith)
+    (search needs)
     returns-3
     returns-4
-    cast-ends-past
-    mul-ends-past
-    ends-past-requires-2
+    (λ c. omega arith)
+    (λ c. omega arith)
+    (search needs)
     returns-5
     returns-6
-    packet-job-requires
+    (search needs)
     returns-7)

@@ -8,15 +8,9 @@ use Rattle.int13.proofs.parameters_08.Lts as lts
 use Rattle.int13.proofs.geometry_given.Reads as geometry-given-reads
 use Rattle.int13.proofs.refuse.Reads as refuse-reads
 
-refuse-requires : tie.Need-refuse-requires
-refuse-requires c κs = search needs
-
 returns : tie.Need-returns
 unfolding parameters
 returns c = rw (not-true (c .before .before .args .known) (c .before .if1 .taken), c .refuse .ensures)
-
-geometry-given-requires : tie.Need-geometry-given-requires
-geometry-given-requires c κs = search needs
 
 returns-2 : tie.Need-returns-2
 unfolding parameters
@@ -26,7 +20,7 @@ pub parameters-08-spec : {M : Type 1} → statement M
 parameters-08-spec =
     tie.close
     (tie.spec
-    refuse-requires
+    (search needs)
     returns
-    geometry-given-requires
+    (search needs)
     returns-2)

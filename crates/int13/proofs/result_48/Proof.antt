@@ -19,23 +19,11 @@ use Rattle.int13.proofs.result_given.Reads as result-given-reads
 use Rattle.layout.proofs.write_result.Reads as write-result-reads
 use Rattle.words.proofs.get16.Reads as get16-reads
 
-refuse-requires : tie.Need-refuse-requires
-refuse-requires c κs = search needs
-
 returns : tie.Need-returns
 unfolding result
 returns c =
     let known = not-true (c .before .before .before .args .known) (c .before .if1 .taken) in
     (rw (known, c .refuse .ensures), rw known)
-
-packet-place-requires : tie.Need-packet-place-requires
-packet-place-requires c κs = search needs
-
-add-if2 : tie.Need-add-if2
-add-if2 c = search needs
-
-refuse-requires-2 : tie.Need-refuse-requires-2
-refuse-requires-2 c κs = search needs
 
 returns-2 : tie.Need-returns-2
 unfolding result
@@ -44,27 +32,6 @@ returns-2 c =
     let known = not-false (c .before .before .before .before .before .args .known) (c .before .before .before .if1 .left) in
     let short : ltb (length (now (a .window))) (packetPlace (a .r) + 2) ≡ true = lt-ltb (length (now (a .window))) (packetPlace (a .r) + 2) (omega arith) in
     (rw (known, short, c .refuse2 .ensures), rw (known, short))
-
-get16-requires : tie.Need-get16-requires
-get16-requires c κs = search needs
-
-sub-write-result : tie.Need-sub-write-result
-sub-write-result c = search needs
-
-part-write-result-start : tie.Need-part-write-result-start
-part-write-result-start c = search needs
-
-part-write-result-end : tie.Need-part-write-result-end
-part-write-result-end c = search needs
-
-write-result-requires : tie.Need-write-result-requires
-write-result-requires c κs = search needs
-
-result-given-requires : tie.Need-result-given-requires
-result-given-requires c κs = search needs
-
-same-length : tie.Need-same-length
-same-length c = search needs
 
 returns-3 : tie.Need-returns-3
 unfolding result
@@ -84,17 +51,17 @@ pub result-48-spec : {M : Type 1} → statement M
 result-48-spec =
     tie.close
     (tie.spec
-    refuse-requires
+    (search needs)
     returns
-    packet-place-requires
-    add-if2
-    refuse-requires-2
+    (search needs)
+    (λ c. omega arith)
+    (search needs)
     returns-2
-    get16-requires
-    sub-write-result
-    part-write-result-start
-    part-write-result-end
-    write-result-requires
-    result-given-requires
-    same-length
+    (λ c κs. omega arith)
+    (λ c. omega arith)
+    (λ c. omega arith)
+    (λ c. omega arith)
+    (search needs)
+    (search needs)
+    (search needs)
     returns-3)

@@ -6,18 +6,6 @@ use Rattle.int13.proofs.result_given.Lts as lts
 use Rattle.int13.proofs.refuse.Reads as refuse-reads
 use Rattle.int13.proofs.succeed.Reads as succeed-reads
 
-enum-known-given : tie.Need-enum-known-given
-enum-known-given c = search needs
-
-refuse-requires : tie.Need-refuse-requires
-refuse-requires c κs = search needs
-
-enum-known-given-2 : tie.Need-enum-known-given-2
-enum-known-given-2 c = search needs
-
-succeed-requires : tie.Need-succeed-requires
-succeed-requires c κs = search needs
-
 returns : tie.Need-returns
 returns c = rw (c .before .before .given .given .1, c .refuse .ensures)
 
@@ -28,9 +16,9 @@ pub result-given-spec : {M : Type 1} → statement M
 result-given-spec =
     tie.close
     (tie.spec
-    enum-known-given
-    refuse-requires
-    enum-known-given-2
-    succeed-requires
+    (search needs)
+    (search needs)
+    (search needs)
+    (search needs)
     returns
     returns-2)

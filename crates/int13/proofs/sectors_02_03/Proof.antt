@@ -3,11 +3,9 @@ use mathlib.Core.Bool.{true, false}
 use lib.Dec.{ltb, eqb}
 use borrow.Author.Tests.{not-true, not-false, lt-ltb, le-ltb, eq-eqb, ne-eqb}
 use Rattle.logic.specs.Logic.{both}
-use Rattle.chs.specs.declared.ToBlock.the-variants.{Block, Refused}
-use Rattle.chs.specs.Chs.{blockOf, addressIn}
-use Rattle.drive.specs.Drive.{geometryOf, isProtected}
+use Rattle.drive.specs.Drive.{isProtected}
 use Rattle.int13.specs.Answers.{ah, al, isWrite}
-use Rattle.int13.specs.Steps.{mostRun, sectors}
+use Rattle.int13.specs.Steps.{mostRun, sectorRun, sectors}
 use borrow.Author.Needs.{needs}
 use Rattle.int13.proofs.sectors_02_03.Statement.{statement}
 use Rattle.int13.proofs.sectors_02_03.Tie as tie
@@ -26,6 +24,9 @@ use Rattle.logic.proofs.and.Reads as and-reads
 
 -- what each passed test says
 
+named : (c : tie.Else1) → c .before .args .known ≡ true
+named c = not-false _ (c .if1 .left)
+
 some : (c : tie.Else2) → eqb (al (c .before .before .before .args .r)) 0 ≡ false
 some c = ne-eqb _ _ (λ e. c .if2 .left (c .before .al .ensures ∙ e))
 
@@ -35,114 +36,63 @@ few c = le-ltb _ _ (rw (c .before .before .al .ensures) at (c .if3 .left))
 allowed : (c : tie.Else4) → both (isWrite (ah (c .before .before .before .before .before .before .before .before .before .args .r))) (isProtected (c .before .before .before .before .before .before .before .before .before .args .d)) ≡ false
 allowed c = rw (c .before .before .before .is-write .ensures, c .before .before .before .before .function-of .ensures, c .before .before .is-protected .ensures) at (sym (c .before .and .ensures) ∙ c .if4 .left)
 
-refuse-requires : tie.Need-refuse-requires
-refuse-requires c κs = search needs
-
 returns : tie.Need-returns
 unfolding sectors
 returns c = rw (not-true (c .before .before .args .known) (c .before .if1 .taken), c .refuse .ensures)
-
-al-requires : tie.Need-al-requires
-al-requires c κs = search needs
-
-refuse-requires-2 : tie.Need-refuse-requires-2
-refuse-requires-2 c κs = search needs
 
 returns-2 : tie.Need-returns-2
 unfolding sectors
 returns-2 c =
     let none : eqb (al (c .before .before .before .before .args .r)) 0 ≡ true = eq-eqb _ _ (sym (c .before .before .al .ensures) ∙ c .before .if2 .taken) in
-    rw (not-false (c .before .before .before .before .args .known) (c .before .before .before .if1 .left), none, c .refuse2 .ensures)
-
-refuse-requires-3 : tie.Need-refuse-requires-3
-refuse-requires-3 c κs = search needs
+    rw (named (c .before .before .before), none, c .refuse2 .ensures)
 
 returns-3 : tie.Need-returns-3
 unfolding sectors
 returns-3 c =
     let many : ltb mostRun (al (c .before .before .before .before .before .args .r)) ≡ true = lt-ltb _ _ (rw (c .before .before .before .al .ensures) at (c .before .if3 .taken)) in
-    rw (not-false (c .before .before .before .before .before .args .known) (c .before .before .before .before .if1 .left), some (c .before .before), many, c .refuse3 .ensures)
-
-function-of-requires : tie.Need-function-of-requires
-function-of-requires c κs = search needs
-
-is-write-requires : tie.Need-is-write-requires
-is-write-requires c κs = search needs
-
-is-protected-requires : tie.Need-is-protected-requires
-is-protected-requires c κs = search needs
-
-and-requires : tie.Need-and-requires
-and-requires c κs = search needs
-
-refuse-requires-4 : tie.Need-refuse-requires-4
-refuse-requires-4 c κs = search needs
+    rw (named (c .before .before .before .before), some (c .before .before), many, c .refuse3 .ensures)
 
 returns-4 : tie.Need-returns-4
 unfolding sectors
 returns-4 c =
     let a = c .before .before .before .before .before .before .before .before .before .before .args in
     let protected : both (isWrite (ah (a .r))) (isProtected (a .d)) ≡ true = rw (c .before .before .before .before .is-write .ensures, c .before .before .before .before .before .function-of .ensures, c .before .before .before .is-protected .ensures) at (sym (c .before .before .and .ensures) ∙ c .before .if4 .taken) in
-    rw (not-false (c .before .before .before .before .before .before .before .before .before .before .args .known) (c .before .before .before .before .before .before .before .before .before .if1 .left), some (c .before .before .before .before .before .before .before), few (c .before .before .before .before .before .before), protected, c .refuse4 .ensures)
+    rw (named (c .before .before .before .before .before .before .before .before .before), some (c .before .before .before .before .before .before .before), few (c .before .before .before .before .before .before), protected, c .refuse4 .ensures)
 
-geometry-of-requires : tie.Need-geometry-of-requires
-geometry-of-requires c κs = search needs
-
-address-in-requires : tie.Need-address-in-requires
-address-in-requires c κs = search needs
-
-block-of-requires : tie.Need-block-of-requires
-block-of-requires c κs = search needs
-
-enum-known-block : tie.Need-enum-known-block
-enum-known-block c = search needs
-
-refuse-requires-5 : tie.Need-refuse-requires-5
-refuse-requires-5 c κs = search needs
-
-enum-known-block-2 : tie.Need-enum-known-block-2
-enum-known-block-2 c = search needs
-
-sector-run-requires : tie.Need-sector-run-requires
-sector-run-requires c κs = search needs
+-- past the first four tests the address decides
+decided : (c : tie.After-block-of) → let a = c .before .before .before .before .before .before .before .before .before .before .before .before .args in sectors (a .known) (a .d) (a .r) (a .window) ≡ sectorRun (a .d) (a .r) (a .window) (c .block-of .result)
+unfolding sectors
+decided c = rw (named (c .before .before .before .before .before .before .before .before .before .before .before), some (c .before .before .before .before .before .before .before .before .before), few (c .before .before .before .before .before .before .before .before), allowed (c .before .before .before), c .block-of .ensures .0, c .before .before .geometry-of .ensures, c .before .address-in .ensures)
 
 returns-5 : tie.Need-returns-5
-unfolding sectors
-returns-5 c =
-    let a = c .before .before .before .before .before .before .before .before .before .before .before .before .before .before .before .before .args in
-    let block : blockOf (geometryOf (a .d)) (addressIn (a .r .cx) (a .r .dx)) ≡ Refused (c .before .before .block .given .0 .0) = rw (c .before .before .before .before .before .before .geometry-of .ensures, c .before .before .before .before .before .address-in .ensures) at (sym (c .before .before .before .before .block-of .ensures .0) ∙ c .before .before .block .given .1) in
-    rw (not-false (c .before .before .before .before .before .before .before .before .before .before .before .before .before .before .before .before .args .known) (c .before .before .before .before .before .before .before .before .before .before .before .before .before .before .before .if1 .left), some (c .before .before .before .before .before .before .before .before .before .before .before .before .before), few (c .before .before .before .before .before .before .before .before .before .before .before .before), allowed (c .before .before .before .before .before .before .before), block, c .refuse5 .ensures)
+returns-5 c = rw (decided (c .before .before .before .before), c .before .before .block .given .1, c .refuse5 .ensures)
 
 returns-6 : tie.Need-returns-6
-unfolding sectors
-returns-6 c =
-    let a = c .before .before .before .before .before .before .before .before .before .before .before .before .before .before .before .before .args in
-    let block : blockOf (geometryOf (a .d)) (addressIn (a .r .cx) (a .r .dx)) ≡ Block (c .before .before .block2 .given .0 .0) = rw (c .before .before .before .before .before .before .geometry-of .ensures, c .before .before .before .before .before .address-in .ensures) at (sym (c .before .before .before .before .block-of .ensures .0) ∙ c .before .before .block2 .given .1) in
-    rw (not-false (c .before .before .before .before .before .before .before .before .before .before .before .before .before .before .before .before .args .known) (c .before .before .before .before .before .before .before .before .before .before .before .before .before .before .before .if1 .left), some (c .before .before .before .before .before .before .before .before .before .before .before .before .before), few (c .before .before .before .before .before .before .before .before .before .before .before .before), allowed (c .before .before .before .before .before .before .before), block, c .sector-run .ensures)
+returns-6 c = rw (decided (c .before .before .before .before), c .before .before .block2 .given .1, c .sector-run .ensures)
 
 pub sectors-02-03-spec : {M : Type 1} → statement M
 sectors-02-03-spec =
     tie.close
     (tie.spec
-    refuse-requires
+    (search needs)
     returns
-    al-requires
-    refuse-requires-2
+    (search needs)
+    (search needs)
     returns-2
-    refuse-requires-3
+    (search needs)
     returns-3
-    function-of-requires
-    is-write-requires
-    is-protected-requires
-    and-requires
-    refuse-requires-4
+    (search needs)
+    (search needs)
+    (search needs)
+    (search needs)
+    (search needs)
     returns-4
-    geometry-of-requires
-    address-in-requires
-    block-of-requires
-    enum-known-block
-    refuse-requires-5
-    enum-known-block-2
-    sector-run-requires
+    (search needs)
+    (search needs)
+    (search needs)
+    (search needs)
+    (search needs)
+    (search needs)
+    (search needs)
     returns-5
     returns-6)

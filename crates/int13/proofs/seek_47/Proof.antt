@@ -10,21 +10,9 @@ use Rattle.int13.proofs.refuse.Reads as refuse-reads
 use Rattle.int13.proofs.seek_read.Reads as seek-read-reads
 use Rattle.layout.proofs.read_packet.Reads as read-packet-reads
 
-refuse-requires : tie.Need-refuse-requires
-refuse-requires c κs = search needs
-
 returns : tie.Need-returns
 unfolding seek
 returns c = rw (not-true (c .before .before .before .args .known) (c .before .if1 .taken), c .refuse .ensures)
-
-packet-place-requires : tie.Need-packet-place-requires
-packet-place-requires c κs = search needs
-
-read-packet-requires : tie.Need-read-packet-requires
-read-packet-requires c κs = search needs
-
-seek-read-requires : tie.Need-seek-read-requires
-seek-read-requires c κs = search needs
 
 returns-2 : tie.Need-returns-2
 unfolding seek
@@ -34,9 +22,9 @@ pub seek-47-spec : {M : Type 1} → statement M
 seek-47-spec =
     tie.close
     (tie.spec
-    refuse-requires
+    (search needs)
     returns
-    packet-place-requires
-    read-packet-requires
-    seek-read-requires
+    (search needs)
+    (search needs)
+    (search needs)
     returns-2)

@@ -7,29 +7,11 @@ use Rattle.int13.proofs.seek_read.Lts as lts
 use Rattle.int13.proofs.refuse.Reads as refuse-reads
 use Rattle.int13.proofs.succeed.Reads as succeed-reads
 
-enum-known-read : tie.Need-enum-known-read
-enum-known-read c = search needs
-
-refuse-requires : tie.Need-refuse-requires
-refuse-requires c κs = search needs
-
-enum-known-read-2 : tie.Need-enum-known-read-2
-enum-known-read-2 c = search needs
-
-refuse-requires-2 : tie.Need-refuse-requires-2
-refuse-requires-2 c κs = search needs
-
 returns : tie.Need-returns
 returns c = rw (c .before .before .before .before .read2 .given .1, lt-ltb _ _ (c .before .if1 .taken), c .refuse2 .ensures)
 
-refuse-requires-3 : tie.Need-refuse-requires-3
-refuse-requires-3 c κs = search needs
-
 returns-2 : tie.Need-returns-2
 returns-2 c = rw (c .before .before .before .before .before .before .before .read2 .given .1, le-ltb _ _ (c .before .before .before .before .if1 .left), le-leb _ _ (c .before .if2 .taken), c .refuse3 .ensures)
-
-succeed-requires : tie.Need-succeed-requires
-succeed-requires c κs = search needs
 
 returns-3 : tie.Need-returns-3
 returns-3 c = rw (c .before .before .read .given .1, c .refuse .ensures)
@@ -41,13 +23,13 @@ pub seek-read-spec : {M : Type 1} → statement M
 seek-read-spec =
     tie.close
     (tie.spec
-    enum-known-read
-    refuse-requires
-    enum-known-read-2
-    refuse-requires-2
+    (search needs)
+    (search needs)
+    (search needs)
+    (search needs)
     returns
-    refuse-requires-3
+    (search needs)
     returns-2
-    succeed-requires
+    (search needs)
     returns-3
     returns-4)

@@ -11,25 +11,10 @@ use Rattle.int13.proofs.answer.Reads as answer-reads
 use Rattle.int13.proofs.function_of.Reads as function-of-reads
 use Rattle.int13.proofs.is_sectors.Reads as is-sectors-reads
 
-function-of-requires : tie.Need-function-of-requires
-function-of-requires c κs = search needs
-
-is-sectors-requires : tie.Need-is-sectors-requires
-is-sectors-requires c κs = search needs
-
-answer-requires : tie.Need-answer-requires
-answer-requires c κs = search needs
-
 returns : tie.Need-returns
 returns c =
     let run : isSectors (ah (c .before .before .before .before .args .r)) ≡ true = rw (c .before .before .before .function-of .ensures) at (sym (c .before .before .is-sectors .ensures) ∙ c .before .if1 .taken) in
     rw run (c .answer .ensures)
-
-al-requires : tie.Need-al-requires
-al-requires c κs = search needs
-
-answer-requires-2 : tie.Need-answer-requires-2
-answer-requires-2 c κs = search needs
 
 returns-2 : tie.Need-returns-2
 returns-2 c =
@@ -40,10 +25,10 @@ pub stop-spec : {M : Type 1} → statement M
 stop-spec =
     tie.close
     (tie.spec
-    function-of-requires
-    is-sectors-requires
-    answer-requires
+    (search needs)
+    (search needs)
+    (search needs)
     returns
-    al-requires
-    answer-requires-2
+    (search needs)
+    (search needs)
     returns-2)

@@ -7,15 +7,9 @@ use Rattle.int13.proofs.verify_ok.Lts as lts
 use Rattle.logic.proofs.and.Reads as and-reads
 use Rattle.logic.proofs.or.Reads as or-reads
 
-and-requires : tie.Need-and-requires
-and-requires c κs = search needs
-
-or-requires : tie.Need-or-requires
-or-requires c κs = search needs
-
 returns : tie.Need-returns
 unfolding verifyOk
-returns c = cc
+returns c = rw (c .or .ensures, c .before .and .ensures)
 
 pub verify-ok-spec : {M : Type 1} → statement M
-verify-ok-spec = tie.close (tie.spec and-requires or-requires returns)
+verify-ok-spec = tie.close (tie.spec (search needs) (search needs) returns)

@@ -1,3 +1,4 @@
+use native.Mathlib.Omega.{arith}
 use denote.Ref.{now}
 use Rattle.layout.proofs.ResultBufferLaws.{block-stores}
 use borrow.Author.Needs.{needs}
@@ -8,33 +9,18 @@ use Rattle.layout.proofs.put_blocks.Lts as lts
 use Rattle.words.proofs.store16.Reads as store16-reads
 use Rattle.words.proofs.store64.Reads as store64-reads
 
-store64-requires : tie.Need-store64-requires
-store64-requires c κs = search needs
-
-store16-requires : tie.Need-store16-requires
-store16-requires c κs = search needs
-
-store16-requires-2 : tie.Need-store16-requires-2
-store16-requires-2 c κs = search needs
-
-store16-requires-3 : tie.Need-store16-requires-3
-store16-requires-3 c κs = search needs
-
-same-length : tie.Need-same-length
-same-length c = search needs
-
 returns : tie.Need-returns
 returns c =
     let a = c .before .before .before .before .before .before .before .before .before .before .before .before .before .before .before .before .before .args in
-    cc (block-stores (now (a .out)) (a .d) (a .p))
+    block-stores (now (a .out)) (a .d) (a .p) (c .before .before .before .before .before .before .before .before .before .before .before .before .before .before .store64 .ensures) (c .before .before .before .before .before .before .before .before .before .before .store16 .ensures) (c .before .before .before .before .before .before .store162 .ensures) (c .before .before .store163 .ensures)
 
 pub put-blocks-spec : {M : Type 1} → statement M
 put-blocks-spec =
     tie.close
     (tie.spec
-    store64-requires
-    store16-requires
-    store16-requires-2
-    store16-requires-3
-    same-length
+    (λ c κs. omega arith)
+    (λ c κs. omega arith)
+    (λ c κs. omega arith)
+    (λ c κs. omega arith)
+    (search needs)
     returns)

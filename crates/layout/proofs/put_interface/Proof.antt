@@ -1,3 +1,4 @@
+use native.Mathlib.Omega.{arith}
 use Prim.Native.Nat.{ℕ}
 use denote.Ref.{now}
 use borrow.Author.Needs.{length-unmapped}
@@ -12,21 +13,6 @@ use Rattle.words.proofs.store32.Reads as store32-reads
 use Rattle.words.proofs.store4.Reads as store4-reads
 use Rattle.words.proofs.store8.Reads as store8-reads
 
-store16-requires : tie.Need-store16-requires
-store16-requires c κs = search needs
-
-store32-requires : tie.Need-store32-requires
-store32-requires c κs = search needs
-
-store4-requires : tie.Need-store4-requires
-store4-requires c κs = search needs
-
-store8-requires : tie.Need-store8-requires
-store8-requires c κs = search needs
-
-same-length : tie.Need-same-length
-same-length c = search needs
-
 returns : tie.Need-returns
 returns c =
     let b = c .before .before .before .before .before .before .before .before .before .before .before .before .before .before .before .before .before .before .before in
@@ -39,9 +25,9 @@ pub put-interface-spec : {M : Type 1} → statement M
 put-interface-spec =
     tie.close
     (tie.spec
-    store16-requires
-    store32-requires
-    store4-requires
-    store8-requires
-    same-length
+    (λ c κs. omega arith)
+    (λ c κs. omega arith)
+    (λ c κs. omega arith)
+    (λ c κs. omega arith)
+    (search needs)
     returns)

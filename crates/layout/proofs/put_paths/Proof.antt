@@ -1,3 +1,4 @@
+use native.Mathlib.Omega.{arith}
 use Prim.Native.Nat.{ℕ}
 use denote.Ref.{now}
 use borrow.Author.Needs.{length-unmapped}
@@ -10,25 +11,19 @@ use Rattle.layout.proofs.put_paths.Lts as lts
 use Rattle.words.proofs.put_byte.Reads as put-byte-reads
 use Rattle.words.proofs.store8.Reads as store8-reads
 
-store8-requires : tie.Need-store8-requires
-store8-requires c κs = search needs
-
-store8-requires-2 : tie.Need-store8-requires-2
-store8-requires-2 c κs = search needs
-
-put-byte-requires : tie.Need-put-byte-requires
-put-byte-requires c κs = search needs
-
-same-length : tie.Need-same-length
-same-length c = search needs
-
 returns : tie.Need-returns
 returns c =
     let b = c .before .before .before .before .before .before .before .before .before .before .before .before .before .before .before in
     let a = b .args in
     let g = b .good .0 in
-    cc (path-stores (now (a .out)) (a .d) (length-unmapped ℕ (a .d .path) 8 (g .1 .1 .1 .1 .1 .1 .1 .1 .1 .1 .1 .1 .1 .1 .0 .1 .0 .1)) (length-unmapped ℕ (a .d .device) 8 (g .1 .1 .1 .1 .1 .1 .1 .1 .1 .1 .1 .1 .1 .1 .1 .0 .1 .0 .1)))
+    path-stores (now (a .out)) (a .d) (length-unmapped ℕ (a .d .path) 8 (g .1 .1 .1 .1 .1 .1 .1 .1 .1 .1 .1 .1 .1 .1 .0 .1 .0 .1)) (length-unmapped ℕ (a .d .device) 8 (g .1 .1 .1 .1 .1 .1 .1 .1 .1 .1 .1 .1 .1 .1 .1 .0 .1 .0 .1))
+    (c .before .before .before .before .before .before .before .before .before .before .store8 .ensures) (c .before .before .before .before .before .before .store82 .ensures) (c .before .before .put-byte .ensures)
 
 pub put-paths-spec : {M : Type 1} → statement M
 put-paths-spec =
-    tie.close (tie.spec store8-requires store8-requires-2 put-byte-requires same-length returns)
+    tie.close (tie.spec
+    (λ c κs. omega arith)
+    (λ c κs. omega arith)
+    (λ c κs. omega arith)
+    (search needs)
+    returns)

@@ -15,48 +15,6 @@ use Rattle.layout.proofs.put_interface.Reads as put-interface-reads
 use Rattle.layout.proofs.put_paths.Reads as put-paths-reads
 use Rattle.words.proofs.put_byte.Reads as put-byte-reads
 
-slice-aggregate-put-geometry : tie.Need-slice-aggregate-put-geometry
-slice-aggregate-put-geometry c = search needs
-
-put-geometry-requires : tie.Need-put-geometry-requires
-put-geometry-requires c κs = search needs
-
-slice-aggregate-put-blocks : tie.Need-slice-aggregate-put-blocks
-slice-aggregate-put-blocks c = search needs
-
-put-blocks-requires : tie.Need-put-blocks-requires
-put-blocks-requires c κs = search needs
-
-slice-aggregate-put-interface : tie.Need-slice-aggregate-put-interface
-slice-aggregate-put-interface c = search needs
-
-put-interface-requires : tie.Need-put-interface-requires
-put-interface-requires c κs = search needs
-
-slice-aggregate-put-paths : tie.Need-slice-aggregate-put-paths
-slice-aggregate-put-paths c = search needs
-
-put-paths-requires : tie.Need-put-paths-requires
-put-paths-requires c κs = search needs
-
-sub-checksum-of : tie.Need-sub-checksum-of
-sub-checksum-of c = search needs
-
-part-checksum-of-start : tie.Need-part-checksum-of-start
-part-checksum-of-start c = search needs
-
-part-checksum-of-end : tie.Need-part-checksum-of-end
-part-checksum-of-end c = search needs
-
-checksum-of-requires : tie.Need-checksum-of-requires
-checksum-of-requires c κs = search needs
-
-slice-aggregate-put-byte : tie.Need-slice-aggregate-put-byte
-slice-aggregate-put-byte c = search needs
-
-put-byte-requires : tie.Need-put-byte-requires
-put-byte-requires c κs = search needs
-
 returns : tie.Need-returns
 returns c =
     let b = c .before .before .before .before .before .before .before .before .before .before .before .before .before .before .before .before .before .before in
@@ -70,18 +28,18 @@ pub result-of-spec : {M : Type 1} → statement M
 result-of-spec =
     tie.close
     (tie.spec
-    slice-aggregate-put-geometry
-    put-geometry-requires
-    slice-aggregate-put-blocks
-    put-blocks-requires
-    slice-aggregate-put-interface
-    put-interface-requires
-    slice-aggregate-put-paths
-    put-paths-requires
-    sub-checksum-of
-    part-checksum-of-start
-    part-checksum-of-end
-    checksum-of-requires
-    slice-aggregate-put-byte
-    put-byte-requires
+    (search needs)
+    (search needs)
+    (search needs)
+    (search needs)
+    (search needs)
+    (search needs)
+    (search needs)
+    (search needs)
+    (search needs)
+    (search needs)
+    (search needs)
+    (search needs)
+    (search needs)
+    (search needs)
     returns)

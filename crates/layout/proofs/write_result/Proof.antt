@@ -18,19 +18,10 @@ use Rattle.words.proofs.store.Reads as store-reads
 returns : tie.Need-returns
 returns c = let a = c .before .before .args in answer-small (a .d) (a .p) (a .asked) (now (a .out)) (c .if1 .taken)
 
-returned-size-requires : tie.Need-returned-size-requires
-returned-size-requires c κs = search needs
-
-cast-size : tie.Need-cast-size
-cast-size c = search needs
-
 returns-2 : tie.Need-returns-2
 returns-2 c =
     let a = c .before .before .before .before .args in
     answer-no-room (a .d) (a .p) (a .asked) (now (a .out)) (c .before .before .if1 .left) (omega arith)
-
-result-of-requires : tie.Need-result-of-requires
-result-of-requires c κs = search needs
 
 array-share-prefix-r : tie.Need-array-share-prefix-r
 array-share-prefix-r c =
@@ -49,9 +40,6 @@ store-requires c κs =
     let l : length (r .result) ≡ 66 = r .ok .1 .0 .1 in
     omega (arith, length-take (c .before .before .before .before .returned-size .result) (r .result))
 
-same-length : tie.Need-same-length
-same-length c = search needs
-
 returns-3 : tie.Need-returns-3
 returns-3 c =
     let a = c .before .before .before .before .before .before .before .before .before .before .args in
@@ -66,12 +54,12 @@ write-result-spec =
     tie.close
     (tie.spec
     returns
-    returned-size-requires
-    cast-size
+    (search needs)
+    (search needs)
     returns-2
-    result-of-requires
+    (search needs)
     array-share-prefix-r
     slice-aggregate-store
     store-requires
-    same-length
+    (search needs)
     returns-3)

@@ -14,24 +14,6 @@ use Rattle.memory.proofs.put_word_in.Lts as lts
 use Rattle.memory.proofs.span_of.Reads as span-of-reads
 use Rattle.words.proofs.store16.Reads as store16-reads
 
-span-of-requires : tie.Need-span-of-requires
-span-of-requires c κs = search needs
-
-sub-store16 : tie.Need-sub-store16
-sub-store16 c = search needs
-
-part-store16-start : tie.Need-part-store16-start
-part-store16-start c = search needs
-
-part-store16-end : tie.Need-part-store16-end
-part-store16-end c = search needs
-
-store16-requires : tie.Need-store16-requires
-store16-requires c κs = search needs
-
-same-length : tie.Need-same-length
-same-length c = search needs
-
 returns : tie.Need-returns
 returns c =
     let a = c .before .before .before .before .before .before .args in
@@ -46,10 +28,10 @@ pub put-word-in-spec : {M : Type 1} → statement M
 put-word-in-spec =
     tie.close
     (tie.spec
-    span-of-requires
-    sub-store16
-    part-store16-start
-    part-store16-end
-    store16-requires
-    same-length
+    (search needs)
+    (search needs)
+    (search needs)
+    (search needs)
+    (search needs)
+    (search needs)
     returns)

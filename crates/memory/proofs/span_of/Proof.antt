@@ -7,9 +7,6 @@ use Rattle.memory.proofs.span_of.Reads as reads
 use Rattle.memory.proofs.span_of.Lts as lts
 use Rattle.memory.proofs.window_length.Reads as window-length-reads
 
-window-length-requires : tie.Need-window-length-requires
-window-length-requires c κs = search needs
-
 returns : tie.Need-returns
 returns c =
     let a = c .before .before .args in
@@ -39,4 +36,4 @@ returns-3 c =
     omega (arith, window-fits (a .n) (a .guest) (a .m) (search needs) (search needs))
 
 pub span-of-spec : {M : Type 1} → statement M
-span-of-spec = tie.close (tie.spec window-length-requires returns returns-2 mul-start add-t5 returns-3)
+span-of-spec = tie.close (tie.spec (search needs) returns returns-2 mul-start add-t5 returns-3)

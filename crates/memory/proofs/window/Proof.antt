@@ -11,18 +11,6 @@ use Rattle.memory.proofs.window.Reads as reads
 use Rattle.memory.proofs.window.Lts as lts
 use Rattle.memory.proofs.span_of.Reads as span-of-reads
 
-span-of-requires : tie.Need-span-of-requires
-span-of-requires c κs = search needs
-
-sub-result : tie.Need-sub-result
-sub-result c = search needs
-
-part-arena-start : tie.Need-part-arena-start
-part-arena-start c = search needs
-
-part-arena-end : tie.Need-part-arena-end
-part-arena-end c = search needs
-
 returns : tie.Need-returns
 returns c =
     let a = c .before .before .before .args in
@@ -32,4 +20,4 @@ returns c =
 
 pub window-spec : {M : Type 1} → statement M
 window-spec =
-    tie.close (tie.spec span-of-requires sub-result part-arena-start part-arena-end returns)
+    tie.close (tie.spec (search needs) (search needs) (search needs) (search needs) returns)

@@ -11,18 +11,6 @@ use Rattle.memory.proofs.window_shared.Reads as reads
 use Rattle.memory.proofs.window_shared.Lts as lts
 use Rattle.memory.proofs.span_of.Reads as span-of-reads
 
-span-of-requires : tie.Need-span-of-requires
-span-of-requires c κs = search needs
-
-sub-result : tie.Need-sub-result
-sub-result c = search needs
-
-part-result-start : tie.Need-part-result-start
-part-result-start c = search needs
-
-part-result-end : tie.Need-part-result-end
-part-result-end c = search needs
-
 returns : tie.Need-returns
 returns c =
     let a = c .before .before .before .args in
@@ -32,4 +20,4 @@ returns c =
 
 pub window-shared-spec : {M : Type 1} → statement M
 window-shared-spec =
-    tie.close (tie.spec span-of-requires sub-result part-result-start part-result-end returns)
+    tie.close (tie.spec (search needs) (search needs) (search needs) (search needs) returns)

@@ -8,27 +8,6 @@ use Rattle.words.proofs.get64.Reads as reads
 use Rattle.words.proofs.get64.Lts as lts
 use Rattle.words.proofs.get32.Reads as get32-reads
 
-get32-requires : tie.Need-get32-requires
-get32-requires c κs = search needs
-
-cast-result : tie.Need-cast-result
-cast-result c = search needs
-
-add-get32 : tie.Need-add-get32
-add-get32 c = search needs
-
-get32-requires-2 : tie.Need-get32-requires-2
-get32-requires-2 c κs = search needs
-
-cast-result-2 : tie.Need-cast-result-2
-cast-result-2 c = search needs
-
-mul-result : tie.Need-mul-result
-mul-result c = search needs
-
-add-result : tie.Need-add-result
-add-result c = search needs
-
 returns : tie.Need-returns
 returns c =
     let a = c .before .before .before .args in
@@ -38,11 +17,11 @@ pub get64-spec : {M : Type 1} → statement M
 get64-spec =
     tie.close
     (tie.spec
-    get32-requires
-    cast-result
-    add-get32
-    get32-requires-2
-    cast-result-2
-    mul-result
-    add-result
+    (search needs)
+    (search needs)
+    (search needs)
+    (search needs)
+    (search needs)
+    (search needs)
+    (search needs)
     returns)

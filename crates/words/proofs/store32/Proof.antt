@@ -8,37 +8,19 @@ use Rattle.words.proofs.store32.Reads as reads
 use Rattle.words.proofs.store32.Lts as lts
 use Rattle.words.proofs.store16.Reads as store16-reads
 
-cast-store16 : tie.Need-cast-store16
-cast-store16 c = search needs
-
-store16-requires : tie.Need-store16-requires
-store16-requires c κs = search needs
-
-add-store16 : tie.Need-add-store16
-add-store16 c = search needs
-
-cast-store16-2 : tie.Need-cast-store16-2
-cast-store16-2 c = search needs
-
-store16-requires-2 : tie.Need-store16-requires-2
-store16-requires-2 c κs = search needs
-
-same-length : tie.Need-same-length
-same-length c = search needs
-
 returns : tie.Need-returns
 returns c =
     let a = c .before .before .before .before .before .before .before .before .before .args in
-    cc (sets-two 2 2 (now (a .out)) (a .at) (a .v))
+    sets-two 2 2 (now (a .out)) (a .at) (a .v) (c .before .before .before .before .before .before .store16 .ensures) (c .before .before .store162 .ensures)
 
 pub store32-spec : {M : Type 1} → statement M
 store32-spec =
     tie.close
     (tie.spec
-    cast-store16
-    store16-requires
-    add-store16
-    cast-store16-2
-    store16-requires-2
-    same-length
+    (search needs)
+    (search needs)
+    (search needs)
+    (search needs)
+    (search needs)
+    (search needs)
     returns)
