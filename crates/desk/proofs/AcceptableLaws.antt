@@ -68,7 +68,7 @@ pub record JobFacts (b : Table) (M : ℕ) (j : Job) : Type 0 where
   pub buffer : j .buffer + 512 * j .count ≤ M
   pub packet : packetOk (ah (j .registers)) (j .packet) M ≡ true
 
-count-most : (s : Bool) (n : ℕ) → leb n (pick s 128 127) ≡ true → n ≤ 128
+pub count-most : (s : Bool) (n : ℕ) → leb n (pick s 128 127) ≡ true → n ≤ 128
 count-most true n e = leb-true n 128 e
 count-most false n e = let l : n ≤ 127 = leb-true n 127 e in omega arith
 
@@ -144,13 +144,24 @@ pub rowsOk-more : {r a s : Bool} (i : ℕ) (rows : List Row) (b : Table) (M : �
 unfolding rowsOk
 rowsOk-more i rows b M p q e = rw (add-one, q, e, p)
 
-pub job-tests : {f : ℕ} {sector word transfer writes guarded protected buffer packet placed places range blocks count x y : Bool} (d : Drive) (M : ℕ) (j : Job)
-    → f ≡ ah (j .registers) → sector ≡ isSectors f
+-- a count past its limit, whatever else
+pub job-count : {f : ℕ} {sector count : Bool} (d : Drive) (M : ℕ) (j : Job) → f ≡ ah (j .registers) → sector ≡ isSectors f → count ≡ leb (j .count) (pick sector 128 127) → count ≡ false
+    → false ≡ jobRules d M j
+job-count {f} {sector} d M j ef es ec e = rw (← ef, ← es, ← ec, e) (by-transfer (either sector (either (eqb f 0x42) (eqb f 0x43))))
+  where
+    by-transfer : (t : Bool) → false ≡ both t false
+    by-transfer true = refl
+    by-transfer false = refl
+
+pub job-tests : {f : ℕ} {sector word transfer writes guarded protected buffer packet placed places range blocks count x : Bool} (d : Drive) (M : ℕ) (j : Job)
+    → f ≡ ah (j .registers) → sector ≡ isSectors f → count ≡ leb (j .count) (pick sector 128 127) → count ≡ true
     → word ≡ either (eqb f 0x42) (eqb f 0x43) → transfer ≡ either sector word → writes ≡ isWrite f → guarded ≡ isProtected d → protected ≡ both writes guarded
     → buffer ≡ leb (j .buffer + 512 * j .count) M → packet ≡ pick sector (eqb (j .packet) 0) (leb (j .packet + 16) M) → placed ≡ both packet (not protected) → places ≡ both buffer placed
     → range ≡ both (leb (j .start + j .count) (d .blocks)) (pick sector (leb (j .start + j .count) (size (geometryOf d))) true) → blocks ≡ both range places
-    → count ≡ leb (j .count) (pick sector 128 127) → x ≡ both count blocks → y ≡ both transfer x → y ≡ jobRules d M j
-job-tests d M j ef es ew et ei eg ep eb ek el en er eo ec ex ey = rw (ey, ex, ec, eo, er, en, el, ek, eb, ep, eg, ei, et, ew, es, ef)
+    → x ≡ both transfer blocks → x ≡ jobRules d M j
+job-tests d M j ef es ec c ew et ei eg ep eb ek el en er eo ex =
+    let k : leb (j .count) (pick (isSectors (ah (j .registers))) 128 127) ≡ true = rw (← ef, ← es, ← ec) c in
+    rw (ex, eo, er, en, el, ek, eb, ep, eg, ei, et, ew, es, ef, k)
 
 -- at a desk whose opening was refused every call is 25
 pub closed-refused : (arena store : ℕ) → accept (closed arena store) ≡ false

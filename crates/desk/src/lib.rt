@@ -166,16 +166,6 @@ pub fn house_number(acceptable: bool, lent: bool, guest: bool) -> u8
 
 // ---- acceptable desks
 
-// n blocks of bytes from a place end at most at end.
-fn blocks_end_by(place: u64, n: u64, end: u64) -> bool
-    ensures { λ r. ⌜ r ≡ leb (place + blockLength * n) end ⌝ }
-{
-    if end < place {
-        return false;
-    }
-    n <= (end - place) / BLOCK_LENGTH
-}
-
 fn count_ok(sectors: bool, n: u64) -> bool
     ensures { λ r. ⌜ r ≡ leb n (pick sectors mostRun mostBlocks) ⌝ }
 {
@@ -213,19 +203,23 @@ fn moved_ok(moved: u64, count: u64) -> bool
     logic::and(moved % PART == 0, moved < count)
 }
 
+// The count first, so that its bytes do not wrap.
 fn job_ok(d: Drive, m: u64, j: Job) -> bool
     ensures { λ r. ⌜ r ≡ jobRules d m j ⌝ }
 {
     let f = int13::function_of(j.registers);
     let sectors = int13::is_sectors(f);
+    if !count_ok(sectors, j.count) {
+        return false;
+    }
     let transfer = logic::or(sectors, logic::or(f == 0x42, f == 0x43));
     let protected = logic::and(int13::is_write(f), drive::is_protected(d));
     let places = logic::and(
-        blocks_end_by(j.buffer, j.count, m),
+        logic::ends_by(j.buffer, BLOCK_LENGTH * j.count, m),
         logic::and(packet_ok(sectors, j.packet, m), !protected),
     );
     let blocks = logic::and(range_ok(d, sectors, j.start, j.count), places);
-    logic::and(transfer, logic::and(count_ok(sectors, j.count), blocks))
+    logic::and(transfer, blocks)
 }
 
 // What is asked of a waiting request on its drive, in windows of m bytes.
