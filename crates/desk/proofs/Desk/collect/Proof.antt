@@ -1,5 +1,5 @@
 use mathlib.Core.Path.{_≡_, refl}
-use mathlib.Core.Bool.{true, false}
+use mathlib.Core.Bool.{true}
 use Prim.Native.Nat.{ℕ, _<_}
 use native.Mathlib.Omega.{arith}
 use lib.Dec.{ltb}
@@ -14,10 +14,6 @@ use Rattle.desk.proofs.NumbersLaws.{collect-answered}
 use borrow.Author.Needs.{needs}
 use Rattle.desk.proofs.Desk.collect.Statement.{statement}
 use Rattle.desk.proofs.Desk.collect.Tie as tie
-use Rattle.desk.proofs.Desk.collect.Reads as reads
-use Rattle.desk.proofs.Desk.collect.Lts as lts
-use Rattle.desk.proofs.Desk.accept.Reads as accept-reads
-use Rattle.desk.proofs.house_number.Reads as house-number-reads
 
 abbrev desk : tie.After-house-number → Desk
 desk c = c .before .before .args .t1
@@ -34,12 +30,6 @@ passed c = house-passed _ _ _ (number (c .before)) (c .if1 .left)
 below : (c : tie.Else1) → guest (c .before) < 8
 below c = ltb-true (guest (c .before)) 8 (passed c .guest)
 
-accept-requires : tie.Need-accept-requires
-accept-requires c κs = search needs
-
-house-number-requires : tie.Need-house-number-requires
-house-number-requires c κs = search needs
-
 returns : tie.Need-returns
 unfolding collectOf
 returns c =
@@ -51,9 +41,6 @@ mul-row c = omega (arith, below c)
 
 element-copy-out-row : tie.Need-element-copy-out-row
 element-copy-out-row c = omega (arith, below c)
-
-enum-known-stage : tie.Need-enum-known-stage
-enum-known-stage c = search needs
 
 returns-2 : tie.Need-returns-2
 returns-2 c =
@@ -75,12 +62,12 @@ pub collect-spec : {M : Type 1} → statement M
 collect-spec =
     tie.close
     (tie.spec
-    accept-requires
-    house-number-requires
+    (search needs)
+    (search needs)
     returns
     mul-row
     element-copy-out-row
-    enum-known-stage
+    (search needs)
     returns-2
     mul-t14
     element-set-from-next

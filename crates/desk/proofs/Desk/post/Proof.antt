@@ -8,7 +8,7 @@ use borrow.Author.Tests.{ltb-true}
 use denote.Ref.{now}
 use Rattle.memory.specs.Window.{windowLength, spanLength, windowOf}
 use Rattle.memory.proofs.WindowLaws.{with-window-lent, length-window}
-use Rattle.int13.specs.Steps.{Checked, fed, begin}
+use Rattle.int13.specs.Steps.{fed, begin}
 use Rattle.desk.specs.declared.Desk.{Desk}
 use Rattle.desk.specs.declared.PostAnswer.the-variants.{Refused as PostRefused}
 use Rattle.desk.specs.Parts.{stageAt}
@@ -19,15 +19,6 @@ use Rattle.desk.proofs.NumbersLaws.{post-answered}
 use borrow.Author.Needs.{needs}
 use Rattle.desk.proofs.Desk.post.Statement.{statement}
 use Rattle.desk.proofs.Desk.post.Tie as tie
-use Rattle.desk.proofs.Desk.post.Reads as reads
-use Rattle.desk.proofs.Desk.post.Lts as lts
-use Rattle.desk.proofs.Desk.accept.Reads as accept-reads
-use Rattle.desk.proofs.Desk.is_lent.Reads as is-lent-reads
-use Rattle.desk.proofs.Desk.posted.Reads as posted-reads
-use Rattle.desk.proofs.house_number.Reads as house-number-reads
-use Rattle.int13.proofs.begin.Reads as begin-reads
-use Rattle.memory.proofs.span_of.Reads as span-of-reads
-use Rattle.memory.proofs.window_length.Reads as window-length-reads
 
 abbrev desk : tie.After-house-number → Desk
 desk c = c .before .before .before .before .before .args .t1
@@ -50,15 +41,6 @@ passed c = house-passed _ _ _ (number (c .before)) (c .if1 .left)
 below : (c : tie.Else1) → guest (c .before) < 8
 below c = ltb-true (guest (c .before)) 8 (passed c .guest)
 
-accept-requires : tie.Need-accept-requires
-accept-requires c κs = search needs
-
-is-lent-requires : tie.Need-is-lent-requires
-is-lent-requires c κs = search needs
-
-house-number-requires : tie.Need-house-number-requires
-house-number-requires c κs = search needs
-
 returns : tie.Need-returns
 unfolding postOf
 returns c =
@@ -72,38 +54,14 @@ mul-row c = omega (arith, below c)
 element-copy-out-row : tie.Need-element-copy-out-row
 element-copy-out-row c = omega (arith, below c)
 
-enum-told : tie.Need-enum-told
-enum-told c = search needs
-
 returns-2 : tie.Need-returns-2
 returns-2 c =
     let h = c .before .before .before in
     post-answered (desk h) (guest h) (h .before .before .before .before .before .args .registers) (arena h) (store h)
     (post-other (desk h) (guest h) (arena h) (store h) (passed (c .before .before)) (h .before .before .before .before .before .args .registers) (c .match .keys2))
 
-window-length-requires : tie.Need-window-length-requires
-window-length-requires c κs = search needs
-
-span-of-requires : tie.Need-span-of-requires
-span-of-requires c κs = search needs
-
-sub-begin : tie.Need-sub-begin
-sub-begin c = search needs
-
-part-begin-start : tie.Need-part-begin-start
-part-begin-start c = search needs
-
-part-begin-end : tie.Need-part-begin-end
-part-begin-end c = search needs
-
-begin-requires : tie.Need-begin-requires
-begin-requires c κs = search needs
-
 posted-requires : tie.Need-posted-requires
 posted-requires c κs = below (c .before .before .before .before .before .before .before .before .before .before)
-
-same-length : tie.Need-same-length
-same-length c = search needs
 
 returns-3 : tie.Need-returns-3
 returns-3 c =
@@ -127,20 +85,20 @@ pub post-spec : {M : Type 1} → statement M
 post-spec =
     tie.close
     (tie.spec
-    accept-requires
-    is-lent-requires
-    house-number-requires
+    (search needs)
+    (search needs)
+    (search needs)
     returns
     mul-row
     element-copy-out-row
-    enum-told
+    (search needs)
     returns-2
-    window-length-requires
-    span-of-requires
-    sub-begin
-    part-begin-start
-    part-begin-end
-    begin-requires
+    (search needs)
+    (search needs)
+    (search needs)
+    (search needs)
+    (search needs)
+    (search needs)
     posted-requires
-    same-length
+    (search needs)
     returns-3)

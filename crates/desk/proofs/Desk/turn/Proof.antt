@@ -1,5 +1,5 @@
 use mathlib.Core.Path.{_≡_, refl, sym, _∙_}
-use mathlib.Core.Bool.{true, false}
+use mathlib.Core.Bool.{true}
 use mathlib.Core.List.{List}
 use Prim.Native.Nat.{ℕ, _<_}
 use native.Mathlib.Omega.{arith}
@@ -17,16 +17,6 @@ use Rattle.desk.proofs.NumbersLaws.{turn-answered}
 use borrow.Author.Needs.{needs}
 use Rattle.desk.proofs.Desk.turn.Statement.{statement}
 use Rattle.desk.proofs.Desk.turn.Tie as tie
-use Rattle.desk.proofs.Desk.turn.Reads as reads
-use Rattle.desk.proofs.Desk.turn.Lts as lts
-use Rattle.desk.proofs.Desk.accept.Reads as accept-reads
-use Rattle.desk.proofs.Desk.is_lent.Reads as is-lent-reads
-use Rattle.desk.proofs.Desk.served.Reads as served-reads
-use Rattle.desk.proofs.house_number.Reads as house-number-reads
-use Rattle.desk.proofs.next_waiting.Reads as next-waiting-reads
-use Rattle.desk.proofs.service_of.Reads as service-of-reads
-use Rattle.desk.proofs.transfer.Reads as transfer-reads
-use Rattle.int13.proofs.drive_at.Reads as drive-at-reads
 
 abbrev desk : tie.After-house-number → Desk
 desk c = c .before .before .before .before .before .args .self
@@ -57,15 +47,6 @@ below c = let h = c .before .before .before .before .before .before in seek-belo
 facts : (c : tie.After-known-told2) → Waits (desk (c .before .before .before .before .before .before .before .before .before .before) .table) (windowSize (desk (c .before .before .before .before .before .before .before .before .before .before))) (c .before .stage .given .0 .0)
 facts c = waiting-facts (desk (c .before .before .before .before .before .before .before .before .before .before)) (guest (c .before .before .before .before)) (c .before .stage .given .0 .0) (passed (c .before .before .before .before .before .before .before .before .before) .acceptable) (below (c .before .before .before .before)) (c .before .stage .given .1)
 
-accept-requires : tie.Need-accept-requires
-accept-requires c κs = search needs
-
-is-lent-requires : tie.Need-is-lent-requires
-is-lent-requires c κs = search needs
-
-house-number-requires : tie.Need-house-number-requires
-house-number-requires c κs = search needs
-
 returns : tie.Need-returns
 unfolding turnOf
 returns c =
@@ -75,12 +56,6 @@ returns c =
 
 next-waiting-requires : tie.Need-next-waiting-requires
 next-waiting-requires c κs = accept-true (desk (c .before .before)) (passed (c .before) .acceptable) .pointer
-
-enum-known-found : tie.Need-enum-known-found
-enum-known-found c = search needs
-
-enum-told : tie.Need-enum-told
-enum-told c = search needs
 
 returns-2 : tie.Need-returns-2
 returns-2 c =
@@ -94,20 +69,11 @@ mul-row c = omega (arith, below c)
 array-copy-out-row : tie.Need-array-copy-out-row
 array-copy-out-row c = omega (arith, below c)
 
-enum-known-stage : tie.Need-enum-known-stage
-enum-known-stage c = search needs
-
 returns-3 : tie.Need-returns-3
 returns-3 c =
     let h = c .before .before .before .before .before .before .before .before in
     turn-answered (desk h) (arena h) (store h)
     (turn-other (desk h) (arena h) (store h) (passed (c .before .before .before .before .before .before .before)) (guest (c .before .before)) (found (c .before .before)) (c .match2 .keys2))
-
-drive-at-requires : tie.Need-drive-at-requires
-drive-at-requires c κs = search needs
-
-service-of-requires : tie.Need-service-of-requires
-service-of-requires c κs = search needs
 
 transfer-requires : tie.Need-transfer-requires
 transfer-requires c κs =
@@ -119,12 +85,6 @@ transfer-requires c κs =
 
 served-requires : tie.Need-served-requires
 served-requires c κs = below (c .before .before .before .before .before .before .before .before .before .before .before .before .before .before)
-
-same-length : tie.Need-same-length
-same-length c = search needs
-
-same-length-2 : tie.Need-same-length-2
-same-length-2 c = search needs
 
 returns-4 : tie.Need-returns-4
 returns-4 c =
@@ -139,22 +99,22 @@ pub turn-spec : {M : Type 1} → statement M
 turn-spec =
     tie.close
     (tie.spec
-    accept-requires
-    is-lent-requires
-    house-number-requires
+    (search needs)
+    (search needs)
+    (search needs)
     returns
     next-waiting-requires
-    enum-known-found
-    enum-told
+    (search needs)
+    (search needs)
     returns-2
     mul-row
     array-copy-out-row
-    enum-known-stage
+    (search needs)
     returns-3
-    drive-at-requires
-    service-of-requires
+    (search needs)
+    (search needs)
     transfer-requires
     served-requires
-    same-length
-    same-length-2
+    (search needs)
+    (search needs)
     returns-4)

@@ -16,13 +16,6 @@ use Rattle.desk.proofs.NumbersLaws.{withdraw-answered}
 use borrow.Author.Needs.{needs}
 use Rattle.desk.proofs.Desk.withdraw.Statement.{statement}
 use Rattle.desk.proofs.Desk.withdraw.Tie as tie
-use Rattle.desk.proofs.Desk.withdraw.Reads as reads
-use Rattle.desk.proofs.Desk.withdraw.Lts as lts
-use Rattle.desk.proofs.Desk.accept.Reads as accept-reads
-use Rattle.desk.proofs.Desk.is_lent.Reads as is-lent-reads
-use Rattle.desk.proofs.Desk.withdrawn.Reads as withdrawn-reads
-use Rattle.desk.proofs.house_number.Reads as house-number-reads
-use Rattle.desk.proofs.report_moved.Reads as report-moved-reads
 
 abbrev desk : tie.After-house-number → Desk
 desk c = c .before .before .before .before .before .args .t1
@@ -51,15 +44,6 @@ facts c =
     let h = c .before .before .before .before .before in
     report-facts (desk h) (arena h) (store h) (guest h) (c .before .stage .given .0 .0) (passed (c .before .before .before .before)) (c .before .stage .given .1)
 
-accept-requires : tie.Need-accept-requires
-accept-requires c κs = search needs
-
-is-lent-requires : tie.Need-is-lent-requires
-is-lent-requires c κs = search needs
-
-house-number-requires : tie.Need-house-number-requires
-house-number-requires c κs = search needs
-
 returns : tie.Need-returns
 unfolding withdrawOf
 returns c =
@@ -73,9 +57,6 @@ mul-row c = omega (arith, below c)
 element-copy-out-row : tie.Need-element-copy-out-row
 element-copy-out-row c = omega (arith, below c)
 
-enum-known-stage : tie.Need-enum-known-stage
-enum-known-stage c = search needs
-
 returns-2 : tie.Need-returns-2
 returns-2 c =
     let h = c .before .before .before in
@@ -88,9 +69,6 @@ report-moved-requires c κs = let f = facts (c .before) in (f .guest, f .packet,
 withdrawn-requires : tie.Need-withdrawn-requires
 withdrawn-requires c κs = let f = facts (c .before .before .before .before) in (f .guest, f .moved)
 
-same-length : tie.Need-same-length
-same-length c = search needs
-
 returns-3 : tie.Need-returns-3
 returns-3 c =
     let h = c .before .before .before .before .before .before .before .before .before .before in
@@ -102,15 +80,15 @@ pub withdraw-spec : {M : Type 1} → statement M
 withdraw-spec =
     tie.close
     (tie.spec
-    accept-requires
-    is-lent-requires
-    house-number-requires
+    (search needs)
+    (search needs)
+    (search needs)
     returns
     mul-row
     element-copy-out-row
-    enum-known-stage
+    (search needs)
     returns-2
     report-moved-requires
     withdrawn-requires
-    same-length
+    (search needs)
     returns-3)
