@@ -123,8 +123,8 @@ module _ (d : Desk) (g : ℕ) (arena store : List ℕ) (p : Passed (accept d) tr
   pub collect-other : OneOf (0 ∷ 1 ∷ []) (tagOf stage.the-type (stageAt d g)) → done d (CollectRefused 22) arena store ≡ collectOf d g arena store
   collect-other k = collect-stage (stageAt d g) d g arena store k ∙ collect-row
 
-  pub collect-finished : (r : Registers) → stageAt d g ≡ Finished r → done (withStage d g Vacant) (CollectGiven r) arena store ≡ collectOf d g arena store
-  collect-finished r e = ap (λ (s : Stage). collectStage d g s arena store) (sym e) ∙ collect-row
+  pub collect-finished : {desk : Desk} (r : Registers) → stageAt d g ≡ Finished r → desk ≡ withStage d g Vacant → done desk (CollectGiven r) arena store ≡ collectOf d g arena store
+  collect-finished r e e₁ = rw e₁ (ap (λ (s : Stage). collectStage d g s arena store) (sym e) ∙ collect-row)
 
 module _ (d : Desk) (arena store : List ℕ) (p : Passed (accept d) (isLent d arena store) true) where
   turn-next : turnNext d (firstWaiting (d .rows) 8 (d .pointer)) arena store ≡ turnOf d arena store
@@ -163,10 +163,10 @@ module _ (d : Desk) (g : ℕ) (arena store : List ℕ) (p : Passed (accept d) (i
   pub post-other : (r : Registers) → OneOf (1 ∷ 2 ∷ []) (tagOf stage.the-type (stageAt d g)) → done d (PostRefused 21) arena store ≡ postOf d g r arena store
   post-other r k = post-stage (stageAt d g) d g r arena store k ∙ post-row r
 
-  pub post-vacant : {desk : Desk} {answer : PostAnswer} {outcome : Outcome} {w : List ℕ} (r : Registers) → stageAt d g ≡ Vacant
-      → outcome ≡ begin (fed (d .table)) r (ownWindow arena g) .outcome → w ≡ begin (fed (d .table)) r (ownWindow arena g) .window
+  pub post-vacant : {desk : Desk} {answer : PostAnswer} {outcome : Outcome} {arena′ : List ℕ} (r : Registers) → stageAt d g ≡ Vacant
+      → outcome ≡ begin (fed (d .table)) r (ownWindow arena g) .outcome → arena′ ≡ withOwn arena g (begin (fed (d .table)) r (ownWindow arena g) .window)
       → desk ≡ postChecked d g [] [] outcome [] .desk → answer ≡ postChecked d g [] [] outcome [] .answer
-      → done desk answer (withOwn arena g w) store ≡ postOf d g r arena store
+      → done desk answer arena′ store ≡ postOf d g r arena store
   post-vacant r v eo ew e₁ e₂ =
       let asked : ℕ → Checked = λ n. begin (fed (d .table)) r (windowOf arena g n) in
       rw (e₁, e₂, eo, ew)

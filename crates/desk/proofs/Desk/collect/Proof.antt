@@ -47,16 +47,15 @@ returns-2 c =
     collect-answered (desk (c .before .before .before)) (guest (c .before .before .before))
     (λ arena store. collect-other (desk (c .before .before .before)) (guest (c .before .before .before)) arena store (passed (c .before .before)) (c .match .keys2))
 
-mul-t14 : tie.Need-mul-t14
-mul-t14 c = omega (arith, below (c .before .before .before .before))
-
-element-set-from-next : tie.Need-element-set-from-next
-element-set-from-next c = omega (arith, below (c .before .before .before .before))
+with-stage-requires : tie.Need-with-stage-requires
+with-stage-requires c κs = below (c .before .before .before .before)
 
 returns-3 : tie.Need-returns-3
 returns-3 c =
-    collect-answered (desk (c .before .before .before .before .before)) (guest (c .before .before .before .before .before))
-    (λ arena store. collect-finished (desk (c .before .before .before .before .before)) (guest (c .before .before .before .before .before)) arena store (passed (c .before .before .before .before)) (c .before .stage .given .0 .0) (c .before .stage .given .1))
+    let w = c .before in
+    let h = w .before .before .before .before .before in
+    collect-answered (desk h) (guest h)
+    (λ arena store. collect-finished (desk h) (guest h) arena store (passed (w .before .before .before .before)) (w .before .stage .given .0 .0) (w .before .stage .given .1) (c .with-stage .ensures))
 
 pub collect-spec : {M : Type 1} → statement M
 collect-spec =
@@ -69,6 +68,5 @@ collect-spec =
     element-copy-out-row
     (search needs)
     returns-2
-    mul-t14
-    element-set-from-next
+    with-stage-requires
     returns-3)

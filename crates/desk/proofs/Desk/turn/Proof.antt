@@ -1,4 +1,4 @@
-use mathlib.Core.Path.{_≡_, refl, sym, _∙_}
+use mathlib.Core.Path.{_≡_, sym, _∙_}
 use mathlib.Core.Bool.{true}
 use mathlib.Core.List.{List}
 use Prim.Native.Nat.{ℕ, _<_}
@@ -10,28 +10,25 @@ use Rattle.desk.specs.declared.Next.the-variants.{Guest}
 use Rattle.desk.specs.declared.TurnAnswer.the-variants.{Refused as TurnRefused}
 use Rattle.desk.specs.Parts.{windowSize}
 use Rattle.desk.specs.Acceptable.{accept}
-use Rattle.desk.specs.Calls.{houseNumber, isLent, done, firstWaiting, Transferred, turnNext, turnOf}
+use Rattle.desk.specs.Calls.{isLent, done, firstWaiting, Transferred, turnNext, turnOf}
 use Rattle.desk.proofs.AcceptableLaws.{accept-true, Waits}
-use Rattle.desk.proofs.CallsLaws.{house-tests, house-refused, Passed, house-passed, turn-nobody, turn-other, turn-served, seek-below, waiting-facts, in-range}
+use Rattle.desk.proofs.CallsLaws.{house-refused, Passed, house-passed, turn-nobody, turn-other, turn-served, seek-below, waiting-facts, in-range}
 use Rattle.desk.proofs.NumbersLaws.{turn-answered}
 use borrow.Author.Needs.{needs}
 use Rattle.desk.proofs.Desk.turn.Statement.{statement}
 use Rattle.desk.proofs.Desk.turn.Tie as tie
 
-abbrev desk : tie.After-house-number → Desk
-desk c = c .before .before .before .before .before .args .self
+abbrev desk : tie.After-house → Desk
+desk c = c .before .before .before .args .self
 
-abbrev arena : tie.After-house-number → List ℕ
-arena c = now (c .before .before .before .before .before .args .arena)
+abbrev arena : tie.After-house → List ℕ
+arena c = now (c .before .before .before .args .arena)
 
-abbrev store : tie.After-house-number → List ℕ
-store c = now (c .before .before .before .before .before .args .store)
-
-number : (c : tie.After-house-number) → c .house-number .result ≡ houseNumber (accept (desk c)) (isLent (desk c) (arena c) (store c)) true
-number c = house-tests (c .house-number .ensures) (c .before .before .accept .ensures) (c .before .is-lent .ensures) refl
+abbrev store : tie.After-house → List ℕ
+store c = now (c .before .before .before .args .store)
 
 passed : (c : tie.Else1) → Passed (accept (desk (c .before))) (isLent (desk (c .before)) (arena (c .before)) (store (c .before))) true
-passed c = house-passed _ _ _ (number (c .before)) (c .if1 .left)
+passed c = house-passed _ _ _ (c .before .house .ensures) (c .if1 .left)
 
 -- the guest that the search found
 abbrev guest : tie.After-known-told → ℕ
@@ -52,7 +49,7 @@ unfolding turnOf
 returns c =
     let h = c .before in
     turn-answered (desk h) (arena h) (store h)
-    (house-refused _ _ _ (λ n. done (desk h) (TurnRefused n) (arena h) (store h)) (turnNext (desk h) (firstWaiting (desk h .rows) 8 (desk h .pointer)) (arena h) (store h)) (number h) (c .if1 .taken))
+    (house-refused _ _ _ (λ n. done (desk h) (TurnRefused n) (arena h) (store h)) (turnNext (desk h) (firstWaiting (desk h .rows) 8 (desk h .pointer)) (arena h) (store h)) (h .house .ensures) (c .if1 .taken))
 
 next-waiting-requires : tie.Need-next-waiting-requires
 next-waiting-requires c κs = accept-true (desk (c .before .before)) (passed (c .before) .acceptable) .pointer
@@ -80,7 +77,7 @@ transfer-requires c κs =
     let h = c .before .before .before .before .before .before .before .before .before .before .before .before .before .before .before in
     let w = c .before .before .before .before .before .before .before .before .before in
     let s = c .before .before .before .before .before .before .stage in
-    let r = in-range (desk h) (arena h) (store h) (guest w) (s .given .0 .0) (passed (c .before .before .before .before .before .before .before .before .before .before .before .before .before .before)) (below w) (s .given .1) (omega (arith, c .before .before .before .before .before .before .before .before .before .before .before .before .before .before .before .before .before .before .before .before .good .1 .0 .0)) (omega (arith, c .before .before .before .before .before .before .before .before .before .before .before .before .before .before .before .before .before .before .before .before .good .1 .1 .0 .0)) (c .before .before .service-of .ensures) in
+    let r = in-range (desk h) (arena h) (store h) (guest w) (s .given .0 .0) (passed (c .before .before .before .before .before .before .before .before .before .before .before .before .before .before)) (below w) (s .given .1) (omega (arith, c .before .before .before .before .before .before .before .before .before .before .before .before .before .before .before .before .before .before .good .1 .0 .0)) (omega (arith, c .before .before .before .before .before .before .before .before .before .before .before .before .before .before .before .before .before .before .good .1 .1 .0 .0)) (c .before .before .service-of .ensures) in
     rw (c .before .before .before .drive-at .ensures .1 (facts (c .before .before .before .before .before) .job .drive)) r
 
 served-requires : tie.Need-served-requires
@@ -99,8 +96,6 @@ pub turn-spec : {M : Type 1} → statement M
 turn-spec =
     tie.close
     (tie.spec
-    (search needs)
-    (search needs)
     (search needs)
     returns
     next-waiting-requires

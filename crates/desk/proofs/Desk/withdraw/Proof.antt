@@ -1,4 +1,4 @@
-use mathlib.Core.Path.{_≡_, refl}
+use mathlib.Core.Path.{ap}
 use mathlib.Core.List.{List}
 use Prim.Native.Nat.{ℕ, _<_}
 use native.Mathlib.Omega.{arith}
@@ -7,33 +7,30 @@ use lib.Dec.{ltb}
 use borrow.Author.Tests.{ltb-true}
 use denote.Ref.{now}
 use Rattle.desk.specs.declared.Desk.{Desk}
-use Rattle.desk.specs.declared.WithdrawAnswer.the-variants.{Refused as WithdrawRefused}
+use Rattle.desk.specs.declared.WithdrawAnswer.the-variants.{Given as WithdrawGiven, Refused as WithdrawRefused}
 use Rattle.desk.specs.Parts.{stageAt}
 use Rattle.desk.specs.Acceptable.{accept}
-use Rattle.desk.specs.Calls.{houseNumber, isLent, done, withdrawStage, withdrawOf}
-use Rattle.desk.proofs.CallsLaws.{house-tests, house-refused, Passed, house-passed, withdraw-other, withdraw-waiting, Report, report-facts}
+use Rattle.desk.specs.Calls.{isLent, done, withdrawStage, withdrawOf}
+use Rattle.desk.proofs.CallsLaws.{house-refused, Passed, house-passed, withdraw-other, withdraw-waiting, Report, report-facts}
 use Rattle.desk.proofs.NumbersLaws.{withdraw-answered}
 use borrow.Author.Needs.{needs}
 use Rattle.desk.proofs.Desk.withdraw.Statement.{statement}
 use Rattle.desk.proofs.Desk.withdraw.Tie as tie
 
-abbrev desk : tie.After-house-number → Desk
-desk c = c .before .before .before .before .before .args .t1
+abbrev desk : tie.After-house → Desk
+desk c = c .before .before .before .args .t1
 
-abbrev arena : tie.After-house-number → List ℕ
-arena c = now (c .before .before .before .before .before .args .arena)
+abbrev arena : tie.After-house → List ℕ
+arena c = now (c .before .before .before .args .arena)
 
-abbrev store : tie.After-house-number → List ℕ
-store c = now (c .before .before .before .before .before .args .store)
+abbrev store : tie.After-house → List ℕ
+store c = now (c .before .before .before .args .store)
 
-abbrev guest : tie.After-house-number → ℕ
-guest c = c .before .before .before .before .before .args .guest
-
-number : (c : tie.After-house-number) → c .house-number .result ≡ houseNumber (accept (desk c)) (isLent (desk c) (arena c) (store c)) (ltb (guest c) 8)
-number c = house-tests (c .house-number .ensures) (c .before .before .accept .ensures) (c .before .is-lent .ensures) refl
+abbrev guest : tie.After-house → ℕ
+guest c = c .before .before .before .args .guest
 
 passed : (c : tie.Else1) → Passed (accept (desk (c .before))) (isLent (desk (c .before)) (arena (c .before)) (store (c .before))) (ltb (guest (c .before)) 8)
-passed c = house-passed _ _ _ (number (c .before)) (c .if1 .left)
+passed c = house-passed _ _ _ (c .before .house .ensures) (c .if1 .left)
 
 below : (c : tie.Else1) → guest (c .before) < 8
 below c = ltb-true (guest (c .before)) 8 (passed c .guest)
@@ -49,7 +46,7 @@ unfolding withdrawOf
 returns c =
     let h = c .before in
     withdraw-answered (desk h) (guest h) (arena h) (store h)
-    (house-refused _ _ _ (λ n. done (desk h) (WithdrawRefused n) (arena h) (store h)) (withdrawStage (desk h) (guest h) (stageAt (desk h) (guest h)) (arena h) (store h)) (number h) (c .if1 .taken))
+    (house-refused _ _ _ (λ n. done (desk h) (WithdrawRefused n) (arena h) (store h)) (withdrawStage (desk h) (guest h) (stageAt (desk h) (guest h)) (arena h) (store h)) (h .house .ensures) (c .if1 .taken))
 
 mul-row : tie.Need-mul-row
 mul-row c = omega (arith, below c)
@@ -66,22 +63,24 @@ returns-2 c =
 report-moved-requires : tie.Need-report-moved-requires
 report-moved-requires c κs = let f = facts (c .before) in (f .guest, f .packet, f .moved)
 
-withdrawn-requires : tie.Need-withdrawn-requires
-withdrawn-requires c κs = let f = facts (c .before .before .before .before) in (f .guest, f .moved)
+with-stage-requires : tie.Need-with-stage-requires
+with-stage-requires c κs = facts (c .before .before .before .before) .guest
+
+given-back-requires : tie.Need-given-back-requires
+given-back-requires c κs = facts (c .before .before .before .before .before) .moved
 
 returns-3 : tie.Need-returns-3
 returns-3 c =
-    let h = c .before .before .before .before .before .before .before .before .before .before in
-    let s = c .before .before .before .before .before .before .stage in
+    let w = c .before .before .before .before .before .before in
+    let h = w .before .before .before .before .before in
+    let s = w .before .stage in
     withdraw-answered (desk h) (guest h) (arena h) (store h)
-    (withdraw-waiting (desk h) (guest h) (arena h) (store h) (passed (c .before .before .before .before .before .before .before .before .before)) (s .given .0 .0) (s .given .1) (c .withdrawn .ensures .0) (c .withdrawn .ensures .1) (c .before .before .before .report-moved .ensures))
+    (withdraw-waiting (desk h) (guest h) (arena h) (store h) (passed (w .before .before .before .before)) (s .given .0 .0) (s .given .1) (c .before .with-stage .ensures) (ap WithdrawGiven (c .given-back .ensures)) (c .before .before .before .before .report-moved .ensures))
 
 pub withdraw-spec : {M : Type 1} → statement M
 withdraw-spec =
     tie.close
     (tie.spec
-    (search needs)
-    (search needs)
     (search needs)
     returns
     mul-row
@@ -89,6 +88,7 @@ withdraw-spec =
     (search needs)
     returns-2
     report-moved-requires
-    withdrawn-requires
+    with-stage-requires
+    given-back-requires
     (search needs)
     returns-3)
