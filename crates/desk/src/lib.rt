@@ -15,7 +15,7 @@ ghost use lib.ListN.{length};
 ghost use Rattle.logic.specs.Logic.{pick, both};
 ghost use Rattle.chs.specs.Chs.{size};
 ghost use Rattle.drive.specs.Drive.{geometryOf};
-ghost use Rattle.desk.specs.Parts.{ownWindow, withOwn, withStage, isWaiting, next, withPointer};
+ghost use Rattle.desk.specs.Parts.{ownWindow, withOwn, stageIn, withStage, isWaiting, next, withPointer};
 ghost use Rattle.desk.specs.Acceptable.{packetOk, movedOk, jobRules, requestOk, stageOk, rowsOk, accept, InRange};
 ghost use mathlib.Core.List.{List, []};
 ghost use Rattle.table.specs.Table.{writtenNumbers};
@@ -267,6 +267,17 @@ impl Desk {
         let good = rows_ok(rows, b, self.arena / 8);
         logic::and(sound, logic::and(self.pointer < 8, good))
     }
+}
+
+// ---- the rows
+
+// The stage of a guest's row.
+fn stage_in(rows: [Row; 8], guest: usize) -> Stage
+    requires { ⌜ guest < guests ⌝ }
+    ensures { λ r. ⌜ r ≡ stageIn rows guest ⌝ }
+{
+    let row = rows[guest];
+    row.stage
 }
 
 // ---- the turn's search
@@ -529,8 +540,8 @@ impl Desk {
                 answer: PostAnswer::Refused(number),
             };
         }
-        let row = self.rows[guest];
-        let stage = row.stage;
+        let rows = self.rows;
+        let stage = stage_in(rows, guest);
         let Stage::Vacant = stage else {
             return Posted {
                 desk: self,
@@ -575,8 +586,7 @@ impl Desk {
                 answer: TurnAnswer::Idle,
             };
         };
-        let row = rows[guest];
-        let stage = row.stage;
+        let stage = stage_in(rows, guest);
         let Stage::Waiting(q) = stage else {
             return Turned {
                 desk: self,
@@ -611,8 +621,8 @@ impl Desk {
                 answer: CollectAnswer::Refused(number),
             };
         }
-        let row = self.rows[guest];
-        let stage = row.stage;
+        let rows = self.rows;
+        let stage = stage_in(rows, guest);
         let Stage::Finished(registers) = stage else {
             return Collected {
                 desk: self,
@@ -636,8 +646,8 @@ impl Desk {
                 answer: WithdrawAnswer::Refused(number),
             };
         }
-        let row = self.rows[guest];
-        let stage = row.stage;
+        let rows = self.rows;
+        let stage = stage_in(rows, guest);
         let Stage::Waiting(q) = stage else {
             return Withdrawn {
                 desk: self,

@@ -1,7 +1,6 @@
-use mathlib.Core.Path.{_≡_, refl}
+use mathlib.Core.Path.{_≡_, refl, sym, _∙_}
 use mathlib.Core.Bool.{true}
 use Prim.Native.Nat.{ℕ, _<_}
-use native.Mathlib.Omega.{arith}
 use lib.Dec.{ltb}
 use borrow.Author.Tests.{ltb-true}
 use Rattle.desk.specs.declared.Desk.{Desk}
@@ -16,7 +15,7 @@ use Rattle.desk.proofs.Desk.collect.Statement.{statement}
 use Rattle.desk.proofs.Desk.collect.Tie as tie
 
 abbrev desk : tie.After-house-number → Desk
-desk c = c .before .before .args .t1
+desk c = c .before .before .args .self
 
 abbrev guest : tie.After-house-number → ℕ
 guest c = c .before .before .args .guest
@@ -36,26 +35,25 @@ returns c =
     collect-answered (desk (c .before)) (guest (c .before))
     (λ arena store. house-refused _ _ _ (λ n. done (desk (c .before)) (CollectRefused n) arena store) (collectStage (desk (c .before)) (guest (c .before)) (stageAt (desk (c .before)) (guest (c .before))) arena store) (number (c .before)) (c .if1 .taken))
 
-mul-row : tie.Need-mul-row
-mul-row c = omega (arith, below c)
-
-element-copy-out-row : tie.Need-element-copy-out-row
-element-copy-out-row c = omega (arith, below c)
+stage-in-requires : tie.Need-stage-in-requires
+stage-in-requires c κs = below (c .before)
 
 returns-2 : tie.Need-returns-2
 returns-2 c =
-    collect-answered (desk (c .before .before .before)) (guest (c .before .before .before))
-    (λ arena store. collect-other (desk (c .before .before .before)) (guest (c .before .before .before)) arena store (passed (c .before .before)) (c .match .keys2))
+    let h = c .before .before .before .before in
+    collect-answered (desk h) (guest h)
+    (λ arena store. collect-other (desk h) (guest h) arena store (passed (c .before .before .before)) (c .before .stage-in .ensures) (c .match .keys2))
 
 with-stage-requires : tie.Need-with-stage-requires
-with-stage-requires c κs = below (c .before .before .before .before)
+with-stage-requires c κs = below (c .before .before .before .before .before)
 
 returns-3 : tie.Need-returns-3
 returns-3 c =
     let w = c .before in
-    let h = w .before .before .before .before .before in
+    let t = w .before .before .before .before .before in
+    let h = t .before in
     collect-answered (desk h) (guest h)
-    (λ arena store. collect-finished (desk h) (guest h) arena store (passed (w .before .before .before .before)) (w .before .stage .given .0 .0) (w .before .stage .given .1) (c .with-stage .ensures))
+    (λ arena store. collect-finished (desk h) (guest h) arena store (passed t) (w .before .stage .given .0 .0) (sym (w .before .before .before .stage-in .ensures) ∙ w .before .stage .given .1) (c .with-stage .ensures))
 
 pub collect-spec : {M : Type 1} → statement M
 collect-spec =
@@ -64,8 +62,7 @@ collect-spec =
     (search needs)
     (search needs)
     returns
-    mul-row
-    element-copy-out-row
+    stage-in-requires
     (search needs)
     returns-2
     with-stage-requires

@@ -1,9 +1,10 @@
+use mathlib.Core.Path.{sym, _∙_}
 use mathlib.Core.List.{List}
 use Prim.Native.Nat.{ℕ, _-_, _<_}
-use native.Mathlib.Omega.{arith}
 use lib.Dec.{ltb}
 use borrow.Author.Tests.{ltb-true}
 use denote.Ref.{now}
+use Rattle.int13.specs.declared.Registers.{Registers}
 use Rattle.desk.specs.declared.Desk.{Desk}
 use Rattle.desk.specs.declared.PostAnswer.the-variants.{Refused as PostRefused}
 use Rattle.desk.specs.Parts.{stageAt}
@@ -16,7 +17,7 @@ use Rattle.desk.proofs.Desk.post.Statement.{statement}
 use Rattle.desk.proofs.Desk.post.Tie as tie
 
 abbrev desk : tie.After-house → Desk
-desk c = c .before .before .before .args .t1
+desk c = c .before .before .before .args .self
 
 abbrev arena : tie.After-house → List ℕ
 arena c = now (c .before .before .before .args .arena)
@@ -26,6 +27,9 @@ store c = now (c .before .before .before .args .store)
 
 abbrev guest : tie.After-house → ℕ
 guest c = c .before .before .before .args .guest
+
+abbrev call : tie.After-house → Registers
+call c = c .before .before .before .args .registers
 
 passed : (c : tie.Else1) → Passed (accept (desk (c .before))) (isLent (desk (c .before)) (arena (c .before)) (store (c .before))) (ltb (guest (c .before)) 8)
 passed c = house-passed _ _ _ (c .before .house .ensures) (c .if1 .left)
@@ -37,31 +41,30 @@ returns : tie.Need-returns
 unfolding postOf
 returns c =
     let h = c .before in
-    post-answered (desk h) (guest h) (h .before .before .before .args .registers) (arena h) (store h)
-    (house-refused _ _ _ (λ n. done (desk h) (PostRefused n) (arena h) (store h)) (postRow (desk h) (guest h) (h .before .before .before .args .registers) (arena h) (store h) (stageAt (desk h) (guest h))) (h .house .ensures) (c .if1 .taken))
+    post-answered (desk h) (guest h) (call h) (arena h) (store h)
+    (house-refused _ _ _ (λ n. done (desk h) (PostRefused n) (arena h) (store h)) (postRow (desk h) (guest h) (call h) (arena h) (store h) (stageAt (desk h) (guest h))) (h .house .ensures) (c .if1 .taken))
 
-mul-row : tie.Need-mul-row
-mul-row c = omega (arith, below c)
-
-element-copy-out-row : tie.Need-element-copy-out-row
-element-copy-out-row c = omega (arith, below c)
+stage-in-requires : tie.Need-stage-in-requires
+stage-in-requires c κs = below (c .before)
 
 returns-2 : tie.Need-returns-2
 returns-2 c =
-    let h = c .before .before .before in
-    post-answered (desk h) (guest h) (h .before .before .before .args .registers) (arena h) (store h)
-    (post-other (desk h) (guest h) (arena h) (store h) (passed (c .before .before)) (h .before .before .before .args .registers) (c .match .keys2))
+    let t = c .before .before .before in
+    let h = t .before in
+    post-answered (desk h) (guest h) (call h) (arena h) (store h)
+    (post-other (desk h) (guest h) (arena h) (store h) (passed t) (call h) (c .before .stage-in .ensures) (c .match .keys2))
 
 posted-requires : tie.Need-posted-requires
-posted-requires c κs = below (c .before .before .before .before .before .before .before .before)
+posted-requires c κs = below (c .before .before .before .before .before .before .before .before .before)
 
 returns-3 : tie.Need-returns-3
 returns-3 c =
     let k = c .before .before .before .begin-own .ensures in
     let v = c .before .before .before .before .before .before in
-    let h = v .before .before .before .before in
-    post-answered (desk h) (guest h) (h .before .before .before .args .registers) (arena h) (store h)
-    (post-vacant (desk h) (guest h) (arena h) (store h) (passed (v .before .before .before)) (h .before .before .before .args .registers) (v .enum-told .given .1) (k .0) (k .1) (c .posted .ensures .0) (c .posted .ensures .1))
+    let t = v .before .before .before .before in
+    let h = t .before in
+    post-answered (desk h) (guest h) (call h) (arena h) (store h)
+    (post-vacant (desk h) (guest h) (arena h) (store h) (passed t) (call h) (sym (v .before .before .stage-in .ensures) ∙ v .enum-told .given .1) (k .0) (k .1) (c .posted .ensures .0) (c .posted .ensures .1))
 
 pub post-spec : {M : Type 1} → statement M
 post-spec =
@@ -69,8 +72,7 @@ post-spec =
     (tie.spec
     (search needs)
     returns
-    mul-row
-    element-copy-out-row
+    stage-in-requires
     (search needs)
     returns-2
     (search needs)

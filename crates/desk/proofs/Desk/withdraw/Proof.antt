@@ -1,11 +1,12 @@
-use mathlib.Core.Path.{ap}
+use mathlib.Core.Path.{_≡_, sym, ap, _∙_}
 use mathlib.Core.List.{List}
 use Prim.Native.Nat.{ℕ, _<_}
-use native.Mathlib.Omega.{arith}
 use lib.ListN.{length}
 use lib.Dec.{ltb}
 use borrow.Author.Tests.{ltb-true}
 use denote.Ref.{now}
+use Rattle.desk.specs.declared.Request.{Request}
+use Rattle.desk.specs.declared.Stage.the-variants.{Waiting}
 use Rattle.desk.specs.declared.Desk.{Desk}
 use Rattle.desk.specs.declared.WithdrawAnswer.the-variants.{Given as WithdrawGiven, Refused as WithdrawRefused}
 use Rattle.desk.specs.Parts.{stageAt}
@@ -18,7 +19,7 @@ use Rattle.desk.proofs.Desk.withdraw.Statement.{statement}
 use Rattle.desk.proofs.Desk.withdraw.Tie as tie
 
 abbrev desk : tie.After-house → Desk
-desk c = c .before .before .before .args .t1
+desk c = c .before .before .before .args .self
 
 abbrev arena : tie.After-house → List ℕ
 arena c = now (c .before .before .before .args .arena)
@@ -35,11 +36,18 @@ passed c = house-passed _ _ _ (c .before .house .ensures) (c .if1 .left)
 below : (c : tie.Else1) → guest (c .before) < 8
 below c = ltb-true (guest (c .before)) 8 (passed c .guest)
 
--- what acceptance says of the request, at the place where it is bound
-facts : (c : tie.After-known-told) → Report (c .before .stage .given .0 .0) (guest (c .before .before .before .before .before)) (length (arena (c .before .before .before .before .before)))
-facts c =
-    let h = c .before .before .before .before .before in
-    report-facts (desk h) (arena h) (store h) (guest h) (c .before .stage .given .0 .0) (passed (c .before .before .before .before)) (c .before .stage .given .1)
+-- where the request is bound: the tests passed, and the row waits with it
+abbrev on : tie.After-known-told → tie.Else1
+on c = c .before .before .before .before .before
+
+abbrev asked : tie.After-known-told → Request
+asked c = c .before .stage .given .0 .0
+
+row : (c : tie.After-known-told) → stageAt (desk (on c .before)) (guest (on c .before)) ≡ Waiting (asked c)
+row c = sym (c .before .before .before .stage-in .ensures) ∙ c .before .stage .given .1
+
+facts : (c : tie.After-known-told) → Report (asked c) (guest (on c .before)) (length (arena (on c .before)))
+facts c = let h = on c .before in report-facts (desk h) (arena h) (store h) (guest h) (asked c) (passed (on c)) (row c)
 
 returns : tie.Need-returns
 unfolding withdrawOf
@@ -48,17 +56,15 @@ returns c =
     withdraw-answered (desk h) (guest h) (arena h) (store h)
     (house-refused _ _ _ (λ n. done (desk h) (WithdrawRefused n) (arena h) (store h)) (withdrawStage (desk h) (guest h) (stageAt (desk h) (guest h)) (arena h) (store h)) (h .house .ensures) (c .if1 .taken))
 
-mul-row : tie.Need-mul-row
-mul-row c = omega (arith, below c)
-
-element-copy-out-row : tie.Need-element-copy-out-row
-element-copy-out-row c = omega (arith, below c)
+stage-in-requires : tie.Need-stage-in-requires
+stage-in-requires c κs = below (c .before)
 
 returns-2 : tie.Need-returns-2
 returns-2 c =
-    let h = c .before .before .before in
+    let t = c .before .before .before in
+    let h = t .before in
     withdraw-answered (desk h) (guest h) (arena h) (store h)
-    (withdraw-other (desk h) (guest h) (arena h) (store h) (passed (c .before .before)) (c .match .keys2))
+    (withdraw-other (desk h) (guest h) (arena h) (store h) (passed t) (c .before .stage-in .ensures) (c .match .keys2))
 
 report-moved-requires : tie.Need-report-moved-requires
 report-moved-requires c κs = let f = facts (c .before) in (f .guest, f .packet, f .moved)
@@ -72,10 +78,9 @@ given-back-requires c κs = facts (c .before .before .before .before .before) .m
 returns-3 : tie.Need-returns-3
 returns-3 c =
     let w = c .before .before .before .before .before .before in
-    let h = w .before .before .before .before .before in
-    let s = w .before .stage in
+    let h = on w .before in
     withdraw-answered (desk h) (guest h) (arena h) (store h)
-    (withdraw-waiting (desk h) (guest h) (arena h) (store h) (passed (w .before .before .before .before)) (s .given .0 .0) (s .given .1) (c .before .with-stage .ensures) (ap WithdrawGiven (c .given-back .ensures)) (c .before .before .before .before .report-moved .ensures))
+    (withdraw-waiting (desk h) (guest h) (arena h) (store h) (passed (on w)) (asked w) (row w) (c .before .with-stage .ensures) (ap WithdrawGiven (c .given-back .ensures)) (c .before .before .before .before .report-moved .ensures))
 
 pub withdraw-spec : {M : Type 1} → statement M
 withdraw-spec =
@@ -83,8 +88,7 @@ withdraw-spec =
     (tie.spec
     (search needs)
     returns
-    mul-row
-    element-copy-out-row
+    stage-in-requires
     (search needs)
     returns-2
     report-moved-requires
