@@ -120,11 +120,11 @@ module _ (d : Desk) (g : ℕ) (arena store : List ℕ) (p : Passed (accept d) tr
   unfolding collectOf
   collect-row = house-on (λ n. done d (CollectRefused n) arena store) _ p
 
-  pub collect-other : {s : Stage} → s ≡ stageAt d g → OneOf (0 ∷ 1 ∷ []) (tagOf stage.the-type s) → done d (CollectRefused 22) arena store ≡ collectOf d g arena store
-  collect-other e k = collect-stage (stageAt d g) d g arena store (rw e at k) ∙ collect-row
+  pub collect-other : OneOf (0 ∷ 1 ∷ []) (tagOf stage.the-type (stageAt d g)) → done d (CollectRefused 22) arena store ≡ collectOf d g arena store
+  collect-other k = collect-stage (stageAt d g) d g arena store k ∙ collect-row
 
-  pub collect-finished : {desk : Desk} (r : Registers) → stageAt d g ≡ Finished r → desk ≡ withStage d g Vacant → done desk (CollectGiven r) arena store ≡ collectOf d g arena store
-  collect-finished r e e₁ = rw e₁ (ap (λ (s : Stage). collectStage d g s arena store) (sym e) ∙ collect-row)
+  pub collect-finished : (r : Registers) → stageAt d g ≡ Finished r → done (withStage d g Vacant) (CollectGiven r) arena store ≡ collectOf d g arena store
+  collect-finished r e = ap (λ (s : Stage). collectStage d g s arena store) (sym e) ∙ collect-row
 
 module _ (d : Desk) (arena store : List ℕ) (p : Passed (accept d) (isLent d arena store) true) where
   turn-next : turnNext d (firstWaiting (d .rows) 8 (d .pointer)) arena store ≡ turnOf d arena store
@@ -137,8 +137,8 @@ module _ (d : Desk) (arena store : List ℕ) (p : Passed (accept d) (isLent d ar
   pub turn-guest : (g : ℕ) → firstWaiting (d .rows) 8 (d .pointer) ≡ Guest g → serveStage d g (stageAt d g) arena store ≡ turnOf d arena store
   turn-guest g e = ap (λ (n : Next). turnNext d n arena store) (sym e) ∙ turn-next
 
-  pub turn-other : {s : Stage} (g : ℕ) → firstWaiting (d .rows) 8 (d .pointer) ≡ Guest g → s ≡ stageAt d g → OneOf (0 ∷ 2 ∷ []) (tagOf stage.the-type s) → done d Idle arena store ≡ turnOf d arena store
-  turn-other g e r k = serve-stage (stageAt d g) d g arena store (rw r at k) ∙ turn-guest g e
+  pub turn-other : (g : ℕ) → firstWaiting (d .rows) 8 (d .pointer) ≡ Guest g → OneOf (0 ∷ 2 ∷ []) (tagOf stage.the-type (stageAt d g)) → done d Idle arena store ≡ turnOf d arena store
+  turn-other g e k = serve-stage (stageAt d g) d g arena store k ∙ turn-guest g e
 
   pub turn-served : {s : Service} {desk : Desk} {answer : TurnAnswer} {arena′ store′ : List ℕ} (g : ℕ) (q : Request) → firstWaiting (d .rows) 8 (d .pointer) ≡ Guest g → stageAt d g ≡ Waiting q
       → s ≡ serviceOf q → desk ≡ withPointer (withStage d g (s .stage)) (next g) → answer ≡ Served g (s .moved)
@@ -160,13 +160,13 @@ module _ (d : Desk) (g : ℕ) (arena store : List ℕ) (p : Passed (accept d) (i
   unfolding postOf
   post-row r = house-on (λ n. done d (PostRefused n) arena store) _ p
 
-  pub post-other : {s : Stage} (r : Registers) → s ≡ stageAt d g → OneOf (1 ∷ 2 ∷ []) (tagOf stage.the-type s) → done d (PostRefused 21) arena store ≡ postOf d g r arena store
-  post-other r e k = post-stage (stageAt d g) d g r arena store (rw e at k) ∙ post-row r
+  pub post-other : (r : Registers) → OneOf (1 ∷ 2 ∷ []) (tagOf stage.the-type (stageAt d g)) → done d (PostRefused 21) arena store ≡ postOf d g r arena store
+  post-other r k = post-stage (stageAt d g) d g r arena store k ∙ post-row r
 
-  pub post-vacant : {desk : Desk} {answer : PostAnswer} {outcome : Outcome} {arena′ : List ℕ} (r : Registers) → stageAt d g ≡ Vacant
-      → outcome ≡ begin (fed (d .table)) r (ownWindow arena g) .outcome → arena′ ≡ withOwn arena g (begin (fed (d .table)) r (ownWindow arena g) .window)
+  pub post-vacant : {desk : Desk} {answer : PostAnswer} {outcome : Outcome} {w : List ℕ} (r : Registers) → stageAt d g ≡ Vacant
+      → outcome ≡ begin (fed (d .table)) r (ownWindow arena g) .outcome → w ≡ begin (fed (d .table)) r (ownWindow arena g) .window
       → desk ≡ postChecked d g [] [] outcome [] .desk → answer ≡ postChecked d g [] [] outcome [] .answer
-      → done desk answer arena′ store ≡ postOf d g r arena store
+      → done desk answer (withOwn arena g w) store ≡ postOf d g r arena store
   post-vacant r v eo ew e₁ e₂ =
       let asked : ℕ → Checked = λ n. begin (fed (d .table)) r (windowOf arena g n) in
       rw (e₁, e₂, eo, ew)
@@ -178,8 +178,8 @@ module _ (d : Desk) (g : ℕ) (arena store : List ℕ) (p : Passed (accept d) (i
   unfolding withdrawOf
   withdraw-row = house-on (λ n. done d (WithdrawRefused n) arena store) _ p
 
-  pub withdraw-other : {s : Stage} → s ≡ stageAt d g → OneOf (0 ∷ 2 ∷ []) (tagOf stage.the-type s) → done d (WithdrawRefused 23) arena store ≡ withdrawOf d g arena store
-  withdraw-other e k = withdraw-stage (stageAt d g) d g arena store (rw e at k) ∙ withdraw-row
+  pub withdraw-other : OneOf (0 ∷ 2 ∷ []) (tagOf stage.the-type (stageAt d g)) → done d (WithdrawRefused 23) arena store ≡ withdrawOf d g arena store
+  withdraw-other k = withdraw-stage (stageAt d g) d g arena store k ∙ withdraw-row
 
   pub withdraw-waiting : {desk : Desk} {answer : WithdrawAnswer} {arena′ : List ℕ} (q : Request) → stageAt d g ≡ Waiting q
       → desk ≡ withdrawStage d g (Waiting q) [] [] .desk → answer ≡ withdrawStage d g (Waiting q) [] [] .answer

@@ -42,7 +42,7 @@ returns-2 : tie.Need-returns-2
 returns-2 c =
     let h = c .before .before .before .before in
     collect-answered (desk h) (guest h)
-    (λ arena store. collect-other (desk h) (guest h) arena store (passed (c .before .before .before)) (c .before .stage-in .ensures) (c .match .keys2))
+    (λ arena store. collect-other (desk h) (guest h) arena store (passed (c .before .before .before)) (rw (c .before .stage-in .ensures) at (c .match .keys2)))
 
 with-stage-requires : tie.Need-with-stage-requires
 with-stage-requires c κs = below (c .before .before .before .before .before)
@@ -53,7 +53,7 @@ returns-3 c =
     let t = w .before .before .before .before .before in
     let h = t .before in
     collect-answered (desk h) (guest h)
-    (λ arena store. collect-finished (desk h) (guest h) arena store (passed t) (w .before .stage .given .0 .0) (sym (w .before .before .before .stage-in .ensures) ∙ w .before .stage .given .1) (c .with-stage .ensures))
+    (λ arena store. rw (c .with-stage .ensures) (collect-finished (desk h) (guest h) arena store (passed t) (w .before .stage .given .0 .0) (sym (w .before .before .before .stage-in .ensures) ∙ w .before .stage .given .1)))
 
 pub collect-spec : {M : Type 1} → statement M
 collect-spec =

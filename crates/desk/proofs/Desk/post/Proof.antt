@@ -1,4 +1,4 @@
-use mathlib.Core.Path.{sym, _∙_}
+use mathlib.Core.Path.{refl, sym, _∙_}
 use mathlib.Core.List.{List}
 use Prim.Native.Nat.{ℕ, _-_, _<_}
 use lib.Dec.{ltb}
@@ -52,7 +52,7 @@ returns-2 c =
     let t = c .before .before .before in
     let h = t .before in
     post-answered (desk h) (guest h) (call h) (arena h) (store h)
-    (post-other (desk h) (guest h) (arena h) (store h) (passed t) (call h) (c .before .stage-in .ensures) (c .match .keys2))
+    (post-other (desk h) (guest h) (arena h) (store h) (passed t) (call h) (rw (c .before .stage-in .ensures) at (c .match .keys2)))
 
 posted-requires : tie.Need-posted-requires
 posted-requires c κs = below (c .before .before .before .before .before .before .before .before .before)
@@ -64,7 +64,7 @@ returns-3 c =
     let t = v .before .before .before .before in
     let h = t .before in
     post-answered (desk h) (guest h) (call h) (arena h) (store h)
-    (post-vacant (desk h) (guest h) (arena h) (store h) (passed t) (call h) (sym (v .before .before .stage-in .ensures) ∙ v .enum-told .given .1) (k .0) (k .1) (c .posted .ensures .0) (c .posted .ensures .1))
+    (rw (k .1) (post-vacant (desk h) (guest h) (arena h) (store h) (passed t) (call h) (sym (v .before .before .stage-in .ensures) ∙ v .enum-told .given .1) (k .0) refl (c .posted .ensures .0) (c .posted .ensures .1)))
 
 pub post-spec : {M : Type 1} → statement M
 post-spec =

@@ -82,7 +82,7 @@ returns-3 c =
     let w = c .before .before in
     let h = on w .before in
     turn-answered (desk h) (arena h) (store h)
-    (turn-other (desk h) (arena h) (store h) (passed (on w)) (guest w) (found w) (c .before .stage-in .ensures) (c .match2 .keys2))
+    (turn-other (desk h) (arena h) (store h) (passed (on w)) (guest w) (found w) (rw (c .before .stage-in .ensures) at (c .match2 .keys2)))
 
 transfer-requires : tie.Need-transfer-requires
 transfer-requires c κs =

@@ -64,7 +64,7 @@ returns-2 c =
     let t = c .before .before .before in
     let h = t .before in
     withdraw-answered (desk h) (guest h) (arena h) (store h)
-    (withdraw-other (desk h) (guest h) (arena h) (store h) (passed t) (c .before .stage-in .ensures) (c .match .keys2))
+    (withdraw-other (desk h) (guest h) (arena h) (store h) (passed t) (rw (c .before .stage-in .ensures) at (c .match .keys2)))
 
 report-moved-requires : tie.Need-report-moved-requires
 report-moved-requires c κs = let f = facts (c .before) in (f .guest, f .packet, f .moved)
