@@ -1,19 +1,19 @@
 -- What an accepted desk says, as facts.
 -- Assumes nothing.
-use mathlib.Core.Path.{_≡_, refl, sym, ap, _∙_}
-use mathlib.Core.Logic.{_⊎_, inl, inr, ⊎-elim}
+use mathlib.Core.Path.{_≡_, refl}
+use mathlib.Core.Logic.{_⊎_, ⊎-elim}
 use mathlib.Core.Bool.{Bool, true, false, not}
 use mathlib.Core.List.{List, [], _∷_}
 use types.Run.{OneOf}
 use denote.Enum.Declared.{tagOf}
 use Rattle.desk.proofs.Stage as stage
 use native.Mathlib.Numerals.{add-one}
-use Prim.Native.Nat.{ℕ, zero, suc, _+_, _-_, _*_, _/_, _%_, _≤_, _<_, min}
+use Prim.Native.Nat.{ℕ, zero, suc, _+_, _-_, _*_, _%_, _≤_, _<_}
 use native.Mathlib.Decide.{ℕ-discrete}
 use native.Mathlib.Omega.{arith}
-use lib.ListN.{length, getD, take, length-take}
+use lib.ListN.{length, length-take}
 use lib.Dec.{leb, ltb, eqb}
-use borrow.Author.Tests.{leb-true, ltb-true, eqb-true, not-true}
+use borrow.Author.Tests.{leb-true, ltb-true, eqb-true}
 use Rattle.logic.specs.Logic.{pick, both, either}
 use Rattle.logic.proofs.LogicLaws.{both-true, both-intro}
 use Rattle.drive.specs.declared.Drive.{Drive}
@@ -22,6 +22,7 @@ use Rattle.drive.specs.Drive.{geometryOf, isProtected, same, blankNumbers, blan
 use Rattle.table.specs.declared.Table.{Table}
 use Rattle.table.specs.Table.{soundTo, blankTo, isSound, drivesOf}
 use Rattle.table.proofs.Sound.{Obeys, good-obeys}
+use Rattle.int13.specs.declared.Registers.{Registers}
 use Rattle.int13.specs.declared.Job.{Job}
 use Rattle.int13.specs.Answers.{ah, isSectors, isWrite}
 use Rattle.int13.specs.Steps.{isDrive, driveAt}
@@ -30,7 +31,7 @@ use Rattle.desk.specs.declared.Stage.{Stage}
 use Rattle.desk.specs.declared.Stage.the-variants.{Vacant, Waiting, Finished}
 use Rattle.desk.specs.declared.Row.{Row}
 use Rattle.desk.specs.declared.Desk.{Desk}
-use Rattle.desk.specs.Parts.{windowSize, storeBlocks, stageIn, stageAt}
+use Rattle.desk.specs.Parts.{windowSize, storeBlocks, stageIn}
 use Rattle.desk.specs.Acceptable.{isTransfer, countOk, rangeOk, packetOk, jobRules, jobOk, movedOk, requestOk, stageOk, rowsOk, accept}
 use Rattle.desk.specs.Calls.{closed}
 
@@ -135,10 +136,11 @@ drive-obeys b store n s k =
 
 -- ---- the tests of the code, one by one
 
-pub stageOk-other : (b : Table) (M : ℕ) (s : Stage) → OneOf (0 ∷ 2 ∷ []) (tagOf stage.the-type s) → true ≡ stageOk b M s
-stageOk-other b M Vacant k = refl
-stageOk-other b M (Waiting q) k = absurd (⊎-elim (λ w. omega arith) (λ w. omega arith) k)
-stageOk-other b M (Finished r) k = refl
+-- what goes by the stage, of a row that a `let .. else` finds not waiting
+pub not-waiting : {A : Type 0} (f : Stage → A) {x : A} (s : Stage) → OneOf (0 ∷ 2 ∷ []) (tagOf stage.the-type s) → x ≡ f Vacant → ((r : Registers) → x ≡ f (Finished r)) → x ≡ f s
+not-waiting f Vacant k v h = v
+not-waiting f (Waiting q) k v h = absurd (⊎-elim (λ w. omega arith) (λ w. omega arith) k)
+not-waiting f (Finished r) k v h = h r
 
 pub rowsOk-more : {r a s : Bool} (i : ℕ) (rows : List Row) (b : Table) (M : ℕ) → s ≡ rowsOk i rows b M → r ≡ both a s → a ≡ stageOk b M (stageIn rows i) → r ≡ rowsOk (i + 1) rows b M
 unfolding rowsOk

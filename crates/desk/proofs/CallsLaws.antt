@@ -1,17 +1,17 @@
 -- What each call's definition gives in each case, as the code meets them.
 -- Assumes nothing.
 use mathlib.Core.Path.{_≡_, refl, sym, ap, _∙_}
-use mathlib.Core.Logic.{_⊎_, inl, inr, ⊎-elim}
-use mathlib.Core.Bool.{Bool, true, false, not}
+use mathlib.Core.Logic.{_⊎_, ⊎-elim}
+use mathlib.Core.Bool.{Bool, true, false}
 use mathlib.Core.List.{List, [], _∷_}
 use types.Run.{OneOf}
 use denote.Enum.Declared.{tagOf}
-use Prim.Native.Nat.{ℕ, zero, suc, _+_, _-_, _*_, _/_, _%_, _^_, _≤_, _<_}
+use Prim.Native.Nat.{ℕ, zero, suc, _-_, _/_, _^_, _<_}
 use native.Mathlib.Omega.{arith}
 use lib.ListN.{length}
 use lib.Dec.{ltb, eqb}
 use borrow.Author.Tests.{ltb-true, eqb-true}
-use Rattle.logic.specs.Logic.{pick, both}
+use Rattle.logic.specs.Logic.{pick}
 use Rattle.logic.proofs.LogicLaws.{both-true, impossible}
 use Rattle.memory.specs.Window.{windowLength, windowOf, withWindow}
 use Rattle.table.specs.declared.Written.the-variants.{Refused as WriteRefused}
@@ -20,7 +20,7 @@ use Rattle.int13.specs.declared.Registers.{Registers}
 use Rattle.int13.specs.declared.Outcome.{Outcome}
 use Rattle.int13.specs.declared.Outcome.the-variants.{Answered, Waits as OutcomeWaits}
 use Rattle.int13.specs.Answers.{ah}
-use Rattle.int13.specs.Steps.{Checked, isDrive, driveAt, fed, begin}
+use Rattle.int13.specs.Steps.{Checked, driveAt, fed, begin}
 use Rattle.int13.specs.Alone.{Memory, storeBlock, moves}
 use Rattle.desk.proofs.Stage as stage
 use Rattle.desk.specs.declared.Request.{Request}
@@ -37,11 +37,11 @@ use Rattle.desk.specs.declared.TurnAnswer.{TurnAnswer}
 use Rattle.desk.specs.declared.TurnAnswer.the-variants.{Served, Idle, Refused as TurnRefused}
 use Rattle.desk.specs.declared.CollectAnswer.the-variants.{Given as CollectGiven, Refused as CollectRefused}
 use Rattle.desk.specs.declared.WithdrawAnswer.{WithdrawAnswer}
-use Rattle.desk.specs.declared.WithdrawAnswer.the-variants.{Given as WithdrawGiven, Refused as WithdrawRefused}
+use Rattle.desk.specs.declared.WithdrawAnswer.the-variants.{Refused as WithdrawRefused}
 use Rattle.desk.specs.Parts.{windowSize, ownWindow, withOwn, stageIn, stageAt, withStage, isWaiting, next, withPointer}
 use Rattle.desk.specs.Acceptable.{packetOk, InRange, accept}
-use Rattle.desk.specs.Calls.{houseTests, houseNumber, isLent, Done, done, writtenOf, writtenOut, postChecked, postRow, postOf, firstWaiting, quota, serviceOf, Transferred, serve, serveStage, turnNext, turnOf, collectStage, collectOf, withdrawnWindow, withdrawStage, withdrawOf}
-use Rattle.desk.proofs.AcceptableLaws.{Accepted, accept-true, rowsOk-at, Waits, waits-facts, drive-obeys}
+use Rattle.desk.specs.Calls.{houseTests, houseNumber, isLent, done, writtenOf, writtenOut, postChecked, postRow, postOf, firstWaiting, quota, serviceOf, Transferred, serve, serveStage, turnNext, turnOf, collectStage, collectOf, withdrawnWindow, withdrawStage, withdrawOf}
+use Rattle.desk.proofs.AcceptableLaws.{accept-true, rowsOk-at, Waits, waits-facts, not-waiting, drive-obeys}
 
 -- ---- stages that a `let .. else` leaves
 
@@ -50,20 +50,10 @@ collect-stage Vacant d g arena store k = refl
 collect-stage (Waiting q) d g arena store k = refl
 collect-stage (Finished r) d g arena store k = absurd (⊎-elim (λ w. omega arith) (λ w. omega arith) k)
 
-serve-stage : (s : Stage) (d : Desk) (g : ℕ) (arena store : List ℕ) → OneOf (0 ∷ 2 ∷ []) (tagOf stage.the-type s) → done d Idle arena store ≡ serveStage d g s arena store
-serve-stage Vacant d g arena store k = refl
-serve-stage (Waiting q) d g arena store k = absurd (⊎-elim (λ w. omega arith) (λ w. omega arith) k)
-serve-stage (Finished r) d g arena store k = refl
-
 post-stage : (s : Stage) (d : Desk) (g : ℕ) (r : Registers) (arena store : List ℕ) → OneOf (1 ∷ 2 ∷ []) (tagOf stage.the-type s) → done d (PostRefused 21) arena store ≡ postRow d g r arena store s
 post-stage Vacant d g r arena store k = absurd (⊎-elim (λ w. omega arith) (λ w. omega arith) k)
 post-stage (Waiting q) d g r arena store k = refl
 post-stage (Finished x) d g r arena store k = refl
-
-withdraw-stage : (s : Stage) (d : Desk) (g : ℕ) (arena store : List ℕ) → OneOf (0 ∷ 2 ∷ []) (tagOf stage.the-type s) → done d (WithdrawRefused 23) arena store ≡ withdrawStage d g s arena store
-withdraw-stage Vacant d g arena store k = refl
-withdraw-stage (Waiting q) d g arena store k = absurd (⊎-elim (λ w. omega arith) (λ w. omega arith) k)
-withdraw-stage (Finished r) d g arena store k = refl
 
 -- a post that passed its tests, by its parts
 post-parts : (d : Desk) (g : ℕ) (arena store : List ℕ) (o : Outcome) (w : List ℕ)
@@ -138,7 +128,7 @@ module _ (d : Desk) (arena store : List ℕ) (p : Passed (accept d) (isLent d ar
   turn-guest g e = ap (λ (n : Next). turnNext d n arena store) (sym e) ∙ turn-next
 
   pub turn-other : (g : ℕ) → firstWaiting (d .rows) 8 (d .pointer) ≡ Guest g → OneOf (0 ∷ 2 ∷ []) (tagOf stage.the-type (stageAt d g)) → done d Idle arena store ≡ turnOf d arena store
-  turn-other g e k = serve-stage (stageAt d g) d g arena store k ∙ turn-guest g e
+  turn-other g e k = not-waiting (λ s. serveStage d g s arena store) (stageAt d g) k refl (λ r. refl) ∙ turn-guest g e
 
   pub turn-served : {s : Service} {desk : Desk} {answer : TurnAnswer} {arena′ store′ : List ℕ} (g : ℕ) (q : Request) → firstWaiting (d .rows) 8 (d .pointer) ≡ Guest g → stageAt d g ≡ Waiting q
       → s ≡ serviceOf q → desk ≡ withPointer (withStage d g (s .stage)) (next g) → answer ≡ Served g (s .moved)
@@ -179,7 +169,7 @@ module _ (d : Desk) (g : ℕ) (arena store : List ℕ) (p : Passed (accept d) (i
   withdraw-row = house-on (λ n. done d (WithdrawRefused n) arena store) _ p
 
   pub withdraw-other : OneOf (0 ∷ 2 ∷ []) (tagOf stage.the-type (stageAt d g)) → done d (WithdrawRefused 23) arena store ≡ withdrawOf d g arena store
-  withdraw-other k = withdraw-stage (stageAt d g) d g arena store k ∙ withdraw-row
+  withdraw-other k = not-waiting (λ s. withdrawStage d g s arena store) (stageAt d g) k refl (λ r. refl) ∙ withdraw-row
 
   pub withdraw-waiting : {desk : Desk} {answer : WithdrawAnswer} {arena′ : List ℕ} (q : Request) → stageAt d g ≡ Waiting q
       → desk ≡ withdrawStage d g (Waiting q) [] [] .desk → answer ≡ withdrawStage d g (Waiting q) [] [] .answer

@@ -19,7 +19,7 @@ use Rattle.int13.specs.declared.Registers.{Registers}
 use Rattle.int13.specs.declared.Outcome.{Outcome}
 use Rattle.int13.specs.declared.Outcome.the-variants.{Answered, Waits}
 use Rattle.int13.specs.Answers.{outcomeNumbers}
-use Rattle.int13.specs.Steps.{Checked, fed, begin}
+use Rattle.int13.specs.Steps.{fed, begin}
 use Rattle.int13.proofs.Numbers.{registers-apart, begin-answered}
 use Rattle.desk.specs.declared.Stage.{Stage}
 use Rattle.desk.specs.declared.Stage.the-variants.{Vacant, Waiting, Finished}
@@ -64,15 +64,11 @@ open-answered t arena store e =
 
 -- ---- write
 
-write-refused : (n : ℕ) → writtenNumbers (WriteRefused n) ≡ n ∷ []
-unfolding writtenNumbers
-write-refused n = refl
-
 pub write-answered : {r : Written} {o : List ℕ} (d : Desk) (out : List ℕ) → r ≡ writtenOf d (length out) → o ≡ writtenOut d out
     → (r ≡ writtenOf d (length out)) × (o ≡ writtenOut d out) × (writtenNumbers r ≡ writeGiven d (length out))
-unfolding writtenOf writeGiven
+unfolding writtenOf writeGiven writtenNumbers
 write-answered d out e f =
-    (e, f, ap writtenNumbers e ∙ house-numbers writtenNumbers WriteRefused (writeAnswer (d .table) (length out)) _ (accept d) true true write-refused (write-numbers (d .table) (length out) refl))
+    (e, f, ap writtenNumbers e ∙ house-numbers writtenNumbers WriteRefused (writeAnswer (d .table) (length out)) _ (accept d) true true (λ n. refl) (write-numbers (d .table) (length out) refl))
 
 -- ---- post
 
@@ -91,15 +87,11 @@ post-row d g r arena store Vacant =
 post-row d g r arena store (Waiting q) = refl
 post-row d g r arena store (Finished x) = refl
 
-post-refused : (n : ℕ) → postNumbers (PostRefused n) ≡ n ∷ []
-unfolding postNumbers
-post-refused n = refl
-
 pub post-answered : {x : Done PostAnswer} (d : Desk) (g : ℕ) (r : Registers) (arena store : List ℕ) → x ≡ postOf d g r arena store
     → (x ≡ postOf d g r arena store) × (postNumbers (x .answer) ≡ postGiven d g r arena store)
-unfolding postOf postGiven
+unfolding postOf postGiven postNumbers
 post-answered d g r arena store e =
-    (e, ap posts e ∙ house-numbers posts (λ n. done d (PostRefused n) arena store) _ _ (accept d) (isLent d arena store) (ltb g 8) post-refused (post-row d g r arena store (stageAt d g)))
+    (e, ap posts e ∙ house-numbers posts (λ n. done d (PostRefused n) arena store) _ _ (accept d) (isLent d arena store) (ltb g 8) (λ n. refl) (post-row d g r arena store (stageAt d g)))
 
 -- ---- turn
 
@@ -117,15 +109,11 @@ unfolding turnNumbers
 turn-found d Nobody arena store = refl
 turn-found d (Guest g) arena store = turn-row d g (stageAt d g) arena store
 
-turn-refused : (n : ℕ) → turnNumbers (TurnRefused n) ≡ n ∷ []
-unfolding turnNumbers
-turn-refused n = refl
-
 pub turn-answered : {x : Done TurnAnswer} (d : Desk) (arena store : List ℕ) → x ≡ turnOf d arena store
     → (x ≡ turnOf d arena store) × (turnNumbers (x .answer) ≡ turnGiven d arena store)
-unfolding turnOf turnGiven
+unfolding turnOf turnGiven turnNumbers
 turn-answered d arena store e =
-    (e, ap turns e ∙ house-numbers turns (λ n. done d (TurnRefused n) arena store) _ _ (accept d) (isLent d arena store) true turn-refused (turn-found d (firstWaiting (d .rows) 8 (d .pointer)) arena store))
+    (e, ap turns e ∙ house-numbers turns (λ n. done d (TurnRefused n) arena store) _ _ (accept d) (isLent d arena store) true (λ n. refl) (turn-found d (firstWaiting (d .rows) 8 (d .pointer)) arena store))
 
 -- ---- collect
 
@@ -138,15 +126,11 @@ collect-row d g Vacant = refl
 collect-row d g (Waiting q) = refl
 collect-row d g (Finished r) = refl
 
-collect-refused : (n : ℕ) → collectNumbers (CollectRefused n) ≡ n ∷ []
-unfolding collectNumbers
-collect-refused n = refl
-
 pub collect-answered : {desk : Desk} {answer : CollectAnswer} (d : Desk) (g : ℕ) → ((arena store : List ℕ) → done desk answer arena store ≡ collectOf d g arena store)
     → ((arena store : List ℕ) → done desk answer arena store ≡ collectOf d g arena store) × (collectNumbers answer ≡ collectGiven d g)
-unfolding collectOf collectGiven
+unfolding collectOf collectGiven collectNumbers
 collect-answered d g e =
-    (e, ap collects (e [] []) ∙ house-numbers collects (λ n. done d (CollectRefused n) [] []) _ _ (accept d) true (ltb g 8) collect-refused (collect-row d g (stageAt d g)))
+    (e, ap collects (e [] []) ∙ house-numbers collects (λ n. done d (CollectRefused n) [] []) _ _ (accept d) true (ltb g 8) (λ n. refl) (collect-row d g (stageAt d g)))
 
 -- ---- withdraw
 
@@ -159,15 +143,11 @@ withdraw-row d g Vacant arena store = refl
 withdraw-row d g (Waiting q) arena store = refl
 withdraw-row d g (Finished r) arena store = refl
 
-withdraw-refused : (n : ℕ) → withdrawNumbers (WithdrawRefused n) ≡ n ∷ []
-unfolding withdrawNumbers
-withdraw-refused n = refl
-
 pub withdraw-answered : {x : Done WithdrawAnswer} (d : Desk) (g : ℕ) (arena store : List ℕ) → x ≡ withdrawOf d g arena store
     → (x ≡ withdrawOf d g arena store) × (withdrawNumbers (x .answer) ≡ withdrawGiven d g arena store)
-unfolding withdrawOf withdrawGiven
+unfolding withdrawOf withdrawGiven withdrawNumbers
 withdraw-answered d g arena store e =
-    (e, ap withdraws e ∙ house-numbers withdraws (λ n. done d (WithdrawRefused n) arena store) _ _ (accept d) (isLent d arena store) (ltb g 8) withdraw-refused (withdraw-row d g (stageAt d g) arena store))
+    (e, ap withdraws e ∙ house-numbers withdraws (λ n. done d (WithdrawRefused n) arena store) _ _ (accept d) (isLent d arena store) (ltb g 8) (λ n. refl) (withdraw-row d g (stageAt d g) arena store))
 
 -- ---- no two answers have the same numbers
 

@@ -1,12 +1,13 @@
-use mathlib.Core.Path.{sym, _∙_}
+use mathlib.Core.Path.{refl, sym, _∙_}
 use borrow.Author.Tests.{not-true, not-false}
-use Rattle.desk.proofs.AcceptableLaws.{stageOk-other}
+use Rattle.desk.specs.Acceptable.{stageOk}
+use Rattle.desk.proofs.AcceptableLaws.{not-waiting}
 use borrow.Author.Needs.{needs}
 use Rattle.desk.proofs.stage_ok.Statement.{statement}
 use Rattle.desk.proofs.stage_ok.Tie as tie
 
 returns : tie.Need-returns
-returns c = stageOk-other (c .before .args .b) (c .before .args .m) (c .before .args .stage) (c .match .keys2)
+returns c = let a = c .before .args in not-waiting (stageOk (a .b) (a .m)) (a .stage) (c .match .keys2) refl (λ r. refl)
 
 returns-2 : tie.Need-returns-2
 returns-2 c = rw (c .before .before .before .stage .given .1, sym (c .before .is-drive .ensures) ∙ not-true _ (c .if1 .taken))
