@@ -64,10 +64,14 @@ post-parts d g arena store (OutcomeWaits j) w = refl
 -- ---- the lengths that are lent
 
 pub lent-arena : (d : Desk) (arena store : List ℕ) → isLent d arena store ≡ true → length arena ≡ d .arena
-lent-arena d arena store e = eqb-true (length arena) (d .arena) (both-true (eqb (length arena) (d .arena)) (eqb (length store) (d .store)) e .0)
+lent-arena d arena store e = eqb-true (length arena) (d .arena) (both-true _ _ e .0)
 
 pub lent-store : (d : Desk) (arena store : List ℕ) → isLent d arena store ≡ true → length store ≡ d .store
-lent-store d arena store e = eqb-true (length store) (d .store) (both-true (eqb (length arena) (d .arena)) (eqb (length store) (d .store)) e .1)
+lent-store d arena store e = eqb-true (length store) (d .store) (both-true (eqb (length arena) (d .arena)) _ e .1)
+
+-- the windows that the arena's length cuts are the desk's
+own-length : (d : Desk) (arena store : List ℕ) → isLent d arena store ≡ true → windowLength (length arena) ≡ windowSize d
+own-length d arena store e = ap windowLength (lent-arena d arena store e)
 
 -- ---- the tests before the row's
 
@@ -136,16 +140,11 @@ module _ (d : Desk) (arena store : List ℕ) (p : Passed (accept d) (isLent d ar
       → done desk answer arena′ store′ ≡ turnOf d arena store
   turn-served g q e w es e₁ e₂ t =
       let after : ℕ → ℕ → Memory = λ k m. moves (q .job) (storeBlock (d .table) (q .job)) (q .moved) k (record { window = windowOf arena g m; store = store }) in
-      let m : windowLength (length arena) ≡ windowSize d = ap (λ (n : ℕ). n / 8) (lent-arena d arena store (p .lent)) in
       rw (e₁, e₂, t .0, t .1, es)
-      (ap (λ (n : ℕ). done (serve d g q [] [] .desk) (serve d g q [] [] .answer) (withWindow arena g n (after (quota q) n .window)) (after (quota q) n .store)) m
+      (ap (λ (n : ℕ). done (serve d g q [] [] .desk) (serve d g q [] [] .answer) (withWindow arena g n (after (quota q) n .window)) (after (quota q) n .store)) (own-length d arena store (p .lent))
       ∙ ap (λ (s : Stage). serveStage d g s arena store) (sym w) ∙ turn-guest g e)
 
 module _ (d : Desk) (g : ℕ) (arena store : List ℕ) (p : Passed (accept d) (isLent d arena store) (ltb g 8)) where
-  -- the windows that the arena's length cuts are the desk's
-  own-length : windowLength (length arena) ≡ windowSize d
-  own-length = ap (λ (n : ℕ). n / 8) (lent-arena d arena store (p .lent))
-
   post-row : (r : Registers) → postRow d g r arena store (stageAt d g) ≡ postOf d g r arena store
   unfolding postOf
   post-row r = house-on (λ n. done d (PostRefused n) arena store) _ p
@@ -160,7 +159,7 @@ module _ (d : Desk) (g : ℕ) (arena store : List ℕ) (p : Passed (accept d) (i
   post-vacant r v eo ew e₁ e₂ =
       let asked : ℕ → Checked = λ n. begin (fed (d .table)) r (windowOf arena g n) in
       rw (e₁, e₂, eo, ew)
-      (ap (λ (n : ℕ). done (postChecked d g [] [] (asked n .outcome) [] .desk) (postChecked d g [] [] (asked n .outcome) [] .answer) (withWindow arena g n (asked n .window)) store) own-length
+      (ap (λ (n : ℕ). done (postChecked d g [] [] (asked n .outcome) [] .desk) (postChecked d g [] [] (asked n .outcome) [] .answer) (withWindow arena g n (asked n .window)) store) (own-length d arena store (p .lent))
       ∙ post-parts d g arena store (asked (windowSize d) .outcome) (asked (windowSize d) .window)
       ∙ ap (postRow d g r arena store) (sym v) ∙ post-row r)
 
@@ -177,7 +176,7 @@ module _ (d : Desk) (g : ℕ) (arena store : List ℕ) (p : Passed (accept d) (i
       → done desk answer arena′ store ≡ withdrawOf d g arena store
   withdraw-waiting q w e₁ e₂ e₃ =
       rw (e₁, e₂, e₃)
-      (ap (λ (n : ℕ). done (withdrawStage d g (Waiting q) [] [] .desk) (withdrawStage d g (Waiting q) [] [] .answer) (withWindow arena g n (withdrawnWindow q (windowOf arena g n))) store) own-length
+      (ap (λ (n : ℕ). done (withdrawStage d g (Waiting q) [] [] .desk) (withdrawStage d g (Waiting q) [] [] .answer) (withWindow arena g n (withdrawnWindow q (windowOf arena g n))) store) (own-length d arena store (p .lent))
       ∙ ap (λ (s : Stage). withdrawStage d g s arena store) (sym w) ∙ withdraw-row)
 
 -- ---- the guest that a search finds
@@ -218,5 +217,4 @@ pub report-facts : (d : Desk) (arena store : List ℕ) (g : ℕ) (q : Request) �
 report-facts d arena store g q p e =
     let b = ltb-true g 8 (p .guest) in
     let w = waiting-facts d g q (p .acceptable) b e in
-    let m : windowLength (length arena) ≡ windowSize d = ap (λ (n : ℕ). n / 8) (lent-arena d arena store (p .lent)) in
-    record { guest = b; packet = ap (packetOk (ah (q .job .registers)) (q .job .packet)) m ∙ w .job .packet; moved = omega (arith, w .moved, w .job .count) }
+    record { guest = b; packet = ap (packetOk (ah (q .job .registers)) (q .job .packet)) (own-length d arena store (p .lent)) ∙ w .job .packet; moved = omega (arith, w .moved, w .job .count) }
