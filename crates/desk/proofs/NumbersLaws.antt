@@ -3,35 +3,40 @@
 use mathlib.Core.Path.{_≡_, refl, ap, _∙_}
 use mathlib.Core.Bool.{Bool, true, false}
 use mathlib.Core.List.{List, [], _∷_}
-use Prim.Native.Nat.{ℕ, _/_}
-use lib.ListN.{length}
+use Prim.Native.Nat.{ℕ, _/_, _<_}
+use native.Mathlib.Omega.{arith}
+use lib.ListN.{length, drop}
 use lib.Dec.{ltb}
+use Rattle.logic.proofs.LogicLaws.{impossible}
 use Rattle.memory.specs.Window.{windowOf}
 use Rattle.table.specs.declared.Answer.{Answer}
 use Rattle.table.specs.declared.Answer.the-variants.{Accepted, Refused as TableRefused}
 use Rattle.table.specs.declared.Written.{Written}
-use Rattle.table.specs.declared.Written.the-variants.{Refused as WriteRefused}
+use Rattle.table.specs.declared.Written.the-variants.{Bytes, Refused as WriteRefused}
 use Rattle.table.specs.Table.{readTable, answerNumbers, writtenNumbers, writeAnswer}
 use Rattle.table.proofs.TableLaws.{reads-is, write-numbers}
 use Rattle.int13.specs.declared.Registers.{Registers}
 use Rattle.int13.specs.declared.Outcome.{Outcome}
 use Rattle.int13.specs.declared.Outcome.the-variants.{Answered, Waits}
 use Rattle.int13.specs.Answers.{outcomeNumbers}
-use Rattle.int13.proofs.Numbers.{begin-answered}
+use Rattle.int13.specs.Steps.{fed, begin}
+use Rattle.int13.proofs.Numbers.{registers-apart, begin-answered}
 use Rattle.desk.specs.declared.Stage.{Stage}
 use Rattle.desk.specs.declared.Stage.the-variants.{Vacant, Waiting, Finished}
 use Rattle.desk.specs.declared.Desk.{Desk}
 use Rattle.desk.specs.declared.Next.{Next}
 use Rattle.desk.specs.declared.Next.the-variants.{Guest, Nobody}
+use Rattle.desk.specs.declared.OpenAnswer.{OpenAnswer}
+use Rattle.desk.specs.declared.OpenAnswer.the-variants.{Opened, Refused as OpenRefused}
 use Rattle.desk.specs.declared.Opening.{Opening}
 use Rattle.desk.specs.declared.PostAnswer.{PostAnswer}
-use Rattle.desk.specs.declared.PostAnswer.the-variants.{Refused as PostRefused}
+use Rattle.desk.specs.declared.PostAnswer.the-variants.{Answered as PostAnswered, Waits as PostWaits, Refused as PostRefused}
 use Rattle.desk.specs.declared.TurnAnswer.{TurnAnswer}
-use Rattle.desk.specs.declared.TurnAnswer.the-variants.{Refused as TurnRefused}
+use Rattle.desk.specs.declared.TurnAnswer.the-variants.{Served, Idle, Refused as TurnRefused}
 use Rattle.desk.specs.declared.CollectAnswer.{CollectAnswer}
-use Rattle.desk.specs.declared.CollectAnswer.the-variants.{Refused as CollectRefused}
+use Rattle.desk.specs.declared.CollectAnswer.the-variants.{Given as CollectGiven, Refused as CollectRefused}
 use Rattle.desk.specs.declared.WithdrawAnswer.{WithdrawAnswer}
-use Rattle.desk.specs.declared.WithdrawAnswer.the-variants.{Refused as WithdrawRefused}
+use Rattle.desk.specs.declared.WithdrawAnswer.the-variants.{Given as WithdrawGiven, Refused as WithdrawRefused}
 use Rattle.desk.specs.Parts.{stageAt}
 use Rattle.desk.specs.Acceptable.{accept}
 use Rattle.desk.specs.Calls.{houseTests, isLent, Done, done, openAnswer, openOf, writtenOf, writtenOut, postChecked, postRow, postOf, firstWaiting, serveStage, turnNext, turnOf, collectStage, collectOf, withdrawStage, withdrawOf}
@@ -59,15 +64,11 @@ open-answered t arena store e =
 
 -- ---- write
 
-write-refused : (n : ℕ) → writtenNumbers (WriteRefused n) ≡ n ∷ []
-unfolding writtenNumbers
-write-refused n = refl
-
 pub write-answered : {r : Written} {o : List ℕ} (d : Desk) (out : List ℕ) → r ≡ writtenOf d (length out) → o ≡ writtenOut d out
     → (r ≡ writtenOf d (length out)) × (o ≡ writtenOut d out) × (writtenNumbers r ≡ writeGiven d (length out))
-unfolding writtenOf writeGiven
+unfolding writtenOf writeGiven writtenNumbers
 write-answered d out e f =
-    (e, f, ap writtenNumbers e ∙ house-numbers writtenNumbers WriteRefused (writeAnswer (d .table) (length out)) _ (accept d) true true write-refused (write-numbers (d .table) (length out) refl))
+    (e, f, ap writtenNumbers e ∙ house-numbers writtenNumbers WriteRefused (writeAnswer (d .table) (length out)) _ (accept d) true true (λ n. refl) (write-numbers (d .table) (length out) refl))
 
 -- ---- post
 
@@ -86,15 +87,11 @@ post-row d g r arena store Vacant =
 post-row d g r arena store (Waiting q) = refl
 post-row d g r arena store (Finished x) = refl
 
-post-refused : (n : ℕ) → postNumbers (PostRefused n) ≡ n ∷ []
-unfolding postNumbers
-post-refused n = refl
-
 pub post-answered : {x : Done PostAnswer} (d : Desk) (g : ℕ) (r : Registers) (arena store : List ℕ) → x ≡ postOf d g r arena store
     → (x ≡ postOf d g r arena store) × (postNumbers (x .answer) ≡ postGiven d g r arena store)
-unfolding postOf postGiven
+unfolding postOf postGiven postNumbers
 post-answered d g r arena store e =
-    (e, ap posts e ∙ house-numbers posts (λ n. done d (PostRefused n) arena store) _ _ (accept d) (isLent d arena store) (ltb g 8) post-refused (post-row d g r arena store (stageAt d g)))
+    (e, ap posts e ∙ house-numbers posts (λ n. done d (PostRefused n) arena store) _ _ (accept d) (isLent d arena store) (ltb g 8) (λ n. refl) (post-row d g r arena store (stageAt d g)))
 
 -- ---- turn
 
@@ -112,15 +109,11 @@ unfolding turnNumbers
 turn-found d Nobody arena store = refl
 turn-found d (Guest g) arena store = turn-row d g (stageAt d g) arena store
 
-turn-refused : (n : ℕ) → turnNumbers (TurnRefused n) ≡ n ∷ []
-unfolding turnNumbers
-turn-refused n = refl
-
 pub turn-answered : {x : Done TurnAnswer} (d : Desk) (arena store : List ℕ) → x ≡ turnOf d arena store
     → (x ≡ turnOf d arena store) × (turnNumbers (x .answer) ≡ turnGiven d arena store)
-unfolding turnOf turnGiven
+unfolding turnOf turnGiven turnNumbers
 turn-answered d arena store e =
-    (e, ap turns e ∙ house-numbers turns (λ n. done d (TurnRefused n) arena store) _ _ (accept d) (isLent d arena store) true turn-refused (turn-found d (firstWaiting (d .rows) 8 (d .pointer)) arena store))
+    (e, ap turns e ∙ house-numbers turns (λ n. done d (TurnRefused n) arena store) _ _ (accept d) (isLent d arena store) true (λ n. refl) (turn-found d (firstWaiting (d .rows) 8 (d .pointer)) arena store))
 
 -- ---- collect
 
@@ -133,15 +126,11 @@ collect-row d g Vacant = refl
 collect-row d g (Waiting q) = refl
 collect-row d g (Finished r) = refl
 
-collect-refused : (n : ℕ) → collectNumbers (CollectRefused n) ≡ n ∷ []
-unfolding collectNumbers
-collect-refused n = refl
-
 pub collect-answered : {desk : Desk} {answer : CollectAnswer} (d : Desk) (g : ℕ) → ((arena store : List ℕ) → done desk answer arena store ≡ collectOf d g arena store)
     → ((arena store : List ℕ) → done desk answer arena store ≡ collectOf d g arena store) × (collectNumbers answer ≡ collectGiven d g)
-unfolding collectOf collectGiven
+unfolding collectOf collectGiven collectNumbers
 collect-answered d g e =
-    (e, ap collects (e [] []) ∙ house-numbers collects (λ n. done d (CollectRefused n) [] []) _ _ (accept d) true (ltb g 8) collect-refused (collect-row d g (stageAt d g)))
+    (e, ap collects (e [] []) ∙ house-numbers collects (λ n. done d (CollectRefused n) [] []) _ _ (accept d) true (ltb g 8) (λ n. refl) (collect-row d g (stageAt d g)))
 
 -- ---- withdraw
 
@@ -154,12 +143,110 @@ withdraw-row d g Vacant arena store = refl
 withdraw-row d g (Waiting q) arena store = refl
 withdraw-row d g (Finished r) arena store = refl
 
-withdraw-refused : (n : ℕ) → withdrawNumbers (WithdrawRefused n) ≡ n ∷ []
-unfolding withdrawNumbers
-withdraw-refused n = refl
-
 pub withdraw-answered : {x : Done WithdrawAnswer} (d : Desk) (g : ℕ) (arena store : List ℕ) → x ≡ withdrawOf d g arena store
     → (x ≡ withdrawOf d g arena store) × (withdrawNumbers (x .answer) ≡ withdrawGiven d g arena store)
-unfolding withdrawOf withdrawGiven
+unfolding withdrawOf withdrawGiven withdrawNumbers
 withdraw-answered d g arena store e =
-    (e, ap withdraws e ∙ house-numbers withdraws (λ n. done d (WithdrawRefused n) arena store) _ _ (accept d) (isLent d arena store) (ltb g 8) withdraw-refused (withdraw-row d g (stageAt d g) arena store))
+    (e, ap withdraws e ∙ house-numbers withdraws (λ n. done d (WithdrawRefused n) arena store) _ _ (accept d) (isLent d arena store) (ltb g 8) (λ n. refl) (withdraw-row d g (stageAt d g) arena store))
+
+-- ---- no two answers have the same numbers
+
+pub open-apart : (x y : OpenAnswer) → openNumbers x ≡ openNumbers y → x ≡ y
+unfolding openNumbers
+open-apart Opened Opened e = refl
+open-apart Opened (OpenRefused n p) e = impossible (cc)
+open-apart (OpenRefused m p) Opened e = impossible (cc)
+open-apart (OpenRefused m p) (OpenRefused n q) e = cc
+
+pub written-apart : (x y : Written) → writtenNumbers x ≡ writtenNumbers y → x ≡ y
+unfolding writtenNumbers
+written-apart (Bytes m) (Bytes n) e = cc
+written-apart (Bytes m) (WriteRefused n) e = impossible (cc)
+written-apart (WriteRefused m) (Bytes n) e = impossible (cc)
+written-apart (WriteRefused m) (WriteRefused n) e = cc
+
+-- the house number of a refusal, 0 of any other answer
+abbrev pub postHouse : PostAnswer → ℕ
+postHouse (PostAnswered r) = 0
+postHouse PostWaits = 0
+postHouse (PostRefused n) = n
+
+-- 256 is the list of a post that waits: a refusal with that number would have the same, and a house number is a byte
+pub post-apart : (x y : PostAnswer) → postHouse x < 256 → postHouse y < 256 → postNumbers x ≡ postNumbers y → x ≡ y
+unfolding postNumbers
+post-apart (PostAnswered r) (PostAnswered s) a b e = ap PostAnswered (registers-apart r s (ap (drop 1) e))
+post-apart (PostAnswered r) PostWaits a b e = impossible (cc)
+post-apart (PostAnswered r) (PostRefused n) a b e = impossible (cc)
+post-apart PostWaits (PostAnswered s) a b e = impossible (cc)
+post-apart PostWaits PostWaits a b e = refl
+post-apart PostWaits (PostRefused n) a b e = let z : 256 ≡ n = cc in absurd (omega arith)
+post-apart (PostRefused m) (PostAnswered s) a b e = impossible (cc)
+post-apart (PostRefused m) PostWaits a b e = let z : m ≡ 256 = cc in absurd (omega arith)
+post-apart (PostRefused m) (PostRefused n) a b e = cc
+
+abbrev pub turnHouse : TurnAnswer → ℕ
+turnHouse (Served g k) = 0
+turnHouse Idle = 0
+turnHouse (TurnRefused n) = n
+
+-- as at a post, of an idle turn
+pub turn-apart : (x y : TurnAnswer) → turnHouse x < 256 → turnHouse y < 256 → turnNumbers x ≡ turnNumbers y → x ≡ y
+unfolding turnNumbers
+turn-apart (Served g k) (Served h l) a b e = cc
+turn-apart (Served g k) Idle a b e = impossible (cc)
+turn-apart (Served g k) (TurnRefused n) a b e = impossible (cc)
+turn-apart Idle (Served h l) a b e = impossible (cc)
+turn-apart Idle Idle a b e = refl
+turn-apart Idle (TurnRefused n) a b e = let z : 256 ≡ n = cc in absurd (omega arith)
+turn-apart (TurnRefused m) (Served h l) a b e = impossible (cc)
+turn-apart (TurnRefused m) Idle a b e = let z : m ≡ 256 = cc in absurd (omega arith)
+turn-apart (TurnRefused m) (TurnRefused n) a b e = cc
+
+-- the refusals of both calls are bytes
+house-byte : {A : Type 0} (f : A → ℕ) (refused : ℕ → A) (x : A) (a l g : Bool) → ((n : ℕ) → f (refused n) ≡ n) → f x < 256 → f (houseTests a l g refused x) < 256
+house-byte f refused x false l g n h = rw (n 25) (omega arith)
+house-byte f refused x true false g n h = rw (n 24) (omega arith)
+house-byte f refused x true true false n h = rw (n 20) (omega arith)
+house-byte f refused x true true true n h = h
+
+pub post-byte : (d : Desk) (g : ℕ) (r : Registers) (arena store : List ℕ) → postHouse (postOf d g r arena store .answer) < 256
+unfolding postOf
+post-byte d g r arena store =
+    house-byte (λ (x : Done PostAnswer). postHouse (x .answer)) (λ n. done d (PostRefused n) arena store) _ (accept d) (isLent d arena store) (ltb g 8) (λ n. refl) (by-row (stageAt d g))
+  where
+    by-outcome : (o : Outcome) (w : List ℕ) → postHouse (postChecked d g arena store o w .answer) < 256
+    by-outcome (Answered x) w = omega arith
+    by-outcome (Waits j) w = omega arith
+
+    by-row : (s : Stage) → postHouse (postRow d g r arena store s .answer) < 256
+    by-row Vacant = let k = begin (fed (d .table)) r (windowOf arena g (d .arena / 8)) in by-outcome (k .outcome) (k .window)
+    by-row (Waiting q) = omega arith
+    by-row (Finished x) = omega arith
+
+pub turn-byte : (d : Desk) (arena store : List ℕ) → turnHouse (turnOf d arena store .answer) < 256
+unfolding turnOf
+turn-byte d arena store =
+    house-byte (λ (x : Done TurnAnswer). turnHouse (x .answer)) (λ n. done d (TurnRefused n) arena store) _ (accept d) (isLent d arena store) true (λ n. refl) (by-next (firstWaiting (d .rows) 8 (d .pointer)))
+  where
+    by-row : (g : ℕ) (s : Stage) → turnHouse (serveStage d g s arena store .answer) < 256
+    by-row g Vacant = omega arith
+    by-row g (Waiting q) = omega arith
+    by-row g (Finished r) = omega arith
+
+    by-next : (n : Next) → turnHouse (turnNext d n arena store .answer) < 256
+    by-next Nobody = omega arith
+    by-next (Guest g) = by-row g (stageAt d g)
+
+pub collect-apart : (x y : CollectAnswer) → collectNumbers x ≡ collectNumbers y → x ≡ y
+unfolding collectNumbers
+collect-apart (CollectGiven r) (CollectGiven s) e = ap CollectGiven (registers-apart r s (ap (drop 1) e))
+collect-apart (CollectGiven r) (CollectRefused n) e = impossible (cc)
+collect-apart (CollectRefused m) (CollectGiven s) e = impossible (cc)
+collect-apart (CollectRefused m) (CollectRefused n) e = cc
+
+pub withdraw-apart : (x y : WithdrawAnswer) → withdrawNumbers x ≡ withdrawNumbers y → x ≡ y
+unfolding withdrawNumbers
+withdraw-apart (WithdrawGiven r) (WithdrawGiven s) e = ap WithdrawGiven (registers-apart r s (ap (drop 1) e))
+withdraw-apart (WithdrawGiven r) (WithdrawRefused n) e = impossible (cc)
+withdraw-apart (WithdrawRefused m) (WithdrawGiven s) e = impossible (cc)
+withdraw-apart (WithdrawRefused m) (WithdrawRefused n) e = cc

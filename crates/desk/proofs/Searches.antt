@@ -1,13 +1,12 @@
 -- Laws of the turn's search.
 -- Assumes nothing.
-use mathlib.Core.Path.{_≡_, refl, sym, ap, _∙_}
-use mathlib.Core.Bool.{Bool, true, false}
+use mathlib.Core.Path.{_≡_}
+use mathlib.Core.Bool.{true, false}
 use mathlib.Core.List.{List}
-use Prim.Native.Nat.{ℕ, zero, suc, _+_, _-_, _%_, _<_}
+use Prim.Native.Nat.{ℕ, zero, suc, _-_, _<_}
 use native.Mathlib.Numerals.{sub-one}
 use native.Mathlib.Omega.{arith}
 use Rattle.desk.specs.declared.Row.{Row}
-use Rattle.desk.specs.declared.Next.{Next}
 use Rattle.desk.specs.declared.Next.the-variants.{Guest, Nobody}
 use Rattle.desk.specs.Parts.{stageIn, isWaiting, next}
 use Rattle.desk.specs.Calls.{firstWaiting}

@@ -1,17 +1,15 @@
 -- The blocks of a turn: what is in range, and that the code's moves are the definition's.
 -- Assumes nothing.
-use mathlib.Core.Path.{_≡_, refl, sym, ap, _∙_}
+use mathlib.Core.Path.{_≡_, refl, sym}
 use mathlib.Core.Bool.{Bool, true, false}
 use mathlib.Core.List.{List}
-use Prim.Native.Nat.{ℕ, _+_, _-_, _*_, _/_, _^_, _≤_, _<_, min}
-use native.Mathlib.Nat.{add-assoc}
+use Prim.Native.Nat.{ℕ, _+_, _-_, _*_, _^_, _≤_, _<_}
 use native.Mathlib.Omega.{arith}
 use lib.ListN.{length}
 use Rattle.logic.specs.Logic.{pick}
 use Rattle.memory.specs.Window.{windowLength, spanLength, windowOf, withWindow}
 use Rattle.memory.specs.Blocks.{blocks}
 use Rattle.memory.proofs.WindowLaws.{span-in, with-window-same}
-use lib.Dec.{leb}
 use borrow.Author.Tests.{leb-true}
 use Rattle.int13.specs.Answers.{ah, isSectors, isWrite}
 use Rattle.int13.specs.Alone.{Memory, moves}

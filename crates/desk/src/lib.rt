@@ -15,7 +15,7 @@ ghost use lib.ListN.{length};
 ghost use Rattle.logic.specs.Logic.{pick, both};
 ghost use Rattle.chs.specs.Chs.{size};
 ghost use Rattle.drive.specs.Drive.{geometryOf};
-ghost use Rattle.desk.specs.Parts.{ownWindow, withOwn, withStage, isWaiting, next, withPointer};
+ghost use Rattle.desk.specs.Parts.{ownWindow, withOwn, stageIn, withStage, isWaiting, next, withPointer};
 ghost use Rattle.desk.specs.Acceptable.{packetOk, movedOk, jobRules, requestOk, stageOk, rowsOk, accept, InRange};
 ghost use mathlib.Core.List.{List, []};
 ghost use Rattle.table.specs.Table.{writtenNumbers};
@@ -23,10 +23,9 @@ ghost use Rattle.layout.specs.Packet.{packetLength};
 ghost use Rattle.memory.specs.Window.{guests, windowLength, spanLength};
 ghost use Rattle.memory.specs.Blocks.{blockLength};
 ghost use Rattle.int13.specs.Answers.{ah, withdraw};
-ghost use Rattle.int13.specs.Steps.{mostBlocks, mostRun};
-ghost use Rattle.desk.specs.declared.Stage.the-variants.{Waiting};
+ghost use Rattle.int13.specs.Steps.{mostBlocks, mostRun, fed, begin};
 ghost use Rattle.desk.specs.declared.TurnAnswer.the-variants.{Served};
-ghost use Rattle.desk.specs.Calls.{houseNumber, done, opened, openOf, writtenOf, writtenOut, postChecked, postOf, firstWaiting, quota, serviceOf, Copied, Transferred, turnOf, collectOf, withdrawnWindow, withdrawStage, withdrawOf};
+ghost use Rattle.desk.specs.Calls.{houseNumber, done, opened, openOf, writtenOf, writtenOut, postChecked, postOf, firstWaiting, quota, serviceOf, Copied, Transferred, turnOf, collectOf, withdrawnWindow, withdrawOf};
 ghost use Rattle.desk.specs.Numbers.{openNumbers, postNumbers, turnNumbers, collectNumbers, withdrawNumbers, openGiven, writeGiven, postGiven, turnGiven, collectGiven, withdrawGiven};
 
 // A request with the number of blocks that have moved.
@@ -166,16 +165,6 @@ pub fn house_number(acceptable: bool, lent: bool, guest: bool) -> u8
 
 // ---- acceptable desks
 
-// n blocks of bytes from a place end at most at end.
-fn blocks_end_by(place: u64, n: u64, end: u64) -> bool
-    ensures { λ r. ⌜ r ≡ leb (place + blockLength * n) end ⌝ }
-{
-    if end < place {
-        return false;
-    }
-    n <= (end - place) / BLOCK_LENGTH
-}
-
 fn count_ok(sectors: bool, n: u64) -> bool
     ensures { λ r. ⌜ r ≡ leb n (pick sectors mostRun mostBlocks) ⌝ }
 {
@@ -213,19 +202,23 @@ fn moved_ok(moved: u64, count: u64) -> bool
     logic::and(moved % PART == 0, moved < count)
 }
 
+// The count first, so that its bytes do not wrap.
 fn job_ok(d: Drive, m: u64, j: Job) -> bool
     ensures { λ r. ⌜ r ≡ jobRules d m j ⌝ }
 {
     let f = int13::function_of(j.registers);
     let sectors = int13::is_sectors(f);
+    if !count_ok(sectors, j.count) {
+        return false;
+    }
     let transfer = logic::or(sectors, logic::or(f == 0x42, f == 0x43));
     let protected = logic::and(int13::is_write(f), drive::is_protected(d));
     let places = logic::and(
-        blocks_end_by(j.buffer, j.count, m),
+        logic::ends_by(j.buffer, BLOCK_LENGTH * j.count, m),
         logic::and(packet_ok(sectors, j.packet, m), !protected),
     );
     let blocks = logic::and(range_ok(d, sectors, j.start, j.count), places);
-    logic::and(transfer, logic::and(count_ok(sectors, j.count), blocks))
+    logic::and(transfer, blocks)
 }
 
 // What is asked of a waiting request on its drive, in windows of m bytes.
@@ -274,6 +267,17 @@ impl Desk {
         let good = rows_ok(rows, b, self.arena / 8);
         logic::and(sound, logic::and(self.pointer < 8, good))
     }
+}
+
+// ---- the rows
+
+// The stage of a guest's row.
+fn stage_in(rows: [Row; 8], guest: usize) -> Stage
+    requires { ⌜ guest < guests ⌝ }
+    ensures { λ r. ⌜ r ≡ stageIn rows guest ⌝ }
+{
+    let row = rows[guest];
+    row.stage
 }
 
 // ---- the turn's search
@@ -442,12 +446,34 @@ fn vacant(pointer: usize, b: Table, arena: u64, store: u64) -> Desk
     }
 }
 
+// A call begun in the guest's own window.
+fn begin_own(b: Table, registers: Registers, guest: usize, arena: &mut [u8]) -> Outcome
+    ensures { λ o. ⌜ (o ≡ begin (fed b) registers (ownWindow (now (arena .entry)) guest) .outcome) × (now (arena .exit) ≡ withOwn (now (arena .entry)) guest (begin (fed b) registers (ownWindow (now (arena .entry)) guest) .window)) ⌝ }
+{
+    let m = memory::window_length(arena.len());
+    let span = memory::span_of(arena.len(), guest, m);
+    let start = span.start;
+    let end = span.end;
+    int13::begin(b, registers, &mut arena[start..end])
+}
+
 impl Desk {
-    // Arena and store have the lengths of the opening.
-    fn is_lent(self, arena: usize, store: usize) -> bool
-        ensures { λ r. ⌜ r ≡ both (eqb arena (self .arena)) (eqb store (self .store)) ⌝ }
+    // The house number of a call that is lent an arena and a store of these lengths.
+    fn house(self, arena: usize, store: usize, guest: bool) -> u8
+        ensures { λ r. ⌜ r ≡ houseNumber (accept self) (both (eqb arena (self .arena)) (eqb store (self .store))) guest ⌝ }
     {
-        logic::and(arena as u64 == self.arena, store as u64 == self.store)
+        let lent = logic::and(arena as u64 == self.arena, store as u64 == self.store);
+        house_number(self.accept(), lent, guest)
+    }
+
+    // The desk with another stage in the guest's row.
+    fn with_stage(self, guest: usize, stage: Stage) -> Desk
+        requires { ⌜ guest < guests ⌝ }
+        ensures { λ d. ⌜ d ≡ withStage self guest stage ⌝ }
+    {
+        let mut next = self;
+        next.rows[guest] = Row { stage };
+        next
     }
 
     // Reads the table; a desk with all rows vacant, or the table's refusal with its place and a desk at which every call is 25.
@@ -496,16 +522,10 @@ impl Desk {
                 desk: self,
                 answer: PostAnswer::Answered(r),
             },
-            Outcome::Waits(job) => {
-                let mut next = self;
-                next.rows[guest] = Row {
-                    stage: Stage::Waiting(Request { job, moved: 0 }),
-                };
-                Posted {
-                    desk: next,
-                    answer: PostAnswer::Waits,
-                }
-            }
+            Outcome::Waits(job) => Posted {
+                desk: self.with_stage(guest, Stage::Waiting(Request { job, moved: 0 })),
+                answer: PostAnswer::Waits,
+            },
         }
     }
 
@@ -513,31 +533,23 @@ impl Desk {
     pub fn post(self, guest: usize, registers: Registers, arena: &mut [u8], store: &[u8]) -> Posted
         ensures { λ r. ⌜ (done (r .desk) (r .answer) (now (arena .exit)) (now (store .entry)) ≡ postOf self guest registers (now (arena .entry)) (now (store .entry))) × (postNumbers (r .answer) ≡ postGiven self guest registers (now (arena .entry)) (now (store .entry))) ⌝ }
     {
-        let number = house_number(
-            self.accept(),
-            self.is_lent(arena.len(), store.len()),
-            guest < 8,
-        );
+        let number = self.house(arena.len(), store.len(), guest < 8);
         if number != 0 {
             return Posted {
                 desk: self,
                 answer: PostAnswer::Refused(number),
             };
         }
-        let row = self.rows[guest];
-        let stage = row.stage;
+        let rows = self.rows;
+        let stage = stage_in(rows, guest);
         let Stage::Vacant = stage else {
             return Posted {
                 desk: self,
                 answer: PostAnswer::Refused(NOT_VACANT),
             };
         };
-        let m = memory::window_length(arena.len());
-        let span = memory::span_of(arena.len(), guest, m);
-        let start = span.start;
-        let end = span.end;
         let b = self.table;
-        let outcome = int13::begin(b, registers, &mut arena[start..end]);
+        let outcome = begin_own(b, registers, guest, arena);
         self.posted(guest, outcome)
     }
 
@@ -547,8 +559,7 @@ impl Desk {
         ensures { λ r. ⌜ (r .desk ≡ withPointer (withStage self guest (service .stage)) (next guest)) × (r .answer ≡ Served guest (service .moved)) ⌝ }
     {
         let stage = service.stage;
-        let mut next = self;
-        next.rows[guest] = Row { stage };
+        let mut next = self.with_stage(guest, stage);
         next.pointer = (guest + 1) % 8;
         Turned {
             desk: next,
@@ -560,7 +571,7 @@ impl Desk {
     pub fn turn(self, arena: &mut [u8], store: &mut [u8]) -> Turned
         ensures { λ r. ⌜ (done (r .desk) (r .answer) (now (arena .exit)) (now (store .exit)) ≡ turnOf self (now (arena .entry)) (now (store .entry))) × (turnNumbers (r .answer) ≡ turnGiven self (now (arena .entry)) (now (store .entry))) ⌝ }
     {
-        let number = house_number(self.accept(), self.is_lent(arena.len(), store.len()), true);
+        let number = self.house(arena.len(), store.len(), true);
         if number != 0 {
             return Turned {
                 desk: self,
@@ -575,8 +586,7 @@ impl Desk {
                 answer: TurnAnswer::Idle,
             };
         };
-        let row = rows[guest];
-        let stage = row.stage;
+        let stage = stage_in(rows, guest);
         let Stage::Waiting(q) = stage else {
             return Turned {
                 desk: self,
@@ -611,57 +621,33 @@ impl Desk {
                 answer: CollectAnswer::Refused(number),
             };
         }
-        let row = self.rows[guest];
-        let stage = row.stage;
+        let rows = self.rows;
+        let stage = stage_in(rows, guest);
         let Stage::Finished(registers) = stage else {
             return Collected {
                 desk: self,
                 answer: CollectAnswer::Refused(NOT_FINISHED),
             };
         };
-        let mut next = self;
-        next.rows[guest] = Row {
-            stage: Stage::Vacant,
-        };
         Collected {
-            desk: next,
+            desk: self.with_stage(guest, Stage::Vacant),
             answer: CollectAnswer::Given(registers),
         }
     }
 
-    // The row is vacant at once, and the registers say what was moved.
-    fn withdrawn(self, guest: usize, q: Request) -> Withdrawn
-        requires { ⌜ (guest < guests) × (q .moved < mostRun) ⌝ }
-        ensures { λ r. ⌜ (r .desk ≡ withdrawStage self guest (Waiting q) [] [] .desk) × (r .answer ≡ withdrawStage self guest (Waiting q) [] [] .answer) ⌝ }
-    {
-        let given = given_back(q);
-        let mut next = self;
-        next.rows[guest] = Row {
-            stage: Stage::Vacant,
-        };
-        Withdrawn {
-            desk: next,
-            answer: WithdrawAnswer::Given(given),
-        }
-    }
-
-    // Ends a waiting request.
+    // Ends a waiting request: the row is vacant at once, and the registers say what was moved.
     pub fn withdraw(self, guest: usize, arena: &mut [u8], store: &[u8]) -> Withdrawn
         ensures { λ r. ⌜ (done (r .desk) (r .answer) (now (arena .exit)) (now (store .entry)) ≡ withdrawOf self guest (now (arena .entry)) (now (store .entry))) × (withdrawNumbers (r .answer) ≡ withdrawGiven self guest (now (arena .entry)) (now (store .entry))) ⌝ }
     {
-        let number = house_number(
-            self.accept(),
-            self.is_lent(arena.len(), store.len()),
-            guest < 8,
-        );
+        let number = self.house(arena.len(), store.len(), guest < 8);
         if number != 0 {
             return Withdrawn {
                 desk: self,
                 answer: WithdrawAnswer::Refused(number),
             };
         }
-        let row = self.rows[guest];
-        let stage = row.stage;
+        let rows = self.rows;
+        let stage = stage_in(rows, guest);
         let Stage::Waiting(q) = stage else {
             return Withdrawn {
                 desk: self,
@@ -669,6 +655,9 @@ impl Desk {
             };
         };
         report_moved(q, guest, arena);
-        self.withdrawn(guest, q)
+        Withdrawn {
+            desk: self.with_stage(guest, Stage::Vacant),
+            answer: WithdrawAnswer::Given(given_back(q)),
+        }
     }
 }

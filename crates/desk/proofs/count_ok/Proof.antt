@@ -1,7 +1,5 @@
 use Rattle.desk.proofs.count_ok.Statement.{statement}
 use Rattle.desk.proofs.count_ok.Tie as tie
-use Rattle.desk.proofs.count_ok.Reads as reads
-use Rattle.desk.proofs.count_ok.Lts as lts
 
 returns : tie.Need-returns
 returns c = rw (c .if1 .taken)

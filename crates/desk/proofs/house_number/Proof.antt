@@ -2,8 +2,6 @@ use borrow.Author.Tests.{not-true, not-false}
 use Rattle.desk.specs.Calls.{houseNumber}
 use Rattle.desk.proofs.house_number.Statement.{statement}
 use Rattle.desk.proofs.house_number.Tie as tie
-use Rattle.desk.proofs.house_number.Reads as reads
-use Rattle.desk.proofs.house_number.Lts as lts
 
 returns : tie.Need-returns
 unfolding houseNumber

@@ -1,6 +1,6 @@
 use mathlib.Core.Path.{_≡_, sym, ap, _∙_}
-use mathlib.Core.Bool.{true, false}
-use Prim.Native.Nat.{ℕ, _*_, _+_, _≤_}
+use mathlib.Core.Bool.{false}
+use Prim.Native.Nat.{ℕ, _+_, _≤_}
 use native.Mathlib.Omega.{arith}
 use denote.Ref.{now}
 use lib.ListN.{length}
@@ -11,67 +11,46 @@ use Rattle.desk.proofs.Transfers.{packet-inside}
 use borrow.Author.Needs.{needs}
 use Rattle.desk.proofs.report_moved.Statement.{statement}
 use Rattle.desk.proofs.report_moved.Tie as tie
-use Rattle.desk.proofs.report_moved.Reads as reads
-use Rattle.desk.proofs.report_moved.Lts as lts
-use Rattle.desk.proofs.count_place.Reads as count-place-reads
-use Rattle.int13.proofs.function_of.Reads as function-of-reads
-use Rattle.int13.proofs.is_sectors.Reads as is-sectors-reads
-use Rattle.memory.proofs.put_word_in.Reads as put-word-in-reads
-use Rattle.memory.proofs.window_length.Reads as window-length-reads
 
-function-of-requires : tie.Need-function-of-requires
-function-of-requires c κs = search needs
+sectors : (c : tie.After-is-sectors) → c .is-sectors .result ≡ isSectors (ah (c .before .before .before .before .before .args .q .job .registers))
+sectors c = c .is-sectors .ensures ∙ ap isSectors (c .before .function-of .ensures)
 
-is-sectors-requires : tie.Need-is-sectors-requires
-is-sectors-requires c κs = search needs
+-- a packet, which lies inside the window
+other : (c : tie.Else1) → isSectors (ah (c .before .before .before .before .before .before .args .q .job .registers)) ≡ false
+other c = sym (sectors (c .before)) ∙ c .if1 .left
+
+inside : (c : tie.Else1) → c .before .before .before .before .before .before .args .q .job .packet + 16 ≤ windowLength (length (now (c .before .before .before .before .before .before .args .arena)))
+inside c = let s = c .before .before .before .before .before .before in packet-inside (ah (s .args .q .job .registers)) (s .args .q .job .packet) _ (other c) (s .pre .1)
 
 returns : tie.Need-returns
 returns c =
     let a = c .before .before .before .before .before .before .args in
-    let e : isSectors (ah (a .q .job .registers)) ≡ true = ap isSectors (sym (c .before .before .function-of .ensures)) ∙ sym (c .before .is-sectors .ensures) ∙ c .if1 .taken in
-    rw e (sym (with-window-same (now (a .arena)) (a .guest) (windowLength (length (now (a .arena))))))
-
-window-length-requires : tie.Need-window-length-requires
-window-length-requires c κs = search needs
+    rw (sym (sectors (c .before)) ∙ c .if1 .taken) (sym (with-window-same (now (a .arena)) (a .guest) (windowLength (length (now (a .arena))))))
 
 count-place-requires : tie.Need-count-place-requires
-count-place-requires c κs =
-    let s = c .before .before .before .before .before .before .before in
-    let a = s .args in
-    let e : isSectors (ah (a .q .job .registers)) ≡ false = ap isSectors (sym (c .before .before .before .function-of .ensures)) ∙ sym (c .before .before .is-sectors .ensures) ∙ c .before .if1 .left in
-    omega (arith, packet-inside (ah (a .q .job .registers)) (a .q .job .packet) (windowLength (length (now (a .arena)))) e (s .pre .1), s .good .1 .1 .0 .0)
-
-cast-put-word-in : tie.Need-cast-put-word-in
-cast-put-word-in c = search needs
+count-place-requires c κs = omega (arith, inside (c .before), c .before .before .before .before .before .before .before .good .1 .1 .0 .0)
 
 put-word-in-requires : tie.Need-put-word-in-requires
 put-word-in-requires c κs =
-    let s = c .before .before .before .before .before .before .before .before .before .before in
-    let a = s .args in
-    let e : isSectors (ah (a .q .job .registers)) ≡ false = ap isSectors (sym (c .before .before .before .before .before .before .function-of .ensures)) ∙ sym (c .before .before .before .before .before .is-sectors .ensures) ∙ c .before .before .before .before .if1 .left in
-    let n : ℕ = length (now (a .arena)) in
-    let w : spanLength n (a .guest) (windowLength n) ≡ windowLength n = span-in n (a .guest) (windowLength n) (omega arith) (s .pre .0) .1 in
-    rw (c .before .before .before .window-length .ensures, w) (omega (arith, c .before .before .count-place .ensures, packet-inside (ah (a .q .job .registers)) (a .q .job .packet) (windowLength n) e (s .pre .1)))
-
-same-length : tie.Need-same-length
-same-length c = search needs
+    let e = c .before .before .before .before in
+    let s = e .before .before .before .before .before .before in
+    let n : ℕ = length (now (s .args .arena)) in
+    let w : spanLength n (s .args .guest) (windowLength n) ≡ windowLength n = span-in n (s .args .guest) (windowLength n) (omega arith) (s .pre .0) .1 in
+    rw (c .before .before .before .window-length .ensures, w) (omega (arith, c .before .before .count-place .ensures, inside e))
 
 returns-2 : tie.Need-returns-2
-returns-2 c =
-    let a = c .before .before .before .before .before .before .before .before .before .before .before .before .before .args in
-    let e : isSectors (ah (a .q .job .registers)) ≡ false = ap isSectors (sym (c .before .before .before .before .before .before .before .before .before .function-of .ensures)) ∙ sym (c .before .before .before .before .before .before .before .before .is-sectors .ensures) ∙ c .before .before .before .before .before .before .before .if1 .left in
-    rw (e, c .before .before .put-word-in .ensures, c .before .before .before .before .before .before .window-length .ensures, c .before .before .before .before .before .count-place .ensures)
+returns-2 c = rw (other (c .before .before .before .before .before .before .before), c .before .before .put-word-in .ensures, c .before .before .before .before .before .before .window-length .ensures, c .before .before .before .before .before .count-place .ensures)
 
 pub report-moved-spec : {M : Type 1} → statement M
 report-moved-spec =
     tie.close
     (tie.spec
-    function-of-requires
-    is-sectors-requires
+    (search needs)
+    (search needs)
     returns
-    window-length-requires
+    (search needs)
     count-place-requires
-    cast-put-word-in
+    (search needs)
     put-word-in-requires
-    same-length
+    (search needs)
     returns-2)

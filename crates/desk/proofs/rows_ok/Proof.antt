@@ -1,15 +1,11 @@
 use borrow.Author.Needs.{needs}
 use native.Mathlib.Omega.{arith}
-use Prim.Native.Nat.{ℕ, _≤_, _<_, _-_}
-use mathlib.Core.Path.{_≡_, refl, ap, sym, _∙_}
+use Prim.Native.Nat.{_≤_, _-_}
+use mathlib.Core.Path.{_≡_, refl}
 use Rattle.desk.specs.Acceptable.{rowsOk}
 use Rattle.desk.proofs.AcceptableLaws.{rowsOk-more}
 use Rattle.desk.proofs.rows_ok.Statement.{statement}
 use Rattle.desk.proofs.rows_ok.Tie as tie
-use Rattle.desk.proofs.rows_ok.Reads as reads
-use Rattle.desk.proofs.rows_ok.Lts as lts
-use Rattle.desk.proofs.stage_ok.Reads as stage-ok-reads
-use Rattle.logic.proofs.and.Reads as and-reads
 
 abbrev Inv-loop : tie.InvT-loop
 Inv-loop b m rows good₀ i₀ good i = (i ≤ 8) × (good ≡ rowsOk i rows b m)
@@ -20,24 +16,6 @@ abbrev μ-loop : tie.MeasureT-loop
 loop-holds : tie.Need-loop-holds Inv-loop μ-loop
 unfolding rowsOk
 loop-holds c = (search needs, refl)
-
-mul-row : tie.Need-mul-row Inv-loop μ-loop
-mul-row c = search needs
-
-array-copy-out-row : tie.Need-array-copy-out-row Inv-loop μ-loop
-array-copy-out-row c = search needs
-
-stage-ok-requires : tie.Need-stage-ok-requires Inv-loop μ-loop
-stage-ok-requires c κs = search needs
-
-and-requires : tie.Need-and-requires Inv-loop μ-loop
-and-requires c κs = search needs
-
-add-i : tie.Need-add-i Inv-loop μ-loop
-add-i c = search needs
-
-loop-less : tie.Need-loop-less Inv-loop μ-loop
-loop-less c = search needs
 
 loop-again : tie.Need-loop-again Inv-loop μ-loop
 loop-again c =
@@ -58,11 +36,11 @@ rows-ok-spec =
     Inv-loop
     μ-loop
     loop-holds
-    mul-row
-    array-copy-out-row
-    stage-ok-requires
-    and-requires
-    add-i
-    loop-less
+    (search needs)
+    (search needs)
+    (search needs)
+    (search needs)
+    (search needs)
+    (search needs)
     loop-again
     returns)

@@ -1,7 +1,6 @@
-use mathlib.Core.Path.{_≡_, refl}
-use mathlib.Core.Bool.{true, false}
+use mathlib.Core.Path.{_≡_, refl, sym, _∙_}
+use mathlib.Core.Bool.{true}
 use Prim.Native.Nat.{ℕ, _<_}
-use native.Mathlib.Omega.{arith}
 use lib.Dec.{ltb}
 use borrow.Author.Tests.{ltb-true}
 use Rattle.desk.specs.declared.Desk.{Desk}
@@ -14,13 +13,9 @@ use Rattle.desk.proofs.NumbersLaws.{collect-answered}
 use borrow.Author.Needs.{needs}
 use Rattle.desk.proofs.Desk.collect.Statement.{statement}
 use Rattle.desk.proofs.Desk.collect.Tie as tie
-use Rattle.desk.proofs.Desk.collect.Reads as reads
-use Rattle.desk.proofs.Desk.collect.Lts as lts
-use Rattle.desk.proofs.Desk.accept.Reads as accept-reads
-use Rattle.desk.proofs.house_number.Reads as house-number-reads
 
 abbrev desk : tie.After-house-number → Desk
-desk c = c .before .before .args .t1
+desk c = c .before .before .args .self
 
 abbrev guest : tie.After-house-number → ℕ
 guest c = c .before .before .args .guest
@@ -34,54 +29,41 @@ passed c = house-passed _ _ _ (number (c .before)) (c .if1 .left)
 below : (c : tie.Else1) → guest (c .before) < 8
 below c = ltb-true (guest (c .before)) 8 (passed c .guest)
 
-accept-requires : tie.Need-accept-requires
-accept-requires c κs = search needs
-
-house-number-requires : tie.Need-house-number-requires
-house-number-requires c κs = search needs
-
 returns : tie.Need-returns
 unfolding collectOf
 returns c =
     collect-answered (desk (c .before)) (guest (c .before))
     (λ arena store. house-refused _ _ _ (λ n. done (desk (c .before)) (CollectRefused n) arena store) (collectStage (desk (c .before)) (guest (c .before)) (stageAt (desk (c .before)) (guest (c .before))) arena store) (number (c .before)) (c .if1 .taken))
 
-mul-row : tie.Need-mul-row
-mul-row c = omega (arith, below c)
-
-element-copy-out-row : tie.Need-element-copy-out-row
-element-copy-out-row c = omega (arith, below c)
-
-enum-known-stage : tie.Need-enum-known-stage
-enum-known-stage c = search needs
+stage-in-requires : tie.Need-stage-in-requires
+stage-in-requires c κs = below (c .before)
 
 returns-2 : tie.Need-returns-2
 returns-2 c =
-    collect-answered (desk (c .before .before .before)) (guest (c .before .before .before))
-    (λ arena store. collect-other (desk (c .before .before .before)) (guest (c .before .before .before)) arena store (passed (c .before .before)) (c .match .keys2))
+    let h = c .before .before .before .before in
+    collect-answered (desk h) (guest h)
+    (λ arena store. collect-other (desk h) (guest h) arena store (passed (c .before .before .before)) (rw (c .before .stage-in .ensures) at (c .match .keys2)))
 
-mul-t14 : tie.Need-mul-t14
-mul-t14 c = omega (arith, below (c .before .before .before .before))
-
-element-set-from-next : tie.Need-element-set-from-next
-element-set-from-next c = omega (arith, below (c .before .before .before .before))
+with-stage-requires : tie.Need-with-stage-requires
+with-stage-requires c κs = below (c .before .before .before .before .before)
 
 returns-3 : tie.Need-returns-3
 returns-3 c =
-    collect-answered (desk (c .before .before .before .before .before)) (guest (c .before .before .before .before .before))
-    (λ arena store. collect-finished (desk (c .before .before .before .before .before)) (guest (c .before .before .before .before .before)) arena store (passed (c .before .before .before .before)) (c .before .stage .given .0 .0) (c .before .stage .given .1))
+    let w = c .before in
+    let t = w .before .before .before .before .before in
+    let h = t .before in
+    collect-answered (desk h) (guest h)
+    (λ arena store. rw (c .with-stage .ensures) (collect-finished (desk h) (guest h) arena store (passed t) (w .before .stage .given .0 .0) (sym (w .before .before .before .stage-in .ensures) ∙ w .before .stage .given .1)))
 
 pub collect-spec : {M : Type 1} → statement M
 collect-spec =
     tie.close
     (tie.spec
-    accept-requires
-    house-number-requires
+    (search needs)
+    (search needs)
     returns
-    mul-row
-    element-copy-out-row
-    enum-known-stage
+    stage-in-requires
+    (search needs)
     returns-2
-    mul-t14
-    element-set-from-next
+    with-stage-requires
     returns-3)

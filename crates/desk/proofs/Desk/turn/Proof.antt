@@ -1,86 +1,72 @@
-use mathlib.Core.Path.{_≡_, refl, sym, _∙_}
-use mathlib.Core.Bool.{true, false}
+use mathlib.Core.Path.{_≡_, sym, _∙_}
+use mathlib.Core.Bool.{true}
 use mathlib.Core.List.{List}
 use Prim.Native.Nat.{ℕ, _<_}
 use native.Mathlib.Omega.{arith}
 use denote.Ref.{now}
-use Rattle.int13.specs.Steps.{driveAt}
+use Rattle.int13.specs.Steps.{isDrive, driveAt}
+use Rattle.desk.specs.declared.Request.{Request}
+use Rattle.desk.specs.declared.Stage.the-variants.{Waiting}
 use Rattle.desk.specs.declared.Desk.{Desk}
 use Rattle.desk.specs.declared.Next.the-variants.{Guest}
 use Rattle.desk.specs.declared.TurnAnswer.the-variants.{Refused as TurnRefused}
-use Rattle.desk.specs.Parts.{windowSize}
+use Rattle.desk.specs.Parts.{stageAt}
 use Rattle.desk.specs.Acceptable.{accept}
-use Rattle.desk.specs.Calls.{houseNumber, isLent, done, firstWaiting, Transferred, turnNext, turnOf}
-use Rattle.desk.proofs.AcceptableLaws.{accept-true, Waits}
-use Rattle.desk.proofs.CallsLaws.{house-tests, house-refused, Passed, house-passed, turn-nobody, turn-other, turn-served, seek-below, waiting-facts, in-range}
+use Rattle.desk.specs.Calls.{isLent, done, firstWaiting, Transferred, turnNext, turnOf}
+use Rattle.desk.proofs.AcceptableLaws.{accept-true}
+use Rattle.desk.proofs.CallsLaws.{house-refused, Passed, house-passed, turn-nobody, turn-other, turn-served, seek-below, waiting-facts, in-range}
 use Rattle.desk.proofs.NumbersLaws.{turn-answered}
 use borrow.Author.Needs.{needs}
 use Rattle.desk.proofs.Desk.turn.Statement.{statement}
 use Rattle.desk.proofs.Desk.turn.Tie as tie
-use Rattle.desk.proofs.Desk.turn.Reads as reads
-use Rattle.desk.proofs.Desk.turn.Lts as lts
-use Rattle.desk.proofs.Desk.accept.Reads as accept-reads
-use Rattle.desk.proofs.Desk.is_lent.Reads as is-lent-reads
-use Rattle.desk.proofs.Desk.served.Reads as served-reads
-use Rattle.desk.proofs.house_number.Reads as house-number-reads
-use Rattle.desk.proofs.next_waiting.Reads as next-waiting-reads
-use Rattle.desk.proofs.service_of.Reads as service-of-reads
-use Rattle.desk.proofs.transfer.Reads as transfer-reads
-use Rattle.int13.proofs.drive_at.Reads as drive-at-reads
 
-abbrev desk : tie.After-house-number → Desk
-desk c = c .before .before .before .before .before .args .self
+abbrev desk : tie.After-house → Desk
+desk c = c .before .before .before .args .self
 
-abbrev arena : tie.After-house-number → List ℕ
-arena c = now (c .before .before .before .before .before .args .arena)
+abbrev arena : tie.After-house → List ℕ
+arena c = now (c .before .before .before .args .arena)
 
-abbrev store : tie.After-house-number → List ℕ
-store c = now (c .before .before .before .before .before .args .store)
-
-number : (c : tie.After-house-number) → c .house-number .result ≡ houseNumber (accept (desk c)) (isLent (desk c) (arena c) (store c)) true
-number c = house-tests (c .house-number .ensures) (c .before .before .accept .ensures) (c .before .is-lent .ensures) refl
+abbrev store : tie.After-house → List ℕ
+store c = now (c .before .before .before .args .store)
 
 passed : (c : tie.Else1) → Passed (accept (desk (c .before))) (isLent (desk (c .before)) (arena (c .before)) (store (c .before))) true
-passed c = house-passed _ _ _ (number (c .before)) (c .if1 .left)
+passed c = house-passed _ _ _ (c .before .house .ensures) (c .if1 .left)
 
--- the guest that the search found
+-- where the search has found a guest: the tests passed
+abbrev on : tie.After-known-told → tie.Else1
+on c = c .before .before .before .before .before
+
 abbrev guest : tie.After-known-told → ℕ
 guest c = c .before .found .given .0 .0
 
-found : (c : tie.After-known-told) → firstWaiting (desk (c .before .before .before .before .before .before) .rows) 8 (desk (c .before .before .before .before .before .before) .pointer) ≡ Guest (guest c)
+found : (c : tie.After-known-told) → firstWaiting (desk (on c .before) .rows) 8 (desk (on c .before) .pointer) ≡ Guest (guest c)
 found c = sym (c .before .before .before .next-waiting .ensures) ∙ c .before .found .given .1
 
 below : (c : tie.After-known-told) → guest c < 8
-below c = let h = c .before .before .before .before .before .before in seek-below (desk h .rows) 8 (desk h .pointer) (guest c) (accept-true (desk h) (passed (c .before .before .before .before .before) .acceptable) .pointer) (found c)
+below c = let d = desk (on c .before) in seek-below (d .rows) 8 (d .pointer) (guest c) (accept-true d (passed (on c) .acceptable) .pointer) (found c)
 
--- what acceptance says of its request
-facts : (c : tie.After-known-told2) → Waits (desk (c .before .before .before .before .before .before .before .before .before .before) .table) (windowSize (desk (c .before .before .before .before .before .before .before .before .before .before))) (c .before .stage .given .0 .0)
-facts c = waiting-facts (desk (c .before .before .before .before .before .before .before .before .before .before)) (guest (c .before .before .before .before)) (c .before .stage .given .0 .0) (passed (c .before .before .before .before .before .before .before .before .before) .acceptable) (below (c .before .before .before .before)) (c .before .stage .given .1)
+-- where its request is bound: the row waits with it, and acceptance knows its drive
+abbrev met : tie.After-known-told2 → tie.After-known-told
+met c = c .before .before .before .before
 
-accept-requires : tie.Need-accept-requires
-accept-requires c κs = search needs
+abbrev asked : tie.After-known-told2 → Request
+asked c = c .before .stage .given .0 .0
 
-is-lent-requires : tie.Need-is-lent-requires
-is-lent-requires c κs = search needs
+row : (c : tie.After-known-told2) → stageAt (desk (on (met c) .before)) (guest (met c)) ≡ Waiting (asked c)
+row c = sym (c .before .before .before .stage-in .ensures) ∙ c .before .stage .given .1
 
-house-number-requires : tie.Need-house-number-requires
-house-number-requires c κs = search needs
+drive : (c : tie.After-known-told2) → isDrive (desk (on (met c) .before) .table) (asked c .job .drive) ≡ true
+drive c = waiting-facts (desk (on (met c) .before)) (guest (met c)) (asked c) (passed (on (met c)) .acceptable) (below (met c)) (row c) .job .drive
 
 returns : tie.Need-returns
 unfolding turnOf
 returns c =
     let h = c .before in
     turn-answered (desk h) (arena h) (store h)
-    (house-refused _ _ _ (λ n. done (desk h) (TurnRefused n) (arena h) (store h)) (turnNext (desk h) (firstWaiting (desk h .rows) 8 (desk h .pointer)) (arena h) (store h)) (number h) (c .if1 .taken))
+    (house-refused _ _ _ (λ n. done (desk h) (TurnRefused n) (arena h) (store h)) (turnNext (desk h) (firstWaiting (desk h .rows) 8 (desk h .pointer)) (arena h) (store h)) (h .house .ensures) (c .if1 .taken))
 
 next-waiting-requires : tie.Need-next-waiting-requires
 next-waiting-requires c κs = accept-true (desk (c .before .before)) (passed (c .before) .acceptable) .pointer
-
-enum-known-found : tie.Need-enum-known-found
-enum-known-found c = search needs
-
-enum-told : tie.Need-enum-told
-enum-told c = search needs
 
 returns-2 : tie.Need-returns-2
 returns-2 c =
@@ -88,73 +74,53 @@ returns-2 c =
     turn-answered (desk h) (arena h) (store h)
     (turn-nobody (desk h) (arena h) (store h) (passed (c .before .before .before .before)) (sym (c .before .before .next-waiting .ensures) ∙ c .enum-told .given .1))
 
-mul-row : tie.Need-mul-row
-mul-row c = omega (arith, below c)
-
-array-copy-out-row : tie.Need-array-copy-out-row
-array-copy-out-row c = omega (arith, below c)
-
-enum-known-stage : tie.Need-enum-known-stage
-enum-known-stage c = search needs
+stage-in-requires : tie.Need-stage-in-requires
+stage-in-requires c κs = below c
 
 returns-3 : tie.Need-returns-3
 returns-3 c =
-    let h = c .before .before .before .before .before .before .before .before in
+    let w = c .before .before in
+    let h = on w .before in
     turn-answered (desk h) (arena h) (store h)
-    (turn-other (desk h) (arena h) (store h) (passed (c .before .before .before .before .before .before .before)) (guest (c .before .before)) (found (c .before .before)) (c .match2 .keys2))
-
-drive-at-requires : tie.Need-drive-at-requires
-drive-at-requires c κs = search needs
-
-service-of-requires : tie.Need-service-of-requires
-service-of-requires c κs = search needs
+    (turn-other (desk h) (arena h) (store h) (passed (on w)) (guest w) (found w) (rw (c .before .stage-in .ensures) at (c .match2 .keys2)))
 
 transfer-requires : tie.Need-transfer-requires
 transfer-requires c κs =
-    let h = c .before .before .before .before .before .before .before .before .before .before .before .before .before .before .before in
-    let w = c .before .before .before .before .before .before .before .before .before in
-    let s = c .before .before .before .before .before .before .stage in
-    let r = in-range (desk h) (arena h) (store h) (guest w) (s .given .0 .0) (passed (c .before .before .before .before .before .before .before .before .before .before .before .before .before .before)) (below w) (s .given .1) (omega (arith, c .before .before .before .before .before .before .before .before .before .before .before .before .before .before .before .before .before .before .before .before .good .1 .0 .0)) (omega (arith, c .before .before .before .before .before .before .before .before .before .before .before .before .before .before .before .before .before .before .before .before .good .1 .1 .0 .0)) (c .before .before .service-of .ensures) in
-    rw (c .before .before .before .drive-at .ensures .1 (facts (c .before .before .before .before .before) .job .drive)) r
+    let w = c .before .before .before .before .before in
+    let h = on (met w) .before in
+    let lengths = h .before .before .before .good in
+    rw (c .before .before .before .drive-at .ensures .1 (drive w))
+    (in-range (desk h) (arena h) (store h) (guest (met w)) (asked w) (passed (on (met w))) (below (met w)) (row w) (omega (arith, lengths .1 .0 .0)) (omega (arith, lengths .1 .1 .0 .0)) (c .before .before .service-of .ensures))
 
 served-requires : tie.Need-served-requires
-served-requires c κs = below (c .before .before .before .before .before .before .before .before .before .before .before .before .before .before)
-
-same-length : tie.Need-same-length
-same-length c = search needs
-
-same-length-2 : tie.Need-same-length-2
-same-length-2 c = search needs
+served-requires c κs = below (met (c .before .before .before .before .before .before .before .before .before .before))
 
 returns-4 : tie.Need-returns-4
 returns-4 c =
-    let h = c .before .before .before .before .before .before .before .before .before .before .before .before .before .before .before .before .before .before .before .before .before in
-    let w = c .before .before .before .before .before .before .before .before .before .before .before .before .before .before .before in
-    let s = c .before .before .before .before .before .before .before .before .before .before .before .before .stage in
-    let t : Transferred (driveAt (desk h .table) (s .given .0 .0 .job .drive) .first) (s .given .0 .0) (c .before .before .before .before .before .before .before .before .service-of .result .moved) (guest w) (arena h) (store h) _ _ = rw (c .before .before .before .before .before .before .before .before .before .drive-at .ensures .1 (facts (c .before .before .before .before .before .before .before .before .before .before .before) .job .drive)) at (c .before .before .before .before .before .transfer .ensures) in
+    let k = c .before .before .before .before .before .before .before .before in
+    let w = k .before .before .before in
+    let h = on (met w) .before in
+    let t : Transferred (driveAt (desk h .table) (asked w .job .drive) .first) (asked w) (k .service-of .result .moved) (guest (met w)) (arena h) (store h) _ _ = rw (k .before .drive-at .ensures .1 (drive w)) at (c .before .before .before .before .before .transfer .ensures) in
     turn-answered (desk h) (arena h) (store h)
-    (turn-served (desk h) (arena h) (store h) (passed (c .before .before .before .before .before .before .before .before .before .before .before .before .before .before .before .before .before .before .before .before)) (guest w) (s .given .0 .0) (found w) (s .given .1) (c .before .before .before .before .before .before .before .before .service-of .ensures) (c .served .ensures .0) (c .served .ensures .1) t)
+    (turn-served (desk h) (arena h) (store h) (passed (on (met w))) (guest (met w)) (asked w) (found (met w)) (row w) (k .service-of .ensures) (c .served .ensures .0) (c .served .ensures .1) t)
 
 pub turn-spec : {M : Type 1} → statement M
 turn-spec =
     tie.close
     (tie.spec
-    accept-requires
-    is-lent-requires
-    house-number-requires
+    (search needs)
     returns
     next-waiting-requires
-    enum-known-found
-    enum-told
+    (search needs)
+    (search needs)
     returns-2
-    mul-row
-    array-copy-out-row
-    enum-known-stage
+    stage-in-requires
+    (search needs)
     returns-3
-    drive-at-requires
-    service-of-requires
+    (search needs)
+    (search needs)
     transfer-requires
     served-requires
-    same-length
-    same-length-2
+    (search needs)
+    (search needs)
     returns-4)

@@ -1,5 +1,5 @@
 use mathlib.Core.Path.{_≡_, refl, _∙_}
-use mathlib.Core.Bool.{true, false}
+use mathlib.Core.Bool.{true}
 use lib.ListN.{length}
 use denote.Ref.{now}
 use Rattle.table.specs.declared.Written.the-variants.{Refused as WriteRefused}
@@ -12,11 +12,6 @@ use Rattle.desk.proofs.NumbersLaws.{write-answered}
 use borrow.Author.Needs.{needs}
 use Rattle.desk.proofs.Desk.write.Statement.{statement}
 use Rattle.desk.proofs.Desk.write.Tie as tie
-use Rattle.desk.proofs.Desk.write.Reads as reads
-use Rattle.desk.proofs.Desk.write.Lts as lts
-use Rattle.desk.proofs.Desk.accept.Reads as accept-reads
-use Rattle.desk.proofs.house_number.Reads as house-number-reads
-use Rattle.table.proofs.write_table.Reads as write-table-reads
 
 abbrev desk : tie.After-house-number → Desk
 desk c = c .before .before .before .args .self
@@ -24,23 +19,11 @@ desk c = c .before .before .before .args .self
 number : (c : tie.After-house-number) → c .house-number .result ≡ houseNumber (accept (desk c)) true true
 number c = house-tests (c .house-number .ensures) (c .before .accept .ensures) refl refl
 
-accept-requires : tie.Need-accept-requires
-accept-requires c κs = search needs
-
-house-number-requires : tie.Need-house-number-requires
-house-number-requires c κs = search needs
-
 returns : tie.Need-returns
 unfolding writtenOf writtenOut
 returns c =
     let out = now (c .before .before .before .before .args .out) in
     write-answered (desk (c .before)) out (house-refused _ _ _ WriteRefused (writeAnswer (desk (c .before) .table) (length out)) (number (c .before)) (c .if1 .taken)) (house-refused _ _ _ (λ n. out) (writeOut (desk (c .before) .table) out) (number (c .before)) (c .if1 .taken))
-
-write-table-requires : tie.Need-write-table-requires
-write-table-requires c κs = search needs
-
-same-length : tie.Need-same-length
-same-length c = search needs
 
 returns-2 : tie.Need-returns-2
 returns-2 c =
@@ -52,9 +35,9 @@ pub write-spec : {M : Type 1} → statement M
 write-spec =
     tie.close
     (tie.spec
-    accept-requires
-    house-number-requires
+    (search needs)
+    (search needs)
     returns
-    write-table-requires
-    same-length
+    (search needs)
+    (search needs)
     returns-2)
