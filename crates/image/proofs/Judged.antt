@@ -13,7 +13,7 @@ use lib.Seq.{length-take-le, drop-drop, getD-append-add, getD-take, getD-drop}
 use lib.Dec.{leb, ltb, eqb}
 use borrow.Author.Tests.{eq-eqb, ne-eqb, eqb-true, eqb-false, lt-ltb, le-ltb, ltb-true, ltb-false, le-leb, lt-leb, leb-true, leb-false}
 use Rattle.logic.specs.Logic.{pick, both, either, allBelow, someBelow}
-use Rattle.logic.proofs.LogicLaws.{impossible, both-true, both-intro, true≢false, lt-or-le, all-more, all-intro, all-at, all-ext}
+use Rattle.logic.proofs.LogicLaws.{both-true, both-intro, both-assoc, both-comm, both-left, both-false, both-itself, pick-both, either-both, not-either, true-iff, lt-or-le, all-intro, all-at, all-ext, all-fails, all-next, all-front, all-add, all-both, all-split}
 use Rattle.words.specs.Words.{Bytes, le, leBytes, part}
 use Rattle.words.proofs.WordsLaws.{le-split, le-lt, le-ext, read-write, write-read, length-leBytes}
 use Rattle.drive.specs.declared.Drive.{Drive}
@@ -39,77 +39,6 @@ use Rattle.image.specs.Judged.{below, areRegisters, isRequest, isPlace, 
 use Rattle.image.proofs.Fill.{length-each, length-flat, length-row, length-drive}
 use Rattle.image.proofs.ImageLaws.{Says, drive-read}
 use Rattle.image.proofs.Fields.{row-of, place-of}
-
--- ---- tests
-
-both-assoc : (a b c : Bool) → both (both a b) c ≡ both a (both b c)
-both-assoc true b c = refl
-both-assoc false b c = refl
-
-both-comm : (a b : Bool) → both a b ≡ both b a
-both-comm true true = refl
-both-comm true false = refl
-both-comm false true = refl
-both-comm false false = refl
-
-both-left : (a b c : Bool) → both a (both b c) ≡ both b (both a c)
-both-left true b c = refl
-both-left false true c = refl
-both-left false false c = refl
-
-pub both-false : (a : Bool) → both a false ≡ false
-both-false true = refl
-both-false false = refl
-
-both-itself : (a : Bool) → both a true ≡ a
-both-itself true = refl
-both-itself false = refl
-
--- two tests are one where each says the other
-true-iff : (x y : Bool) → (x ≡ true → y ≡ true) → (y ≡ true → x ≡ true) → x ≡ y
-true-iff true y f g = sym (f refl)
-true-iff false true f g = g refl
-true-iff false false f g = refl
-
--- ---- tests of every number below n
-
-all-front : (n : ℕ) (f : ℕ → Bool) → allBelow (suc n) f ≡ both (f 0) (allBelow n (λ k. f (suc k)))
-all-front zero f = refl
-all-front (suc n) f = ap (λ (t : Bool). both (f (suc n)) t) (all-front n f) ∙ both-left (f (suc n)) (f 0) (allBelow n (λ k. f (suc k)))
-
-all-add : (m n : ℕ) (f : ℕ → Bool) → allBelow (m + n) f ≡ both (allBelow m f) (allBelow n (λ k. f (m + k)))
-all-add m zero f = rw add-zero (sym (both-itself (allBelow m f)))
-all-add m (suc n) f =
-    rw add-suc (
-    ap (λ (t : Bool). both (f (m + n)) t) (all-add m n f)
-    ∙ both-left (f (m + n)) (allBelow m f) (allBelow n (λ k. f (m + k))))
-
-all-both : (n : ℕ) (f g : ℕ → Bool) → both (allBelow n f) (allBelow n g) ≡ allBelow n (λ i. both (f i) (g i))
-all-both zero f g = refl
-all-both (suc n) f g =
-    rw (← all-both n f g) (
-    both-assoc (f n) (allBelow n f) (both (g n) (allBelow n g))
-    ∙ ap (λ (t : Bool). both (f n) t) (both-left (allBelow n f) (g n) (allBelow n g))
-    ∙ sym (both-assoc (f n) (g n) (both (allBelow n f) (allBelow n g))))
-
--- those below c, and the others
-all-split : (n c : ℕ) (f : ℕ → Bool) → c ≤ n → allBelow n f ≡ both (allBelow c f) (allBelow n (λ i. either (ltb i c) (f i)))
-all-split n c f l =
-    true-iff _ _
-    (λ e. both-intro (allBelow c f) (allBelow n (λ i. either (ltb i c) (f i)))
-    (all-intro c f (λ i h. all-at n i f e (omega arith)))
-    (all-intro n (λ i. either (ltb i c) (f i)) (λ i h. right (ltb i c) (f i) (all-at n i f e h))))
-    (λ e.
-    let p = both-true (allBelow c f) (allBelow n (λ i. either (ltb i c) (f i))) e in
-    all-intro n f (λ i h. ⊎-elim (λ x. all-at c i f (p .0) x) (λ x. other (ltb i c) (f i) (le-ltb i c x) (all-at n i (λ i. either (ltb i c) (f i)) (p .1) h)) (lt-or-le i c)))
-  where
-    right : (a b : Bool) → b ≡ true → either a b ≡ true
-    right true b e = refl
-    right false b e = e
-
-    other : (a b : Bool) → a ≡ false → either a b ≡ true → b ≡ true
-    other true b e f = impossible (cc)
-    other false b e f = f
 
 -- ---- the eight bytes of a word
 
@@ -261,10 +190,6 @@ module _ (b : List ℕ) where
 below-one : (w : ℕ) → eqb w 0 ≡ ltb w 1
 below-one w = true-iff (eqb w 0) (ltb w 1) (λ e. lt-ltb w 1 (omega (arith, eqb-true w 0 e))) (λ e. eq-eqb w 0 (omega (arith, ltb-true w 1 e)))
 
-pick-both : (t x : Bool) → pick t x false ≡ both t x
-pick-both true x = refl
-pick-both false x = refl
-
 module _ (b : List ℕ) (h : Bytes b) where
   zeros-is : (n i : ℕ) → i + 8 * n ≤ length b → matches b i (replicate n 0) ≡ below n 1 b i
   unfolding matches below
@@ -398,10 +323,6 @@ sound-all n l store = refl
 blank-all : (n : ℕ) (l : List Drive) (count : ℕ) → blankTo n l count ≡ allBelow n (λ i. either (ltb i count) (isBlank (getD l i noDrive)))
 unfolding blankTo
 blank-all n l count = refl
-
-not-either : (a c : Bool) → not (either a c) ≡ both (not a) (not c)
-not-either true c = refl
-not-either false c = refl
 
 none-overlaps : (n : ℕ) (l : List Drive) (d : Drive) → not (overlapsAny n l d) ≡ allBelow n (λ j. not (overlap d (getD l j noDrive)))
 unfolding overlapsAny
@@ -624,10 +545,6 @@ module _ (b : List ℕ) (h : Bytes b) (l : length b ≡ deskSize) where
       rw (places-is, blanks, sound-is b count store m, all-split 8 count P m, ← rest, ← all-both count P F)
       (arrange (allBelow count P) (allBelow 8 (past P)) (allBelow count F) (drivesApart count b) (allBelow 8 (past Z)))
     where
-      either-both : (t x y : Bool) → both (either t x) (either t y) ≡ either t (both x y)
-      either-both true x y = refl
-      either-both false x y = refl
-
       arrange : (p q f a z : Bool) → both (both p q) (both (both f a) z) ≡ both (both p f) (both (both q z) a)
       arrange p q f a z = simp (both-assoc, both-comm, both-left)
 
@@ -700,14 +617,25 @@ judged-is b h = go (eqb (length b) deskSize) (eqb-true (length b) deskSize) ∙ 
 
 -- ---- the tests of the code
 
-pub rest-none : (n : ℕ) (b : List ℕ) → restZero n n b ≡ true
-unfolding restZero
-rest-none n b = all-intro n _ (λ i l. ap (λ (t : Bool). either t (below 14 1 b (placeAt i))) (lt-ltb i n l))
+module _ (n : ℕ) (b : List ℕ) where
+  past : ℕ → Bool
+  past i = either (ltb i n) (below 14 1 b (placeAt i))
 
-pub rest-more : {r a s : Bool} (i n : ℕ) (b : List ℕ) → n ≤ i → s ≡ restZero i n b → r ≡ both a s → a ≡ below 14 1 b (placeAt i) → r ≡ restZero (i + 1) n b
-unfolding restZero
-rest-more i n b l p q e =
-    all-more i (λ i. either (ltb i n) (below 14 1 b (placeAt i))) p q (e ∙ ap (λ (t : Bool). either t (below 14 1 b (placeAt i))) (sym (le-ltb i n l)))
+  past-is : {a : Bool} (i : ℕ) → n ≤ i → a ≡ below 14 1 b (placeAt i) → a ≡ past i
+  unfolding past
+  past-is i l e = rw (le-ltb i n l) e
+
+  pub rest-none : true ≡ restZero n n b
+  unfolding restZero past
+  rest-none = sym (all-intro n past (λ i l. rw (lt-ltb i n l)))
+
+  pub rest-bad : {a : Bool} (i : ℕ) → n ≤ i → i < 8 → a ≡ below 14 1 b (placeAt i) → a ≡ false → false ≡ restZero 8 n b
+  unfolding restZero past
+  rest-bad i l m e z = all-fails 8 i past m (past-is i l e) z
+
+  pub rest-next : {a : Bool} (i : ℕ) → n ≤ i → true ≡ restZero i n b → a ≡ below 14 1 b (placeAt i) → a ≡ true → true ≡ restZero (i + 1) n b
+  unfolding restZero past
+  rest-next i l p e z = all-next i past p (past-is i l e) z
 
 module _ (b : List ℕ) (M i : ℕ) where
   pub waiting-unknown : (q : Request) → q ≡ requestAt b (requestPlace i) → isDrive (readDesk b .table) (q .job .drive) ≡ false → false ≡ waitingGood b M i
@@ -743,11 +671,15 @@ module _ (b : List ℕ) (h : Bytes b) where
   unfolding judged
   judged-size n = rw (← judged-is b h, ne-eqb (length b) deskSize n)
 
+  pub judged-pointer : {p : ℕ} → length b ≡ deskSize → p ≡ le 8 b pointerAt → 8 ≤ p → false ≡ accepted b
+  unfolding judged
+  judged-pointer {p} l e m = rw (← judged-is b h, eq-eqb (length b) deskSize l, ← e, le-ltb p 8 m) (sym (both-false (tableGood b)))
+
   pub judged-table : {t : Bool} → length b ≡ deskSize → t ≡ tableGood b → t ≡ false → false ≡ accepted b
   unfolding judged
   judged-table l e f = rw (← judged-is b h, eq-eqb (length b) deskSize l, sym e ∙ f)
 
-  pub judged-tests : {p a : ℕ} {t x r : Bool} → length b ≡ deskSize → t ≡ tableGood b → t ≡ true → p ≡ le 8 b pointerAt → a ≡ le 8 b arenaAt
-      → x ≡ rowsGood 8 b (a / 8) → r ≡ both (ltb p 8) x → r ≡ accepted b
+  pub judged-rows : {p a : ℕ} {t r : Bool} → length b ≡ deskSize → p ≡ le 8 b pointerAt → p < 8 → t ≡ tableGood b → t ≡ true → a ≡ le 8 b arenaAt
+      → r ≡ rowsGood 8 b (a / 8) → r ≡ accepted b
   unfolding judged
-  judged-tests l e f ep ea ex er = rw (← judged-is b h, er, ex, ep, ea, eq-eqb (length b) deskSize l, sym e ∙ f)
+  judged-rows {p} l ep m e f ea er = rw (← judged-is b h, er, ea, eq-eqb (length b) deskSize l, sym e ∙ f, ← ep, lt-ltb p 8 m)

@@ -266,26 +266,28 @@ fn drives_good(b: &[u8], n: usize, store: u64) -> bool
     requires { ⌜ (length (now b) ≡ deskSize) × (n ≤ mostDrives) ⌝ }
     ensures { λ r. ⌜ r ≡ drivesGood n (now (b .entry)) store ⌝ }
 {
-    let mut good = true;
     let mut i = 0;
     while i < n {
-        good = logic::and(drive_good(b, PLACES + PLACE * i, store), good);
+        if !drive_good(b, PLACES + PLACE * i, store) {
+            return false;
+        }
         i += 1;
     }
-    good
+    true
 }
 
 fn rest_zero(b: &[u8], n: usize) -> bool
     requires { ⌜ (length (now b) ≡ deskSize) × (n ≤ mostDrives) ⌝ }
     ensures { λ r. ⌜ r ≡ restZero mostDrives n (now (b .entry)) ⌝ }
 {
-    let mut good = true;
     let mut i = n;
     while i < 8 {
-        good = logic::and(below(b, PLACES + PLACE * i, 14, 1), good);
+        if !below(b, PLACES + PLACE * i, 14, 1) {
+            return false;
+        }
         i += 1;
     }
-    good
+    true
 }
 
 // Two runs of blocks share none, found by differences, so that no sum wraps.
@@ -426,13 +428,14 @@ fn rows_good(b: &[u8], m: u64) -> bool
     requires { ⌜ length (now b) ≡ deskSize ⌝ }
     ensures { λ r. ⌜ r ≡ rowsGood guests (now (b .entry)) m ⌝ }
 {
-    let mut good = true;
     let mut g = 0;
     while g < 8 {
-        good = logic::and(row_good(b, ROW * g, m), good);
+        if !row_good(b, ROW * g, m) {
+            return false;
+        }
         g += 1;
     }
-    good
+    true
 }
 
 // Whether a block is the image of an acceptable desk.
@@ -442,11 +445,13 @@ pub fn acceptable(b: &[u8]) -> bool
     if b.len() != SIZE {
         return false;
     }
+    if 8 <= words::get64(b, POINTER) {
+        return false;
+    }
     if !table_good(b) {
         return false;
     }
-    let rows = rows_good(b, words::get64(b, ARENA) / 8);
-    logic::and(words::get64(b, POINTER) < 8, rows)
+    rows_good(b, words::get64(b, ARENA) / 8)
 }
 
 // ---- the words of a desk, laid out
