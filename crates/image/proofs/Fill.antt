@@ -15,7 +15,7 @@ use Rattle.desk.specs.declared.Stage.{Stage}
 use Rattle.desk.specs.declared.Stage.the-variants.{Vacant, Waiting, Finished}
 use Rattle.desk.specs.declared.Row.{Row}
 use Rattle.desk.specs.declared.Desk.{Desk}
-use Rattle.image.specs.Image.{each, flat, stageWords, rowWords, rowsWords, driveWords, placesWords, tailWords, deskWords, image, rowAt, placeAt, tailAt, deskSize}
+use Rattle.image.specs.Image.{each, flat, stageWords, rowWords, rowsWords, driveWords, slotsWords, tailWords, deskWords, image, rowAt, slotAt, tailAt, deskSize}
 
 module _ {A : Type 0} (f : A → List ℕ) where
   pub each-append : (xs ys : List A) → each f (xs ++ ys) ≡ each f xs ++ each f ys
@@ -83,23 +83,23 @@ module _ (rows : List Row) (drives : List Drive) (r : length rows ≡ 8) (t : le
   pub length-rows : length (flat (rowsWords rows)) ≡ rowAt 8
   length-rows = length-flat (rowsWords rows) ∙ ap (λ (m : ℕ). 8 * m) (length-each rowWords 23 length-row rows ∙ ap (λ (m : ℕ). 23 * m) r)
 
-  pub length-places : length (flat (placesWords drives)) ≡ 8 * (14 * 8)
-  length-places = length-flat (placesWords drives) ∙ ap (λ (m : ℕ). 8 * m) (length-each driveWords 14 length-drive drives ∙ ap (λ (m : ℕ). 14 * m) t)
+  pub length-slots : length (flat (slotsWords drives)) ≡ 8 * (14 * 8)
+  length-slots = length-flat (slotsWords drives) ∙ ap (λ (m : ℕ). 8 * m) (length-each driveWords 14 length-drive drives ∙ ap (λ (m : ℕ). 14 * m) t)
 
 -- the sections, laid one after the other
 pub laid-out : (s : List ℕ) (d : Desk) → length s ≡ deskSize → length (d .rows) ≡ 8 → length (d .table .drives) ≡ 8
-    → sets (sets (sets s (rowAt 0) (flat (rowsWords (d .rows)))) (placeAt 0) (flat (placesWords (d .table .drives)))) (tailAt 0) (flat (tailWords d)) ≡ image d
+    → sets (sets (sets s (rowAt 0) (flat (rowsWords (d .rows)))) (slotAt 0) (flat (slotsWords (d .table .drives)))) (tailAt 0) (flat (tailWords d)) ≡ image d
 unfolding image deskWords
 laid-out s d n r t =
     let R = flat (rowsWords (d .rows)) in
-    let D = flat (placesWords (d .table .drives)) in
+    let D = flat (slotsWords (d .table .drives)) in
     let T = flat (tailWords d) in
-    let lr : length R ≡ placeAt 0 = length-rows (d .rows) (d .table .drives) r t in
-    let ld : length (R ++ D) ≡ tailAt 0 = length-append R D ∙ omega (arith, length-places (d .rows) (d .table .drives) r t) in
+    let lr : length R ≡ slotAt 0 = length-rows (d .rows) (d .table .drives) r t in
+    let ld : length (R ++ D) ≡ tailAt 0 = length-append R D ∙ omega (arith, length-slots (d .rows) (d .table .drives) r t) in
     let lt : length ((R ++ D) ++ T) ≡ length s = length-append (R ++ D) T ∙ omega (arith, length-flat (tailWords d)) in
-    ap (λ (l : List ℕ). sets l (tailAt 0) T) (sets-next s 0 (placeAt 0) R D lr)
+    ap (λ (l : List ℕ). sets l (tailAt 0) T) (sets-next s 0 (slotAt 0) R D lr)
     ∙ sets-next s 0 (tailAt 0) (R ++ D) T ld
     ∙ sets-whole s ((R ++ D) ++ T) (sym lt)
     ∙ append-assoc R D T
-    ∙ sym (each-append (leBytes 8) (rowsWords (d .rows)) (placesWords (d .table .drives) ++ tailWords d)
-    ∙ ap (λ (l : List ℕ). R ++ l) (each-append (leBytes 8) (placesWords (d .table .drives)) (tailWords d)))
+    ∙ sym (each-append (leBytes 8) (rowsWords (d .rows)) (slotsWords (d .table .drives) ++ tailWords d)
+    ∙ ap (λ (l : List ℕ). R ++ l) (each-append (leBytes 8) (slotsWords (d .table .drives)) (tailWords d)))

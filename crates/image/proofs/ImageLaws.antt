@@ -31,9 +31,9 @@ use Rattle.desk.specs.Acceptable.{accept}
 use Rattle.desk.specs.Calls.{closed}
 use Rattle.desk.proofs.AcceptableLaws.{closed-refused}
 use Rattle.memory.proofs.Sets.{length-part}
-use Rattle.image.specs.Image.{each, flat, requestWords, stageWords, rowWords, rowsWords, driveWords, placesWords, tailWords, deskWords, image, placeSize, rowAt, placeAt, tailAt, deskSize, countAt, pointerAt, arenaAt, storeAt, requestPlace, finishedPlace, registersAt, requestAt, readStage, readRow, readDrive, readRows, readPlaces, readDesk, isImage, deskOf, accepted, FitsRegisters, FitsRequest, FitsStage, FitsDrive, FitsTable, FitsDesk, ImageOf, Exact}
+use Rattle.image.specs.Image.{each, flat, requestWords, stageWords, rowWords, rowsWords, driveWords, slotsWords, tailWords, deskWords, image, slotSize, rowAt, slotAt, tailAt, deskSize, countAt, pointerAt, arenaAt, storeAt, requestPlace, finishedPlace, registersAt, requestAt, readStage, readRow, readDrive, readRows, readSlots, readDesk, isImage, deskOf, accepted, FitsRegisters, FitsRequest, FitsStage, FitsDrive, FitsTable, FitsDesk, ImageOf, Exact}
 use Rattle.image.proofs.Fill.{length-each, length-flat, length-row, length-drive}
-use Rattle.image.proofs.Fields.{listed-is, row-of, place-of}
+use Rattle.image.proofs.Fields.{listed-is, row-of, slot-of}
 
 -- ---- members of a list that is put together
 
@@ -154,7 +154,7 @@ stage-read s i (Finished r) h f =
       registers-read s (finishedPlace i) r (says-right s i (finishedPlace i) (2 ∷ replicate 14 0) _ refl h) f,
     )
 
-pub drive-read : (s : List ℕ) (i : ℕ) (d : Drive) → Says s i (driveWords d) → FitsDrive d → Bytes s → i + placeSize ≤ length s → readDrive s i ≡ d
+pub drive-read : (s : List ℕ) (i : ℕ) (d : Drive) → Says s i (driveWords d) → FitsDrive d → Bytes s → i + slotSize ≤ length s → readDrive s i ≡ d
 unfolding readDrive
 drive-read s i d h f bs l =
     let n = f .numbers in
@@ -215,8 +215,8 @@ module _ (d : Desk) (fit : FitsDesk d) where
   rows-length : length (rowsWords (d .rows)) ≡ 23 * 8
   rows-length = length-each rowWords 23 length-row (d .rows) ∙ ap (λ (m : ℕ). 23 * m) (fit .eight)
 
-  places-length : length (placesWords (d .table .drives)) ≡ 14 * 8
-  places-length = length-each driveWords 14 length-drive (d .table .drives) ∙ ap (λ (m : ℕ). 14 * m) (fit .table .eight)
+  slots-length : length (slotsWords (d .table .drives)) ≡ 14 * 8
+  slots-length = length-each driveWords 14 length-drive (d .table .drives) ∙ ap (λ (m : ℕ). 14 * m) (fit .table .eight)
 
   pub length-image : length (image d) ≡ deskSize
   unfolding image deskWords
@@ -225,22 +225,22 @@ module _ (d : Desk) (fit : FitsDesk d) where
       ∙ omega (
         arith,
         rows-length,
-        places-length,
-        length-append (rowsWords (d .rows)) (placesWords (d .table .drives) ++ tailWords d),
-        length-append (placesWords (d .table .drives)) (tailWords d),
+        slots-length,
+        length-append (rowsWords (d .rows)) (slotsWords (d .table .drives) ++ tailWords d),
+        length-append (slotsWords (d .table .drives)) (tailWords d),
       )
 
   -- the words of each section
 
-  says-rows : Says (image d) (rowAt 0) (rowsWords (d .rows) ++ (placesWords (d .table .drives) ++ tailWords d))
+  says-rows : Says (image d) (rowAt 0) (rowsWords (d .rows) ++ (slotsWords (d .table .drives) ++ tailWords d))
   unfolding image deskWords
   says-rows = says-flat (deskWords d)
 
-  says-places : Says (image d) (placeAt 0) (placesWords (d .table .drives) ++ tailWords d)
-  says-places = says-right (image d) (rowAt 0) (placeAt 0) (rowsWords (d .rows)) _ (omega (arith, rows-length)) says-rows
+  says-slots : Says (image d) (slotAt 0) (slotsWords (d .table .drives) ++ tailWords d)
+  says-slots = says-right (image d) (rowAt 0) (slotAt 0) (rowsWords (d .rows)) _ (omega (arith, rows-length)) says-rows
 
   says-tail : Says (image d) (tailAt 0) (tailWords d)
-  says-tail = says-right (image d) (placeAt 0) (tailAt 0) (placesWords (d .table .drives)) _ (omega (arith, places-length)) says-places
+  says-tail = says-right (image d) (slotAt 0) (tailAt 0) (slotsWords (d .table .drives)) _ (omega (arith, slots-length)) says-slots
 
   -- each section is read back
 
@@ -251,12 +251,12 @@ module _ (d : Desk) (fit : FitsDesk d) where
       (stage-read (image d) (rowAt g) (stageAt d g)
       (says-each rowWords 23 length-row vacantRow (image d) (rowAt 0) (rowAt g) (d .rows) _ g (omega (arith, fit .eight)) (omega arith) says-rows) (fit .each g l)))
 
-  places-read : readPlaces (image d) ≡ d .table .drives
+  slots-read : readSlots (image d) ≡ d .table .drives
   unfolding image
-  places-read =
-      listed-is (λ i. readDrive (image d) (placeAt i)) (d .table .drives) 8 noDrive (fit .table .eight) (λ i l.
-      drive-read (image d) (placeAt i) (getD (d .table .drives) i noDrive)
-      (says-each driveWords 14 length-drive noDrive (image d) (placeAt 0) (placeAt i) (d .table .drives) _ i (omega (arith, fit .table .eight)) (omega arith) says-places)
+  slots-read =
+      listed-is (λ i. readDrive (image d) (slotAt i)) (d .table .drives) 8 noDrive (fit .table .eight) (λ i l.
+      drive-read (image d) (slotAt i) (getD (d .table .drives) i noDrive)
+      (says-each driveWords 14 length-drive noDrive (image d) (slotAt 0) (slotAt i) (d .table .drives) _ i (omega (arith, fit .table .eight)) (omega arith) says-slots)
       (fit .table .each i l) (bytes-flat (deskWords d)) (omega (arith, length-image)))
 
   tail-read : (j v : ℕ) → j < 4 → getD (tailWords d) j 0 ≡ v → v < 256 ^ 8 → le 8 (image d) (tailAt j) ≡ v
@@ -267,7 +267,7 @@ module _ (d : Desk) (fit : FitsDesk d) where
   read-image =
       rw (
         rows-read,
-        places-read,
+        slots-read,
         tail-read 0 (d .table .count) (omega arith) refl (fit .table .count),
         tail-read 1 (d .pointer) (omega arith) refl (fit .pointer),
         tail-read 2 (d .arena) (omega arith) refl (fit .arena),
@@ -315,7 +315,7 @@ module _ (b : List ℕ) (h : Bytes b) where
       go false true = registers-fit (finishedPlace i)
       go false false = tt
 
-  drive-fits : (i : ℕ) → i + placeSize ≤ length b → FitsDrive (readDrive b i)
+  drive-fits : (i : ℕ) → i + slotSize ≤ length b → FitsDrive (readDrive b i)
   unfolding readDrive
   drive-fits i l =
       record {
@@ -347,7 +347,7 @@ module _ (b : List ℕ) (h : Bytes b) where
   table-fits l =
       record {
         eight = refl;
-        each = λ i q. rw (place-of b i q) (drive-fits (placeAt i) (omega arith));
+        each = λ i q. rw (slot-of b i q) (drive-fits (slotAt i) (omega arith));
         count = le-lt 8 b countAt h;
       }
 

@@ -34,11 +34,11 @@ use Rattle.int13.specs.Answers.{registerNumbers}
 use Rattle.desk.specs.Acceptable.{requestOk, stageOk, rowsOk, accept}
 use Rattle.desk.specs.Calls.{closed}
 use Rattle.desk.proofs.AcceptableLaws.{closed-refused}
-use Rattle.image.specs.Image.{each, flat, listed, requestWords, stageWords, rowWords, rowsWords, driveWords, placesWords, tailWords, deskWords, image, rowSize, placeSize, rowAt, placeAt, tailAt, deskSize, countAt, pointerAt, arenaAt, storeAt, requestPlace, finishedPlace, registersAt, requestAt, readStage, readRow, readDrive, readRows, readPlaces, readDesk, isImage, deskOf, accepted, FitsDrive}
-use Rattle.image.specs.Judged.{below, areRegisters, isRequest, isPlace, driveGood, drivesGood, restZero, firstIn, blocksIn, apart, aloneTo, drivesApart, follows, ascending, waitingGood, finishedGood, rowGood, rowsGood, tableGood, judged}
+use Rattle.image.specs.Image.{each, flat, listed, requestWords, stageWords, rowWords, rowsWords, driveWords, slotsWords, tailWords, deskWords, image, rowSize, slotSize, rowAt, slotAt, tailAt, deskSize, countAt, pointerAt, arenaAt, storeAt, requestPlace, finishedPlace, registersAt, requestAt, readStage, readRow, readDrive, readRows, readSlots, readDesk, isImage, deskOf, accepted, FitsDrive}
+use Rattle.image.specs.Judged.{below, areRegisters, isRequest, isSlot, driveGood, drivesGood, restZero, firstIn, blocksIn, apart, aloneTo, drivesApart, follows, ascending, waitingGood, finishedGood, rowGood, rowsGood, tableGood, judged}
 use Rattle.image.proofs.Fill.{length-each, length-flat, length-row, length-drive}
 use Rattle.image.proofs.ImageLaws.{Says, drive-read}
-use Rattle.image.proofs.Fields.{row-of, place-of}
+use Rattle.image.proofs.Fields.{row-of, slot-of}
 
 -- ---- the eight bytes of a word
 
@@ -213,7 +213,7 @@ module _ (b : List ℕ) (h : Bytes b) where
         z,
       )
 
-  request-is : (i : ℕ) → i + placeSize ≤ length b → matches b i (requestWords (requestAt b i)) ≡ isRequest b i
+  request-is : (i : ℕ) → i + slotSize ≤ length b → matches b i (requestWords (requestAt b i)) ≡ isRequest b i
   unfolding matches isRequest areRegisters below
   request-is i l =
       let z : same (part 8 b (i + 0)) (leBytes 8 (le 2 b i)) ≡ ltb (le 8 b (i + 0)) (256 ^ 2) = rw add-zero (field-is b h 2 i (omega arith) (omega arith)) in
@@ -234,9 +234,9 @@ module _ (b : List ℕ) (h : Bytes b) where
         z,
       )
 
-  place-is : (i : ℕ) → i + placeSize ≤ length b → matches b i (driveWords (readDrive b i)) ≡ isPlace b i
-  unfolding matches readDrive isPlace below
-  place-is i l =
+  slot-is : (i : ℕ) → i + slotSize ≤ length b → matches b i (driveWords (readDrive b i)) ≡ isSlot b i
+  unfolding matches readDrive isSlot below
+  slot-is i l =
       let z : same (part 8 b (i + 0)) (leBytes 8 (le 4 b i)) ≡ ltb (le 8 b (i + 0)) (256 ^ 4) = rw add-zero (field-is b h 4 i (omega arith) (omega arith)) in
       rw (
         name-whole b h (i + 104) (omega arith),
@@ -315,7 +315,7 @@ rows-all (suc n) rows t M = ap (λ (x : Bool). both (stageOk t M (stageIn rows n
 
 -- ---- drives
 
--- the tests of the table, as tests of every place
+-- the tests of the table, as tests of every slot
 sound-all : (n : ℕ) (l : List Drive) (store : ℕ) → soundTo n l store ≡ allBelow n (λ i. eqb (refusal (firstDrives l i) (getD l i noDrive) store) 0)
 unfolding soundTo
 sound-all n l store = refl
@@ -427,21 +427,21 @@ module _ (b : List ℕ) (h : Bytes b) where
       same-true (part 8 b (i + 8 * j)) (leBytes 8 (getD ws j 0)) (all-at (length ws) j (λ j. same (part 8 b (i + 8 * j)) (leBytes 8 (getD ws j 0))) e l) in
       sym (getD-take 8 (drop (i + 8 * j) b) m 0 q ∙ getD-drop (i + 8 * j) b m 0) ∙ ap (λ (s : List ℕ). getD s m 0) p
 
-  -- a place past the count
-  zero-place : (i : ℕ) → i + placeSize ≤ length b → both (isPlace b i) (isBlank (readDrive b i)) ≡ below 14 1 b i
-  zero-place i l = true-iff _ _ to from
+  -- a slot past the count
+  zero-slot : (i : ℕ) → i + slotSize ≤ length b → both (isSlot b i) (isBlank (readDrive b i)) ≡ below 14 1 b i
+  zero-slot i l = true-iff _ _ to from
     where
-      words-are : readDrive b i ≡ zeroDrive → isPlace b i ≡ below 14 1 b i
-      words-are e = sym (place-is b h i l) ∙ ap (λ (d : Drive). matches b i (driveWords d)) e ∙ ap (matches b i) zero-words ∙ zeros-is b h 14 i l
+      words-are : readDrive b i ≡ zeroDrive → isSlot b i ≡ below 14 1 b i
+      words-are e = sym (slot-is b h i l) ∙ ap (λ (d : Drive). matches b i (driveWords d)) e ∙ ap (matches b i) zero-words ∙ zeros-is b h 14 i l
 
-      to : both (isPlace b i) (isBlank (readDrive b i)) ≡ true → below 14 1 b i ≡ true
-      to e = let p = both-true (isPlace b i) (isBlank (readDrive b i)) e in sym (words-are (blank-zero (readDrive b i) (p .1))) ∙ p .0
+      to : both (isSlot b i) (isBlank (readDrive b i)) ≡ true → below 14 1 b i ≡ true
+      to e = let p = both-true (isSlot b i) (isBlank (readDrive b i)) e in sym (words-are (blank-zero (readDrive b i) (p .1))) ∙ p .0
 
-      from : below 14 1 b i ≡ true → both (isPlace b i) (isBlank (readDrive b i)) ≡ true
+      from : below 14 1 b i ≡ true → both (isSlot b i) (isBlank (readDrive b i)) ≡ true
       from e =
           let z : readDrive b i ≡ zeroDrive =
           drive-read b i zeroDrive (says-matches i (driveWords zeroDrive) (ap (matches b i) zero-words ∙ zeros-is b h 14 i l ∙ e)) zero-fits h l in
-          both-intro (isPlace b i) (isBlank (readDrive b i)) (words-are z ∙ e) (ap isBlank z ∙ zero-blank)
+          both-intro (isSlot b i) (isBlank (readDrive b i)) (words-are z ∙ e) (ap isBlank z ∙ zero-blank)
 
 -- ---- a table
 
@@ -449,34 +449,34 @@ module _ (b : List ℕ) where
   drives : List Drive
   drives = readDesk b .table .drives
 
-  drive-of : (i : ℕ) → i < 8 → getD drives i noDrive ≡ readDrive b (placeAt i)
+  drive-of : (i : ℕ) → i < 8 → getD drives i noDrive ≡ readDrive b (slotAt i)
   unfolding drives
-  drive-of i l = place-of b i l
+  drive-of i l = slot-of b i l
 
-  apart-places : (i j : ℕ) → apart (firstIn b i) (blocksIn b i) (firstIn b j) (blocksIn b j) ≡ not (overlap (readDrive b (placeAt i)) (readDrive b (placeAt j)))
+  apart-slots : (i j : ℕ) → apart (firstIn b i) (blocksIn b i) (firstIn b j) (blocksIn b j) ≡ not (overlap (readDrive b (slotAt i)) (readDrive b (slotAt j)))
   unfolding readDrive
-  apart-places i j = apart-is (readDrive b (placeAt i)) (readDrive b (placeAt j))
+  apart-slots i j = apart-is (readDrive b (slotAt i)) (readDrive b (slotAt j))
 
-  alone-is : (i : ℕ) → i < 8 → not (overlapsAny i drives (readDrive b (placeAt i))) ≡ aloneTo i b i
+  alone-is : (i : ℕ) → i < 8 → not (overlapsAny i drives (readDrive b (slotAt i))) ≡ aloneTo i b i
   unfolding aloneTo drives
   alone-is i l =
-      none-overlaps i (readDesk b .table .drives) (readDrive b (placeAt i))
-      ∙ all-ext i _ (λ j. apart (firstIn b i) (blocksIn b i) (firstIn b j) (blocksIn b j)) (λ j q. rw (place-of b j (omega arith)) (sym (apart-places i j)))
+      none-overlaps i (readDesk b .table .drives) (readDrive b (slotAt i))
+      ∙ all-ext i _ (λ j. apart (firstIn b i) (blocksIn b i) (firstIn b j) (blocksIn b j)) (λ j q. rw (slot-of b j (omega arith)) (sym (apart-slots i j)))
 
   sound-is : (n store : ℕ) → n ≤ 8
-      → soundTo n drives store ≡ both (allBelow n (λ i. both (fieldsOk (readDrive b (placeAt i))) (inStore (readDrive b (placeAt i)) store))) (drivesApart n b)
+      → soundTo n drives store ≡ both (allBelow n (λ i. both (fieldsOk (readDrive b (slotAt i))) (inStore (readDrive b (slotAt i)) store))) (drivesApart n b)
   unfolding drivesApart
   sound-is n store l =
       sound-all n drives store
-      ∙ all-ext n _ (λ i. both (both (fieldsOk (readDrive b (placeAt i))) (inStore (readDrive b (placeAt i)) store)) (aloneTo i b i)) at
-      ∙ sym (all-both n (λ i. both (fieldsOk (readDrive b (placeAt i))) (inStore (readDrive b (placeAt i)) store)) (λ i. aloneTo i b i))
+      ∙ all-ext n _ (λ i. both (both (fieldsOk (readDrive b (slotAt i))) (inStore (readDrive b (slotAt i)) store)) (aloneTo i b i)) at
+      ∙ sym (all-both n (λ i. both (fieldsOk (readDrive b (slotAt i))) (inStore (readDrive b (slotAt i)) store)) (λ i. aloneTo i b i))
     where
       at : (i : ℕ) → i < n → eqb (refusal (firstDrives drives i) (getD drives i noDrive) store) 0
-          ≡ both (both (fieldsOk (readDrive b (placeAt i))) (inStore (readDrive b (placeAt i)) store)) (aloneTo i b i)
+          ≡ both (both (fieldsOk (readDrive b (slotAt i))) (inStore (readDrive b (slotAt i)) store)) (aloneTo i b i)
       at i q =
           ap (λ (d : Drive). eqb (refusal (firstDrives drives i) d store) 0) (drive-of i (omega arith))
-          ∙ sym (taken-is i drives (readDrive b (placeAt i)) store (omega arith))
-          ∙ ap (λ (x : Bool). both (both (fieldsOk (readDrive b (placeAt i))) (inStore (readDrive b (placeAt i)) store)) x) (alone-is i (omega arith))
+          ∙ sym (taken-is i drives (readDrive b (slotAt i)) store (omega arith))
+          ∙ ap (λ (x : Bool). both (both (fieldsOk (readDrive b (slotAt i))) (inStore (readDrive b (slotAt i)) store)) x) (alone-is i (omega arith))
 
 -- ---- drives in the order of the store share no block
 
@@ -521,28 +521,28 @@ module _ (b : List ℕ) (h : Bytes b) (l : length b ≡ deskSize) where
           let z : rowAt 0 + 8 * (23 * g) ≡ rowAt g = omega arith in
           rw (z, zero-add, row-of b g q) (row-is b h M (rowAt g) (omega arith))
 
-  places-is : matches b (placeAt 0) (placesWords (readPlaces b)) ≡ allBelow 8 (λ i. isPlace b (placeAt i))
-  places-is =
-      matches-each b driveWords 14 length-drive (λ i. readDrive b (placeAt i)) 8 0 (placeAt 0)
-      ∙ all-ext 8 (λ i. matches b (placeAt 0 + 8 * (14 * i)) (driveWords (readDrive b (placeAt (0 + i))))) (λ i. isPlace b (placeAt i)) (λ i q.
-      let z : placeAt 0 + 8 * (14 * i) ≡ placeAt i = omega arith in
-      rw (z, zero-add) (place-is b h (placeAt i) (omega arith)))
+  slots-is : matches b (slotAt 0) (slotsWords (readSlots b)) ≡ allBelow 8 (λ i. isSlot b (slotAt i))
+  slots-is =
+      matches-each b driveWords 14 length-drive (λ i. readDrive b (slotAt i)) 8 0 (slotAt 0)
+      ∙ all-ext 8 (λ i. matches b (slotAt 0 + 8 * (14 * i)) (driveWords (readDrive b (slotAt (0 + i))))) (λ i. isSlot b (slotAt i)) (λ i q.
+      let z : slotAt 0 + 8 * (14 * i) ≡ slotAt i = omega arith in
+      rw (z, zero-add) (slot-is b h (slotAt i) (omega arith)))
 
   table-is : (store : ℕ) → count ≤ 8
-      → both (matches b (placeAt 0) (placesWords (readPlaces b))) (both (soundTo count (drives b) store) (blankTo 8 (drives b) count))
+      → both (matches b (slotAt 0) (slotsWords (readSlots b))) (both (soundTo count (drives b) store) (blankTo 8 (drives b) count))
       ≡ both (drivesGood count b store) (both (restZero 8 count b) (drivesApart count b))
   unfolding drivesGood driveGood restZero
   table-is store m =
-      let P : ℕ → Bool = λ i. isPlace b (placeAt i) in
-      let F : ℕ → Bool = λ i. both (fieldsOk (readDrive b (placeAt i))) (inStore (readDrive b (placeAt i)) store) in
+      let P : ℕ → Bool = λ i. isSlot b (slotAt i) in
+      let F : ℕ → Bool = λ i. both (fieldsOk (readDrive b (slotAt i))) (inStore (readDrive b (slotAt i)) store) in
       let past : (ℕ → Bool) → ℕ → Bool = λ f i. either (ltb i count) (f i) in
-      let Z : ℕ → Bool = λ i. isBlank (readDrive b (placeAt i)) in
+      let Z : ℕ → Bool = λ i. isBlank (readDrive b (slotAt i)) in
       let blanks : blankTo 8 (drives b) count ≡ allBelow 8 (past Z) =
       blank-all 8 (drives b) count ∙ all-ext 8 _ (past Z) (λ i q. ap (λ (d : Drive). either (ltb i count) (isBlank d)) (drive-of b i q)) in
-      let rest : both (allBelow 8 (past P)) (allBelow 8 (past Z)) ≡ allBelow 8 (past (λ i. below 14 1 b (placeAt i))) =
-      all-both 8 (past P) (past Z) ∙ all-ext 8 _ (past (λ i. below 14 1 b (placeAt i))) (λ i q.
-      either-both (ltb i count) (P i) (Z i) ∙ ap (either (ltb i count)) (zero-place b h (placeAt i) (omega arith))) in
-      rw (places-is, blanks, sound-is b count store m, all-split 8 count P m, ← rest, ← all-both count P F)
+      let rest : both (allBelow 8 (past P)) (allBelow 8 (past Z)) ≡ allBelow 8 (past (λ i. below 14 1 b (slotAt i))) =
+      all-both 8 (past P) (past Z) ∙ all-ext 8 _ (past (λ i. below 14 1 b (slotAt i))) (λ i q.
+      either-both (ltb i count) (P i) (Z i) ∙ ap (either (ltb i count)) (zero-slot b h (slotAt i) (omega arith))) in
+      rw (slots-is, blanks, sound-is b count store m, all-split 8 count P m, ← rest, ← all-both count P F)
       (arrange (allBelow count P) (allBelow 8 (past P)) (allBelow count F) (drivesApart count b) (allBelow 8 (past Z)))
     where
       arrange : (p q f a z : Bool) → both (both p q) (both (both f a) z) ≡ both (both p f) (both (both q z) a)
@@ -552,27 +552,27 @@ module _ (b : List ℕ) (h : Bytes b) (l : length b ≡ deskSize) where
   unfolding matches readDesk
   tail-is = rw (whole-is b h storeAt (omega arith), whole-is b h arenaAt (omega arith), whole-is b h pointerAt (omega arith), whole-is b h countAt (omega arith))
 
-  image-is : same b (image (readDesk b)) ≡ both (matches b (rowAt 0) (rowsWords (readRows b))) (matches b (placeAt 0) (placesWords (readPlaces b)))
+  image-is : same b (image (readDesk b)) ≡ both (matches b (rowAt 0) (rowsWords (readRows b))) (matches b (slotAt 0) (slotsWords (readSlots b)))
   unfolding image deskWords readDesk
   image-is =
       let R = rowsWords (readRows b) in
-      let P = placesWords (readPlaces b) in
+      let P = slotsWords (readSlots b) in
       let T = tailWords (readDesk b) in
       let lr : length R ≡ 23 * 8 = length-each rowWords 23 length-row (readRows b) in
-      let lp : length P ≡ 14 * 8 = length-each driveWords 14 length-drive (readPlaces b) in
+      let lp : length P ≡ 14 * 8 = length-each driveWords 14 length-drive (readSlots b) in
       let n : 0 + 8 * length (R ++ (P ++ T)) ≡ length b = rw (length-append R (P ++ T), length-append P T) (omega arith) in
       same-flat b (R ++ (P ++ T)) 0 n
       ∙ matches-append b R (P ++ T) (rowAt 0)
-      ∙ ap (λ (x : Bool). both (matches b (rowAt 0) R) x) (places lr lp)
+      ∙ ap (λ (x : Bool). both (matches b (rowAt 0) R) x) (slots lr lp)
     where
-      places : length (rowsWords (readRows b)) ≡ 23 * 8 → length (placesWords (readPlaces b)) ≡ 14 * 8
-          → matches b (rowAt 0 + 8 * length (rowsWords (readRows b))) (placesWords (readPlaces b) ++ tailWords (readDesk b)) ≡ matches b (placeAt 0) (placesWords (readPlaces b))
-      places lr lp = rw lr (matches-append b (placesWords (readPlaces b)) (tailWords (readDesk b)) (placeAt 0) ∙ last lp)
+      slots : length (rowsWords (readRows b)) ≡ 23 * 8 → length (slotsWords (readSlots b)) ≡ 14 * 8
+          → matches b (rowAt 0 + 8 * length (rowsWords (readRows b))) (slotsWords (readSlots b) ++ tailWords (readDesk b)) ≡ matches b (slotAt 0) (slotsWords (readSlots b))
+      slots lr lp = rw lr (matches-append b (slotsWords (readSlots b)) (tailWords (readDesk b)) (slotAt 0) ∙ last lp)
         where
-          last : length (placesWords (readPlaces b)) ≡ 14 * 8
-              → both (matches b (placeAt 0) (placesWords (readPlaces b))) (matches b (placeAt 0 + 8 * length (placesWords (readPlaces b))) (tailWords (readDesk b)))
-              ≡ matches b (placeAt 0) (placesWords (readPlaces b))
-          last lp = rw (lp, tail-is) (both-itself (matches b (placeAt 0) (placesWords (readPlaces b))))
+          last : length (slotsWords (readSlots b)) ≡ 14 * 8
+              → both (matches b (slotAt 0) (slotsWords (readSlots b))) (matches b (slotAt 0 + 8 * length (slotsWords (readSlots b))) (tailWords (readDesk b)))
+              ≡ matches b (slotAt 0) (slotsWords (readSlots b))
+          last lp = rw (lp, tail-is) (both-itself (matches b (slotAt 0) (slotsWords (readSlots b))))
 
   sized : both (tableGood b) (both (ltb (le 8 b pointerAt) 8) (rowsGood 8 b (windowLength (le 8 b arenaAt)))) ≡ both (same b (image (readDesk b))) (accept (readDesk b))
   unfolding tableGood accept isSound readDesk count drives
@@ -586,14 +586,14 @@ module _ (b : List ℕ) (h : Bytes b) (l : length b ≡ deskSize) where
 
       go : (t : Bool) → (t ≡ true → count ≤ 8)
           → both (both t (both (drivesGood count b store) (both (restZero 8 count b) (drivesApart count b)))) (both (ltb (le 8 b pointerAt) 8) (rowsGood 8 b M))
-          ≡ both (both (matches b (rowAt 0) (rowsWords (readRows b))) (matches b (placeAt 0) (placesWords (readPlaces b))))
+          ≡ both (both (matches b (rowAt 0) (rowsWords (readRows b))) (matches b (slotAt 0) (slotsWords (readSlots b))))
           (both (both t (both (soundTo count (drives b) store) (blankTo 8 (drives b) count))) (both (ltb (le 8 b pointerAt) 8) (rowsOk 8 (readDesk b .rows) (readDesk b .table) M)))
-      go true m = rw (← table-is store (m refl), ← rows-is M) (arrange (matches b (rowAt 0) (rowsWords (readRows b))) (matches b (placeAt 0) (placesWords (readPlaces b)))
+      go true m = rw (← table-is store (m refl), ← rows-is M) (arrange (matches b (rowAt 0) (rowsWords (readRows b))) (matches b (slotAt 0) (slotsWords (readSlots b)))
           (both (soundTo count (drives b) store) (blankTo 8 (drives b) count)) (ltb (le 8 b pointerAt) 8) (rowsOk 8 (readDesk b .rows) (readDesk b .table) M))
         where
           arrange : (r p s q o : Bool) → both (both p s) (both q (both r o)) ≡ both (both r p) (both s (both q o))
           arrange r p s q o = simp (both-assoc, both-left)
-      go false m = sym (both-false (both (matches b (rowAt 0) (rowsWords (readRows b))) (matches b (placeAt 0) (placesWords (readPlaces b)))))
+      go false m = sym (both-false (both (matches b (rowAt 0) (rowsWords (readRows b))) (matches b (slotAt 0) (slotsWords (readSlots b)))))
 
 -- ---- judged and accepted
 
@@ -619,9 +619,9 @@ judged-is b h = go (eqb (length b) deskSize) (eqb-true (length b) deskSize) ∙ 
 
 module _ (n : ℕ) (b : List ℕ) where
   past : ℕ → Bool
-  past i = either (ltb i n) (below 14 1 b (placeAt i))
+  past i = either (ltb i n) (below 14 1 b (slotAt i))
 
-  past-is : {a : Bool} (i : ℕ) → n ≤ i → a ≡ below 14 1 b (placeAt i) → a ≡ past i
+  past-is : {a : Bool} (i : ℕ) → n ≤ i → a ≡ below 14 1 b (slotAt i) → a ≡ past i
   unfolding past
   past-is i l e = rw (le-ltb i n l) e
 
@@ -629,11 +629,11 @@ module _ (n : ℕ) (b : List ℕ) where
   unfolding restZero past
   rest-none = sym (all-intro n past (λ i l. rw (lt-ltb i n l)))
 
-  pub rest-bad : {a : Bool} (i : ℕ) → n ≤ i → i < 8 → a ≡ below 14 1 b (placeAt i) → a ≡ false → false ≡ restZero 8 n b
+  pub rest-bad : {a : Bool} (i : ℕ) → n ≤ i → i < 8 → a ≡ below 14 1 b (slotAt i) → a ≡ false → false ≡ restZero 8 n b
   unfolding restZero past
   rest-bad i l m e z = all-fails 8 i past m (past-is i l e) z
 
-  pub rest-next : {a : Bool} (i : ℕ) → n ≤ i → true ≡ restZero i n b → a ≡ below 14 1 b (placeAt i) → a ≡ true → true ≡ restZero (i + 1) n b
+  pub rest-next : {a : Bool} (i : ℕ) → n ≤ i → true ≡ restZero i n b → a ≡ below 14 1 b (slotAt i) → a ≡ true → true ≡ restZero (i + 1) n b
   unfolding restZero past
   rest-next i l p e z = all-next i past p (past-is i l e) z
 

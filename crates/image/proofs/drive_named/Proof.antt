@@ -1,5 +1,5 @@
 use Prim.Native.Nat.{_-_}
-use Rattle.image.proofs.Fields.{place-of, place-known}
+use Rattle.image.proofs.Fields.{slot-of, slot-known}
 use native.Mathlib.Omega.{arith}
 use mathlib.Core.Path.{_≡_, sym, _∙_}
 use borrow.Author.Needs.{needs}
@@ -13,14 +13,14 @@ use Rattle.image.proofs.is_drive.Reads as is-drive-reads
 is-drive-requires : tie.Need-is-drive-requires
 is-drive-requires c κs = search needs
 
-sub-place : tie.Need-sub-place
-sub-place c =
+sub-slot : tie.Need-sub-slot
+sub-slot c =
     let s = c .before .before .before .args in
-    let h = place-known (s .b .now) (s .n) (sym (c .before .is-drive .ensures) ∙ c .if1 .taken) in
+    let h = slot-known (s .b .now) (s .n) (sym (c .before .is-drive .ensures) ∙ c .if1 .taken) in
     omega arith
 
-cast-place : tie.Need-cast-place
-cast-place c = search needs
+cast-slot : tie.Need-cast-slot
+cast-slot c = search needs
 
 mul-drive-at : tie.Need-mul-drive-at
 mul-drive-at c = search needs
@@ -31,15 +31,15 @@ add-drive-at c = search needs
 drive-at-requires : tie.Need-drive-at-requires
 drive-at-requires c κs =
     let s = c .before .before .before .args in
-    let h = place-known (s .b .now) (s .n) (sym (c .before .is-drive .ensures) ∙ c .if1 .taken) in
+    let h = slot-known (s .b .now) (s .n) (sym (c .before .is-drive .ensures) ∙ c .if1 .taken) in
     omega arith
 
 returns : tie.Need-returns
 returns c =
     let s = c .before .before .before .before .args in
     let k = sym (c .before .before .is-drive .ensures) ∙ c .before .if1 .taken in
-    let h = place-known (s .b .now) (s .n) k in
-    rw k (c .drive-at .ensures ∙ sym (place-of (s .b .now) (s .n - 128) (omega arith)))
+    let h = slot-known (s .b .now) (s .n) k in
+    rw k (c .drive-at .ensures ∙ sym (slot-of (s .b .now) (s .n - 128) (omega arith)))
 
 drive-at-requires-2 : tie.Need-drive-at-requires-2
 drive-at-requires-2 c κs = search needs
@@ -47,9 +47,9 @@ drive-at-requires-2 c κs = search needs
 returns-2 : tie.Need-returns-2
 returns-2 c =
     let s = c .before .before .before .before .args in
-    rw (sym (c .before .before .is-drive .ensures) ∙ c .before .if1 .left) (c .drive-at2 .ensures ∙ sym (place-of (s .b .now) 0 (omega arith)))
+    rw (sym (c .before .before .is-drive .ensures) ∙ c .before .if1 .left) (c .drive-at2 .ensures ∙ sym (slot-of (s .b .now) 0 (omega arith)))
 
 pub drive-named-spec : {M : Type 1} → statement M
 drive-named-spec =
     tie.close
-    (tie.spec is-drive-requires sub-place cast-place mul-drive-at add-drive-at drive-at-requires returns drive-at-requires-2 returns-2)
+    (tie.spec is-drive-requires sub-slot cast-slot mul-drive-at add-drive-at drive-at-requires returns drive-at-requires-2 returns-2)

@@ -5,7 +5,7 @@ use Prim.Native.Nat.{_-_, _≤_}
 use mathlib.Core.Path.{_≡_, refl}
 use mathlib.Core.Bool.{true}
 use Rattle.logic.proofs.LogicLaws.{all-fails, all-next}
-use Rattle.image.specs.Image.{placeAt}
+use Rattle.image.specs.Image.{slotAt}
 use Rattle.image.specs.Judged.{driveGood, drivesGood}
 use Rattle.image.proofs.drives_good.Statement.{statement}
 use Rattle.image.proofs.drives_good.Tie as tie
@@ -37,7 +37,7 @@ unfolding drivesGood
 returns c =
     let l = c .before .before .before in
     let a = l .before .before .args in
-    all-fails (a .n) (l .loop .i) (λ i. driveGood (a .b .now) (a .store) (placeAt i)) (omega arith) (c .before .drive-good .ensures) (not-true _ (c .if1 .taken))
+    all-fails (a .n) (l .loop .i) (λ i. driveGood (a .b .now) (a .store) (slotAt i)) (omega arith) (c .before .drive-good .ensures) (not-true _ (c .if1 .taken))
 
 add-i : tie.Need-add-i Inv-loop μ-loop
 add-i c = search needs
@@ -50,7 +50,7 @@ unfolding drivesGood
 loop-again c =
     let l = c .before .before .before in
     let a = l .before .before .args in
-    (search needs, all-next (l .loop .i) (λ i. driveGood (a .b .now) (a .store) (placeAt i)) (l .loop .inv .1) (c .before .drive-good .ensures) (not-false _ (c .if1 .left)))
+    (search needs, all-next (l .loop .i) (λ i. driveGood (a .b .now) (a .store) (slotAt i)) (l .loop .inv .1) (c .before .drive-good .ensures) (not-false _ (c .if1 .left)))
 
 returns-2 : tie.Need-returns-2 Inv-loop μ-loop
 returns-2 c =
