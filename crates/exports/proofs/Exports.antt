@@ -1,7 +1,7 @@
 -- Laws of the calls at a block: what is read of an acceptable desk's block is the desk's, and the words that are written make the block of
 -- the next desk.
 -- Assumes nothing.
-use mathlib.Core.Path.{_≡_, refl, sym, ap, _∙_}
+use mathlib.Core.Path.{_≡_, sym, ap, _∙_}
 use mathlib.Core.Bool.{Bool, true, false}
 use mathlib.Core.List.{List}
 use Prim.Native.Nat.{ℕ, _<_}

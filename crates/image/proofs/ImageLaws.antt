@@ -1,13 +1,13 @@
 -- A desk is read back from its image, and a block that is an image is the image of what is read from it.
 -- Assumes nothing.
 use Prim.Native.Nat.{ℕ, zero, suc, _+_, _*_, _%_, _^_, _-_, _≤_, _<_}
-use native.Mathlib.Nat.{add-zero, zero-add, add-assoc, mul-zero, mul-suc, mul-le-mul-left, mod-eq-of-lt}
+use native.Mathlib.Nat.{add-zero, zero-add, mul-zero, mul-suc, mul-le-mul-left, mod-eq-of-lt}
 use native.Mathlib.Omega.{arith}
 use mathlib.Core.Path.{_≡_, refl, sym, _∙_, ap, subst}
 use mathlib.Core.Bool.{Bool, true, false}
 use mathlib.Core.List.{List, [], _∷_, _++_, append-assoc, append-nil}
-use lib.ListN.{length, take, drop, getD, replicate, length-append, length-drop, List·getD-append}
-use lib.Seq.{getD-append-add, length-take-le, take-all}
+use lib.ListN.{length, getD, replicate, length-append, List·getD-append}
+use lib.Seq.{getD-append-add, take-all}
 use lib.Dec.{eqb}
 use borrow.Author.Tests.{eq-eqb, eqb-true}
 use Rattle.logic.proofs.LogicLaws.{impossible}
@@ -15,15 +15,13 @@ use Rattle.logic.specs.Logic.{pick, both}
 use Rattle.words.specs.Words.{Bytes, le, leBytes, part}
 use Rattle.words.proofs.WordsLaws.{le-lt, le-ext, read-write, write-read, leBytes-append, length-leBytes, bytes-leBytes, bytes-part}
 use Rattle.drive.specs.declared.Drive.{Drive}
-use Rattle.drive.specs.Drive.{Fits, same}
+use Rattle.drive.specs.Drive.{same}
 use Rattle.drive.proofs.DriveLaws.{same-refl, same-true}
-use Rattle.table.specs.declared.Table.{Table}
 use Rattle.table.specs.Table.{noDrive}
 use Rattle.int13.specs.declared.Registers.{Registers}
 use Rattle.desk.specs.declared.Request.{Request}
 use Rattle.desk.specs.declared.Stage.{Stage}
 use Rattle.desk.specs.declared.Stage.the-variants.{Vacant, Waiting, Finished}
-use Rattle.desk.specs.declared.Row.{Row}
 use Rattle.desk.specs.declared.Desk.{Desk}
 use Rattle.desk.specs.Parts.{vacantRow, stageAt}
 use Rattle.int13.specs.Answers.{registerNumbers}

@@ -9,7 +9,6 @@ use Rattle.words.specs.Words.{le, leBytes}
 use Rattle.drive.specs.declared.Drive.{Drive}
 use Rattle.table.specs.Table.{zeroDrive}
 use Rattle.int13.specs.declared.Registers.{Registers}
-use Rattle.desk.specs.declared.Request.{Request}
 use Rattle.desk.specs.declared.Stage.the-variants.{Waiting, Finished}
 use Rattle.desk.specs.declared.Row.{Row}
 use Rattle.desk.specs.declared.Desk.{Desk}

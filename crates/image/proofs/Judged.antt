@@ -1,18 +1,18 @@
 -- A block that is judged on its words is accepted exactly when it is accepted as the desk that it says.
 -- Assumes nothing.
 use Prim.Native.Nat.{ℕ, zero, suc, _+_, _-_, _*_, _/_, _^_, _≤_, _<_}
-use native.Mathlib.Nat.{add-zero, zero-add, add-assoc, add-suc, mul-zero, mul-suc, mul-one, mul-le-mul-left}
+use native.Mathlib.Nat.{add-zero, zero-add, add-assoc, mul-zero, mul-suc}
 use native.Mathlib.Numerals.{add-one}
 use native.Mathlib.Omega.{arith}
 use mathlib.Core.Path.{_≡_, refl, sym, _∙_, ap, subst}
 use mathlib.Core.Logic.{_⊎_, inl, inr, ⊎-elim}
 use mathlib.Core.Bool.{Bool, true, false, not}
 use mathlib.Core.List.{List, [], _∷_, _++_}
-use lib.ListN.{length, take, drop, getD, replicate, length-append, length-drop, length-replicate, getD-replicate, take-append-drop, drop-of-length-le, List·getD-append}
+use lib.ListN.{length, drop, getD, replicate, length-append, length-drop, length-replicate, getD-replicate, take-append-drop, drop-of-length-le, List·getD-append}
 use lib.Seq.{length-take-le, drop-drop, getD-append-add, getD-take, getD-drop}
 use lib.Dec.{leb, ltb, eqb}
-use borrow.Author.Tests.{eq-eqb, ne-eqb, eqb-true, eqb-false, lt-ltb, le-ltb, ltb-true, ltb-false, le-leb, lt-leb, leb-true, leb-false}
-use Rattle.logic.specs.Logic.{pick, both, either, allBelow, someBelow}
+use borrow.Author.Tests.{eq-eqb, ne-eqb, eqb-true, eqb-false, lt-ltb, le-ltb, ltb-true, le-leb, lt-leb, leb-true}
+use Rattle.logic.specs.Logic.{pick, both, either, allBelow}
 use Rattle.logic.proofs.LogicLaws.{both-true, both-intro, both-assoc, both-comm, both-left, both-false, both-itself, pick-both, either-both, not-either, true-iff, lt-or-le, all-intro, all-at, all-ext, all-fails, all-next, all-front, all-add, all-both, all-split}
 use Rattle.words.specs.Words.{Bytes, le, leBytes, part}
 use Rattle.words.proofs.WordsLaws.{le-split, le-lt, le-ext, read-write, write-read, length-leBytes}
@@ -25,18 +25,16 @@ use Rattle.table.proofs.TableLaws.{taken-is}
 use Rattle.memory.specs.Window.{windowLength}
 use Rattle.int13.specs.Steps.{firstDrive, isDrive, driveAt}
 use Rattle.desk.specs.declared.Request.{Request}
-use Rattle.desk.specs.declared.Stage.{Stage}
 use Rattle.desk.specs.declared.Stage.the-variants.{Vacant, Waiting, Finished}
 use Rattle.desk.specs.declared.Row.{Row}
-use Rattle.desk.specs.declared.Desk.{Desk}
-use Rattle.desk.specs.Parts.{windowSize, stageIn, stageAt}
+use Rattle.desk.specs.Parts.{stageIn}
 use Rattle.int13.specs.Answers.{registerNumbers}
 use Rattle.desk.specs.Acceptable.{requestOk, stageOk, rowsOk, accept}
 use Rattle.desk.specs.Calls.{closed}
 use Rattle.desk.proofs.AcceptableLaws.{closed-refused}
 use Rattle.image.specs.Image.{each, flat, listed, requestWords, stageWords, rowWords, rowsWords, driveWords, slotsWords, tailWords, deskWords, image, rowSize, slotSize, rowAt, slotAt, tailAt, deskSize, countAt, pointerAt, arenaAt, storeAt, requestPlace, finishedPlace, registersAt, requestAt, readStage, readRow, readDrive, readRows, readSlots, readDesk, isImage, deskOf, accepted, FitsDrive}
 use Rattle.image.specs.Judged.{below, areRegisters, isRequest, isSlot, driveGood, drivesGood, restZero, firstIn, blocksIn, apart, aloneTo, drivesApart, follows, ascending, waitingGood, finishedGood, rowGood, rowsGood, tableGood, judged}
-use Rattle.image.proofs.Fill.{length-each, length-flat, length-row, length-drive}
+use Rattle.image.proofs.Fill.{length-each, length-row, length-drive}
 use Rattle.image.proofs.ImageLaws.{Says, drive-read}
 use Rattle.image.proofs.Fields.{row-of, slot-of}
 

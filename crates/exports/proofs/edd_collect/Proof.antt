@@ -1,35 +1,27 @@
-use mathlib.Core.Path.{_≡_, refl, sym, ap, subst, _∙_}
-use mathlib.Core.Bool.{true, false}
+use mathlib.Core.Path.{_≡_, refl, sym, subst, _∙_}
+use mathlib.Core.Bool.{true}
 use mathlib.Core.List.{List, [], _∷_}
 use types.Run.{OneOf}
 use denote.Enum.Declared.{tagOf}
 use Prim.Native.Nat.{ℕ, _<_}
-use lib.ListN.{length}
 use lib.Dec.{ltb}
 use borrow.Author.Tests.{ltb-true}
 use denote.Ref.{now}
 use Rattle.desk.proofs.Stage as stage
 use Rattle.desk.specs.declared.Stage.{Stage}
-use Rattle.desk.specs.declared.Stage.the-variants.{Vacant, Waiting, Finished}
-use Rattle.desk.specs.Parts.{stageAt, withStage}
+use Rattle.desk.specs.declared.Stage.the-variants.{Vacant}
+use Rattle.desk.specs.Parts.{stageAt}
 use Rattle.desk.specs.Acceptable.{accept}
 use Rattle.desk.specs.declared.CollectAnswer.the-variants.{Refused as CollectRefused}
 use Rattle.desk.specs.Calls.{houseNumber, done, collectStage, collectOf}
 use Rattle.desk.specs.Numbers.{collectNumbers}
 use Rattle.desk.proofs.CallsLaws.{house-tests, house-refused, Passed, house-passed, collect-other, collect-finished}
 use Rattle.image.specs.Image.{deskOf, accepted}
-use Rattle.exports.specs.Exports.{effect, over, collectCall}
+use Rattle.exports.specs.Exports.{over, collectCall}
 use Rattle.exports.proofs.Exports.{block, stage-read, put-row}
 use borrow.Author.Needs.{needs}
 use Rattle.exports.proofs.edd_collect.Statement.{statement}
 use Rattle.exports.proofs.edd_collect.Tie as tie
-use Rattle.exports.proofs.edd_collect.Reads as reads
-use Rattle.exports.proofs.edd_collect.Lts as lts
-use Rattle.desk.proofs.house_number.Reads as house-number-reads
-use Rattle.exports.proofs.hand.Reads as hand-reads
-use Rattle.image.proofs.acceptable.Reads as acceptable-reads
-use Rattle.image.proofs.stage_of.Reads as stage-of-reads
-use Rattle.image.proofs.put_stage.Reads as put-stage-reads
 
 abbrev bytes : tie.After-house-number → List ℕ
 bytes c = now (c .before .before .before .before .args .desk)

@@ -1,19 +1,16 @@
 use mathlib.Core.Path.{_≡_, refl, sym, ap, subst, _∙_}
-use mathlib.Core.Bool.{true, false}
 use mathlib.Core.List.{List, [], _∷_}
 use types.Run.{OneOf}
 use denote.Enum.Declared.{tagOf}
 use Prim.Native.Nat.{ℕ, _<_}
-use lib.ListN.{length}
 use lib.Dec.{ltb}
 use borrow.Author.Tests.{ltb-true}
 use denote.Ref.{now}
 use Rattle.desk.proofs.Stage as stage
 use Rattle.desk.specs.declared.Stage.{Stage}
-use Rattle.desk.specs.declared.Stage.the-variants.{Vacant, Waiting, Finished}
-use Rattle.desk.specs.Parts.{stageAt, withStage}
+use Rattle.desk.specs.declared.Stage.the-variants.{Waiting}
+use Rattle.desk.specs.Parts.{stageAt}
 use Rattle.desk.specs.Acceptable.{accept}
-use Rattle.table.specs.declared.Table.{Table}
 use Rattle.int13.specs.declared.Registers.{Registers}
 use Rattle.int13.specs.declared.Outcome.{Outcome}
 use Rattle.int13.specs.declared.Outcome.the-variants.{Answered, Waits as OutcomeWaits}
@@ -24,19 +21,12 @@ use Rattle.desk.specs.Parts.{ownWindow, withOwn}
 use Rattle.desk.specs.Calls.{isLent, done, postChecked, postRow, postOf}
 use Rattle.desk.specs.Numbers.{postNumbers}
 use Rattle.desk.proofs.CallsLaws.{house-refused, Passed, house-passed, post-other, post-vacant}
-use Rattle.image.specs.Image.{readDesk, deskOf}
-use Rattle.exports.specs.Exports.{effect, given, postCall}
+use Rattle.image.specs.Image.{deskOf}
+use Rattle.exports.specs.Exports.{given, postCall}
 use Rattle.exports.proofs.Exports.{block, stage-read, put-row}
 use borrow.Author.Needs.{needs}
 use Rattle.exports.proofs.edd_post.Statement.{statement}
 use Rattle.exports.proofs.edd_post.Tie as tie
-use Rattle.exports.proofs.edd_post.Reads as reads
-use Rattle.exports.proofs.edd_post.Lts as lts
-use Rattle.exports.proofs.number_at.Reads as number-at-reads
-use Rattle.exports.proofs.begun.Reads as begun-reads
-use Rattle.exports.proofs.bit.Reads as bit-reads
-use Rattle.image.proofs.stage_of.Reads as stage-of-reads
-use Rattle.image.proofs.put_stage.Reads as put-stage-reads
 
 abbrev bytes : tie.After-number-at → List ℕ
 bytes c = now (c .before .before .before .before .before .before .before .before .before .args .desk)

@@ -1,5 +1,5 @@
-use mathlib.Core.Path.{_≡_, refl, sym, ap, subst, _∙_}
-use mathlib.Core.Bool.{true, false}
+use mathlib.Core.Path.{_≡_, refl, sym, subst, _∙_}
+use mathlib.Core.Bool.{true}
 use mathlib.Core.List.{List, [], _∷_}
 use types.Run.{OneOf}
 use denote.Enum.Declared.{tagOf}
@@ -20,20 +20,11 @@ use Rattle.desk.specs.Numbers.{turnNumbers}
 use Rattle.desk.proofs.AcceptableLaws.{accept-true, Waits}
 use Rattle.desk.proofs.CallsLaws.{house-refused, Passed, house-passed, turn-nobody, turn-other, turn-served, seek-below, waiting-facts, in-range}
 use Rattle.image.specs.Image.{deskOf}
-use Rattle.exports.specs.Exports.{effect, over, turnCall}
+use Rattle.exports.specs.Exports.{over, turnCall}
 use Rattle.exports.proofs.Exports.{block, pointer-read, next-read, stage-read, drive-read, put-turn}
 use borrow.Author.Needs.{needs}
 use Rattle.exports.proofs.edd_turn.Statement.{statement}
 use Rattle.exports.proofs.edd_turn.Tie as tie
-use Rattle.exports.proofs.edd_turn.Reads as reads
-use Rattle.exports.proofs.edd_turn.Lts as lts
-use Rattle.exports.proofs.number_at.Reads as number-at-reads
-use Rattle.exports.proofs.put_served.Reads as put-served-reads
-use Rattle.image.proofs.next_of.Reads as next-of-reads
-use Rattle.image.proofs.stage_of.Reads as stage-of-reads
-use Rattle.image.proofs.drive_named.Reads as drive-named-reads
-use Rattle.desk.proofs.service_of.Reads as service-of-reads
-use Rattle.desk.proofs.transfer.Reads as transfer-reads
 
 abbrev bytes : tie.After-number-at → List ℕ
 bytes c = now (c .before .before .before .before .before .args .desk)

@@ -1,5 +1,4 @@
-use mathlib.Core.Path.{_≡_, refl, sym, ap, subst, _∙_}
-use mathlib.Core.Bool.{true, false}
+use mathlib.Core.Path.{_≡_, refl, sym, subst, _∙_}
 use mathlib.Core.List.{List, [], _∷_}
 use types.Run.{OneOf}
 use denote.Enum.Declared.{tagOf}
@@ -10,27 +9,19 @@ use borrow.Author.Tests.{ltb-true}
 use denote.Ref.{now}
 use Rattle.desk.proofs.Stage as stage
 use Rattle.desk.specs.declared.Stage.{Stage}
-use Rattle.desk.specs.declared.Stage.the-variants.{Vacant, Waiting, Finished}
-use Rattle.desk.specs.Parts.{stageAt, withStage}
+use Rattle.desk.specs.declared.Stage.the-variants.{Vacant, Waiting}
+use Rattle.desk.specs.Parts.{stageAt}
 use Rattle.desk.specs.Acceptable.{accept}
 use Rattle.desk.specs.declared.WithdrawAnswer.the-variants.{Refused as WithdrawRefused}
 use Rattle.desk.specs.Calls.{isLent, done, withdrawStage, withdrawOf}
 use Rattle.desk.specs.Numbers.{withdrawNumbers}
 use Rattle.desk.proofs.CallsLaws.{house-refused, Passed, house-passed, withdraw-other, withdraw-waiting, Report, report-facts}
 use Rattle.image.specs.Image.{deskOf}
-use Rattle.exports.specs.Exports.{effect, over, withdrawCall}
+use Rattle.exports.specs.Exports.{over, withdrawCall}
 use Rattle.exports.proofs.Exports.{block, stage-read, put-row}
 use borrow.Author.Needs.{needs}
 use Rattle.exports.proofs.edd_withdraw.Statement.{statement}
 use Rattle.exports.proofs.edd_withdraw.Tie as tie
-use Rattle.exports.proofs.edd_withdraw.Reads as reads
-use Rattle.exports.proofs.edd_withdraw.Lts as lts
-use Rattle.exports.proofs.number_at.Reads as number-at-reads
-use Rattle.exports.proofs.hand.Reads as hand-reads
-use Rattle.image.proofs.stage_of.Reads as stage-of-reads
-use Rattle.image.proofs.put_stage.Reads as put-stage-reads
-use Rattle.desk.proofs.report_moved.Reads as report-moved-reads
-use Rattle.desk.proofs.given_back.Reads as given-back-reads
 
 abbrev bytes : tie.After-number-at → List ℕ
 bytes c = now (c .before .before .before .before .before .args .desk)

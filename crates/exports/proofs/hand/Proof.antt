@@ -1,9 +1,6 @@
 use borrow.Author.Needs.{needs}
 use Rattle.exports.proofs.hand.Statement.{statement}
 use Rattle.exports.proofs.hand.Tie as tie
-use Rattle.exports.proofs.hand.Reads as reads
-use Rattle.exports.proofs.hand.Lts as lts
-use Rattle.exports.proofs.bit.Reads as bit-reads
 
 bit-requires : tie.Need-bit-requires
 bit-requires c κs = search needs

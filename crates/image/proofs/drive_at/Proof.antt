@@ -2,13 +2,6 @@ use Rattle.image.specs.Image.{readDrive}
 use borrow.Author.Needs.{needs}
 use Rattle.image.proofs.drive_at.Statement.{statement}
 use Rattle.image.proofs.drive_at.Tie as tie
-use Rattle.image.proofs.drive_at.Reads as reads
-use Rattle.image.proofs.drive_at.Lts as lts
-use Rattle.words.proofs.get16.Reads as get16-reads
-use Rattle.words.proofs.get32.Reads as get32-reads
-use Rattle.words.proofs.get64.Reads as get64-reads
-use Rattle.words.proofs.load4.Reads as load4-reads
-use Rattle.words.proofs.load8.Reads as load8-reads
 
 get32-requires : tie.Need-get32-requires
 get32-requires c κs = search needs

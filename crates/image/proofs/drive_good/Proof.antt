@@ -2,12 +2,6 @@ use Rattle.image.specs.Judged.{driveGood}
 use borrow.Author.Needs.{needs}
 use Rattle.image.proofs.drive_good.Statement.{statement}
 use Rattle.image.proofs.drive_good.Tie as tie
-use Rattle.image.proofs.drive_good.Reads as reads
-use Rattle.image.proofs.drive_good.Lts as lts
-use Rattle.image.proofs.drive_at.Reads as drive-at-reads
-use Rattle.image.proofs.is_slot.Reads as is-slot-reads
-use Rattle.logic.proofs.and.Reads as and-reads
-use Rattle.table.proofs.obeys.Reads as obeys-reads
 
 is-slot-requires : tie.Need-is-slot-requires
 is-slot-requires c κs = search needs

@@ -1,14 +1,10 @@
 use Prim.Native.Nat.{_-_}
 use Rattle.image.proofs.Fields.{slot-of, slot-known}
 use native.Mathlib.Omega.{arith}
-use mathlib.Core.Path.{_≡_, sym, _∙_}
+use mathlib.Core.Path.{sym, _∙_}
 use borrow.Author.Needs.{needs}
 use Rattle.image.proofs.drive_named.Statement.{statement}
 use Rattle.image.proofs.drive_named.Tie as tie
-use Rattle.image.proofs.drive_named.Reads as reads
-use Rattle.image.proofs.drive_named.Lts as lts
-use Rattle.image.proofs.drive_at.Reads as drive-at-reads
-use Rattle.image.proofs.is_drive.Reads as is-drive-reads
 
 is-drive-requires : tie.Need-is-drive-requires
 is-drive-requires c κs = search needs

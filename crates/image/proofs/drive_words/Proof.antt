@@ -2,10 +2,6 @@ use native.Mathlib.Omega.{arith}
 use borrow.Author.Needs.{needs}
 use Rattle.image.proofs.drive_words.Statement.{statement}
 use Rattle.image.proofs.drive_words.Tie as tie
-use Rattle.image.proofs.drive_words.Reads as reads
-use Rattle.image.proofs.drive_words.Lts as lts
-use Rattle.words.proofs.value4.Reads as value4-reads
-use Rattle.words.proofs.value8.Reads as value8-reads
 
 cast-t6 : tie.Need-cast-t6
 cast-t6 c = search needs

@@ -9,9 +9,6 @@ use Rattle.image.specs.Image.{slotAt}
 use Rattle.image.specs.Judged.{driveGood, drivesGood}
 use Rattle.image.proofs.drives_good.Statement.{statement}
 use Rattle.image.proofs.drives_good.Tie as tie
-use Rattle.image.proofs.drives_good.Reads as reads
-use Rattle.image.proofs.drives_good.Lts as lts
-use Rattle.image.proofs.drive_good.Reads as drive-good-reads
 
 abbrev Inv-loop : tie.InvT-loop
 Inv-loop b n store i₀ i = (i ≤ n) × (true ≡ drivesGood i b store)

@@ -1,9 +1,6 @@
 use borrow.Author.Needs.{needs}
 use Rattle.image.proofs.finished_words.Statement.{statement}
 use Rattle.image.proofs.finished_words.Tie as tie
-use Rattle.image.proofs.finished_words.Reads as reads
-use Rattle.image.proofs.finished_words.Lts as lts
-use Rattle.image.proofs.bit.Reads as bit-reads
 
 cast-t2 : tie.Need-cast-t2
 cast-t2 c = search needs

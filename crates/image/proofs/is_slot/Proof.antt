@@ -2,11 +2,6 @@ use Rattle.image.specs.Judged.{isSlot}
 use borrow.Author.Needs.{needs}
 use Rattle.image.proofs.is_slot.Statement.{statement}
 use Rattle.image.proofs.is_slot.Tie as tie
-use Rattle.image.proofs.is_slot.Reads as reads
-use Rattle.image.proofs.is_slot.Lts as lts
-use Rattle.image.proofs.below.Reads as below-reads
-use Rattle.logic.proofs.and.Reads as and-reads
-use Rattle.words.proofs.get64.Reads as get64-reads
 
 add-below : tie.Need-add-below
 add-below c = search needs

@@ -1,10 +1,6 @@
 use borrow.Author.Needs.{needs}
 use Rattle.image.proofs.job_at.Statement.{statement}
 use Rattle.image.proofs.job_at.Tie as tie
-use Rattle.image.proofs.job_at.Reads as reads
-use Rattle.image.proofs.job_at.Lts as lts
-use Rattle.image.proofs.registers_at.Reads as registers-at-reads
-use Rattle.words.proofs.get64.Reads as get64-reads
 
 registers-at-requires : tie.Need-registers-at-requires
 registers-at-requires c κs = search needs

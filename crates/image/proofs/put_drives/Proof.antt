@@ -6,13 +6,9 @@ use native.Mathlib.Omega.{arith}
 use lib.Seq.{sets, length-sets, take-all}
 use lib.ListN.{length, take}
 use mathlib.Core.Path.{_≡_, refl, ap, _∙_}
-use Prim.Native.Nat.{ℕ, _+_, _*_, _≤_, _-_}
+use Prim.Native.Nat.{_≤_, _-_}
 use Rattle.image.proofs.put_drives.Statement.{statement}
 use Rattle.image.proofs.put_drives.Tie as tie
-use Rattle.image.proofs.put_drives.Reads as reads
-use Rattle.image.proofs.put_drives.Lts as lts
-use Rattle.image.proofs.drive_words.Reads as drive-words-reads
-use Rattle.image.proofs.put_words.Reads as put-words-reads
 
 abbrev Inv-loop : tie.InvT-loop
 Inv-loop out₀ drives k₀ out k = (k ≤ 8) × (length out ≡ deskSize) × (out ≡ sets out₀ (slotAt 0) (flat (each driveWords (take k drives))))

@@ -1,9 +1,6 @@
 use borrow.Author.Needs.{needs}
 use Rattle.image.proofs.registers_at.Statement.{statement}
 use Rattle.image.proofs.registers_at.Tie as tie
-use Rattle.image.proofs.registers_at.Reads as reads
-use Rattle.image.proofs.registers_at.Lts as lts
-use Rattle.words.proofs.get16.Reads as get16-reads
 
 get16-requires : tie.Need-get16-requires
 get16-requires c κs = search needs

@@ -1,10 +1,6 @@
 use borrow.Author.Needs.{needs}
 use Rattle.image.proofs.request_at.Statement.{statement}
 use Rattle.image.proofs.request_at.Tie as tie
-use Rattle.image.proofs.request_at.Reads as reads
-use Rattle.image.proofs.request_at.Lts as lts
-use Rattle.image.proofs.job_at.Reads as job-at-reads
-use Rattle.words.proofs.get64.Reads as get64-reads
 
 job-at-requires : tie.Need-job-at-requires
 job-at-requires c κs = search needs

@@ -8,9 +8,6 @@ use Rattle.image.specs.Judged.{restZero}
 use Rattle.image.proofs.Judged.{rest-none, rest-bad, rest-next}
 use Rattle.image.proofs.rest_zero.Statement.{statement}
 use Rattle.image.proofs.rest_zero.Tie as tie
-use Rattle.image.proofs.rest_zero.Reads as reads
-use Rattle.image.proofs.rest_zero.Lts as lts
-use Rattle.image.proofs.below.Reads as below-reads
 
 abbrev Inv-loop : tie.InvT-loop
 Inv-loop b n i₀ i = (n ≤ i) × (i ≤ 8) × (true ≡ restZero i n b)

@@ -9,9 +9,6 @@ use Rattle.image.specs.Image.{rowAt}
 use Rattle.image.specs.Judged.{rowGood, rowsGood}
 use Rattle.image.proofs.rows_good.Statement.{statement}
 use Rattle.image.proofs.rows_good.Tie as tie
-use Rattle.image.proofs.rows_good.Reads as reads
-use Rattle.image.proofs.rows_good.Lts as lts
-use Rattle.image.proofs.row_good.Reads as row-good-reads
 
 abbrev Inv-loop : tie.InvT-loop
 Inv-loop b m g₀ g = (g ≤ 8) × (true ≡ rowsGood g b m)

@@ -1,10 +1,6 @@
 use borrow.Author.Needs.{needs}
 use Rattle.image.proofs.stage_words.Statement.{statement}
 use Rattle.image.proofs.stage_words.Tie as tie
-use Rattle.image.proofs.stage_words.Reads as reads
-use Rattle.image.proofs.stage_words.Lts as lts
-use Rattle.image.proofs.finished_words.Reads as finished-words-reads
-use Rattle.image.proofs.waiting_words.Reads as waiting-words-reads
 
 enum-told : tie.Need-enum-told
 enum-told c = search needs

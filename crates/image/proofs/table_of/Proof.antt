@@ -2,10 +2,6 @@ use Rattle.image.specs.Image.{readDesk}
 use borrow.Author.Needs.{needs}
 use Rattle.image.proofs.table_of.Statement.{statement}
 use Rattle.image.proofs.table_of.Tie as tie
-use Rattle.image.proofs.table_of.Reads as reads
-use Rattle.image.proofs.table_of.Lts as lts
-use Rattle.image.proofs.drive_at.Reads as drive-at-reads
-use Rattle.words.proofs.get64.Reads as get64-reads
 
 drive-at-requires : tie.Need-drive-at-requires
 drive-at-requires c κs = search needs

@@ -1,9 +1,6 @@
 use borrow.Author.Needs.{needs}
 use Rattle.image.proofs.waiting_words.Statement.{statement}
 use Rattle.image.proofs.waiting_words.Tie as tie
-use Rattle.image.proofs.waiting_words.Reads as reads
-use Rattle.image.proofs.waiting_words.Lts as lts
-use Rattle.image.proofs.bit.Reads as bit-reads
 
 cast-t4 : tie.Need-cast-t4
 cast-t4 c = search needs
