@@ -68,26 +68,19 @@ fn registers_at(b: &[u8], i: usize) -> Registers
     }
 }
 
-fn job_at(b: &[u8], i: usize) -> Job
-    requires { ⌜ i + 8 * 14 ≤ length (now b) ⌝ }
-    ensures { λ r. ⌜ r ≡ requestAt (now (b .entry)) i .job ⌝ }
-{
-    Job {
-        registers: registers_at(b, i),
-        drive: b[i + 64],
-        start: words::get64(b, i + 72),
-        count: words::get64(b, i + 80),
-        buffer: words::get64(b, i + 88),
-        packet: words::get64(b, i + 96),
-    }
-}
-
 fn request_at(b: &[u8], i: usize) -> Request
     requires { ⌜ i + 8 * 14 ≤ length (now b) ⌝ }
     ensures { λ r. ⌜ r ≡ requestAt (now (b .entry)) i ⌝ }
 {
     Request {
-        job: job_at(b, i),
+        job: Job {
+            registers: registers_at(b, i),
+            drive: b[i + 64],
+            start: words::get64(b, i + 72),
+            count: words::get64(b, i + 80),
+            buffer: words::get64(b, i + 88),
+            packet: words::get64(b, i + 96),
+        },
         moved: words::get64(b, i + 104),
     }
 }
@@ -128,19 +121,27 @@ fn drive_at(b: &[u8], i: usize) -> Drive
     }
 }
 
+// The drive of a slot.
+fn drive_in(b: &[u8], i: usize) -> Drive
+    requires { ⌜ (length (now b) ≡ deskSize) × (i < mostDrives) ⌝ }
+    ensures { λ r. ⌜ r ≡ readDrive (now (b .entry)) (slotAt i) ⌝ }
+{
+    drive_at(b, SLOTS + SLOT * i)
+}
+
 pub fn table_of(b: &[u8]) -> Table
     requires { ⌜ length (now b) ≡ deskSize ⌝ }
     ensures { λ r. ⌜ r ≡ readDesk (now (b .entry)) .table ⌝ }
 {
     let drives = [
-        drive_at(b, SLOTS),
-        drive_at(b, SLOTS + SLOT),
-        drive_at(b, SLOTS + 2 * SLOT),
-        drive_at(b, SLOTS + 3 * SLOT),
-        drive_at(b, SLOTS + 4 * SLOT),
-        drive_at(b, SLOTS + 5 * SLOT),
-        drive_at(b, SLOTS + 6 * SLOT),
-        drive_at(b, SLOTS + 7 * SLOT),
+        drive_in(b, 0),
+        drive_in(b, 1),
+        drive_in(b, 2),
+        drive_in(b, 3),
+        drive_in(b, 4),
+        drive_in(b, 5),
+        drive_in(b, 6),
+        drive_in(b, 7),
     ];
     Table {
         drives,
@@ -208,10 +209,9 @@ pub fn drive_named(b: &[u8], n: u8) -> Drive
     ensures { λ d. ⌜ d ≡ driveAt (readDesk (now (b .entry)) .table) (pick (isDrive (readDesk (now (b .entry)) .table) n) n firstDrive) ⌝ }
 {
     if is_drive(b, n) {
-        let slot = (n - FIRST_DRIVE) as usize;
-        return drive_at(b, SLOTS + SLOT * slot);
+        return drive_in(b, (n - FIRST_DRIVE) as usize);
     }
-    drive_at(b, SLOTS)
+    drive_in(b, 0)
 }
 
 // ---- a block judged on its words: no desk is made of it, and every width is a test of a word

@@ -86,7 +86,23 @@ load8-requires-3 c κs = search needs
 
 returns : tie.Need-returns
 unfolding readDrive
-returns c = cc
+returns c =
+    let h = c .before .before .before .before .before .before in
+    let n = h .before .before .before in
+    rw (
+      c .load83 .ensures,
+      c .before .load82 .ensures,
+      c .before .before .load8 .ensures,
+      c .before .before .before .load4 .ensures,
+      h .get163 .ensures,
+      h .before .get162 .ensures,
+      h .before .before .get16 .ensures,
+      n .get642 .ensures,
+      n .before .get64 .ensures,
+      n .before .before .get323 .ensures,
+      n .before .before .before .get322 .ensures,
+      n .before .before .before .before .get32 .ensures,
+    )
 
 pub drive-at-spec : {M : Type 1} → statement M
 drive-at-spec =

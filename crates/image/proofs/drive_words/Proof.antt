@@ -43,7 +43,7 @@ value8-requires-3 : tie.Need-value8-requires-3
 value8-requires-3 c κs = search needs
 
 returns : tie.Need-returns
-returns c = cc
+returns c = rw (c .value83 .ensures, c .before .value82 .ensures, c .before .before .value8 .ensures, c .before .before .before .value4 .ensures)
 
 pub drive-words-spec : {M : Type 1} → statement M
 drive-words-spec =

@@ -27,7 +27,7 @@ bit-requires : tie.Need-bit-requires
 bit-requires c κs = search needs
 
 returns : tie.Need-returns
-returns c = cc
+returns c = rw (c .bit .ensures)
 
 pub finished-words-spec : {M : Type 1} → statement M
 finished-words-spec =

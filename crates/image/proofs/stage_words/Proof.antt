@@ -18,13 +18,13 @@ finished-words-requires : tie.Need-finished-words-requires
 finished-words-requires c κs = search needs
 
 returns : tie.Need-returns
-returns c = cc
+returns c = rw (c .enum-told .given .1)
 
 returns-2 : tie.Need-returns-2
-returns-2 c = cc
+returns-2 c = rw (c .before .before .s .given .1) (c .waiting-words .ensures)
 
 returns-3 : tie.Need-returns-3
-returns-3 c = cc
+returns-3 c = rw (c .before .before .s2 .given .1) (c .finished-words .ensures)
 
 pub stage-words-spec : {M : Type 1} → statement M
 stage-words-spec =

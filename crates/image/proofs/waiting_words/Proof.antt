@@ -30,7 +30,7 @@ cast-t12 : tie.Need-cast-t12
 cast-t12 c = search needs
 
 returns : tie.Need-returns
-returns c = cc
+returns c = rw (c .before .bit .ensures)
 
 pub waiting-words-spec : {M : Type 1} → statement M
 waiting-words-spec =
