@@ -18,7 +18,8 @@ use Rattle.desk.specs.Acceptable.{accept}
 use Rattle.desk.specs.Calls.{houseNumber, firstWaiting}
 use Rattle.desk.proofs.AcceptableLaws.{accept-true}
 use Rattle.image.specs.Image.{readDesk, deskOf, accepted, laid, putStage, putPointer}
-use Rattle.image.proofs.Puts.{AcceptedBlock, accepted-read, put-stage, put-both}
+use Rattle.image.proofs.ImageLaws.{AcceptedBlock, accepted-read}
+use Rattle.image.proofs.Puts.{put-stage, put-both}
 
 pub block : (b : List ℕ) → accept (deskOf b) ≡ true → AcceptedBlock b
 unfolding accepted

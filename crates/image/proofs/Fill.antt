@@ -78,13 +78,12 @@ length-row r = go (r .stage)
 pub length-drive : (d : Drive) → length (driveWords d) ≡ 14
 length-drive d = refl
 
--- the bytes of the sections
-module _ (rows : List Row) (drives : List Drive) (r : length rows ≡ 8) (t : length drives ≡ 8) where
-  pub length-rows : length (flat (rowsWords rows)) ≡ rowAt 8
-  length-rows = length-flat (rowsWords rows) ∙ ap (λ (m : ℕ). 8 * m) (length-each rowWords 23 length-row rows ∙ ap (λ (m : ℕ). 23 * m) r)
+-- the words of the sections
+pub length-rows : (rows : List Row) → length rows ≡ 8 → length (rowsWords rows) ≡ 23 * 8
+length-rows rows e = length-each rowWords 23 length-row rows ∙ ap (λ (m : ℕ). 23 * m) e
 
-  pub length-slots : length (flat (slotsWords drives)) ≡ 8 * (14 * 8)
-  length-slots = length-flat (slotsWords drives) ∙ ap (λ (m : ℕ). 8 * m) (length-each driveWords 14 length-drive drives ∙ ap (λ (m : ℕ). 14 * m) t)
+pub length-slots : (drives : List Drive) → length drives ≡ 8 → length (slotsWords drives) ≡ 14 * 8
+length-slots drives e = length-each driveWords 14 length-drive drives ∙ ap (λ (m : ℕ). 14 * m) e
 
 -- the sections, laid one after the other
 pub laid-out : (s : List ℕ) (d : Desk) → length s ≡ deskSize → length (d .rows) ≡ 8 → length (d .table .drives) ≡ 8
@@ -94,8 +93,8 @@ laid-out s d n r t =
     let R = flat (rowsWords (d .rows)) in
     let D = flat (slotsWords (d .table .drives)) in
     let T = flat (tailWords d) in
-    let lr : length R ≡ slotAt 0 = length-rows (d .rows) (d .table .drives) r t in
-    let ld : length (R ++ D) ≡ tailAt 0 = length-append R D ∙ omega (arith, length-slots (d .rows) (d .table .drives) r t) in
+    let lr : length R ≡ slotAt 0 = length-flat (rowsWords (d .rows)) ∙ omega (arith, length-rows (d .rows) r) in
+    let ld : length (R ++ D) ≡ tailAt 0 = length-append R D ∙ omega (arith, length-flat (slotsWords (d .table .drives)), length-slots (d .table .drives) t) in
     let lt : length ((R ++ D) ++ T) ≡ length s = length-append (R ++ D) T ∙ omega (arith, length-flat (tailWords d)) in
     ap (λ (l : List ℕ). sets l (tailAt 0) T) (sets-next s 0 (slotAt 0) R D lr)
     ∙ sets-next s 0 (tailAt 0) (R ++ D) T ld

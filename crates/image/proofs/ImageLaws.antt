@@ -10,7 +10,7 @@ use lib.ListN.{length, getD, replicate, length-append, List·getD-append}
 use lib.Seq.{getD-append-add, take-all}
 use lib.Dec.{eqb}
 use borrow.Author.Tests.{eq-eqb, eqb-true}
-use Rattle.logic.proofs.LogicLaws.{impossible}
+use Rattle.logic.proofs.LogicLaws.{true≢false}
 use Rattle.logic.specs.Logic.{pick, both}
 use Rattle.words.specs.Words.{Bytes, le, leBytes, part}
 use Rattle.words.proofs.WordsLaws.{le-lt, le-ext, read-write, write-read, leBytes-append, length-leBytes, bytes-leBytes, bytes-part}
@@ -30,7 +30,7 @@ use Rattle.desk.specs.Calls.{closed}
 use Rattle.desk.proofs.AcceptableLaws.{closed-refused}
 use Rattle.memory.proofs.Sets.{length-part}
 use Rattle.image.specs.Image.{each, flat, requestWords, stageWords, rowWords, rowsWords, driveWords, slotsWords, tailWords, deskWords, image, slotSize, rowAt, slotAt, tailAt, deskSize, countAt, pointerAt, arenaAt, storeAt, requestPlace, finishedPlace, registersAt, requestAt, readStage, readRow, readDrive, readRows, readSlots, readDesk, isImage, deskOf, accepted, FitsRegisters, FitsRequest, FitsStage, FitsDrive, FitsTable, FitsDesk, ImageOf, Exact}
-use Rattle.image.proofs.Fill.{length-each, length-flat, length-row, length-drive}
+use Rattle.image.proofs.Fill.{length-each, length-flat, length-row, length-drive, length-rows, length-slots}
 use Rattle.image.proofs.Fields.{listed-is, row-of, slot-of}
 
 -- ---- members of a list that is put together
@@ -210,20 +210,14 @@ bytes-flat [] i = omega arith
 bytes-flat (x ∷ ws) i = bytes-append (leBytes 8 x) (flat ws) (bytes-leBytes 8 x) (bytes-flat ws) i
 
 module _ (d : Desk) (fit : FitsDesk d) where
-  rows-length : length (rowsWords (d .rows)) ≡ 23 * 8
-  rows-length = length-each rowWords 23 length-row (d .rows) ∙ ap (λ (m : ℕ). 23 * m) (fit .eight)
-
-  slots-length : length (slotsWords (d .table .drives)) ≡ 14 * 8
-  slots-length = length-each driveWords 14 length-drive (d .table .drives) ∙ ap (λ (m : ℕ). 14 * m) (fit .table .eight)
-
   pub length-image : length (image d) ≡ deskSize
   unfolding image deskWords
   length-image =
       length-flat (deskWords d)
       ∙ omega (
         arith,
-        rows-length,
-        slots-length,
+        length-rows (d .rows) (fit .eight),
+        length-slots (d .table .drives) (fit .table .eight),
         length-append (rowsWords (d .rows)) (slotsWords (d .table .drives) ++ tailWords d),
         length-append (slotsWords (d .table .drives)) (tailWords d),
       )
@@ -235,10 +229,10 @@ module _ (d : Desk) (fit : FitsDesk d) where
   says-rows = says-flat (deskWords d)
 
   says-slots : Says (image d) (slotAt 0) (slotsWords (d .table .drives) ++ tailWords d)
-  says-slots = says-right (image d) (rowAt 0) (slotAt 0) (rowsWords (d .rows)) _ (omega (arith, rows-length)) says-rows
+  says-slots = says-right (image d) (rowAt 0) (slotAt 0) (rowsWords (d .rows)) _ (omega (arith, length-rows (d .rows) (fit .eight))) says-rows
 
   says-tail : Says (image d) (tailAt 0) (tailWords d)
-  says-tail = says-right (image d) (slotAt 0) (tailAt 0) (slotsWords (d .table .drives)) _ (omega (arith, slots-length)) says-slots
+  says-tail = says-right (image d) (slotAt 0) (tailAt 0) (slotsWords (d .table .drives)) _ (omega (arith, length-slots (d .table .drives) (fit .table .eight))) says-slots
 
   -- each section is read back
 
@@ -313,7 +307,7 @@ module _ (b : List ℕ) (h : Bytes b) where
       go false true = registers-fit (finishedPlace i)
       go false false = tt
 
-  drive-fits : (i : ℕ) → i + slotSize ≤ length b → FitsDrive (readDrive b i)
+  pub drive-fits : (i : ℕ) → i + slotSize ≤ length b → FitsDrive (readDrive b i)
   unfolding readDrive
   drive-fits i l =
       record {
@@ -363,22 +357,32 @@ module _ (b : List ℕ) (h : Bytes b) where
 
 -- ---- accepted exactly when it is the image of an acceptable desk
 
-pub not-closed : accept (closed 0 0) ≡ true → ⊥
-not-closed e = absurd (let z : _≡_ {A = Bool} true false = sym e ∙ closed-refused 0 0 in apart z)
+-- what an accepted block is
+pub record AcceptedBlock (b : List ℕ) : Type 0 where
+  pub size : length b ≡ deskSize
+  pub desk : deskOf b ≡ readDesk b
+  pub accept : accept (readDesk b) ≡ true
+  pub image : image (readDesk b) ≡ b
+
+pub accepted-read : (b : List ℕ) → accepted b ≡ true → AcceptedBlock b
+unfolding accepted deskOf isImage
+accepted-read b = go (eqb (length b) deskSize) (same b (image (readDesk b))) refl refl
   where
-    apart : _≡_ {A = Bool} true false → ⊥
-    apart z = impossible (cc)
+    go : (p q : Bool) → eqb (length b) deskSize ≡ p → same b (image (readDesk b)) ≡ q → accept (pick (both p q) (readDesk b) (closed 0 0)) ≡ true → AcceptedBlock b
+    go true true e f k =
+        record {
+          size = eqb-true (length b) deskSize e;
+          desk = rw (e, f);
+          accept = k;
+          image = sym (same-true b (image (readDesk b)) f);
+        }
+    go true false e f k = true≢false _ k (closed-refused 0 0)
+    go false q e f k = true≢false _ k (closed-refused 0 0)
 
 only : (b : List ℕ) → Bytes b → accepted b ≡ true → ImageOf b (deskOf b)
-unfolding accepted deskOf isImage
-only b h = go (eqb (length b) deskSize) (same b (image (readDesk b))) refl refl
-  where
-    go : (p q : Bool) → eqb (length b) deskSize ≡ p → same b (image (readDesk b)) ≡ q → accept (pick (both p q) (readDesk b) (closed 0 0)) ≡ true
-        → ImageOf b (pick (both p q) (readDesk b) (closed 0 0))
-    go true true e f k =
-        record { fits = read-fits b h (eqb-true (length b) deskSize e); acceptable = k; image = sym (same-true b (image (readDesk b)) f) }
-    go true false e f k = absurd (not-closed k)
-    go false q e f k = absurd (not-closed k)
+only b h e =
+    let w = accepted-read b e in
+    rw (w .desk) (record { fits = read-fits b h (w .size); acceptable = w .accept; image = w .image })
 
 every : (b : List ℕ) (d : Desk) → ImageOf b d → (accepted b ≡ true) × (deskOf b ≡ d)
 unfolding accepted

@@ -34,8 +34,8 @@ use Rattle.desk.specs.Calls.{closed}
 use Rattle.desk.proofs.AcceptableLaws.{closed-refused}
 use Rattle.image.specs.Image.{each, flat, listed, requestWords, stageWords, rowWords, rowsWords, driveWords, slotsWords, tailWords, deskWords, image, rowSize, slotSize, rowAt, slotAt, tailAt, deskSize, countAt, pointerAt, arenaAt, storeAt, requestPlace, finishedPlace, registersAt, requestAt, readStage, readRow, readDrive, readRows, readSlots, readDesk, isImage, deskOf, accepted, FitsDrive}
 use Rattle.image.specs.Judged.{below, areRegisters, isRequest, isSlot, driveGood, drivesGood, restZero, firstIn, blocksIn, apart, aloneTo, drivesApart, follows, ascending, waitingGood, finishedGood, rowGood, rowsGood, tableGood, judged}
-use Rattle.image.proofs.Fill.{length-each, length-row, length-drive}
-use Rattle.image.proofs.ImageLaws.{Says, drive-read}
+use Rattle.image.proofs.Fill.{length-row, length-drive, length-rows, length-slots}
+use Rattle.image.proofs.ImageLaws.{Says, drive-read, drive-fits}
 use Rattle.image.proofs.Fields.{row-of, slot-of}
 
 -- ---- the eight bytes of a word
@@ -154,6 +154,9 @@ module _ (b : List ℕ) where
       (all-ext (length ys) _ (λ k. same (part 8 b (i + 8 * length xs + 8 * k)) (leBytes 8 (getD ys k 0)))
       (λ k q. let z : i + 8 * (length xs + k) ≡ i + 8 * length xs + 8 * k = omega arith in rw (z, getD-append-add xs ys k 0))))
 
+  matches-then : (xs ys : List ℕ) (i at : ℕ) → i + 8 * length xs ≡ at → matches b i (xs ++ ys) ≡ both (matches b i xs) (matches b at ys)
+  matches-then xs ys i at e = rw (← e) (matches-append xs ys i)
+
   matches-none : (at : ℕ) → matches b at [] ≡ true
   unfolding matches
   matches-none at = refl
@@ -199,8 +202,8 @@ module _ (b : List ℕ) (h : Bytes b) where
   registers-is : (i : ℕ) → i + 64 ≤ length b → matches b i (registerNumbers (registersAt b i)) ≡ areRegisters b i
   unfolding matches areRegisters below
   registers-is i l =
-      let z : same (part 8 b (i + 0)) (leBytes 8 (le 2 b i)) ≡ ltb (le 8 b (i + 0)) (256 ^ 2) = rw add-zero (field-is b h 2 i (omega arith) (omega arith)) in
       rw (
+        add-zero i,
         bit-is b h (i + 56) (omega arith),
         field-is b h 2 (i + 48) (omega arith) (omega arith),
         field-is b h 2 (i + 40) (omega arith) (omega arith),
@@ -208,35 +211,34 @@ module _ (b : List ℕ) (h : Bytes b) where
         field-is b h 2 (i + 24) (omega arith) (omega arith),
         field-is b h 2 (i + 16) (omega arith) (omega arith),
         field-is b h 2 (i + 8) (omega arith) (omega arith),
-        z,
+        field-is b h 2 i (omega arith) (omega arith),
       )
 
-  request-is : (i : ℕ) → i + slotSize ≤ length b → matches b i (requestWords (requestAt b i)) ≡ isRequest b i
-  unfolding matches isRequest areRegisters below
-  request-is i l =
-      let z : same (part 8 b (i + 0)) (leBytes 8 (le 2 b i)) ≡ ltb (le 8 b (i + 0)) (256 ^ 2) = rw add-zero (field-is b h 2 i (omega arith) (omega arith)) in
-      rw (
+  -- behind a request's registers
+  asked-is : (i : ℕ) → i + slotSize ≤ length b
+      → matches b (i + 64) (getD b (i + 64) 0 ∷ le 8 b (i + 72) ∷ le 8 b (i + 80) ∷ le 8 b (i + 88) ∷ le 8 b (i + 96) ∷ le 8 b (i + 104) ∷ []) ≡ ltb (le 8 b (i + 64)) 256
+  unfolding matches
+  asked-is i l =
+      simp (add-assoc, add-zero) (rw (
         whole-is b h (i + 104) (omega arith),
         whole-is b h (i + 96) (omega arith),
         whole-is b h (i + 88) (omega arith),
         whole-is b h (i + 80) (omega arith),
         whole-is b h (i + 72) (omega arith),
         byte-is b h (i + 64) (omega arith),
-        bit-is b h (i + 56) (omega arith),
-        field-is b h 2 (i + 48) (omega arith) (omega arith),
-        field-is b h 2 (i + 40) (omega arith) (omega arith),
-        field-is b h 2 (i + 32) (omega arith) (omega arith),
-        field-is b h 2 (i + 24) (omega arith) (omega arith),
-        field-is b h 2 (i + 16) (omega arith) (omega arith),
-        field-is b h 2 (i + 8) (omega arith) (omega arith),
-        z,
-      )
+        both-itself,
+      ))
+
+  request-is : (i : ℕ) → i + slotSize ≤ length b → matches b i (requestWords (requestAt b i)) ≡ isRequest b i
+  unfolding isRequest
+  request-is i l =
+      matches-append b (registerNumbers (registersAt b i)) _ i ∙ rw (registers-is i (omega arith), asked-is i l) (both-comm (areRegisters b i) _)
 
   slot-is : (i : ℕ) → i + slotSize ≤ length b → matches b i (driveWords (readDrive b i)) ≡ isSlot b i
   unfolding matches readDrive isSlot below
   slot-is i l =
-      let z : same (part 8 b (i + 0)) (leBytes 8 (le 4 b i)) ≡ ltb (le 8 b (i + 0)) (256 ^ 4) = rw add-zero (field-is b h 4 i (omega arith) (omega arith)) in
       rw (
+        add-zero i,
         name-whole b h (i + 104) (omega arith),
         name-whole b h (i + 96) (omega arith),
         name-whole b h (i + 88) (omega arith),
@@ -250,7 +252,7 @@ module _ (b : List ℕ) (h : Bytes b) where
         whole-is b h (i + 24) (omega arith),
         field-is b h 4 (i + 16) (omega arith) (omega arith),
         field-is b h 4 (i + 8) (omega arith) (omega arith),
-        z,
+        field-is b h 4 i (omega arith) (omega arith),
       ) (simp (add-assoc, add-zero, both-assoc))
 
   -- ---- rows
@@ -314,10 +316,6 @@ rows-all (suc n) rows t M = ap (λ (x : Bool). both (stageOk t M (stageIn rows n
 -- ---- drives
 
 -- the tests of the table, as tests of every slot
-sound-all : (n : ℕ) (l : List Drive) (store : ℕ) → soundTo n l store ≡ allBelow n (λ i. eqb (refusal (firstDrives l i) (getD l i noDrive) store) 0)
-unfolding soundTo
-sound-all n l store = refl
-
 blank-all : (n : ℕ) (l : List Drive) (count : ℕ) → blankTo n l count ≡ allBelow n (λ i. either (ltb i count) (isBlank (getD l i noDrive)))
 unfolding blankTo
 blank-all n l count = refl
@@ -386,31 +384,10 @@ zero-words : driveWords zeroDrive ≡ replicate 14 0
 unfolding le
 zero-words = refl
 
+-- it is what zeros say
 zero-fits : FitsDrive zeroDrive
-zero-fits =
-    record {
-      numbers =
-          record {
-            cylinders = omega arith;
-            heads = omega arith;
-            sectors = omega arith;
-            blocks = omega arith;
-            first = omega arith;
-            flags = omega arith;
-            c = omega arith;
-            h = omega arith;
-            bus = refl;
-            interface = refl;
-            path = refl;
-            device = refl;
-          };
-      s = omega arith;
-      protection = omega arith;
-      bus = zeros 4;
-      interface = zeros 8;
-      path = zeros 8;
-      device = zeros 8;
-    }
+unfolding readDrive le
+zero-fits = drive-fits (replicate 112 0) (zeros 112) 0 (omega arith)
   where
     zeros : (n i : ℕ) → getD (replicate n 0) i 0 < 256
     zeros zero i = omega arith
@@ -463,10 +440,9 @@ module _ (b : List ℕ) where
 
   sound-is : (n store : ℕ) → n ≤ 8
       → soundTo n drives store ≡ both (allBelow n (λ i. both (fieldsOk (readDrive b (slotAt i))) (inStore (readDrive b (slotAt i)) store))) (drivesApart n b)
-  unfolding drivesApart
+  unfolding drivesApart soundTo
   sound-is n store l =
-      sound-all n drives store
-      ∙ all-ext n _ (λ i. both (both (fieldsOk (readDrive b (slotAt i))) (inStore (readDrive b (slotAt i)) store)) (aloneTo i b i)) at
+      all-ext n _ (λ i. both (both (fieldsOk (readDrive b (slotAt i))) (inStore (readDrive b (slotAt i)) store)) (aloneTo i b i)) at
       ∙ sym (all-both n (λ i. both (fieldsOk (readDrive b (slotAt i))) (inStore (readDrive b (slotAt i)) store)) (λ i. aloneTo i b i))
     where
       at : (i : ℕ) → i < n → eqb (refusal (firstDrives drives i) (getD drives i noDrive) store) 0
@@ -554,23 +530,19 @@ module _ (b : List ℕ) (h : Bytes b) (l : length b ≡ deskSize) where
   unfolding image deskWords readDesk
   image-is =
       let R = rowsWords (readRows b) in
-      let P = slotsWords (readSlots b) in
+      let S = slotsWords (readSlots b) in
       let T = tailWords (readDesk b) in
-      let lr : length R ≡ 23 * 8 = length-each rowWords 23 length-row (readRows b) in
-      let lp : length P ≡ 14 * 8 = length-each driveWords 14 length-drive (readSlots b) in
-      let n : 0 + 8 * length (R ++ (P ++ T)) ≡ length b = rw (length-append R (P ++ T), length-append P T) (omega arith) in
-      same-flat b (R ++ (P ++ T)) 0 n
-      ∙ matches-append b R (P ++ T) (rowAt 0)
-      ∙ ap (λ (x : Bool). both (matches b (rowAt 0) R) x) (slots lr lp)
+      let lr : length R ≡ 23 * 8 = length-rows (readRows b) refl in
+      let ls : length S ≡ 14 * 8 = length-slots (readSlots b) refl in
+      let n : 0 + 8 * length (R ++ (S ++ T)) ≡ length b = rw (length-append R (S ++ T), length-append S T) (omega arith) in
+      same-flat b (R ++ (S ++ T)) 0 n
+      ∙ matches-then b R (S ++ T) (rowAt 0) (slotAt 0) (omega arith)
+      ∙ ap (λ (x : Bool). both (matches b (rowAt 0) R) x) rest
     where
-      slots : length (rowsWords (readRows b)) ≡ 23 * 8 → length (slotsWords (readSlots b)) ≡ 14 * 8
-          → matches b (rowAt 0 + 8 * length (rowsWords (readRows b))) (slotsWords (readSlots b) ++ tailWords (readDesk b)) ≡ matches b (slotAt 0) (slotsWords (readSlots b))
-      slots lr lp = rw lr (matches-append b (slotsWords (readSlots b)) (tailWords (readDesk b)) (slotAt 0) ∙ last lp)
-        where
-          last : length (slotsWords (readSlots b)) ≡ 14 * 8
-              → both (matches b (slotAt 0) (slotsWords (readSlots b))) (matches b (slotAt 0 + 8 * length (slotsWords (readSlots b))) (tailWords (readDesk b)))
-              ≡ matches b (slotAt 0) (slotsWords (readSlots b))
-          last lp = rw (lp, tail-is) (both-itself (matches b (slotAt 0) (slotsWords (readSlots b))))
+      rest : matches b (slotAt 0) (slotsWords (readSlots b) ++ tailWords (readDesk b)) ≡ matches b (slotAt 0) (slotsWords (readSlots b))
+      rest =
+          matches-then b (slotsWords (readSlots b)) (tailWords (readDesk b)) (slotAt 0) (tailAt 0) (omega (arith, length-slots (readSlots b) refl))
+          ∙ rw tail-is (both-itself (matches b (slotAt 0) (slotsWords (readSlots b))))
 
   sized : both (tableGood b) (both (ltb (le 8 b pointerAt) 8) (rowsGood 8 b (windowLength (le 8 b arenaAt)))) ≡ both (same b (image (readDesk b))) (accept (readDesk b))
   unfolding tableGood accept isSound readDesk count drives

@@ -4,26 +4,20 @@ use Prim.Native.Nat.{ℕ, zero, suc, _+_, _*_, _<_}
 use native.Mathlib.Nat.{zero-add, add-suc, suc-add, mul-zero, mul-suc}
 use native.Mathlib.Omega.{arith}
 use mathlib.Core.Path.{_≡_, refl, sym, _∙_, ap, subst}
-use mathlib.Core.Bool.{Bool, true, false}
+use mathlib.Core.Bool.{true}
 use mathlib.Core.List.{List, [], _∷_, _++_, append-assoc, append-nil}
 use lib.ListN.{length, set, length-append, length-set}
 use lib.Seq.{sets, drop-at}
-use lib.Dec.{eqb}
-use borrow.Author.Tests.{eq-eqb, eqb-true}
-use Rattle.logic.specs.Logic.{pick, both}
+use borrow.Author.Tests.{eq-eqb}
 use Rattle.words.specs.Words.{leBytes}
 use Rattle.words.proofs.WordsLaws.{length-leBytes, sets-front}
-use Rattle.drive.specs.Drive.{same}
-use Rattle.drive.proofs.DriveLaws.{same-true}
 use Rattle.desk.specs.declared.Stage.{Stage}
 use Rattle.desk.specs.declared.Row.{Row}
 use Rattle.desk.specs.declared.Desk.{Desk}
 use Rattle.desk.specs.Parts.{withStage, withPointer}
-use Rattle.desk.specs.Acceptable.{accept}
-use Rattle.desk.specs.Calls.{closed}
-use Rattle.image.specs.Image.{each, flat, stageWords, rowWords, rowsWords, driveWords, slotsWords, tailWords, deskWords, image, rowAt, pointerAt, deskSize, readDesk, isImage, deskOf, accepted, laid, putStage, putPointer}
-use Rattle.image.proofs.Fill.{each-append, length-each, length-flat, length-row, length-drive}
-use Rattle.image.proofs.ImageLaws.{not-closed}
+use Rattle.image.specs.Image.{each, flat, stageWords, rowWords, rowsWords, slotsWords, tailWords, deskWords, image, rowAt, pointerAt, deskSize, readDesk, deskOf, accepted, laid, putStage, putPointer}
+use Rattle.image.proofs.Fill.{each-append, length-flat, length-row, length-rows, length-slots}
+use Rattle.image.proofs.ImageLaws.{accepted-read}
 
 -- ---- stores behind the first of two lists
 
@@ -97,12 +91,7 @@ unfolding putPointer front
 image-pointer d p r t =
     let l : length (front d) ≡ rowAt 8 + 8 * (14 * 8) =
     length-flat (rowsWords (d .rows) ++ slotsWords (d .table .drives))
-    ∙ omega (
-      arith,
-      length-append (rowsWords (d .rows)) (slotsWords (d .table .drives)),
-      length-each rowWords 23 length-row (d .rows) ∙ ap (λ (m : ℕ). 23 * m) r,
-      length-each driveWords 14 length-drive (d .table .drives) ∙ ap (λ (m : ℕ). 14 * m) t,
-    ) in
+    ∙ omega (arith, length-append (rowsWords (d .rows)) (slotsWords (d .table .drives)), length-rows (d .rows) r, length-slots (d .table .drives) t) in
     ap (λ (b : List ℕ). sets b pointerAt (leBytes 8 p)) (image-front d)
     ∙ sets-behind (front d) (flat (tailWords d)) (rowAt 8 + 8 * (14 * 8)) (8 * 1) (leBytes 8 p) l
     ∙ ap (λ (b : List ℕ). front d ++ b)
@@ -112,27 +101,6 @@ image-pointer d p r t =
     ∙ sym (image-front (withPointer d p))
 
 -- ---- an accepted block
-
-pub record AcceptedBlock (b : List ℕ) : Type 0 where
-  pub size : length b ≡ deskSize
-  pub desk : deskOf b ≡ readDesk b
-  pub accept : accept (readDesk b) ≡ true
-  pub image : image (readDesk b) ≡ b
-
-pub accepted-read : (b : List ℕ) → accepted b ≡ true → AcceptedBlock b
-unfolding accepted deskOf isImage
-accepted-read b = go (eqb (length b) deskSize) (same b (image (readDesk b))) refl refl
-  where
-    go : (p q : Bool) → eqb (length b) deskSize ≡ p → same b (image (readDesk b)) ≡ q → accept (pick (both p q) (readDesk b) (closed 0 0)) ≡ true → AcceptedBlock b
-    go true true e f k =
-        record {
-          size = eqb-true (length b) deskSize e;
-          desk = rw (e, f);
-          accept = k;
-          image = sym (same-true b (image (readDesk b)) f);
-        }
-    go true false e f k = absurd (not-closed k)
-    go false q e f k = absurd (not-closed k)
 
 rows-eight : (b : List ℕ) → length (readDesk b .rows) ≡ 8
 unfolding readDesk
