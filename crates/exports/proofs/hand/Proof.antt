@@ -6,7 +6,7 @@ bit-requires : tie.Need-bit-requires
 bit-requires c κs = search needs
 
 returns : tie.Need-returns
-returns c = cc
+returns c = rw (c .bit .ensures)
 
 pub hand-spec : {M : Type 1} → statement M
 hand-spec = tie.close (tie.spec bit-requires returns)
