@@ -462,9 +462,8 @@ struct summary {
     const char *slowest;
     double growth;        /* the last setting against the first, where that grew most; calls below 50 ns are left out */
     const char *grew;
-    double dearest;       /* the highest ratio to the model of a call that moves no blocks, 25 apart, in the last setting */
+    double dearest;       /* the highest ratio to the model of a call that moves no blocks, in the last setting */
     const char *dear;
-    double damaged;       /* the ratio of a call refused with 25 */
     double opening;       /* the ratio of an opening */
 };
 
@@ -481,7 +480,7 @@ static int moves_nothing(const struct call *c)
 /* A row for each call, a column for each setting. The last two columns: the model in the last setting, and the ratio to it. */
 static struct summary table_calls(const struct setting *settings, unsigned count)
 {
-    struct summary sum = { 0, "", 0, "", 0, "", 0, 0 };
+    struct summary sum = { 0, "", 0, "", 0, "", 0 };
     printf("   %-28s", "");
     for (unsigned k = 0; k < count; k++)
         printf(" %12s", settings[k].name);
@@ -522,9 +521,7 @@ static struct summary table_calls(const struct setting *settings, unsigned count
             double ratio = best(&t[count - 1]) / best(&models[i]);
             if (best(&models[i]) >= 20)
                 printf("  %5.2f", ratio);
-            if (calls[i].answer == EDD_DESK_NOT_ACCEPTED) {
-                sum.damaged = ratio;
-            } else if (moves_nothing(&calls[i]) && ratio > sum.dearest) {
+            if (moves_nothing(&calls[i]) && ratio > sum.dearest) {
                 sum.dearest = ratio;
                 sum.dear = calls[i].name;
             }
@@ -601,9 +598,6 @@ int main(int argc, char **argv)
         printf("   a call that moves no blocks, at most %.1f times the model: the dearest %.2f (%s), with seven other rows waiting"
                " %.2f (%s): %s\n", MODEL_CALL, by_drives.dearest, by_drives.dear, by_rows.dearest, by_rows.dear,
                by_drives.dearest <= MODEL_CALL && by_rows.dearest <= MODEL_CALL ? "met" : "NOT met");
-        printf("   and so a call refused with 25, where the model stops at the first bad word: %.2f, with seven other rows waiting %.2f: %s\n",
-               by_drives.damaged, by_rows.damaged,
-               by_drives.damaged <= MODEL_CALL && by_rows.damaged <= MODEL_CALL ? "met" : "NOT met");
         printf("   an opening of 8 drives, at most %.1f times the model: %.2f: %s\n", MODEL_OPEN, by_drives.opening,
                by_drives.opening <= MODEL_OPEN ? "met" : "NOT met");
     }

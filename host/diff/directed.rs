@@ -26,8 +26,8 @@ fn row(guest: usize, word: usize) -> usize {
     23 * guest + word
 }
 
-fn drive_word(place: usize, word: usize) -> usize {
-    184 + 14 * place + word
+fn drive_word(slot: usize, word: usize) -> usize {
+    184 + 14 * slot + word
 }
 
 // ---- a desk with its arena and store
@@ -1102,9 +1102,9 @@ fn d4_words_that_a_stage_does_not_use(service: &dyn Service) {
         for k in 1..15 {
             stand.refused_with("finished", row(3, k), value);
         }
-        for place in 2..8 {
+        for slot in 2..8 {
             for k in 0..14 {
-                stand.refused_with("an unused place of the table", drive_word(place, k), value);
+                stand.refused_with("an unused slot of the table", drive_word(slot, k), value);
             }
         }
     }

@@ -62,9 +62,9 @@ fn read_drives(bytes: &[u8], count: u64, store_blocks: u64, drives: &mut Drives)
     if count > MOST_DRIVES as u64 {
         return None;
     }
-    for place in 0..MOST_DRIVES {
-        let at: Words<DRIVE_WORDS> = words(bytes, DRIVES_AT + DRIVE_WORDS * place);
-        if place as u64 >= count {
+    for slot in 0..MOST_DRIVES {
+        let at: Words<DRIVE_WORDS> = words(bytes, DRIVES_AT + DRIVE_WORDS * slot);
+        if slot as u64 >= count {
             if !all_zero(&at) {
                 return None;
             }
@@ -72,8 +72,8 @@ fn read_drives(bytes: &[u8], count: u64, store_blocks: u64, drives: &mut Drives)
         }
         let drive = read_drive(&at)?;
         check_drive(&drive, drives.known(), store_blocks).ok()?;
-        drives.place[place] = drive;
-        drives.count = place + 1;
+        drives.slot[slot] = drive;
+        drives.count = slot + 1;
     }
     Some(())
 }
@@ -214,8 +214,8 @@ pub fn write(bytes: &mut [u8], desk: &Desk) {
     for (guest, row) in desk.rows.iter().enumerate() {
         put_row(bytes, guest, row);
     }
-    for (place, drive) in desk.drives.place.iter().enumerate() {
-        put(bytes, DRIVES_AT + DRIVE_WORDS * place, &drive_words(drive));
+    for (slot, drive) in desk.drives.slot.iter().enumerate() {
+        put(bytes, DRIVES_AT + DRIVE_WORDS * slot, &drive_words(drive));
     }
     put(bytes, COUNT_AT, &[desk.drives.count as u64]);
     put_pointer(bytes, desk.pointer);

@@ -65,16 +65,16 @@ impl Drive {
     }
 }
 
-/// The drives in table order; places past the count are blank.
+/// The drives in table order; slots past the count are blank.
 #[derive(Clone, Copy, PartialEq, Eq, Debug, Default)]
 pub struct Drives {
-    pub place: [Drive; MOST_DRIVES],
+    pub slot: [Drive; MOST_DRIVES],
     pub count: usize,
 }
 
 impl Drives {
     pub fn known(&self) -> &[Drive] {
-        &self.place[..self.count]
+        &self.slot[..self.count]
     }
     /// The drive of a BIOS number, 80h upward in table order.
     pub fn numbered(&self, number: u64) -> Option<&Drive> {

@@ -143,7 +143,7 @@ pub fn read(table: &[u8], store_blocks: u64) -> Result<Drives, Refusal> {
             Record::Drive => {
                 let drive = drive_of(&table[place..place + DRIVE.1]);
                 check_drive(&drive, drives.known(), store_blocks).map_err(refused)?;
-                drives.place[drives.count] = drive;
+                drives.slot[drives.count] = drive;
                 drives.count += 1;
                 place += DRIVE.1;
             }

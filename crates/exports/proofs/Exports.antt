@@ -1,7 +1,7 @@
 -- Laws of the calls at a block: what is read of an acceptable desk's block is the desk's, and the words that are written make the block of
 -- the next desk.
 -- Assumes nothing.
-use mathlib.Core.Path.{_≡_, refl, sym, ap, _∙_}
+use mathlib.Core.Path.{_≡_, sym, ap, _∙_}
 use mathlib.Core.Bool.{Bool, true, false}
 use mathlib.Core.List.{List}
 use Prim.Native.Nat.{ℕ, _<_}
@@ -18,7 +18,8 @@ use Rattle.desk.specs.Acceptable.{accept}
 use Rattle.desk.specs.Calls.{houseNumber, firstWaiting}
 use Rattle.desk.proofs.AcceptableLaws.{accept-true}
 use Rattle.image.specs.Image.{readDesk, deskOf, accepted, laid, putStage, putPointer}
-use Rattle.image.proofs.Puts.{AcceptedBlock, accepted-read, put-stage, put-both}
+use Rattle.image.proofs.ImageLaws.{AcceptedBlock, accepted-read}
+use Rattle.image.proofs.Puts.{put-stage, put-both}
 
 pub block : (b : List ℕ) → accept (deskOf b) ≡ true → AcceptedBlock b
 unfolding accepted

@@ -17,7 +17,7 @@ use Rattle.int13.proofs.StepsLaws.{isDrive-true}
 use Rattle.desk.specs.declared.Stage.the-variants.{Vacant, Waiting, Finished}
 use Rattle.desk.specs.declared.Row.{Row}
 use Rattle.desk.specs.Parts.{vacantRow, stageIn, stageAt, isWaiting}
-use Rattle.image.specs.Image.{listed, rowAt, placeAt, countAt, requestPlace, finishedPlace, registersAt, requestAt, readStage, readRow, readDrive, readDesk}
+use Rattle.image.specs.Image.{listed, rowAt, slotAt, countAt, requestPlace, finishedPlace, registersAt, requestAt, readStage, readRow, readDrive, readDesk}
 
 pub listed-at : {A : Type 0} (f : ℕ → A) (i n k : ℕ) (e : A) → k < n → getD (listed f i n) k e ≡ f (i + k)
 listed-at f i zero k e h = absurd (omega arith)
@@ -42,10 +42,10 @@ pub row-of : (b : List ℕ) (g : ℕ) → g < 8 → stageAt (readDesk b) g ≡ r
 unfolding readDesk
 row-of b g h = ap (λ (r : Row). r .stage) (listed-at (λ k. readRow b (rowAt k)) 0 8 g vacantRow h) ∙ ap (λ (k : ℕ). readStage b (rowAt k)) (zero-add g)
 
--- a place of the table
-pub place-of : (b : List ℕ) (i : ℕ) → i < 8 → getD (readDesk b .table .drives) i noDrive ≡ readDrive b (placeAt i)
+-- a slot of the table
+pub slot-of : (b : List ℕ) (i : ℕ) → i < 8 → getD (readDesk b .table .drives) i noDrive ≡ readDrive b (slotAt i)
 unfolding readDesk
-place-of b i h = listed-at (λ k. readDrive b (placeAt k)) 0 8 i noDrive h ∙ ap (λ (k : ℕ). readDrive b (placeAt k)) (zero-add i)
+slot-of b i h = listed-at (λ k. readDrive b (slotAt k)) 0 8 i noDrive h ∙ ap (λ (k : ℕ). readDrive b (slotAt k)) (zero-add i)
 
 -- a row waits by its number
 waiting-number : (b : List ℕ) (i : ℕ) → isWaiting (readStage b i) ≡ eqb (getD b i 0) 1
@@ -70,6 +70,6 @@ pub known : (b : List ℕ) (n c : ℕ) (t : Bool) → c ≡ driveCount (readDesk
 unfolding isDrive
 known b n c t e f = rw (← e) f
 
--- a known drive's number is that of one of the eight places
-pub place-known : (b : List ℕ) (n : ℕ) → isDrive (readDesk b .table) n ≡ true → (firstDrive ≤ n) × (n < firstDrive + 8)
-place-known b n e = let p = isDrive-true (readDesk b .table) n e in (p .0, omega (arith, p .1, count-of b))
+-- a known drive's number is that of one of the eight slots
+pub slot-known : (b : List ℕ) (n : ℕ) → isDrive (readDesk b .table) n ≡ true → (firstDrive ≤ n) × (n < firstDrive + 8)
+slot-known b n e = let p = isDrive-true (readDesk b .table) n e in (p .0, omega (arith, p .1, count-of b))

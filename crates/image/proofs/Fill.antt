@@ -1,7 +1,7 @@
 -- Lists that are put together from their members' parts, and a block that is filled with them from the left.
 -- Assumes nothing.
-use Prim.Native.Nat.{ℕ, zero, suc, _+_, _*_, _≤_, _<_}
-use native.Mathlib.Nat.{add-assoc, zero-add, mul-zero}
+use Prim.Native.Nat.{ℕ, suc, _+_, _*_, _≤_, _<_}
+use native.Mathlib.Nat.{mul-zero}
 use native.Mathlib.Numerals.{add-one}
 use native.Mathlib.Omega.{arith}
 use mathlib.Core.Path.{_≡_, refl, sym, _∙_, ap, subst}
@@ -15,7 +15,7 @@ use Rattle.desk.specs.declared.Stage.{Stage}
 use Rattle.desk.specs.declared.Stage.the-variants.{Vacant, Waiting, Finished}
 use Rattle.desk.specs.declared.Row.{Row}
 use Rattle.desk.specs.declared.Desk.{Desk}
-use Rattle.image.specs.Image.{each, flat, stageWords, rowWords, rowsWords, driveWords, placesWords, tailWords, deskWords, image, rowAt, placeAt, tailAt, deskSize}
+use Rattle.image.specs.Image.{each, flat, stageWords, rowWords, rowsWords, driveWords, slotsWords, tailWords, deskWords, image, rowAt, slotAt, tailAt, deskSize}
 
 module _ {A : Type 0} (f : A → List ℕ) where
   pub each-append : (xs ys : List A) → each f (xs ++ ys) ≡ each f xs ++ each f ys
@@ -78,28 +78,27 @@ length-row r = go (r .stage)
 pub length-drive : (d : Drive) → length (driveWords d) ≡ 14
 length-drive d = refl
 
--- the bytes of the sections
-module _ (rows : List Row) (drives : List Drive) (r : length rows ≡ 8) (t : length drives ≡ 8) where
-  pub length-rows : length (flat (rowsWords rows)) ≡ rowAt 8
-  length-rows = length-flat (rowsWords rows) ∙ ap (λ (m : ℕ). 8 * m) (length-each rowWords 23 length-row rows ∙ ap (λ (m : ℕ). 23 * m) r)
+-- the words of the sections
+pub length-rows : (rows : List Row) → length rows ≡ 8 → length (rowsWords rows) ≡ 23 * 8
+length-rows rows e = length-each rowWords 23 length-row rows ∙ ap (λ (m : ℕ). 23 * m) e
 
-  pub length-places : length (flat (placesWords drives)) ≡ 8 * (14 * 8)
-  length-places = length-flat (placesWords drives) ∙ ap (λ (m : ℕ). 8 * m) (length-each driveWords 14 length-drive drives ∙ ap (λ (m : ℕ). 14 * m) t)
+pub length-slots : (drives : List Drive) → length drives ≡ 8 → length (slotsWords drives) ≡ 14 * 8
+length-slots drives e = length-each driveWords 14 length-drive drives ∙ ap (λ (m : ℕ). 14 * m) e
 
 -- the sections, laid one after the other
 pub laid-out : (s : List ℕ) (d : Desk) → length s ≡ deskSize → length (d .rows) ≡ 8 → length (d .table .drives) ≡ 8
-    → sets (sets (sets s (rowAt 0) (flat (rowsWords (d .rows)))) (placeAt 0) (flat (placesWords (d .table .drives)))) (tailAt 0) (flat (tailWords d)) ≡ image d
+    → sets (sets (sets s (rowAt 0) (flat (rowsWords (d .rows)))) (slotAt 0) (flat (slotsWords (d .table .drives)))) (tailAt 0) (flat (tailWords d)) ≡ image d
 unfolding image deskWords
 laid-out s d n r t =
     let R = flat (rowsWords (d .rows)) in
-    let D = flat (placesWords (d .table .drives)) in
+    let D = flat (slotsWords (d .table .drives)) in
     let T = flat (tailWords d) in
-    let lr : length R ≡ placeAt 0 = length-rows (d .rows) (d .table .drives) r t in
-    let ld : length (R ++ D) ≡ tailAt 0 = length-append R D ∙ omega (arith, length-places (d .rows) (d .table .drives) r t) in
+    let lr : length R ≡ slotAt 0 = length-flat (rowsWords (d .rows)) ∙ omega (arith, length-rows (d .rows) r) in
+    let ld : length (R ++ D) ≡ tailAt 0 = length-append R D ∙ omega (arith, length-flat (slotsWords (d .table .drives)), length-slots (d .table .drives) t) in
     let lt : length ((R ++ D) ++ T) ≡ length s = length-append (R ++ D) T ∙ omega (arith, length-flat (tailWords d)) in
-    ap (λ (l : List ℕ). sets l (tailAt 0) T) (sets-next s 0 (placeAt 0) R D lr)
+    ap (λ (l : List ℕ). sets l (tailAt 0) T) (sets-next s 0 (slotAt 0) R D lr)
     ∙ sets-next s 0 (tailAt 0) (R ++ D) T ld
     ∙ sets-whole s ((R ++ D) ++ T) (sym lt)
     ∙ append-assoc R D T
-    ∙ sym (each-append (leBytes 8) (rowsWords (d .rows)) (placesWords (d .table .drives) ++ tailWords d)
-    ∙ ap (λ (l : List ℕ). R ++ l) (each-append (leBytes 8) (placesWords (d .table .drives)) (tailWords d)))
+    ∙ sym (each-append (leBytes 8) (rowsWords (d .rows)) (slotsWords (d .table .drives) ++ tailWords d)
+    ∙ ap (λ (l : List ℕ). R ++ l) (each-append (leBytes 8) (slotsWords (d .table .drives)) (tailWords d)))

@@ -1,29 +1,27 @@
 -- A desk is read back from its image, and a block that is an image is the image of what is read from it.
 -- Assumes nothing.
 use Prim.Native.Nat.{ℕ, zero, suc, _+_, _*_, _%_, _^_, _-_, _≤_, _<_}
-use native.Mathlib.Nat.{add-zero, zero-add, add-assoc, mul-zero, mul-suc, mul-le-mul-left, mod-eq-of-lt}
+use native.Mathlib.Nat.{add-zero, zero-add, mul-zero, mul-suc, mul-le-mul-left, mod-eq-of-lt}
 use native.Mathlib.Omega.{arith}
 use mathlib.Core.Path.{_≡_, refl, sym, _∙_, ap, subst}
 use mathlib.Core.Bool.{Bool, true, false}
 use mathlib.Core.List.{List, [], _∷_, _++_, append-assoc, append-nil}
-use lib.ListN.{length, take, drop, getD, replicate, length-append, length-drop, List·getD-append}
-use lib.Seq.{getD-append-add, length-take-le, take-all}
+use lib.ListN.{length, getD, replicate, length-append, List·getD-append}
+use lib.Seq.{getD-append-add, take-all}
 use lib.Dec.{eqb}
 use borrow.Author.Tests.{eq-eqb, eqb-true}
-use Rattle.logic.proofs.LogicLaws.{impossible}
+use Rattle.logic.proofs.LogicLaws.{true≢false}
 use Rattle.logic.specs.Logic.{pick, both}
 use Rattle.words.specs.Words.{Bytes, le, leBytes, part}
 use Rattle.words.proofs.WordsLaws.{le-lt, le-ext, read-write, write-read, leBytes-append, length-leBytes, bytes-leBytes, bytes-part}
 use Rattle.drive.specs.declared.Drive.{Drive}
-use Rattle.drive.specs.Drive.{Fits, same}
+use Rattle.drive.specs.Drive.{same}
 use Rattle.drive.proofs.DriveLaws.{same-refl, same-true}
-use Rattle.table.specs.declared.Table.{Table}
 use Rattle.table.specs.Table.{noDrive}
 use Rattle.int13.specs.declared.Registers.{Registers}
 use Rattle.desk.specs.declared.Request.{Request}
 use Rattle.desk.specs.declared.Stage.{Stage}
 use Rattle.desk.specs.declared.Stage.the-variants.{Vacant, Waiting, Finished}
-use Rattle.desk.specs.declared.Row.{Row}
 use Rattle.desk.specs.declared.Desk.{Desk}
 use Rattle.desk.specs.Parts.{vacantRow, stageAt}
 use Rattle.int13.specs.Answers.{registerNumbers}
@@ -31,9 +29,9 @@ use Rattle.desk.specs.Acceptable.{accept}
 use Rattle.desk.specs.Calls.{closed}
 use Rattle.desk.proofs.AcceptableLaws.{closed-refused}
 use Rattle.memory.proofs.Sets.{length-part}
-use Rattle.image.specs.Image.{each, flat, requestWords, stageWords, rowWords, rowsWords, driveWords, placesWords, tailWords, deskWords, image, placeSize, rowAt, placeAt, tailAt, deskSize, countAt, pointerAt, arenaAt, storeAt, requestPlace, finishedPlace, registersAt, requestAt, readStage, readRow, readDrive, readRows, readPlaces, readDesk, isImage, deskOf, accepted, FitsRegisters, FitsRequest, FitsStage, FitsDrive, FitsTable, FitsDesk, ImageOf, Exact}
-use Rattle.image.proofs.Fill.{length-each, length-flat, length-row, length-drive}
-use Rattle.image.proofs.Fields.{listed-is, row-of, place-of}
+use Rattle.image.specs.Image.{each, flat, requestWords, stageWords, rowWords, rowsWords, driveWords, slotsWords, tailWords, deskWords, image, slotSize, rowAt, slotAt, tailAt, deskSize, countAt, pointerAt, arenaAt, storeAt, requestPlace, finishedPlace, registersAt, requestAt, readStage, readRow, readDrive, readRows, readSlots, readDesk, isImage, deskOf, accepted, FitsRegisters, FitsRequest, FitsStage, FitsDrive, FitsTable, FitsDesk, ImageOf, Exact}
+use Rattle.image.proofs.Fill.{length-each, length-flat, length-row, length-drive, length-rows, length-slots}
+use Rattle.image.proofs.Fields.{listed-is, row-of, slot-of}
 
 -- ---- members of a list that is put together
 
@@ -154,7 +152,7 @@ stage-read s i (Finished r) h f =
       registers-read s (finishedPlace i) r (says-right s i (finishedPlace i) (2 ∷ replicate 14 0) _ refl h) f,
     )
 
-pub drive-read : (s : List ℕ) (i : ℕ) (d : Drive) → Says s i (driveWords d) → FitsDrive d → Bytes s → i + placeSize ≤ length s → readDrive s i ≡ d
+pub drive-read : (s : List ℕ) (i : ℕ) (d : Drive) → Says s i (driveWords d) → FitsDrive d → Bytes s → i + slotSize ≤ length s → readDrive s i ≡ d
 unfolding readDrive
 drive-read s i d h f bs l =
     let n = f .numbers in
@@ -212,35 +210,29 @@ bytes-flat [] i = omega arith
 bytes-flat (x ∷ ws) i = bytes-append (leBytes 8 x) (flat ws) (bytes-leBytes 8 x) (bytes-flat ws) i
 
 module _ (d : Desk) (fit : FitsDesk d) where
-  rows-length : length (rowsWords (d .rows)) ≡ 23 * 8
-  rows-length = length-each rowWords 23 length-row (d .rows) ∙ ap (λ (m : ℕ). 23 * m) (fit .eight)
-
-  places-length : length (placesWords (d .table .drives)) ≡ 14 * 8
-  places-length = length-each driveWords 14 length-drive (d .table .drives) ∙ ap (λ (m : ℕ). 14 * m) (fit .table .eight)
-
   pub length-image : length (image d) ≡ deskSize
   unfolding image deskWords
   length-image =
       length-flat (deskWords d)
       ∙ omega (
         arith,
-        rows-length,
-        places-length,
-        length-append (rowsWords (d .rows)) (placesWords (d .table .drives) ++ tailWords d),
-        length-append (placesWords (d .table .drives)) (tailWords d),
+        length-rows (d .rows) (fit .eight),
+        length-slots (d .table .drives) (fit .table .eight),
+        length-append (rowsWords (d .rows)) (slotsWords (d .table .drives) ++ tailWords d),
+        length-append (slotsWords (d .table .drives)) (tailWords d),
       )
 
   -- the words of each section
 
-  says-rows : Says (image d) (rowAt 0) (rowsWords (d .rows) ++ (placesWords (d .table .drives) ++ tailWords d))
+  says-rows : Says (image d) (rowAt 0) (rowsWords (d .rows) ++ (slotsWords (d .table .drives) ++ tailWords d))
   unfolding image deskWords
   says-rows = says-flat (deskWords d)
 
-  says-places : Says (image d) (placeAt 0) (placesWords (d .table .drives) ++ tailWords d)
-  says-places = says-right (image d) (rowAt 0) (placeAt 0) (rowsWords (d .rows)) _ (omega (arith, rows-length)) says-rows
+  says-slots : Says (image d) (slotAt 0) (slotsWords (d .table .drives) ++ tailWords d)
+  says-slots = says-right (image d) (rowAt 0) (slotAt 0) (rowsWords (d .rows)) _ (omega (arith, length-rows (d .rows) (fit .eight))) says-rows
 
   says-tail : Says (image d) (tailAt 0) (tailWords d)
-  says-tail = says-right (image d) (placeAt 0) (tailAt 0) (placesWords (d .table .drives)) _ (omega (arith, places-length)) says-places
+  says-tail = says-right (image d) (slotAt 0) (tailAt 0) (slotsWords (d .table .drives)) _ (omega (arith, length-slots (d .table .drives) (fit .table .eight))) says-slots
 
   -- each section is read back
 
@@ -251,12 +243,12 @@ module _ (d : Desk) (fit : FitsDesk d) where
       (stage-read (image d) (rowAt g) (stageAt d g)
       (says-each rowWords 23 length-row vacantRow (image d) (rowAt 0) (rowAt g) (d .rows) _ g (omega (arith, fit .eight)) (omega arith) says-rows) (fit .each g l)))
 
-  places-read : readPlaces (image d) ≡ d .table .drives
+  slots-read : readSlots (image d) ≡ d .table .drives
   unfolding image
-  places-read =
-      listed-is (λ i. readDrive (image d) (placeAt i)) (d .table .drives) 8 noDrive (fit .table .eight) (λ i l.
-      drive-read (image d) (placeAt i) (getD (d .table .drives) i noDrive)
-      (says-each driveWords 14 length-drive noDrive (image d) (placeAt 0) (placeAt i) (d .table .drives) _ i (omega (arith, fit .table .eight)) (omega arith) says-places)
+  slots-read =
+      listed-is (λ i. readDrive (image d) (slotAt i)) (d .table .drives) 8 noDrive (fit .table .eight) (λ i l.
+      drive-read (image d) (slotAt i) (getD (d .table .drives) i noDrive)
+      (says-each driveWords 14 length-drive noDrive (image d) (slotAt 0) (slotAt i) (d .table .drives) _ i (omega (arith, fit .table .eight)) (omega arith) says-slots)
       (fit .table .each i l) (bytes-flat (deskWords d)) (omega (arith, length-image)))
 
   tail-read : (j v : ℕ) → j < 4 → getD (tailWords d) j 0 ≡ v → v < 256 ^ 8 → le 8 (image d) (tailAt j) ≡ v
@@ -267,7 +259,7 @@ module _ (d : Desk) (fit : FitsDesk d) where
   read-image =
       rw (
         rows-read,
-        places-read,
+        slots-read,
         tail-read 0 (d .table .count) (omega arith) refl (fit .table .count),
         tail-read 1 (d .pointer) (omega arith) refl (fit .pointer),
         tail-read 2 (d .arena) (omega arith) refl (fit .arena),
@@ -315,7 +307,7 @@ module _ (b : List ℕ) (h : Bytes b) where
       go false true = registers-fit (finishedPlace i)
       go false false = tt
 
-  drive-fits : (i : ℕ) → i + placeSize ≤ length b → FitsDrive (readDrive b i)
+  pub drive-fits : (i : ℕ) → i + slotSize ≤ length b → FitsDrive (readDrive b i)
   unfolding readDrive
   drive-fits i l =
       record {
@@ -347,7 +339,7 @@ module _ (b : List ℕ) (h : Bytes b) where
   table-fits l =
       record {
         eight = refl;
-        each = λ i q. rw (place-of b i q) (drive-fits (placeAt i) (omega arith));
+        each = λ i q. rw (slot-of b i q) (drive-fits (slotAt i) (omega arith));
         count = le-lt 8 b countAt h;
       }
 
@@ -365,22 +357,32 @@ module _ (b : List ℕ) (h : Bytes b) where
 
 -- ---- accepted exactly when it is the image of an acceptable desk
 
-pub not-closed : accept (closed 0 0) ≡ true → ⊥
-not-closed e = absurd (let z : _≡_ {A = Bool} true false = sym e ∙ closed-refused 0 0 in apart z)
+-- what an accepted block is
+pub record AcceptedBlock (b : List ℕ) : Type 0 where
+  pub size : length b ≡ deskSize
+  pub desk : deskOf b ≡ readDesk b
+  pub accept : accept (readDesk b) ≡ true
+  pub image : image (readDesk b) ≡ b
+
+pub accepted-read : (b : List ℕ) → accepted b ≡ true → AcceptedBlock b
+unfolding accepted deskOf isImage
+accepted-read b = go (eqb (length b) deskSize) (same b (image (readDesk b))) refl refl
   where
-    apart : _≡_ {A = Bool} true false → ⊥
-    apart z = impossible (cc)
+    go : (p q : Bool) → eqb (length b) deskSize ≡ p → same b (image (readDesk b)) ≡ q → accept (pick (both p q) (readDesk b) (closed 0 0)) ≡ true → AcceptedBlock b
+    go true true e f k =
+        record {
+          size = eqb-true (length b) deskSize e;
+          desk = rw (e, f);
+          accept = k;
+          image = sym (same-true b (image (readDesk b)) f);
+        }
+    go true false e f k = true≢false _ k (closed-refused 0 0)
+    go false q e f k = true≢false _ k (closed-refused 0 0)
 
 only : (b : List ℕ) → Bytes b → accepted b ≡ true → ImageOf b (deskOf b)
-unfolding accepted deskOf isImage
-only b h = go (eqb (length b) deskSize) (same b (image (readDesk b))) refl refl
-  where
-    go : (p q : Bool) → eqb (length b) deskSize ≡ p → same b (image (readDesk b)) ≡ q → accept (pick (both p q) (readDesk b) (closed 0 0)) ≡ true
-        → ImageOf b (pick (both p q) (readDesk b) (closed 0 0))
-    go true true e f k =
-        record { fits = read-fits b h (eqb-true (length b) deskSize e); acceptable = k; image = sym (same-true b (image (readDesk b)) f) }
-    go true false e f k = absurd (not-closed k)
-    go false q e f k = absurd (not-closed k)
+only b h e =
+    let w = accepted-read b e in
+    rw (w .desk) (record { fits = read-fits b h (w .size); acceptable = w .accept; image = w .image })
 
 every : (b : List ℕ) (d : Desk) → ImageOf b d → (accepted b ≡ true) × (deskOf b ≡ d)
 unfolding accepted

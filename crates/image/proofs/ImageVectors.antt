@@ -9,7 +9,6 @@ use Rattle.words.specs.Words.{le, leBytes}
 use Rattle.drive.specs.declared.Drive.{Drive}
 use Rattle.table.specs.Table.{zeroDrive}
 use Rattle.int13.specs.declared.Registers.{Registers}
-use Rattle.desk.specs.declared.Request.{Request}
 use Rattle.desk.specs.declared.Stage.the-variants.{Waiting, Finished}
 use Rattle.desk.specs.declared.Row.{Row}
 use Rattle.desk.specs.declared.Desk.{Desk}
@@ -68,7 +67,7 @@ last = record {
   device = 0xF2 ∷ 0xF3 ∷ 0xF4 ∷ 0xF5 ∷ 0xF6 ∷ 0xF7 ∷ 0xF8 ∷ 0xF9 ∷ [];
 }
 
--- waiting, finished and vacant rows with carry set and clear; drives at the first place and the last
+-- waiting, finished and vacant rows with carry set and clear; drives in the first slot and the last
 abbrev desk : Desk
 desk = record {
   rows =
@@ -102,9 +101,9 @@ rowWords =
     ∷ 0x86 ∷ 0x16000001 ∷ 0x16000002 ∷ 0x16000003 ∷ 0x16000004 ∷ 0x16000005 ∷ replicate 8 0)
     ++ (2 ∷ (replicate 14 0 ++ (0x1701 ∷ 0x1702 ∷ 0x1703 ∷ 0x1704 ∷ 0x1705 ∷ 0x1706 ∷ 0x1707 ∷ 1 ∷ [])))))))))
 
--- a place: physical cylinders, heads, sectors, blocks, first store block; flags, C, H, S, protection; host bus, interface type, the two paths
-abbrev placeWords : List ℕ
-placeWords =
+-- a slot: physical cylinders, heads, sectors, blocks, first store block; flags, C, H, S, protection; host bus, interface type, the two paths
+abbrev slotWords : List ℕ
+slotWords =
     0x51000001 ∷ 0x51000002 ∷ 0x51000003 ∷ 0x5100000000000004 ∷ 0x5100000000000005
     ∷ 0x5106 ∷ 0x5107 ∷ 0x5108 ∷ 0x51 ∷ 0x52
     ∷ 0x65646362 ∷ 0x7978777675747372 ∷ 0x8988878685848382 ∷ 0x9998979695949392
@@ -114,7 +113,7 @@ placeWords =
     ∷ 0xC5C4C3C2 ∷ 0xD9D8D7D6D5D4D3D2 ∷ 0xE9E8E7E6E5E4E3E2 ∷ 0xF9F8F7F6F5F4F3F2 ∷ []))
 
 -- number of drives, turn pointer, arena length, store length
-pub block : words 300 (image desk) ≡ rowWords ++ (placeWords ++ (7 ∷ 5 ∷ 0x7172737475767778 ∷ 0x8182838485868788 ∷ []))
+pub block : words 300 (image desk) ≡ rowWords ++ (slotWords ++ (7 ∷ 5 ∷ 0x7172737475767778 ∷ 0x8182838485868788 ∷ []))
 unfolding image deskWords each leBytes le
 block = refl
 

@@ -1,19 +1,19 @@
 -- A block that is judged on its words is accepted exactly when it is accepted as the desk that it says.
 -- Assumes nothing.
 use Prim.Native.Nat.{ℕ, zero, suc, _+_, _-_, _*_, _/_, _^_, _≤_, _<_}
-use native.Mathlib.Nat.{add-zero, zero-add, add-assoc, add-suc, mul-zero, mul-suc, mul-one, mul-le-mul-left}
+use native.Mathlib.Nat.{add-zero, zero-add, add-assoc, mul-zero, mul-suc}
 use native.Mathlib.Numerals.{add-one}
 use native.Mathlib.Omega.{arith}
 use mathlib.Core.Path.{_≡_, refl, sym, _∙_, ap, subst}
 use mathlib.Core.Logic.{_⊎_, inl, inr, ⊎-elim}
 use mathlib.Core.Bool.{Bool, true, false, not}
 use mathlib.Core.List.{List, [], _∷_, _++_}
-use lib.ListN.{length, take, drop, getD, replicate, length-append, length-drop, length-replicate, getD-replicate, take-append-drop, drop-of-length-le, List·getD-append}
+use lib.ListN.{length, drop, getD, replicate, length-append, length-drop, length-replicate, getD-replicate, take-append-drop, drop-of-length-le, List·getD-append}
 use lib.Seq.{length-take-le, drop-drop, getD-append-add, getD-take, getD-drop}
 use lib.Dec.{leb, ltb, eqb}
-use borrow.Author.Tests.{eq-eqb, ne-eqb, eqb-true, eqb-false, lt-ltb, le-ltb, ltb-true, ltb-false, le-leb, lt-leb, leb-true, leb-false}
-use Rattle.logic.specs.Logic.{pick, both, either, allBelow, someBelow}
-use Rattle.logic.proofs.LogicLaws.{impossible, both-true, both-intro, true≢false, lt-or-le, all-more, all-intro, all-at, all-ext}
+use borrow.Author.Tests.{eq-eqb, ne-eqb, eqb-true, eqb-false, lt-ltb, le-ltb, ltb-true, le-leb, lt-leb, leb-true}
+use Rattle.logic.specs.Logic.{pick, both, either, allBelow}
+use Rattle.logic.proofs.LogicLaws.{both-true, both-intro, both-assoc, both-comm, both-left, both-false, both-itself, pick-both, either-both, not-either, true-iff, lt-or-le, all-intro, all-at, all-ext, all-fails, all-next, all-front, all-add, all-both, all-split}
 use Rattle.words.specs.Words.{Bytes, le, leBytes, part}
 use Rattle.words.proofs.WordsLaws.{le-split, le-lt, le-ext, read-write, write-read, length-leBytes}
 use Rattle.drive.specs.declared.Drive.{Drive}
@@ -25,91 +25,18 @@ use Rattle.table.proofs.TableLaws.{taken-is}
 use Rattle.memory.specs.Window.{windowLength}
 use Rattle.int13.specs.Steps.{firstDrive, isDrive, driveAt}
 use Rattle.desk.specs.declared.Request.{Request}
-use Rattle.desk.specs.declared.Stage.{Stage}
 use Rattle.desk.specs.declared.Stage.the-variants.{Vacant, Waiting, Finished}
 use Rattle.desk.specs.declared.Row.{Row}
-use Rattle.desk.specs.declared.Desk.{Desk}
-use Rattle.desk.specs.Parts.{windowSize, stageIn, stageAt}
+use Rattle.desk.specs.Parts.{stageIn}
 use Rattle.int13.specs.Answers.{registerNumbers}
 use Rattle.desk.specs.Acceptable.{requestOk, stageOk, rowsOk, accept}
 use Rattle.desk.specs.Calls.{closed}
 use Rattle.desk.proofs.AcceptableLaws.{closed-refused}
-use Rattle.image.specs.Image.{each, flat, listed, requestWords, stageWords, rowWords, rowsWords, driveWords, placesWords, tailWords, deskWords, image, rowSize, placeSize, rowAt, placeAt, tailAt, deskSize, countAt, pointerAt, arenaAt, storeAt, requestPlace, finishedPlace, registersAt, requestAt, readStage, readRow, readDrive, readRows, readPlaces, readDesk, isImage, deskOf, accepted, FitsDrive}
-use Rattle.image.specs.Judged.{below, areRegisters, isRequest, isPlace, driveGood, drivesGood, restZero, firstIn, blocksIn, apart, aloneTo, drivesApart, follows, ascending, waitingGood, finishedGood, rowGood, rowsGood, tableGood, judged}
-use Rattle.image.proofs.Fill.{length-each, length-flat, length-row, length-drive}
-use Rattle.image.proofs.ImageLaws.{Says, drive-read}
-use Rattle.image.proofs.Fields.{row-of, place-of}
-
--- ---- tests
-
-both-assoc : (a b c : Bool) → both (both a b) c ≡ both a (both b c)
-both-assoc true b c = refl
-both-assoc false b c = refl
-
-both-comm : (a b : Bool) → both a b ≡ both b a
-both-comm true true = refl
-both-comm true false = refl
-both-comm false true = refl
-both-comm false false = refl
-
-both-left : (a b c : Bool) → both a (both b c) ≡ both b (both a c)
-both-left true b c = refl
-both-left false true c = refl
-both-left false false c = refl
-
-pub both-false : (a : Bool) → both a false ≡ false
-both-false true = refl
-both-false false = refl
-
-both-itself : (a : Bool) → both a true ≡ a
-both-itself true = refl
-both-itself false = refl
-
--- two tests are one where each says the other
-true-iff : (x y : Bool) → (x ≡ true → y ≡ true) → (y ≡ true → x ≡ true) → x ≡ y
-true-iff true y f g = sym (f refl)
-true-iff false true f g = g refl
-true-iff false false f g = refl
-
--- ---- tests of every number below n
-
-all-front : (n : ℕ) (f : ℕ → Bool) → allBelow (suc n) f ≡ both (f 0) (allBelow n (λ k. f (suc k)))
-all-front zero f = refl
-all-front (suc n) f = ap (λ (t : Bool). both (f (suc n)) t) (all-front n f) ∙ both-left (f (suc n)) (f 0) (allBelow n (λ k. f (suc k)))
-
-all-add : (m n : ℕ) (f : ℕ → Bool) → allBelow (m + n) f ≡ both (allBelow m f) (allBelow n (λ k. f (m + k)))
-all-add m zero f = rw add-zero (sym (both-itself (allBelow m f)))
-all-add m (suc n) f =
-    rw add-suc (
-    ap (λ (t : Bool). both (f (m + n)) t) (all-add m n f)
-    ∙ both-left (f (m + n)) (allBelow m f) (allBelow n (λ k. f (m + k))))
-
-all-both : (n : ℕ) (f g : ℕ → Bool) → both (allBelow n f) (allBelow n g) ≡ allBelow n (λ i. both (f i) (g i))
-all-both zero f g = refl
-all-both (suc n) f g =
-    rw (← all-both n f g) (
-    both-assoc (f n) (allBelow n f) (both (g n) (allBelow n g))
-    ∙ ap (λ (t : Bool). both (f n) t) (both-left (allBelow n f) (g n) (allBelow n g))
-    ∙ sym (both-assoc (f n) (g n) (both (allBelow n f) (allBelow n g))))
-
--- those below c, and the others
-all-split : (n c : ℕ) (f : ℕ → Bool) → c ≤ n → allBelow n f ≡ both (allBelow c f) (allBelow n (λ i. either (ltb i c) (f i)))
-all-split n c f l =
-    true-iff _ _
-    (λ e. both-intro (allBelow c f) (allBelow n (λ i. either (ltb i c) (f i)))
-    (all-intro c f (λ i h. all-at n i f e (omega arith)))
-    (all-intro n (λ i. either (ltb i c) (f i)) (λ i h. right (ltb i c) (f i) (all-at n i f e h))))
-    (λ e.
-    let p = both-true (allBelow c f) (allBelow n (λ i. either (ltb i c) (f i))) e in
-    all-intro n f (λ i h. ⊎-elim (λ x. all-at c i f (p .0) x) (λ x. other (ltb i c) (f i) (le-ltb i c x) (all-at n i (λ i. either (ltb i c) (f i)) (p .1) h)) (lt-or-le i c)))
-  where
-    right : (a b : Bool) → b ≡ true → either a b ≡ true
-    right true b e = refl
-    right false b e = e
-
-    other : (a b : Bool) → a ≡ false → either a b ≡ true → b ≡ true
-    other true b e f = impossible (cc)
-    other false b e f = f
+use Rattle.image.specs.Image.{each, flat, listed, requestWords, stageWords, rowWords, rowsWords, driveWords, slotsWords, tailWords, deskWords, image, rowSize, slotSize, rowAt, slotAt, tailAt, deskSize, countAt, pointerAt, arenaAt, storeAt, requestPlace, finishedPlace, registersAt, requestAt, readStage, readRow, readDrive, readRows, readSlots, readDesk, isImage, deskOf, accepted, FitsDrive}
+use Rattle.image.specs.Judged.{below, areRegisters, isRequest, isSlot, driveGood, drivesGood, restZero, firstIn, blocksIn, apart, aloneTo, drivesApart, follows, ascending, waitingGood, finishedGood, rowGood, rowsGood, tableGood, judged}
+use Rattle.image.proofs.Fill.{length-row, length-drive, length-rows, length-slots}
+use Rattle.image.proofs.ImageLaws.{Says, drive-read, drive-fits}
+use Rattle.image.proofs.Fields.{row-of, slot-of}
 
 -- ---- the eight bytes of a word
 
@@ -227,6 +154,9 @@ module _ (b : List ℕ) where
       (all-ext (length ys) _ (λ k. same (part 8 b (i + 8 * length xs + 8 * k)) (leBytes 8 (getD ys k 0)))
       (λ k q. let z : i + 8 * (length xs + k) ≡ i + 8 * length xs + 8 * k = omega arith in rw (z, getD-append-add xs ys k 0))))
 
+  matches-then : (xs ys : List ℕ) (i at : ℕ) → i + 8 * length xs ≡ at → matches b i (xs ++ ys) ≡ both (matches b i xs) (matches b at ys)
+  matches-then xs ys i at e = rw (← e) (matches-append xs ys i)
+
   matches-none : (at : ℕ) → matches b at [] ≡ true
   unfolding matches
   matches-none at = refl
@@ -261,10 +191,6 @@ module _ (b : List ℕ) where
 below-one : (w : ℕ) → eqb w 0 ≡ ltb w 1
 below-one w = true-iff (eqb w 0) (ltb w 1) (λ e. lt-ltb w 1 (omega (arith, eqb-true w 0 e))) (λ e. eq-eqb w 0 (omega (arith, ltb-true w 1 e)))
 
-pick-both : (t x : Bool) → pick t x false ≡ both t x
-pick-both true x = refl
-pick-both false x = refl
-
 module _ (b : List ℕ) (h : Bytes b) where
   zeros-is : (n i : ℕ) → i + 8 * n ≤ length b → matches b i (replicate n 0) ≡ below n 1 b i
   unfolding matches below
@@ -276,8 +202,8 @@ module _ (b : List ℕ) (h : Bytes b) where
   registers-is : (i : ℕ) → i + 64 ≤ length b → matches b i (registerNumbers (registersAt b i)) ≡ areRegisters b i
   unfolding matches areRegisters below
   registers-is i l =
-      let z : same (part 8 b (i + 0)) (leBytes 8 (le 2 b i)) ≡ ltb (le 8 b (i + 0)) (256 ^ 2) = rw add-zero (field-is b h 2 i (omega arith) (omega arith)) in
       rw (
+        add-zero i,
         bit-is b h (i + 56) (omega arith),
         field-is b h 2 (i + 48) (omega arith) (omega arith),
         field-is b h 2 (i + 40) (omega arith) (omega arith),
@@ -285,35 +211,34 @@ module _ (b : List ℕ) (h : Bytes b) where
         field-is b h 2 (i + 24) (omega arith) (omega arith),
         field-is b h 2 (i + 16) (omega arith) (omega arith),
         field-is b h 2 (i + 8) (omega arith) (omega arith),
-        z,
+        field-is b h 2 i (omega arith) (omega arith),
       )
 
-  request-is : (i : ℕ) → i + placeSize ≤ length b → matches b i (requestWords (requestAt b i)) ≡ isRequest b i
-  unfolding matches isRequest areRegisters below
-  request-is i l =
-      let z : same (part 8 b (i + 0)) (leBytes 8 (le 2 b i)) ≡ ltb (le 8 b (i + 0)) (256 ^ 2) = rw add-zero (field-is b h 2 i (omega arith) (omega arith)) in
-      rw (
+  -- behind a request's registers
+  asked-is : (i : ℕ) → i + slotSize ≤ length b
+      → matches b (i + 64) (getD b (i + 64) 0 ∷ le 8 b (i + 72) ∷ le 8 b (i + 80) ∷ le 8 b (i + 88) ∷ le 8 b (i + 96) ∷ le 8 b (i + 104) ∷ []) ≡ ltb (le 8 b (i + 64)) 256
+  unfolding matches
+  asked-is i l =
+      simp (add-assoc, add-zero) (rw (
         whole-is b h (i + 104) (omega arith),
         whole-is b h (i + 96) (omega arith),
         whole-is b h (i + 88) (omega arith),
         whole-is b h (i + 80) (omega arith),
         whole-is b h (i + 72) (omega arith),
         byte-is b h (i + 64) (omega arith),
-        bit-is b h (i + 56) (omega arith),
-        field-is b h 2 (i + 48) (omega arith) (omega arith),
-        field-is b h 2 (i + 40) (omega arith) (omega arith),
-        field-is b h 2 (i + 32) (omega arith) (omega arith),
-        field-is b h 2 (i + 24) (omega arith) (omega arith),
-        field-is b h 2 (i + 16) (omega arith) (omega arith),
-        field-is b h 2 (i + 8) (omega arith) (omega arith),
-        z,
-      )
+        both-itself,
+      ))
 
-  place-is : (i : ℕ) → i + placeSize ≤ length b → matches b i (driveWords (readDrive b i)) ≡ isPlace b i
-  unfolding matches readDrive isPlace below
-  place-is i l =
-      let z : same (part 8 b (i + 0)) (leBytes 8 (le 4 b i)) ≡ ltb (le 8 b (i + 0)) (256 ^ 4) = rw add-zero (field-is b h 4 i (omega arith) (omega arith)) in
+  request-is : (i : ℕ) → i + slotSize ≤ length b → matches b i (requestWords (requestAt b i)) ≡ isRequest b i
+  unfolding isRequest
+  request-is i l =
+      matches-append b (registerNumbers (registersAt b i)) _ i ∙ rw (registers-is i (omega arith), asked-is i l) (both-comm (areRegisters b i) _)
+
+  slot-is : (i : ℕ) → i + slotSize ≤ length b → matches b i (driveWords (readDrive b i)) ≡ isSlot b i
+  unfolding matches readDrive isSlot below
+  slot-is i l =
       rw (
+        add-zero i,
         name-whole b h (i + 104) (omega arith),
         name-whole b h (i + 96) (omega arith),
         name-whole b h (i + 88) (omega arith),
@@ -327,7 +252,7 @@ module _ (b : List ℕ) (h : Bytes b) where
         whole-is b h (i + 24) (omega arith),
         field-is b h 4 (i + 16) (omega arith) (omega arith),
         field-is b h 4 (i + 8) (omega arith) (omega arith),
-        z,
+        field-is b h 4 i (omega arith) (omega arith),
       ) (simp (add-assoc, add-zero, both-assoc))
 
   -- ---- rows
@@ -390,18 +315,10 @@ rows-all (suc n) rows t M = ap (λ (x : Bool). both (stageOk t M (stageIn rows n
 
 -- ---- drives
 
--- the tests of the table, as tests of every place
-sound-all : (n : ℕ) (l : List Drive) (store : ℕ) → soundTo n l store ≡ allBelow n (λ i. eqb (refusal (firstDrives l i) (getD l i noDrive) store) 0)
-unfolding soundTo
-sound-all n l store = refl
-
+-- the tests of the table, as tests of every slot
 blank-all : (n : ℕ) (l : List Drive) (count : ℕ) → blankTo n l count ≡ allBelow n (λ i. either (ltb i count) (isBlank (getD l i noDrive)))
 unfolding blankTo
 blank-all n l count = refl
-
-not-either : (a c : Bool) → not (either a c) ≡ both (not a) (not c)
-not-either true c = refl
-not-either false c = refl
 
 none-overlaps : (n : ℕ) (l : List Drive) (d : Drive) → not (overlapsAny n l d) ≡ allBelow n (λ j. not (overlap d (getD l j noDrive)))
 unfolding overlapsAny
@@ -467,31 +384,10 @@ zero-words : driveWords zeroDrive ≡ replicate 14 0
 unfolding le
 zero-words = refl
 
+-- it is what zeros say
 zero-fits : FitsDrive zeroDrive
-zero-fits =
-    record {
-      numbers =
-          record {
-            cylinders = omega arith;
-            heads = omega arith;
-            sectors = omega arith;
-            blocks = omega arith;
-            first = omega arith;
-            flags = omega arith;
-            c = omega arith;
-            h = omega arith;
-            bus = refl;
-            interface = refl;
-            path = refl;
-            device = refl;
-          };
-      s = omega arith;
-      protection = omega arith;
-      bus = zeros 4;
-      interface = zeros 8;
-      path = zeros 8;
-      device = zeros 8;
-    }
+unfolding readDrive le
+zero-fits = drive-fits (replicate 112 0) (zeros 112) 0 (omega arith)
   where
     zeros : (n i : ℕ) → getD (replicate n 0) i 0 < 256
     zeros zero i = omega arith
@@ -506,21 +402,21 @@ module _ (b : List ℕ) (h : Bytes b) where
       same-true (part 8 b (i + 8 * j)) (leBytes 8 (getD ws j 0)) (all-at (length ws) j (λ j. same (part 8 b (i + 8 * j)) (leBytes 8 (getD ws j 0))) e l) in
       sym (getD-take 8 (drop (i + 8 * j) b) m 0 q ∙ getD-drop (i + 8 * j) b m 0) ∙ ap (λ (s : List ℕ). getD s m 0) p
 
-  -- a place past the count
-  zero-place : (i : ℕ) → i + placeSize ≤ length b → both (isPlace b i) (isBlank (readDrive b i)) ≡ below 14 1 b i
-  zero-place i l = true-iff _ _ to from
+  -- a slot past the count
+  zero-slot : (i : ℕ) → i + slotSize ≤ length b → both (isSlot b i) (isBlank (readDrive b i)) ≡ below 14 1 b i
+  zero-slot i l = true-iff _ _ to from
     where
-      words-are : readDrive b i ≡ zeroDrive → isPlace b i ≡ below 14 1 b i
-      words-are e = sym (place-is b h i l) ∙ ap (λ (d : Drive). matches b i (driveWords d)) e ∙ ap (matches b i) zero-words ∙ zeros-is b h 14 i l
+      words-are : readDrive b i ≡ zeroDrive → isSlot b i ≡ below 14 1 b i
+      words-are e = sym (slot-is b h i l) ∙ ap (λ (d : Drive). matches b i (driveWords d)) e ∙ ap (matches b i) zero-words ∙ zeros-is b h 14 i l
 
-      to : both (isPlace b i) (isBlank (readDrive b i)) ≡ true → below 14 1 b i ≡ true
-      to e = let p = both-true (isPlace b i) (isBlank (readDrive b i)) e in sym (words-are (blank-zero (readDrive b i) (p .1))) ∙ p .0
+      to : both (isSlot b i) (isBlank (readDrive b i)) ≡ true → below 14 1 b i ≡ true
+      to e = let p = both-true (isSlot b i) (isBlank (readDrive b i)) e in sym (words-are (blank-zero (readDrive b i) (p .1))) ∙ p .0
 
-      from : below 14 1 b i ≡ true → both (isPlace b i) (isBlank (readDrive b i)) ≡ true
+      from : below 14 1 b i ≡ true → both (isSlot b i) (isBlank (readDrive b i)) ≡ true
       from e =
           let z : readDrive b i ≡ zeroDrive =
           drive-read b i zeroDrive (says-matches i (driveWords zeroDrive) (ap (matches b i) zero-words ∙ zeros-is b h 14 i l ∙ e)) zero-fits h l in
-          both-intro (isPlace b i) (isBlank (readDrive b i)) (words-are z ∙ e) (ap isBlank z ∙ zero-blank)
+          both-intro (isSlot b i) (isBlank (readDrive b i)) (words-are z ∙ e) (ap isBlank z ∙ zero-blank)
 
 -- ---- a table
 
@@ -528,34 +424,33 @@ module _ (b : List ℕ) where
   drives : List Drive
   drives = readDesk b .table .drives
 
-  drive-of : (i : ℕ) → i < 8 → getD drives i noDrive ≡ readDrive b (placeAt i)
+  drive-of : (i : ℕ) → i < 8 → getD drives i noDrive ≡ readDrive b (slotAt i)
   unfolding drives
-  drive-of i l = place-of b i l
+  drive-of i l = slot-of b i l
 
-  apart-places : (i j : ℕ) → apart (firstIn b i) (blocksIn b i) (firstIn b j) (blocksIn b j) ≡ not (overlap (readDrive b (placeAt i)) (readDrive b (placeAt j)))
+  apart-slots : (i j : ℕ) → apart (firstIn b i) (blocksIn b i) (firstIn b j) (blocksIn b j) ≡ not (overlap (readDrive b (slotAt i)) (readDrive b (slotAt j)))
   unfolding readDrive
-  apart-places i j = apart-is (readDrive b (placeAt i)) (readDrive b (placeAt j))
+  apart-slots i j = apart-is (readDrive b (slotAt i)) (readDrive b (slotAt j))
 
-  alone-is : (i : ℕ) → i < 8 → not (overlapsAny i drives (readDrive b (placeAt i))) ≡ aloneTo i b i
+  alone-is : (i : ℕ) → i < 8 → not (overlapsAny i drives (readDrive b (slotAt i))) ≡ aloneTo i b i
   unfolding aloneTo drives
   alone-is i l =
-      none-overlaps i (readDesk b .table .drives) (readDrive b (placeAt i))
-      ∙ all-ext i _ (λ j. apart (firstIn b i) (blocksIn b i) (firstIn b j) (blocksIn b j)) (λ j q. rw (place-of b j (omega arith)) (sym (apart-places i j)))
+      none-overlaps i (readDesk b .table .drives) (readDrive b (slotAt i))
+      ∙ all-ext i _ (λ j. apart (firstIn b i) (blocksIn b i) (firstIn b j) (blocksIn b j)) (λ j q. rw (slot-of b j (omega arith)) (sym (apart-slots i j)))
 
   sound-is : (n store : ℕ) → n ≤ 8
-      → soundTo n drives store ≡ both (allBelow n (λ i. both (fieldsOk (readDrive b (placeAt i))) (inStore (readDrive b (placeAt i)) store))) (drivesApart n b)
-  unfolding drivesApart
+      → soundTo n drives store ≡ both (allBelow n (λ i. both (fieldsOk (readDrive b (slotAt i))) (inStore (readDrive b (slotAt i)) store))) (drivesApart n b)
+  unfolding drivesApart soundTo
   sound-is n store l =
-      sound-all n drives store
-      ∙ all-ext n _ (λ i. both (both (fieldsOk (readDrive b (placeAt i))) (inStore (readDrive b (placeAt i)) store)) (aloneTo i b i)) at
-      ∙ sym (all-both n (λ i. both (fieldsOk (readDrive b (placeAt i))) (inStore (readDrive b (placeAt i)) store)) (λ i. aloneTo i b i))
+      all-ext n _ (λ i. both (both (fieldsOk (readDrive b (slotAt i))) (inStore (readDrive b (slotAt i)) store)) (aloneTo i b i)) at
+      ∙ sym (all-both n (λ i. both (fieldsOk (readDrive b (slotAt i))) (inStore (readDrive b (slotAt i)) store)) (λ i. aloneTo i b i))
     where
       at : (i : ℕ) → i < n → eqb (refusal (firstDrives drives i) (getD drives i noDrive) store) 0
-          ≡ both (both (fieldsOk (readDrive b (placeAt i))) (inStore (readDrive b (placeAt i)) store)) (aloneTo i b i)
+          ≡ both (both (fieldsOk (readDrive b (slotAt i))) (inStore (readDrive b (slotAt i)) store)) (aloneTo i b i)
       at i q =
           ap (λ (d : Drive). eqb (refusal (firstDrives drives i) d store) 0) (drive-of i (omega arith))
-          ∙ sym (taken-is i drives (readDrive b (placeAt i)) store (omega arith))
-          ∙ ap (λ (x : Bool). both (both (fieldsOk (readDrive b (placeAt i))) (inStore (readDrive b (placeAt i)) store)) x) (alone-is i (omega arith))
+          ∙ sym (taken-is i drives (readDrive b (slotAt i)) store (omega arith))
+          ∙ ap (λ (x : Bool). both (both (fieldsOk (readDrive b (slotAt i))) (inStore (readDrive b (slotAt i)) store)) x) (alone-is i (omega arith))
 
 -- ---- drives in the order of the store share no block
 
@@ -600,34 +495,30 @@ module _ (b : List ℕ) (h : Bytes b) (l : length b ≡ deskSize) where
           let z : rowAt 0 + 8 * (23 * g) ≡ rowAt g = omega arith in
           rw (z, zero-add, row-of b g q) (row-is b h M (rowAt g) (omega arith))
 
-  places-is : matches b (placeAt 0) (placesWords (readPlaces b)) ≡ allBelow 8 (λ i. isPlace b (placeAt i))
-  places-is =
-      matches-each b driveWords 14 length-drive (λ i. readDrive b (placeAt i)) 8 0 (placeAt 0)
-      ∙ all-ext 8 (λ i. matches b (placeAt 0 + 8 * (14 * i)) (driveWords (readDrive b (placeAt (0 + i))))) (λ i. isPlace b (placeAt i)) (λ i q.
-      let z : placeAt 0 + 8 * (14 * i) ≡ placeAt i = omega arith in
-      rw (z, zero-add) (place-is b h (placeAt i) (omega arith)))
+  slots-is : matches b (slotAt 0) (slotsWords (readSlots b)) ≡ allBelow 8 (λ i. isSlot b (slotAt i))
+  slots-is =
+      matches-each b driveWords 14 length-drive (λ i. readDrive b (slotAt i)) 8 0 (slotAt 0)
+      ∙ all-ext 8 (λ i. matches b (slotAt 0 + 8 * (14 * i)) (driveWords (readDrive b (slotAt (0 + i))))) (λ i. isSlot b (slotAt i)) (λ i q.
+      let z : slotAt 0 + 8 * (14 * i) ≡ slotAt i = omega arith in
+      rw (z, zero-add) (slot-is b h (slotAt i) (omega arith)))
 
   table-is : (store : ℕ) → count ≤ 8
-      → both (matches b (placeAt 0) (placesWords (readPlaces b))) (both (soundTo count (drives b) store) (blankTo 8 (drives b) count))
+      → both (matches b (slotAt 0) (slotsWords (readSlots b))) (both (soundTo count (drives b) store) (blankTo 8 (drives b) count))
       ≡ both (drivesGood count b store) (both (restZero 8 count b) (drivesApart count b))
   unfolding drivesGood driveGood restZero
   table-is store m =
-      let P : ℕ → Bool = λ i. isPlace b (placeAt i) in
-      let F : ℕ → Bool = λ i. both (fieldsOk (readDrive b (placeAt i))) (inStore (readDrive b (placeAt i)) store) in
+      let P : ℕ → Bool = λ i. isSlot b (slotAt i) in
+      let F : ℕ → Bool = λ i. both (fieldsOk (readDrive b (slotAt i))) (inStore (readDrive b (slotAt i)) store) in
       let past : (ℕ → Bool) → ℕ → Bool = λ f i. either (ltb i count) (f i) in
-      let Z : ℕ → Bool = λ i. isBlank (readDrive b (placeAt i)) in
+      let Z : ℕ → Bool = λ i. isBlank (readDrive b (slotAt i)) in
       let blanks : blankTo 8 (drives b) count ≡ allBelow 8 (past Z) =
       blank-all 8 (drives b) count ∙ all-ext 8 _ (past Z) (λ i q. ap (λ (d : Drive). either (ltb i count) (isBlank d)) (drive-of b i q)) in
-      let rest : both (allBelow 8 (past P)) (allBelow 8 (past Z)) ≡ allBelow 8 (past (λ i. below 14 1 b (placeAt i))) =
-      all-both 8 (past P) (past Z) ∙ all-ext 8 _ (past (λ i. below 14 1 b (placeAt i))) (λ i q.
-      either-both (ltb i count) (P i) (Z i) ∙ ap (either (ltb i count)) (zero-place b h (placeAt i) (omega arith))) in
-      rw (places-is, blanks, sound-is b count store m, all-split 8 count P m, ← rest, ← all-both count P F)
+      let rest : both (allBelow 8 (past P)) (allBelow 8 (past Z)) ≡ allBelow 8 (past (λ i. below 14 1 b (slotAt i))) =
+      all-both 8 (past P) (past Z) ∙ all-ext 8 _ (past (λ i. below 14 1 b (slotAt i))) (λ i q.
+      either-both (ltb i count) (P i) (Z i) ∙ ap (either (ltb i count)) (zero-slot b h (slotAt i) (omega arith))) in
+      rw (slots-is, blanks, sound-is b count store m, all-split 8 count P m, ← rest, ← all-both count P F)
       (arrange (allBelow count P) (allBelow 8 (past P)) (allBelow count F) (drivesApart count b) (allBelow 8 (past Z)))
     where
-      either-both : (t x y : Bool) → both (either t x) (either t y) ≡ either t (both x y)
-      either-both true x y = refl
-      either-both false x y = refl
-
       arrange : (p q f a z : Bool) → both (both p q) (both (both f a) z) ≡ both (both p f) (both (both q z) a)
       arrange p q f a z = simp (both-assoc, both-comm, both-left)
 
@@ -635,27 +526,23 @@ module _ (b : List ℕ) (h : Bytes b) (l : length b ≡ deskSize) where
   unfolding matches readDesk
   tail-is = rw (whole-is b h storeAt (omega arith), whole-is b h arenaAt (omega arith), whole-is b h pointerAt (omega arith), whole-is b h countAt (omega arith))
 
-  image-is : same b (image (readDesk b)) ≡ both (matches b (rowAt 0) (rowsWords (readRows b))) (matches b (placeAt 0) (placesWords (readPlaces b)))
+  image-is : same b (image (readDesk b)) ≡ both (matches b (rowAt 0) (rowsWords (readRows b))) (matches b (slotAt 0) (slotsWords (readSlots b)))
   unfolding image deskWords readDesk
   image-is =
       let R = rowsWords (readRows b) in
-      let P = placesWords (readPlaces b) in
+      let S = slotsWords (readSlots b) in
       let T = tailWords (readDesk b) in
-      let lr : length R ≡ 23 * 8 = length-each rowWords 23 length-row (readRows b) in
-      let lp : length P ≡ 14 * 8 = length-each driveWords 14 length-drive (readPlaces b) in
-      let n : 0 + 8 * length (R ++ (P ++ T)) ≡ length b = rw (length-append R (P ++ T), length-append P T) (omega arith) in
-      same-flat b (R ++ (P ++ T)) 0 n
-      ∙ matches-append b R (P ++ T) (rowAt 0)
-      ∙ ap (λ (x : Bool). both (matches b (rowAt 0) R) x) (places lr lp)
+      let lr : length R ≡ 23 * 8 = length-rows (readRows b) refl in
+      let ls : length S ≡ 14 * 8 = length-slots (readSlots b) refl in
+      let n : 0 + 8 * length (R ++ (S ++ T)) ≡ length b = rw (length-append R (S ++ T), length-append S T) (omega arith) in
+      same-flat b (R ++ (S ++ T)) 0 n
+      ∙ matches-then b R (S ++ T) (rowAt 0) (slotAt 0) (omega arith)
+      ∙ ap (λ (x : Bool). both (matches b (rowAt 0) R) x) rest
     where
-      places : length (rowsWords (readRows b)) ≡ 23 * 8 → length (placesWords (readPlaces b)) ≡ 14 * 8
-          → matches b (rowAt 0 + 8 * length (rowsWords (readRows b))) (placesWords (readPlaces b) ++ tailWords (readDesk b)) ≡ matches b (placeAt 0) (placesWords (readPlaces b))
-      places lr lp = rw lr (matches-append b (placesWords (readPlaces b)) (tailWords (readDesk b)) (placeAt 0) ∙ last lp)
-        where
-          last : length (placesWords (readPlaces b)) ≡ 14 * 8
-              → both (matches b (placeAt 0) (placesWords (readPlaces b))) (matches b (placeAt 0 + 8 * length (placesWords (readPlaces b))) (tailWords (readDesk b)))
-              ≡ matches b (placeAt 0) (placesWords (readPlaces b))
-          last lp = rw (lp, tail-is) (both-itself (matches b (placeAt 0) (placesWords (readPlaces b))))
+      rest : matches b (slotAt 0) (slotsWords (readSlots b) ++ tailWords (readDesk b)) ≡ matches b (slotAt 0) (slotsWords (readSlots b))
+      rest =
+          matches-then b (slotsWords (readSlots b)) (tailWords (readDesk b)) (slotAt 0) (tailAt 0) (omega (arith, length-slots (readSlots b) refl))
+          ∙ rw tail-is (both-itself (matches b (slotAt 0) (slotsWords (readSlots b))))
 
   sized : both (tableGood b) (both (ltb (le 8 b pointerAt) 8) (rowsGood 8 b (windowLength (le 8 b arenaAt)))) ≡ both (same b (image (readDesk b))) (accept (readDesk b))
   unfolding tableGood accept isSound readDesk count drives
@@ -669,14 +556,14 @@ module _ (b : List ℕ) (h : Bytes b) (l : length b ≡ deskSize) where
 
       go : (t : Bool) → (t ≡ true → count ≤ 8)
           → both (both t (both (drivesGood count b store) (both (restZero 8 count b) (drivesApart count b)))) (both (ltb (le 8 b pointerAt) 8) (rowsGood 8 b M))
-          ≡ both (both (matches b (rowAt 0) (rowsWords (readRows b))) (matches b (placeAt 0) (placesWords (readPlaces b))))
+          ≡ both (both (matches b (rowAt 0) (rowsWords (readRows b))) (matches b (slotAt 0) (slotsWords (readSlots b))))
           (both (both t (both (soundTo count (drives b) store) (blankTo 8 (drives b) count))) (both (ltb (le 8 b pointerAt) 8) (rowsOk 8 (readDesk b .rows) (readDesk b .table) M)))
-      go true m = rw (← table-is store (m refl), ← rows-is M) (arrange (matches b (rowAt 0) (rowsWords (readRows b))) (matches b (placeAt 0) (placesWords (readPlaces b)))
+      go true m = rw (← table-is store (m refl), ← rows-is M) (arrange (matches b (rowAt 0) (rowsWords (readRows b))) (matches b (slotAt 0) (slotsWords (readSlots b)))
           (both (soundTo count (drives b) store) (blankTo 8 (drives b) count)) (ltb (le 8 b pointerAt) 8) (rowsOk 8 (readDesk b .rows) (readDesk b .table) M))
         where
           arrange : (r p s q o : Bool) → both (both p s) (both q (both r o)) ≡ both (both r p) (both s (both q o))
           arrange r p s q o = simp (both-assoc, both-left)
-      go false m = sym (both-false (both (matches b (rowAt 0) (rowsWords (readRows b))) (matches b (placeAt 0) (placesWords (readPlaces b)))))
+      go false m = sym (both-false (both (matches b (rowAt 0) (rowsWords (readRows b))) (matches b (slotAt 0) (slotsWords (readSlots b)))))
 
 -- ---- judged and accepted
 
@@ -700,14 +587,25 @@ judged-is b h = go (eqb (length b) deskSize) (eqb-true (length b) deskSize) ∙ 
 
 -- ---- the tests of the code
 
-pub rest-none : (n : ℕ) (b : List ℕ) → restZero n n b ≡ true
-unfolding restZero
-rest-none n b = all-intro n _ (λ i l. ap (λ (t : Bool). either t (below 14 1 b (placeAt i))) (lt-ltb i n l))
+module _ (n : ℕ) (b : List ℕ) where
+  past : ℕ → Bool
+  past i = either (ltb i n) (below 14 1 b (slotAt i))
 
-pub rest-more : {r a s : Bool} (i n : ℕ) (b : List ℕ) → n ≤ i → s ≡ restZero i n b → r ≡ both a s → a ≡ below 14 1 b (placeAt i) → r ≡ restZero (i + 1) n b
-unfolding restZero
-rest-more i n b l p q e =
-    all-more i (λ i. either (ltb i n) (below 14 1 b (placeAt i))) p q (e ∙ ap (λ (t : Bool). either t (below 14 1 b (placeAt i))) (sym (le-ltb i n l)))
+  past-is : {a : Bool} (i : ℕ) → n ≤ i → a ≡ below 14 1 b (slotAt i) → a ≡ past i
+  unfolding past
+  past-is i l e = rw (le-ltb i n l) e
+
+  pub rest-none : true ≡ restZero n n b
+  unfolding restZero past
+  rest-none = sym (all-intro n past (λ i l. rw (lt-ltb i n l)))
+
+  pub rest-bad : {a : Bool} (i : ℕ) → n ≤ i → i < 8 → a ≡ below 14 1 b (slotAt i) → a ≡ false → false ≡ restZero 8 n b
+  unfolding restZero past
+  rest-bad i l m e z = all-fails 8 i past m (past-is i l e) z
+
+  pub rest-next : {a : Bool} (i : ℕ) → n ≤ i → true ≡ restZero i n b → a ≡ below 14 1 b (slotAt i) → a ≡ true → true ≡ restZero (i + 1) n b
+  unfolding restZero past
+  rest-next i l p e z = all-next i past p (past-is i l e) z
 
 module _ (b : List ℕ) (M i : ℕ) where
   pub waiting-unknown : (q : Request) → q ≡ requestAt b (requestPlace i) → isDrive (readDesk b .table) (q .job .drive) ≡ false → false ≡ waitingGood b M i
@@ -743,11 +641,15 @@ module _ (b : List ℕ) (h : Bytes b) where
   unfolding judged
   judged-size n = rw (← judged-is b h, ne-eqb (length b) deskSize n)
 
+  pub judged-pointer : {p : ℕ} → length b ≡ deskSize → p ≡ le 8 b pointerAt → 8 ≤ p → false ≡ accepted b
+  unfolding judged
+  judged-pointer {p} l e m = rw (← judged-is b h, eq-eqb (length b) deskSize l, ← e, le-ltb p 8 m) (sym (both-false (tableGood b)))
+
   pub judged-table : {t : Bool} → length b ≡ deskSize → t ≡ tableGood b → t ≡ false → false ≡ accepted b
   unfolding judged
   judged-table l e f = rw (← judged-is b h, eq-eqb (length b) deskSize l, sym e ∙ f)
 
-  pub judged-tests : {p a : ℕ} {t x r : Bool} → length b ≡ deskSize → t ≡ tableGood b → t ≡ true → p ≡ le 8 b pointerAt → a ≡ le 8 b arenaAt
-      → x ≡ rowsGood 8 b (a / 8) → r ≡ both (ltb p 8) x → r ≡ accepted b
+  pub judged-rows : {p a : ℕ} {t r : Bool} → length b ≡ deskSize → p ≡ le 8 b pointerAt → p < 8 → t ≡ tableGood b → t ≡ true → a ≡ le 8 b arenaAt
+      → r ≡ rowsGood 8 b (a / 8) → r ≡ accepted b
   unfolding judged
-  judged-tests l e f ep ea ex er = rw (← judged-is b h, er, ex, ep, ea, eq-eqb (length b) deskSize l, sym e ∙ f)
+  judged-rows {p} l ep m e f ea er = rw (← judged-is b h, er, ea, eq-eqb (length b) deskSize l, sym e ∙ f, ← ep, lt-ltb p 8 m)

@@ -1,29 +1,23 @@
 -- A row's words or the pointer's word set in an image: the image of the desk with that row or pointer.
 -- Assumes nothing.
-use Prim.Native.Nat.{ℕ, zero, suc, _+_, _*_, _≤_, _<_}
-use native.Mathlib.Nat.{add-zero, zero-add, add-suc, suc-add, mul-zero, mul-suc}
+use Prim.Native.Nat.{ℕ, zero, suc, _+_, _*_, _<_}
+use native.Mathlib.Nat.{zero-add, add-suc, suc-add, mul-zero, mul-suc}
 use native.Mathlib.Omega.{arith}
 use mathlib.Core.Path.{_≡_, refl, sym, _∙_, ap, subst}
-use mathlib.Core.Bool.{Bool, true, false}
+use mathlib.Core.Bool.{true}
 use mathlib.Core.List.{List, [], _∷_, _++_, append-assoc, append-nil}
-use lib.ListN.{length, drop, set, length-append, length-set}
-use lib.Seq.{sets, drop-at, length-sets}
-use lib.Dec.{eqb}
-use borrow.Author.Tests.{eq-eqb, eqb-true}
-use Rattle.logic.specs.Logic.{pick, both}
+use lib.ListN.{length, set, length-append, length-set}
+use lib.Seq.{sets, drop-at}
+use borrow.Author.Tests.{eq-eqb}
 use Rattle.words.specs.Words.{leBytes}
 use Rattle.words.proofs.WordsLaws.{length-leBytes, sets-front}
-use Rattle.drive.specs.Drive.{same}
-use Rattle.drive.proofs.DriveLaws.{same-true}
 use Rattle.desk.specs.declared.Stage.{Stage}
 use Rattle.desk.specs.declared.Row.{Row}
 use Rattle.desk.specs.declared.Desk.{Desk}
 use Rattle.desk.specs.Parts.{withStage, withPointer}
-use Rattle.desk.specs.Acceptable.{accept}
-use Rattle.desk.specs.Calls.{closed}
-use Rattle.image.specs.Image.{each, flat, stageWords, rowWords, rowsWords, driveWords, placesWords, tailWords, deskWords, image, rowAt, pointerAt, deskSize, readDesk, isImage, deskOf, accepted, laid, putStage, putPointer}
-use Rattle.image.proofs.Fill.{each-append, length-each, length-flat, length-row, length-drive}
-use Rattle.image.proofs.ImageLaws.{not-closed}
+use Rattle.image.specs.Image.{each, flat, stageWords, rowWords, rowsWords, slotsWords, tailWords, deskWords, image, rowAt, pointerAt, deskSize, readDesk, deskOf, accepted, laid, putStage, putPointer}
+use Rattle.image.proofs.Fill.{each-append, length-flat, length-row, length-rows, length-slots}
+use Rattle.image.proofs.ImageLaws.{accepted-read}
 
 -- ---- stores behind the first of two lists
 
@@ -69,11 +63,11 @@ length-rowBytes : (r : Row) → length (rowBytes r) ≡ rowAt 1
 unfolding rowBytes
 length-rowBytes r = length-flat (rowWords r) ∙ ap (λ (m : ℕ). 8 * m) (length-row r)
 
-image-rows : (d : Desk) → image d ≡ each rowBytes (d .rows) ++ flat (placesWords (d .table .drives) ++ tailWords d)
+image-rows : (d : Desk) → image d ≡ each rowBytes (d .rows) ++ flat (slotsWords (d .table .drives) ++ tailWords d)
 unfolding image deskWords rowBytes
 image-rows d =
-    each-append (leBytes 8) (rowsWords (d .rows)) (placesWords (d .table .drives) ++ tailWords d)
-    ∙ ap (λ (l : List ℕ). l ++ flat (placesWords (d .table .drives) ++ tailWords d)) (flat-each rowWords (d .rows))
+    each-append (leBytes 8) (rowsWords (d .rows)) (slotsWords (d .table .drives) ++ tailWords d)
+    ∙ ap (λ (l : List ℕ). l ++ flat (slotsWords (d .table .drives) ++ tailWords d)) (flat-each rowWords (d .rows))
 
 pub image-stage : (d : Desk) (g : ℕ) (s : Stage) → g < length (d .rows) → putStage (image d) g s ≡ image (withStage d g s)
 unfolding putStage rowBytes
@@ -84,25 +78,20 @@ image-stage d g s h =
 
 -- what stands before the last words
 front : Desk → List ℕ
-front d = flat (rowsWords (d .rows) ++ placesWords (d .table .drives))
+front d = flat (rowsWords (d .rows) ++ slotsWords (d .table .drives))
 
 image-front : (d : Desk) → image d ≡ front d ++ flat (tailWords d)
 unfolding image deskWords front
 image-front d =
-    ap flat (sym (append-assoc (rowsWords (d .rows)) (placesWords (d .table .drives)) (tailWords d)))
-    ∙ each-append (leBytes 8) (rowsWords (d .rows) ++ placesWords (d .table .drives)) (tailWords d)
+    ap flat (sym (append-assoc (rowsWords (d .rows)) (slotsWords (d .table .drives)) (tailWords d)))
+    ∙ each-append (leBytes 8) (rowsWords (d .rows) ++ slotsWords (d .table .drives)) (tailWords d)
 
 pub image-pointer : (d : Desk) (p : ℕ) → length (d .rows) ≡ 8 → length (d .table .drives) ≡ 8 → putPointer (image d) p ≡ image (withPointer d p)
 unfolding putPointer front
 image-pointer d p r t =
     let l : length (front d) ≡ rowAt 8 + 8 * (14 * 8) =
-    length-flat (rowsWords (d .rows) ++ placesWords (d .table .drives))
-    ∙ omega (
-      arith,
-      length-append (rowsWords (d .rows)) (placesWords (d .table .drives)),
-      length-each rowWords 23 length-row (d .rows) ∙ ap (λ (m : ℕ). 23 * m) r,
-      length-each driveWords 14 length-drive (d .table .drives) ∙ ap (λ (m : ℕ). 14 * m) t,
-    ) in
+    length-flat (rowsWords (d .rows) ++ slotsWords (d .table .drives))
+    ∙ omega (arith, length-append (rowsWords (d .rows)) (slotsWords (d .table .drives)), length-rows (d .rows) r, length-slots (d .table .drives) t) in
     ap (λ (b : List ℕ). sets b pointerAt (leBytes 8 p)) (image-front d)
     ∙ sets-behind (front d) (flat (tailWords d)) (rowAt 8 + 8 * (14 * 8)) (8 * 1) (leBytes 8 p) l
     ∙ ap (λ (b : List ℕ). front d ++ b)
@@ -113,34 +102,13 @@ image-pointer d p r t =
 
 -- ---- an accepted block
 
-pub record AcceptedBlock (b : List ℕ) : Type 0 where
-  pub size : length b ≡ deskSize
-  pub desk : deskOf b ≡ readDesk b
-  pub accept : accept (readDesk b) ≡ true
-  pub image : image (readDesk b) ≡ b
-
-pub accepted-read : (b : List ℕ) → accepted b ≡ true → AcceptedBlock b
-unfolding accepted deskOf isImage
-accepted-read b = go (eqb (length b) deskSize) (same b (image (readDesk b))) refl refl
-  where
-    go : (p q : Bool) → eqb (length b) deskSize ≡ p → same b (image (readDesk b)) ≡ q → accept (pick (both p q) (readDesk b) (closed 0 0)) ≡ true → AcceptedBlock b
-    go true true e f k =
-        record {
-          size = eqb-true (length b) deskSize e;
-          desk = rw (e, f);
-          accept = k;
-          image = sym (same-true b (image (readDesk b)) f);
-        }
-    go true false e f k = absurd (not-closed k)
-    go false q e f k = absurd (not-closed k)
-
 rows-eight : (b : List ℕ) → length (readDesk b .rows) ≡ 8
 unfolding readDesk
 rows-eight b = refl
 
-places-eight : (b : List ℕ) → length (readDesk b .table .drives) ≡ 8
+slots-eight : (b : List ℕ) → length (readDesk b .table .drives) ≡ 8
 unfolding readDesk
-places-eight b = refl
+slots-eight b = refl
 
 -- the block that a call leaves, which writes a row or a row and the pointer, is the block of the desk that it leaves
 module _ (b : List ℕ) (a : accepted b ≡ true) where
@@ -163,6 +131,6 @@ module _ (b : List ℕ) (a : accepted b ≡ true) where
   put-both g s p h =
       let w = accepted-read b a in
       ap (λ (x : List ℕ). putPointer x p) (put-stage g s h ∙ laid-accepted (withStage (deskOf b) g s) ∙ ap (λ (d : Desk). image (withStage d g s)) (w .desk))
-      ∙ image-pointer (withStage (readDesk b) g s) p (length-set (readDesk b .rows) g _ ∙ rows-eight b) (places-eight b)
+      ∙ image-pointer (withStage (readDesk b) g s) p (length-set (readDesk b .rows) g _ ∙ rows-eight b) (slots-eight b)
       ∙ ap (λ (d : Desk). image (withPointer (withStage d g s) p)) (sym (w .desk))
       ∙ sym (laid-accepted (withPointer (withStage (deskOf b) g s) p))

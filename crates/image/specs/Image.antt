@@ -70,9 +70,9 @@ driveWords d =
     d .cylinders ∷ d .heads ∷ d .sectors ∷ d .blocks ∷ d .first ∷ d .flags ∷ d .c ∷ d .h ∷ d .s ∷ d .protection
     ∷ le 4 (d .bus) 0 ∷ le 8 (d .interface) 0 ∷ le 8 (d .path) 0 ∷ le 8 (d .device) 0 ∷ []
 
--- the section of the places of the table
-abbrev pub placesWords : List Drive → List ℕ
-placesWords drives = each driveWords drives
+-- the section of the slots of the table
+abbrev pub slotsWords : List Drive → List ℕ
+slotsWords drives = each driveWords drives
 
 -- the section of the last words: the number of drives, the turn pointer, the lengths of the opening
 abbrev pub tailWords : Desk → List ℕ
@@ -80,7 +80,7 @@ tailWords d = d .table .count ∷ d .pointer ∷ d .arena ∷ d .store ∷ []
 
 -- the sections one after the other; one that is added later goes behind them, so that none of these moves
 unfoldable pub deskWords : Desk → List ℕ
-deskWords d = rowsWords (d .rows) ++ (placesWords (d .table .drives) ++ tailWords d)
+deskWords d = rowsWords (d .rows) ++ (slotsWords (d .table .drives) ++ tailWords d)
 
 -- the image of a desk
 unfoldable pub image : Desk → List ℕ
@@ -92,21 +92,21 @@ image d = flat (deskWords d)
 abbrev pub rowSize : ℕ
 rowSize = 8 * 23
 
--- a place of the table, of 14
-abbrev pub placeSize : ℕ
-placeSize = 8 * 14
+-- a slot of the table, of 14
+abbrev pub slotSize : ℕ
+slotSize = 8 * 14
 
 -- guest g's row: the eight rows come first
 abbrev pub rowAt : ℕ → ℕ
 rowAt g = rowSize * g
 
--- place i of the table, behind them; drive 80h + i stands there
-abbrev pub placeAt : ℕ → ℕ
-placeAt i = rowAt 8 + placeSize * i
+-- slot i of the table, behind them; drive 80h + i stands there
+abbrev pub slotAt : ℕ → ℕ
+slotAt i = rowAt 8 + slotSize * i
 
--- last word j, behind the eight places
+-- last word j, behind the eight slots
 abbrev pub tailAt : ℕ → ℕ
-tailAt j = placeAt 8 + 8 * j
+tailAt j = slotAt 8 + 8 * j
 
 -- the whole block, 2400 bytes
 abbrev pub deskSize : ℕ
@@ -174,7 +174,7 @@ readStage b i =
 abbrev pub readRow : List ℕ → ℕ → Row
 readRow b i = record { stage = readStage b i }
 
--- the drive that a place says
+-- the drive that a slot says
 unfoldable pub readDrive : List ℕ → ℕ → Drive
 readDrive b i = record {
   cylinders = le 4 b i;
@@ -197,13 +197,13 @@ readDrive b i = record {
 abbrev pub readRows : List ℕ → List Row
 readRows b = listed (λ g. readRow b (rowAt g)) 0 8
 
--- the section of the places, read
-abbrev pub readPlaces : List ℕ → List Drive
-readPlaces b = listed (λ i. readDrive b (placeAt i)) 0 8
+-- the section of the slots, read
+abbrev pub readSlots : List ℕ → List Drive
+readSlots b = listed (λ i. readDrive b (slotAt i)) 0 8
 
--- the table: its places, and the number of drives among the last words
+-- the table: its slots, and the number of drives among the last words
 abbrev pub blockTable : List ℕ → Table
-blockTable b = record { drives = readPlaces b; count = le 8 b countAt }
+blockTable b = record { drives = readSlots b; count = le 8 b countAt }
 
 -- the desk that the sections say
 unfoldable pub readDesk : List ℕ → Desk
@@ -275,7 +275,7 @@ pub record FitsDrive (d : Drive) : Type 0 where
   pub path : Bytes (d .path)
   pub device : Bytes (d .device)
 
--- eight places, and a number of drives
+-- eight slots, and a number of drives
 pub record FitsTable (b : Table) : Type 0 where
   pub eight : length (b .drives) ≡ 8
   pub each : (i : ℕ) → i < 8 → FitsDrive (getD (b .drives) i noDrive)

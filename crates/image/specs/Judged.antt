@@ -14,7 +14,7 @@ use Rattle.memory.specs.Blocks.{blockLength}
 use Rattle.table.specs.Table.{mostDrives}
 use Rattle.desk.specs.declared.Stage.the-variants.{Waiting}
 use Rattle.desk.specs.Acceptable.{stageOk}
-use Rattle.image.specs.Image.{rowAt, placeAt, deskSize, countAt, pointerAt, arenaAt, storeAt, requestPlace, finishedPlace, requestAt, readDrive, readDesk}
+use Rattle.image.specs.Image.{rowAt, slotAt, deskSize, countAt, pointerAt, arenaAt, storeAt, requestPlace, finishedPlace, requestAt, readDrive, readDesk}
 
 -- ---- "Calls the host makes", the desk block: words within the width of their fields
 
@@ -32,31 +32,31 @@ isRequest b i = both (ltb (le 8 b (i + 64)) 256) (areRegisters b i)
 
 -- fourteen words are a drive: three of four bytes, two that fill theirs, three of two bytes, two of one, and the names, of which the host
 -- bus has four bytes
-unfoldable pub isPlace : List ℕ → ℕ → Bool
-isPlace b i =
+unfoldable pub isSlot : List ℕ → ℕ → Bool
+isSlot b i =
     both (ltb (le 8 b (i + 80)) (256 ^ 4)) (both (below 2 256 b (i + 64)) (both (below 3 (256 ^ 2) b (i + 40)) (below 3 (256 ^ 4) b i)))
 
--- ---- "The drive table", the places of a block
+-- ---- "The drive table", the slots of a block
 
 -- a drive of good fields inside the store
 unfoldable pub driveGood : List ℕ → ℕ → ℕ → Bool
-driveGood b store i = both (isPlace b i) (both (fieldsOk (readDrive b i)) (inStore (readDrive b i) store))
+driveGood b store i = both (isSlot b i) (both (fieldsOk (readDrive b i)) (inStore (readDrive b i) store))
 
--- the first n places hold such drives
+-- the first n slots hold such drives
 unfoldable pub drivesGood : ℕ → List ℕ → ℕ → Bool
-drivesGood n b store = allBelow n (λ i. driveGood b store (placeAt i))
+drivesGood n b store = allBelow n (λ i. driveGood b store (slotAt i))
 
--- of the first n places, those past the count are zero
+-- of the first n slots, those past the count are zero
 unfoldable pub restZero : ℕ → ℕ → List ℕ → Bool
-restZero n count b = allBelow n (λ i. either (ltb i count) (below 14 1 b (placeAt i)))
+restZero n count b = allBelow n (λ i. either (ltb i count) (below 14 1 b (slotAt i)))
 
--- where the drive of a place begins in the store
+-- where the drive of a slot begins in the store
 abbrev pub firstIn : List ℕ → ℕ → ℕ
-firstIn b i = le 8 b (placeAt i + 32)
+firstIn b i = le 8 b (slotAt i + 32)
 
--- the blocks of the drive of a place
+-- the blocks of the drive of a slot
 abbrev pub blocksIn : List ℕ → ℕ → ℕ
-blocksIn b i = le 8 b (placeAt i + 24)
+blocksIn b i = le 8 b (slotAt i + 24)
 
 -- of two runs of blocks, the one that begins first ends where the other begins, or before
 unfoldable pub apart : ℕ → ℕ → ℕ → ℕ → Bool
@@ -70,7 +70,7 @@ aloneTo n b i = allBelow n (λ j. apart (firstIn b i) (blocksIn b i) (firstIn b 
 unfoldable pub drivesApart : ℕ → List ℕ → Bool
 drivesApart n b = allBelow n (λ i. aloneTo i b i)
 
--- the drive of the next place begins past this one's first block, and where it ends or past that
+-- the drive of the next slot begins past this one's first block, and where it ends or past that
 unfoldable pub follows : List ℕ → ℕ → Bool
 follows b i = both (ltb (firstIn b i) (firstIn b (i + 1))) (leb (firstIn b i + blocksIn b i) (firstIn b (i + 1)))
 

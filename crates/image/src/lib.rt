@@ -21,17 +21,17 @@ ghost use Rattle.desk.specs.Parts.{stageAt};
 ghost use Rattle.desk.specs.Calls.{firstWaiting};
 ghost use Rattle.memory.specs.Window.{guests};
 ghost use Rattle.int13.specs.Steps.{firstDrive, driveCount, isDrive, driveAt};
-ghost use Rattle.image.specs.Image.{rowSize, placeSize, placeAt, deskSize, each, flat, stageWords, rowWords, driveWords, image, registersAt, requestAt, readStage, readDrive, readDesk, accepted, laid, putStage, putPointer};
-ghost use Rattle.image.specs.Judged.{below, areRegisters, isRequest, isPlace, driveGood, drivesGood, restZero, firstIn, blocksIn, apart, aloneTo, drivesApart, follows, ascending, waitingGood, finishedGood, rowGood, rowsGood, tableGood};
+ghost use Rattle.image.specs.Image.{rowSize, slotSize, slotAt, deskSize, each, flat, stageWords, rowWords, driveWords, image, registersAt, requestAt, readStage, readDrive, readDesk, accepted, laid, putStage, putPointer};
+ghost use Rattle.image.specs.Judged.{below, areRegisters, isRequest, isSlot, driveGood, drivesGood, restZero, firstIn, blocksIn, apart, aloneTo, drivesApart, follows, ascending, waitingGood, finishedGood, rowGood, rowsGood, tableGood};
 
-// Bytes of a row, of 23 words, and of a place of the table, of 14; where the places and the last words stand.
+// Bytes of a row, of 23 words, and of a slot of the table, of 14; where the slots and the last words stand.
 const ROW: usize = 8 * 23;
 
-const PLACE: usize = 8 * 14;
+const SLOT: usize = 8 * 14;
 
-const PLACES: usize = ROW * 8;
+const SLOTS: usize = ROW * 8;
 
-const TAIL: usize = PLACES + PLACE * 8;
+const TAIL: usize = SLOTS + SLOT * 8;
 
 // The last words: the number of drives, the turn pointer, the lengths of the opening.
 const COUNT: usize = TAIL;
@@ -68,26 +68,19 @@ fn registers_at(b: &[u8], i: usize) -> Registers
     }
 }
 
-fn job_at(b: &[u8], i: usize) -> Job
-    requires { ⌜ i + 8 * 14 ≤ length (now b) ⌝ }
-    ensures { λ r. ⌜ r ≡ requestAt (now (b .entry)) i .job ⌝ }
-{
-    Job {
-        registers: registers_at(b, i),
-        drive: b[i + 64],
-        start: words::get64(b, i + 72),
-        count: words::get64(b, i + 80),
-        buffer: words::get64(b, i + 88),
-        packet: words::get64(b, i + 96),
-    }
-}
-
 fn request_at(b: &[u8], i: usize) -> Request
     requires { ⌜ i + 8 * 14 ≤ length (now b) ⌝ }
     ensures { λ r. ⌜ r ≡ requestAt (now (b .entry)) i ⌝ }
 {
     Request {
-        job: job_at(b, i),
+        job: Job {
+            registers: registers_at(b, i),
+            drive: b[i + 64],
+            start: words::get64(b, i + 72),
+            count: words::get64(b, i + 80),
+            buffer: words::get64(b, i + 88),
+            packet: words::get64(b, i + 96),
+        },
         moved: words::get64(b, i + 104),
     }
 }
@@ -107,7 +100,7 @@ fn stage_at(b: &[u8], i: usize) -> Stage
 }
 
 fn drive_at(b: &[u8], i: usize) -> Drive
-    requires { ⌜ i + placeSize ≤ length (now b) ⌝ }
+    requires { ⌜ i + slotSize ≤ length (now b) ⌝ }
     ensures { λ r. ⌜ r ≡ readDrive (now (b .entry)) i ⌝ }
 {
     Drive {
@@ -128,19 +121,27 @@ fn drive_at(b: &[u8], i: usize) -> Drive
     }
 }
 
+// The drive of a slot.
+fn drive_in(b: &[u8], i: usize) -> Drive
+    requires { ⌜ (length (now b) ≡ deskSize) × (i < mostDrives) ⌝ }
+    ensures { λ r. ⌜ r ≡ readDrive (now (b .entry)) (slotAt i) ⌝ }
+{
+    drive_at(b, SLOTS + SLOT * i)
+}
+
 pub fn table_of(b: &[u8]) -> Table
     requires { ⌜ length (now b) ≡ deskSize ⌝ }
     ensures { λ r. ⌜ r ≡ readDesk (now (b .entry)) .table ⌝ }
 {
     let drives = [
-        drive_at(b, PLACES),
-        drive_at(b, PLACES + PLACE),
-        drive_at(b, PLACES + 2 * PLACE),
-        drive_at(b, PLACES + 3 * PLACE),
-        drive_at(b, PLACES + 4 * PLACE),
-        drive_at(b, PLACES + 5 * PLACE),
-        drive_at(b, PLACES + 6 * PLACE),
-        drive_at(b, PLACES + 7 * PLACE),
+        drive_in(b, 0),
+        drive_in(b, 1),
+        drive_in(b, 2),
+        drive_in(b, 3),
+        drive_in(b, 4),
+        drive_in(b, 5),
+        drive_in(b, 6),
+        drive_in(b, 7),
     ];
     Table {
         drives,
@@ -208,10 +209,9 @@ pub fn drive_named(b: &[u8], n: u8) -> Drive
     ensures { λ d. ⌜ d ≡ driveAt (readDesk (now (b .entry)) .table) (pick (isDrive (readDesk (now (b .entry)) .table) n) n firstDrive) ⌝ }
 {
     if is_drive(b, n) {
-        let place = (n - FIRST_DRIVE) as usize;
-        return drive_at(b, PLACES + PLACE * place);
+        return drive_in(b, (n - FIRST_DRIVE) as usize);
     }
-    drive_at(b, PLACES)
+    drive_in(b, 0)
 }
 
 // ---- a block judged on its words: no desk is made of it, and every width is a test of a word
@@ -245,9 +245,9 @@ fn is_request(b: &[u8], i: usize) -> bool
     logic::and(words::get64(b, i + 64) < 256, are_registers(b, i))
 }
 
-fn is_place(b: &[u8], i: usize) -> bool
-    requires { ⌜ i + placeSize ≤ length (now b) ⌝ }
-    ensures { λ r. ⌜ r ≡ isPlace (now (b .entry)) i ⌝ }
+fn is_slot(b: &[u8], i: usize) -> bool
+    requires { ⌜ i + slotSize ≤ length (now b) ⌝ }
+    ensures { λ r. ⌜ r ≡ isSlot (now (b .entry)) i ⌝ }
 {
     let numbers = logic::and(below(b, i + 40, 3, 65536), below(b, i, 3, 4294967296));
     let bytes = logic::and(below(b, i + 64, 2, 256), numbers);
@@ -255,10 +255,10 @@ fn is_place(b: &[u8], i: usize) -> bool
 }
 
 fn drive_good(b: &[u8], i: usize, store: u64) -> bool
-    requires { ⌜ i + placeSize ≤ length (now b) ⌝ }
+    requires { ⌜ i + slotSize ≤ length (now b) ⌝ }
     ensures { λ r. ⌜ r ≡ driveGood (now (b .entry)) store i ⌝ }
 {
-    logic::and(is_place(b, i), table::obeys(drive_at(b, i), store))
+    logic::and(is_slot(b, i), table::obeys(drive_at(b, i), store))
 }
 
 // Every caller has found at most eight drives.
@@ -266,26 +266,28 @@ fn drives_good(b: &[u8], n: usize, store: u64) -> bool
     requires { ⌜ (length (now b) ≡ deskSize) × (n ≤ mostDrives) ⌝ }
     ensures { λ r. ⌜ r ≡ drivesGood n (now (b .entry)) store ⌝ }
 {
-    let mut good = true;
     let mut i = 0;
     while i < n {
-        good = logic::and(drive_good(b, PLACES + PLACE * i, store), good);
+        if !drive_good(b, SLOTS + SLOT * i, store) {
+            return false;
+        }
         i += 1;
     }
-    good
+    true
 }
 
 fn rest_zero(b: &[u8], n: usize) -> bool
     requires { ⌜ (length (now b) ≡ deskSize) × (n ≤ mostDrives) ⌝ }
     ensures { λ r. ⌜ r ≡ restZero mostDrives n (now (b .entry)) ⌝ }
 {
-    let mut good = true;
     let mut i = n;
     while i < 8 {
-        good = logic::and(below(b, PLACES + PLACE * i, 14, 1), good);
+        if !below(b, SLOTS + SLOT * i, 14, 1) {
+            return false;
+        }
         i += 1;
     }
-    good
+    true
 }
 
 // Two runs of blocks share none, found by differences, so that no sum wraps.
@@ -302,17 +304,17 @@ fn first_in(b: &[u8], i: usize) -> u64
     requires { ⌜ (length (now b) ≡ deskSize) × (i < mostDrives) ⌝ }
     ensures { λ r. ⌜ r ≡ firstIn (now (b .entry)) i ⌝ }
 {
-    words::get64(b, PLACES + PLACE * i + 32)
+    words::get64(b, SLOTS + SLOT * i + 32)
 }
 
 fn blocks_in(b: &[u8], i: usize) -> u64
     requires { ⌜ (length (now b) ≡ deskSize) × (i < mostDrives) ⌝ }
     ensures { λ r. ⌜ r ≡ blocksIn (now (b .entry)) i ⌝ }
 {
-    words::get64(b, PLACES + PLACE * i + 24)
+    words::get64(b, SLOTS + SLOT * i + 24)
 }
 
-// The drive of a place shares no block with one before it.
+// The drive of a slot shares no block with one before it.
 fn is_alone(b: &[u8], i: usize) -> bool
     requires { ⌜ (length (now b) ≡ deskSize) × (i < mostDrives) ⌝ }
     ensures { λ r. ⌜ r ≡ aloneTo i (now (b .entry)) i ⌝ }
@@ -426,13 +428,14 @@ fn rows_good(b: &[u8], m: u64) -> bool
     requires { ⌜ length (now b) ≡ deskSize ⌝ }
     ensures { λ r. ⌜ r ≡ rowsGood guests (now (b .entry)) m ⌝ }
 {
-    let mut good = true;
     let mut g = 0;
     while g < 8 {
-        good = logic::and(row_good(b, ROW * g, m), good);
+        if !row_good(b, ROW * g, m) {
+            return false;
+        }
         g += 1;
     }
-    good
+    true
 }
 
 // Whether a block is the image of an acceptable desk.
@@ -442,11 +445,13 @@ pub fn acceptable(b: &[u8]) -> bool
     if b.len() != SIZE {
         return false;
     }
+    if 8 <= words::get64(b, POINTER) {
+        return false;
+    }
     if !table_good(b) {
         return false;
     }
-    let rows = rows_good(b, words::get64(b, ARENA) / 8);
-    logic::and(words::get64(b, POINTER) < 8, rows)
+    rows_good(b, words::get64(b, ARENA) / 8)
 }
 
 // ---- the words of a desk, laid out
@@ -582,13 +587,13 @@ fn put_rows(out: &mut [u8], rows: [Row; 8])
 
 fn put_drives(out: &mut [u8], drives: [Drive; 8])
     requires { ⌜ length (now out) ≡ deskSize ⌝ }
-    ensures { λ _. ⌜ now (out .exit) ≡ sets (now (out .entry)) (placeAt 0) (flat (each driveWords drives)) ⌝ }
+    ensures { λ _. ⌜ now (out .exit) ≡ sets (now (out .entry)) (slotAt 0) (flat (each driveWords drives)) ⌝ }
 {
     let mut k = 0;
     while k < 8 {
         let d = drives[k];
         let w = drive_words(d);
-        put_words(out, PLACES + PLACE * k, &w);
+        put_words(out, SLOTS + SLOT * k, &w);
         k += 1;
     }
 }

@@ -13,11 +13,6 @@ use Rattle.image.specs.Image.{readDesk}
 use borrow.Author.Needs.{needs}
 use Rattle.exports.proofs.begun.Statement.{statement}
 use Rattle.exports.proofs.begun.Tie as tie
-use Rattle.exports.proofs.begun.Reads as reads
-use Rattle.exports.proofs.begun.Lts as lts
-use Rattle.exports.proofs.steps_at.Reads as steps-at-reads
-use Rattle.memory.proofs.window_length.Reads as window-length-reads
-use Rattle.memory.proofs.span_of.Reads as span-of-reads
 
 window-length-requires : tie.Need-window-length-requires
 window-length-requires c κs = search needs

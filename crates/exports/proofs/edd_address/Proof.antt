@@ -1,11 +1,8 @@
 use Rattle.chs.specs.Chs.{addressNumbers}
-use Rattle.exports.specs.Exports.{effect, over, addressCall}
+use Rattle.exports.specs.Exports.{over, addressCall}
 use borrow.Author.Needs.{needs}
 use Rattle.exports.proofs.edd_address.Statement.{statement}
 use Rattle.exports.proofs.edd_address.Tie as tie
-use Rattle.exports.proofs.edd_address.Reads as reads
-use Rattle.exports.proofs.edd_address.Lts as lts
-use Rattle.chs.proofs.address_of.Reads as address-of-reads
 
 address-of-requires : tie.Need-address-of-requires
 address-of-requires c κs = search needs

@@ -1,11 +1,8 @@
 use Rattle.chs.specs.Chs.{blockNumbers}
-use Rattle.exports.specs.Exports.{effect, over, blockCall}
+use Rattle.exports.specs.Exports.{over, blockCall}
 use borrow.Author.Needs.{needs}
 use Rattle.exports.proofs.edd_block.Statement.{statement}
 use Rattle.exports.proofs.edd_block.Tie as tie
-use Rattle.exports.proofs.edd_block.Reads as reads
-use Rattle.exports.proofs.edd_block.Lts as lts
-use Rattle.chs.proofs.block_of.Reads as block-of-reads
 
 block-of-requires : tie.Need-block-of-requires
 block-of-requires c κs = search needs

@@ -1,35 +1,28 @@
-use mathlib.Core.Path.{_≡_, refl, sym, ap, subst, _∙_}
-use mathlib.Core.Bool.{true, false}
+use lib.ListN.{length}
+use mathlib.Core.Path.{_≡_, refl, sym, subst, _∙_}
+use mathlib.Core.Bool.{true}
 use mathlib.Core.List.{List, [], _∷_}
 use types.Run.{OneOf}
 use denote.Enum.Declared.{tagOf}
 use Prim.Native.Nat.{ℕ, _<_}
-use lib.ListN.{length}
 use lib.Dec.{ltb}
 use borrow.Author.Tests.{ltb-true}
 use denote.Ref.{now}
 use Rattle.desk.proofs.Stage as stage
 use Rattle.desk.specs.declared.Stage.{Stage}
-use Rattle.desk.specs.declared.Stage.the-variants.{Vacant, Waiting, Finished}
-use Rattle.desk.specs.Parts.{stageAt, withStage}
+use Rattle.desk.specs.declared.Stage.the-variants.{Vacant}
+use Rattle.desk.specs.Parts.{stageAt}
 use Rattle.desk.specs.Acceptable.{accept}
 use Rattle.desk.specs.declared.CollectAnswer.the-variants.{Refused as CollectRefused}
 use Rattle.desk.specs.Calls.{houseNumber, done, collectStage, collectOf}
 use Rattle.desk.specs.Numbers.{collectNumbers}
 use Rattle.desk.proofs.CallsLaws.{house-tests, house-refused, Passed, house-passed, collect-other, collect-finished}
-use Rattle.image.specs.Image.{deskOf, accepted}
-use Rattle.exports.specs.Exports.{effect, over, collectCall}
+use Rattle.image.specs.Image.{deskSize, deskOf, accepted}
+use Rattle.exports.specs.Exports.{over, collectCall}
 use Rattle.exports.proofs.Exports.{block, stage-read, put-row}
 use borrow.Author.Needs.{needs}
 use Rattle.exports.proofs.edd_collect.Statement.{statement}
 use Rattle.exports.proofs.edd_collect.Tie as tie
-use Rattle.exports.proofs.edd_collect.Reads as reads
-use Rattle.exports.proofs.edd_collect.Lts as lts
-use Rattle.desk.proofs.house_number.Reads as house-number-reads
-use Rattle.exports.proofs.hand.Reads as hand-reads
-use Rattle.image.proofs.acceptable.Reads as acceptable-reads
-use Rattle.image.proofs.stage_of.Reads as stage-of-reads
-use Rattle.image.proofs.put_stage.Reads as put-stage-reads
 
 abbrev bytes : tie.After-house-number → List ℕ
 bytes c = now (c .before .before .before .before .args .desk)
@@ -53,6 +46,13 @@ refused c =
     let d = deskOf (bytes (c .before)) in
     house-refused _ _ _ (λ n. done d (CollectRefused n) [] []) (collectStage d (guest (c .before)) (stageAt d (guest (c .before))) [] []) (number (c .before)) (c .if1 .taken)
 
+sized : (c : tie.Else1) → length (bytes (c .before)) ≡ deskSize
+sized c = block (bytes (c .before)) (passed c .acceptable) .size
+
+-- where the tests have passed, of where the stage is known
+abbrev tested : tie.After-known-told → tie.Else1
+tested c = c .before .before .before .before .before
+
 acceptable-requires : tie.Need-acceptable-requires
 acceptable-requires c κs = search needs
 
@@ -70,7 +70,7 @@ unfolding collectCall over collectNumbers
 returns c = rw (← refused c)
 
 stage-of-requires : tie.Need-stage-of-requires
-stage-of-requires c κs = (block (bytes (c .before .before)) (passed (c .before) .acceptable) .size, below (c .before))
+stage-of-requires c κs = (sized (c .before), below (c .before))
 
 enum-known-stage : tie.Need-enum-known-stage
 enum-known-stage c = search needs
@@ -87,7 +87,7 @@ returns-2 c =
     rw (← collect-other (deskOf (bytes h)) (guest h) [] [] p (subst (λ (x : Stage). OneOf (0 ∷ 1 ∷ []) (tagOf stage.the-type x)) s (c .match .keys2)))
 
 put-stage-requires : tie.Need-put-stage-requires
-put-stage-requires c κs = (block (bytes (c .before .before .before .before .before .before .before)) (passed (c .before .before .before .before .before .before) .acceptable) .size, below (c .before .before .before .before .before .before))
+put-stage-requires c κs = let t = tested (c .before) in (sized t, below t)
 
 hand-requires : tie.Need-hand-requires
 hand-requires c κs = search needs
@@ -98,12 +98,14 @@ same-length-3 c = search needs
 returns-3 : tie.Need-returns-3
 unfolding collectCall over collectNumbers
 returns-3 c =
-    let h = c .before .before .before .before .before .before .before .before .before .before .before .before .before .before .before .before .before .before .before in
-    let p = passed (c .before .before .before .before .before .before .before .before .before .before .before .before .before .before .before .before .before .before) in
-    let x = c .before .before .before .before .before .before .before .before .before .before .before .before .before .before .stage in
-    let s = stage-read (bytes h) (p .acceptable) (guest h) (c .before .before .before .before .before .before .before .before .before .before .before .before .before .before .before .before .stage-of .ensures) in
-    let k = put-row (bytes h) (p .acceptable) (guest h) Vacant (below (c .before .before .before .before .before .before .before .before .before .before .before .before .before .before .before .before .before .before)) (c .before .before .before .before .before .before .before .before .before .before .before .put-stage .ensures) in
-    rw (← collect-finished (deskOf (bytes h)) (guest h) [] [] p (x .given .0 .0) (sym s ∙ x .given .1), k, c .hand .ensures)
+    let x = c .before .before .before .before .before .before .before .before .before .before .before in
+    let w = x .before .before in
+    let h = tested w .before in
+    let p = passed (tested w) in
+    let g = w .before .stage .given in
+    let s = stage-read (bytes h) (p .acceptable) (guest h) (w .before .before .before .stage-of .ensures) in
+    let k = put-row (bytes h) (p .acceptable) (guest h) Vacant (below (tested w)) (x .put-stage .ensures) in
+    rw (← collect-finished (deskOf (bytes h)) (guest h) [] [] p (g .0 .0) (sym s ∙ g .1), k, c .hand .ensures)
 
 pub edd-collect-spec : {M : Type 1} → statement M
 edd-collect-spec =

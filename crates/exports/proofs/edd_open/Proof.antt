@@ -1,13 +1,9 @@
 use Rattle.desk.specs.Numbers.{openNumbers}
-use Rattle.exports.specs.Exports.{effect, over, openCall}
+use Rattle.exports.specs.Exports.{over, openCall}
 use borrow.Author.Tests.{eq-eqb, ne-eqb}
 use borrow.Author.Needs.{needs}
 use Rattle.exports.proofs.edd_open.Statement.{statement}
 use Rattle.exports.proofs.edd_open.Tie as tie
-use Rattle.exports.proofs.edd_open.Reads as reads
-use Rattle.exports.proofs.edd_open.Lts as lts
-use Rattle.desk.proofs.Desk.open.Reads as open-reads
-use Rattle.image.proofs.encode.Reads as encode-reads
 
 returns : tie.Need-returns
 unfolding openCall over openNumbers

@@ -1,19 +1,17 @@
+use lib.ListN.{length}
 use mathlib.Core.Path.{_≡_, refl, sym, ap, subst, _∙_}
-use mathlib.Core.Bool.{true, false}
 use mathlib.Core.List.{List, [], _∷_}
 use types.Run.{OneOf}
 use denote.Enum.Declared.{tagOf}
 use Prim.Native.Nat.{ℕ, _<_}
-use lib.ListN.{length}
 use lib.Dec.{ltb}
 use borrow.Author.Tests.{ltb-true}
 use denote.Ref.{now}
 use Rattle.desk.proofs.Stage as stage
 use Rattle.desk.specs.declared.Stage.{Stage}
-use Rattle.desk.specs.declared.Stage.the-variants.{Vacant, Waiting, Finished}
-use Rattle.desk.specs.Parts.{stageAt, withStage}
+use Rattle.desk.specs.declared.Stage.the-variants.{Waiting}
+use Rattle.desk.specs.Parts.{stageAt}
 use Rattle.desk.specs.Acceptable.{accept}
-use Rattle.table.specs.declared.Table.{Table}
 use Rattle.int13.specs.declared.Registers.{Registers}
 use Rattle.int13.specs.declared.Outcome.{Outcome}
 use Rattle.int13.specs.declared.Outcome.the-variants.{Answered, Waits as OutcomeWaits}
@@ -24,19 +22,12 @@ use Rattle.desk.specs.Parts.{ownWindow, withOwn}
 use Rattle.desk.specs.Calls.{isLent, done, postChecked, postRow, postOf}
 use Rattle.desk.specs.Numbers.{postNumbers}
 use Rattle.desk.proofs.CallsLaws.{house-refused, Passed, house-passed, post-other, post-vacant}
-use Rattle.image.specs.Image.{readDesk, deskOf}
-use Rattle.exports.specs.Exports.{effect, given, postCall}
+use Rattle.image.specs.Image.{deskSize, deskOf}
+use Rattle.exports.specs.Exports.{given, postCall}
 use Rattle.exports.proofs.Exports.{block, stage-read, put-row}
 use borrow.Author.Needs.{needs}
 use Rattle.exports.proofs.edd_post.Statement.{statement}
 use Rattle.exports.proofs.edd_post.Tie as tie
-use Rattle.exports.proofs.edd_post.Reads as reads
-use Rattle.exports.proofs.edd_post.Lts as lts
-use Rattle.exports.proofs.number_at.Reads as number-at-reads
-use Rattle.exports.proofs.begun.Reads as begun-reads
-use Rattle.exports.proofs.bit.Reads as bit-reads
-use Rattle.image.proofs.stage_of.Reads as stage-of-reads
-use Rattle.image.proofs.put_stage.Reads as put-stage-reads
 
 abbrev bytes : tie.After-number-at → List ℕ
 bytes c = now (c .before .before .before .before .before .before .before .before .before .args .desk)
@@ -69,6 +60,9 @@ refused c =
     let d = deskOf (bytes h) in
     house-refused _ _ _ (λ n. done d (PostRefused n) (arena h) (store h)) (postRow d (guest h) (registers h) (arena h) (store h) (stageAt d (guest h))) (h .number-at .ensures) (c .if1 .taken)
 
+sized : (c : tie.Else1) → length (bytes (c .before)) ≡ deskSize
+sized c = block (bytes (c .before)) (passed c .acceptable) .size
+
 -- what the steps over one drive made of it is what the call makes of it
 made : (c : tie.After-begun) (o : Outcome) → c .begun .result ≡ o
     → let h = c .before .before .before .before .before .before .before .before in
@@ -81,6 +75,10 @@ made c o e =
     let v = sym (stage-read (bytes h) (p .acceptable) (guest h) (c .before .before .before .before .before .stage-of .ensures)) ∙ c .before .before .before .enum-told .given .1 in
     let w = c .begun .ensures .1 ∙ ap (λ (x : Checked). withOwn (arena h) (guest h) (x .window)) t in
     rw w (post-vacant (deskOf (bytes h)) (guest h) (arena h) (store h) p (registers h) v (sym e ∙ c .begun .ensures .0 ∙ ap (λ (x : Checked). x .outcome) t) refl refl refl)
+
+-- where the tests had passed
+abbrev tested : tie.After-begun → tie.Else1
+tested c = c .before .before .before .before .before .before .before
 
 number-at-requires : tie.Need-number-at-requires
 number-at-requires c κs = search needs
@@ -96,7 +94,7 @@ unfolding postCall postNumbers
 returns c = rw (← refused c)
 
 stage-of-requires : tie.Need-stage-of-requires
-stage-of-requires c κs = (block (bytes (c .before .before)) (passed (c .before) .acceptable) .size, below (c .before))
+stage-of-requires c κs = (sized (c .before), below (c .before))
 
 enum-told : tie.Need-enum-told
 enum-told c = search needs
@@ -113,7 +111,7 @@ returns-2 c =
     rw (← post-other (deskOf (bytes h)) (guest h) (arena h) (store h) p (registers h) (subst (λ (x : Stage). OneOf (1 ∷ 2 ∷ []) (tagOf stage.the-type x)) s (c .match .keys2)))
 
 begun-requires : tie.Need-begun-requires
-begun-requires c κs = block (bytes (c .before .before .before .before .before .before .before)) (passed (c .before .before .before .before .before .before) .acceptable) .size
+begun-requires c κs = sized (c .before .before .before .before .before .before)
 
 enum-known-outcome : tie.Need-enum-known-outcome
 enum-known-outcome c = search needs
@@ -125,7 +123,7 @@ enum-known-outcome-2 : tie.Need-enum-known-outcome-2
 enum-known-outcome-2 c = search needs
 
 put-stage-requires : tie.Need-put-stage-requires
-put-stage-requires c κs = (block (bytes (c .before .before .before .before .before .before .before .before .before .before .before .before .before .before)) (passed (c .before .before .before .before .before .before .before .before .before .before .before .before .before) .acceptable) .size, below (c .before .before .before .before .before .before .before .before .before .before .before .before .before))
+put-stage-requires c κs = let t = tested (c .before .before .before .before .before .before) in (sized t, below t)
 
 same-length-3 : tie.Need-same-length-3
 same-length-3 c = search needs
@@ -148,11 +146,11 @@ same-length-6 c = search needs
 returns-4 : tie.Need-returns-4
 unfolding postCall postNumbers
 returns-4 c =
-    let h = c .before .before .before .before .before .before .before .before .before .before .before .before .before .before .before .before .before in
-    let p = passed (c .before .before .before .before .before .before .before .before .before .before .before .before .before .before .before .before) in
-    let o = c .before .before .before .before .before .outcome2 in
-    let k = put-row (bytes h) (p .acceptable) (guest h) (Waiting (record { job = o .given .0 .0; moved = 0 })) (below (c .before .before .before .before .before .before .before .before .before .before .before .before .before .before .before .before)) (c .before .before .put-stage .ensures) in
-    rw (← made (c .before .before .before .before .before .before .before .before .before) (OutcomeWaits (o .given .0 .0)) (o .given .1), k)
+    let o = c .before .before .before .before .before .outcome2 .given in
+    let m = c .before .before .before .before .before .before .before .before .before in
+    let h = tested m .before in
+    let k = put-row (bytes h) (passed (tested m) .acceptable) (guest h) (Waiting (record { job = o .0 .0; moved = 0 })) (below (tested m)) (c .before .before .put-stage .ensures) in
+    rw (← made m (OutcomeWaits (o .0 .0)) (o .1), k)
 
 pub edd-post-spec : {M : Type 1} → statement M
 edd-post-spec =

@@ -1,5 +1,5 @@
-use mathlib.Core.Path.{_≡_, refl, sym, ap, subst, _∙_}
-use mathlib.Core.Bool.{true, false}
+use mathlib.Core.Path.{_≡_, refl, sym, subst, _∙_}
+use mathlib.Core.Bool.{true}
 use mathlib.Core.List.{List, [], _∷_}
 use types.Run.{OneOf}
 use denote.Enum.Declared.{tagOf}
@@ -8,6 +8,8 @@ use native.Mathlib.Omega.{arith}
 use denote.Ref.{now}
 use Rattle.int13.specs.Steps.{driveAt}
 use Rattle.desk.proofs.Stage as stage
+use lib.ListN.{length}
+use Rattle.desk.specs.declared.Request.{Request}
 use Rattle.desk.specs.declared.Stage.{Stage}
 use Rattle.desk.specs.declared.Stage.the-variants.{Waiting}
 use Rattle.desk.specs.declared.Desk.{Desk}
@@ -19,21 +21,12 @@ use Rattle.desk.specs.Calls.{isLent, done, firstWaiting, Transferred, turnNext,
 use Rattle.desk.specs.Numbers.{turnNumbers}
 use Rattle.desk.proofs.AcceptableLaws.{accept-true, Waits}
 use Rattle.desk.proofs.CallsLaws.{house-refused, Passed, house-passed, turn-nobody, turn-other, turn-served, seek-below, waiting-facts, in-range}
-use Rattle.image.specs.Image.{deskOf}
-use Rattle.exports.specs.Exports.{effect, over, turnCall}
+use Rattle.image.specs.Image.{deskSize, deskOf}
+use Rattle.exports.specs.Exports.{over, turnCall}
 use Rattle.exports.proofs.Exports.{block, pointer-read, next-read, stage-read, drive-read, put-turn}
 use borrow.Author.Needs.{needs}
 use Rattle.exports.proofs.edd_turn.Statement.{statement}
 use Rattle.exports.proofs.edd_turn.Tie as tie
-use Rattle.exports.proofs.edd_turn.Reads as reads
-use Rattle.exports.proofs.edd_turn.Lts as lts
-use Rattle.exports.proofs.number_at.Reads as number-at-reads
-use Rattle.exports.proofs.put_served.Reads as put-served-reads
-use Rattle.image.proofs.next_of.Reads as next-of-reads
-use Rattle.image.proofs.stage_of.Reads as stage-of-reads
-use Rattle.image.proofs.drive_named.Reads as drive-named-reads
-use Rattle.desk.proofs.service_of.Reads as service-of-reads
-use Rattle.desk.proofs.transfer.Reads as transfer-reads
 
 abbrev bytes : tie.After-number-at → List ℕ
 bytes c = now (c .before .before .before .before .before .args .desk)
@@ -56,25 +49,44 @@ refused c =
     let h = c .before in
     house-refused _ _ _ (λ n. done (desk h) (TurnRefused n) (arena h) (store h)) (turnNext (desk h) (firstWaiting (desk h .rows) 8 (desk h .pointer)) (arena h) (store h)) (h .number-at .ensures) (c .if1 .taken)
 
--- the guest that the search found
+sized : (c : tie.Else1) → length (bytes (c .before)) ≡ deskSize
+sized c = block (bytes (c .before)) (passed c .acceptable) .size
+
+-- the guest that the sought found, once the tests had passed
+abbrev tested : tie.After-known-told → tie.Else1
+tested c = c .before .before .before .before .before
+
 abbrev guest : tie.After-known-told → ℕ
 guest c = c .before .found .given .0 .0
 
-found : (c : tie.After-known-told) → firstWaiting (desk (c .before .before .before .before .before .before) .rows) 8 (desk (c .before .before .before .before .before .before) .pointer) ≡ Guest (guest c)
-found c = sym (next-read (bytes (c .before .before .before .before .before .before)) (passed (c .before .before .before .before .before) .acceptable) (c .before .before .before .next-of .ensures)) ∙ c .before .found .given .1
+found : (c : tie.After-known-told) → let d = desk (tested c .before) in firstWaiting (d .rows) 8 (d .pointer) ≡ Guest (guest c)
+found c = sym (next-read (bytes (tested c .before)) (passed (tested c) .acceptable) (c .before .before .before .next-of .ensures)) ∙ c .before .found .given .1
 
 below : (c : tie.After-known-told) → guest c < 8
-below c = let d = desk (c .before .before .before .before .before .before) in seek-below (d .rows) 8 (d .pointer) (guest c) (accept-true d (passed (c .before .before .before .before .before) .acceptable) .pointer) (found c)
+below c = let d = desk (tested c .before) in seek-below (d .rows) 8 (d .pointer) (guest c) (accept-true d (passed (tested c) .acceptable) .pointer) (found c)
 
 -- its request, and what acceptance says of it
-holds : (c : tie.After-known-told2) → stageAt (desk (c .before .before .before .before .before .before .before .before .before .before .before)) (guest (c .before .before .before .before .before)) ≡ Waiting (c .before .stage .given .0 .0)
-holds c = sym (stage-read (bytes (c .before .before .before .before .before .before .before .before .before .before .before)) (passed (c .before .before .before .before .before .before .before .before .before .before) .acceptable) (guest (c .before .before .before .before .before)) (c .before .before .before .stage-of .ensures)) ∙ c .before .stage .given .1
+abbrev sought : tie.After-known-told2 → tie.After-known-told
+sought c = c .before .before .before .before .before
 
-facts : (c : tie.After-known-told2) → Waits (desk (c .before .before .before .before .before .before .before .before .before .before .before) .table) (windowSize (desk (c .before .before .before .before .before .before .before .before .before .before .before))) (c .before .stage .given .0 .0)
-facts c = waiting-facts (desk (c .before .before .before .before .before .before .before .before .before .before .before)) (guest (c .before .before .before .before .before)) (c .before .stage .given .0 .0) (passed (c .before .before .before .before .before .before .before .before .before .before) .acceptable) (below (c .before .before .before .before .before)) (holds c)
+abbrev house : tie.After-known-told2 → tie.After-number-at
+house c = tested (sought c) .before
 
-named : (c : tie.After-drive-named) → c .drive-named .result ≡ driveAt (desk (c .before .before .before .before .before .before .before .before .before .before .before .before .before) .table) (c .before .before .before .stage .given .0 .0 .job .drive)
-named c = drive-read (bytes (c .before .before .before .before .before .before .before .before .before .before .before .before .before)) (passed (c .before .before .before .before .before .before .before .before .before .before .before .before) .acceptable) (c .before .before .before .stage .given .0 .0 .job .drive) (c .drive-named .ensures) (facts (c .before .before) .job .drive)
+abbrev request : tie.After-known-told2 → Request
+request c = c .before .stage .given .0 .0
+
+holds : (c : tie.After-known-told2) → stageAt (desk (house c)) (guest (sought c)) ≡ Waiting (request c)
+holds c =
+    sym (stage-read (bytes (house c)) (passed (tested (sought c)) .acceptable) (guest (sought c)) (c .before .before .before .stage-of .ensures))
+    ∙ c .before .stage .given .1
+
+facts : (c : tie.After-known-told2) → Waits (desk (house c) .table) (windowSize (desk (house c))) (request c)
+facts c = waiting-facts (desk (house c)) (guest (sought c)) (request c) (passed (tested (sought c)) .acceptable) (below (sought c)) (holds c)
+
+named : (c : tie.After-drive-named) → let t = c .before .before in c .drive-named .result ≡ driveAt (desk (house t) .table) (request t .job .drive)
+named c =
+    let t = c .before .before in
+    drive-read (bytes (house t)) (passed (tested (sought t)) .acceptable) (request t .job .drive) (c .drive-named .ensures) (facts t .job .drive)
 
 number-at-requires : tie.Need-number-at-requires
 number-at-requires c κs = search needs
@@ -90,7 +102,7 @@ unfolding turnCall over turnNumbers
 returns c = rw (← refused c)
 
 next-of-requires : tie.Need-next-of-requires
-next-of-requires c κs = let a = passed (c .before) .acceptable in (block (bytes (c .before .before)) a .size, pointer-read (bytes (c .before .before)) a)
+next-of-requires c κs = (sized (c .before), pointer-read (bytes (c .before .before)) (passed (c .before) .acceptable))
 
 enum-known-found : tie.Need-enum-known-found
 enum-known-found c = search needs
@@ -109,7 +121,7 @@ returns-2 c =
     rw (← turn-nobody (desk h) (arena h) (store h) p (sym (next-read (bytes h) (p .acceptable) (c .before .before .next-of .ensures)) ∙ c .enum-told .given .1))
 
 stage-of-requires : tie.Need-stage-of-requires
-stage-of-requires c κs = (block (bytes (c .before .before .before .before .before .before .before)) (passed (c .before .before .before .before .before .before) .acceptable) .size, below (c .before))
+stage-of-requires c κs = (sized (tested (c .before)), below (c .before))
 
 enum-known-stage : tie.Need-enum-known-stage
 enum-known-stage c = search needs
@@ -120,27 +132,29 @@ same-length-3 c = search needs
 returns-3 : tie.Need-returns-3
 unfolding turnCall over turnNumbers
 returns-3 c =
-    let h = c .before .before .before .before .before .before .before .before .before in
     let w = c .before .before .before in
-    let p = passed (c .before .before .before .before .before .before .before .before) in
+    let h = tested w .before in
+    let p = passed (tested w) in
     let s = stage-read (bytes h) (p .acceptable) (guest w) (c .before .stage-of .ensures) in
     rw (← turn-other (desk h) (arena h) (store h) p (guest w) (found w) (subst (λ (x : Stage). OneOf (0 ∷ 2 ∷ []) (tagOf stage.the-type x)) s (c .match2 .keys2)))
 
 drive-named-requires : tie.Need-drive-named-requires
-drive-named-requires c κs = block (bytes (c .before .before .before .before .before .before .before .before .before .before .before .before)) (passed (c .before .before .before .before .before .before .before .before .before .before .before) .acceptable) .size
+drive-named-requires c κs = sized (tested (sought (c .before)))
 
 service-of-requires : tie.Need-service-of-requires
 service-of-requires c κs = search needs
 
 transfer-requires : tie.Need-transfer-requires
 transfer-requires c κs =
-    let h = c .before .before .before .before .before .before .before .before .before .before .before .before .before .before .before .before in
-    let g = c .before .before .before .before .before .before .before .before .before .before .before .before .before .before .before .before .before .before .before .before .before .good in
-    let r = in-range (desk h) (arena h) (store h) (guest (c .before .before .before .before .before .before .before .before .before .before)) (c .before .before .before .before .before .before .stage .given .0 .0) (passed (c .before .before .before .before .before .before .before .before .before .before .before .before .before .before .before)) (below (c .before .before .before .before .before .before .before .before .before .before)) (holds (c .before .before .before .before .before)) (omega (arith, g .1 .0 .0)) (omega (arith, g .1 .1 .0 .0)) (c .before .before .service-of .ensures) in
-    rw (named (c .before .before .before)) r
+    let t = c .before .before .before .before .before in
+    let h = house t in
+    let g = h .before .before .before .before .before .good in
+    rw (named (c .before .before .before))
+    (in-range (desk h) (arena h) (store h) (guest (sought t)) (request t) (passed (tested (sought t))) (below (sought t)) (holds t)
+    (omega (arith, g .1 .0 .0)) (omega (arith, g .1 .1 .0 .0)) (c .before .before .service-of .ensures))
 
 put-served-requires : tie.Need-put-served-requires
-put-served-requires c κs = (block (bytes (c .before .before .before .before .before .before .before .before .before .before .before .before .before .before .before .before .before .before .before .before .before .before)) (passed (c .before .before .before .before .before .before .before .before .before .before .before .before .before .before .before .before .before .before .before .before .before) .acceptable) .size, below (c .before .before .before .before .before .before .before .before .before .before .before .before .before .before .before .before))
+put-served-requires c κs = let w = sought (c .before .before .before .before .before .before .before .before .before .before .before) in (sized (tested w), below w)
 
 same-length-4 : tie.Need-same-length-4
 same-length-4 c = search needs
@@ -154,14 +168,16 @@ same-length-6 c = search needs
 returns-4 : tie.Need-returns-4
 unfolding turnCall over turnNumbers
 returns-4 c =
-    let h = c .before .before .before .before .before .before .before .before .before .before .before .before .before .before .before .before .before .before .before .before .before .before .before .before .before in
-    let w = c .before .before .before .before .before .before .before .before .before .before .before .before .before .before .before .before .before .before .before in
-    let p = passed (c .before .before .before .before .before .before .before .before .before .before .before .before .before .before .before .before .before .before .before .before .before .before .before .before) in
-    let q = c .before .before .before .before .before .before .before .before .before .before .before .before .before .before .before .stage .given .0 .0 in
-    let s = c .before .before .before .before .before .before .before .before .before .before .before .service-of in
-    let t : Transferred (driveAt (desk h .table) (q .job .drive) .first) q (s .result .moved) (guest w) (arena h) (store h) _ _ = rw (named (c .before .before .before .before .before .before .before .before .before .before .before .before)) at (c .before .before .before .before .before .before .before .before .transfer .ensures) in
+    let x = c .before .before .before .before .before .before .before .before in
+    let n = x .before .before .before .before in
+    let t = n .before .before in
+    let w = sought t in
+    let h = house t in
+    let p = passed (tested w) in
+    let s = x .before .before .before .service-of in
+    let e : Transferred (driveAt (desk h .table) (request t .job .drive) .first) (request t) (s .result .moved) (guest w) (arena h) (store h) _ _ = rw (named n) at (x .transfer .ensures) in
     let k = put-turn (bytes h) (p .acceptable) (guest w) (s .result .stage) (below w) (c .before .before .put-served .ensures) in
-    rw (← turn-served (desk h) (arena h) (store h) p (guest w) q (found w) (holds (c .before .before .before .before .before .before .before .before .before .before .before .before .before .before)) (s .ensures) refl refl t, k)
+    rw (← turn-served (desk h) (arena h) (store h) p (guest w) (request t) (found w) (holds t) (s .ensures) refl refl e, k)
 
 pub edd-turn-spec : {M : Type 1} → statement M
 edd-turn-spec =

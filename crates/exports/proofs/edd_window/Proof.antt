@@ -1,14 +1,10 @@
 use native.Mathlib.Omega.{arith}
 use mathlib.Core.Path.{_≡_}
 use Prim.Native.Nat.{ℕ, _+_, _-_}
-use Rattle.exports.specs.Exports.{effect, over, windowCall}
+use Rattle.exports.specs.Exports.{windowCall}
 use borrow.Author.Needs.{needs}
 use Rattle.exports.proofs.edd_window.Statement.{statement}
 use Rattle.exports.proofs.edd_window.Tie as tie
-use Rattle.exports.proofs.edd_window.Reads as reads
-use Rattle.exports.proofs.edd_window.Lts as lts
-use Rattle.memory.proofs.span_of.Reads as span-of-reads
-use Rattle.memory.proofs.window_length.Reads as window-length-reads
 
 window-length-requires : tie.Need-window-length-requires
 window-length-requires c κs = search needs

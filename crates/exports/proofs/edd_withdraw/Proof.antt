@@ -1,5 +1,4 @@
-use mathlib.Core.Path.{_≡_, refl, sym, ap, subst, _∙_}
-use mathlib.Core.Bool.{true, false}
+use mathlib.Core.Path.{_≡_, refl, sym, subst, _∙_}
 use mathlib.Core.List.{List, [], _∷_}
 use types.Run.{OneOf}
 use denote.Enum.Declared.{tagOf}
@@ -9,28 +8,21 @@ use lib.Dec.{ltb}
 use borrow.Author.Tests.{ltb-true}
 use denote.Ref.{now}
 use Rattle.desk.proofs.Stage as stage
+use Rattle.desk.specs.declared.Request.{Request}
 use Rattle.desk.specs.declared.Stage.{Stage}
-use Rattle.desk.specs.declared.Stage.the-variants.{Vacant, Waiting, Finished}
-use Rattle.desk.specs.Parts.{stageAt, withStage}
+use Rattle.desk.specs.declared.Stage.the-variants.{Vacant, Waiting}
+use Rattle.desk.specs.Parts.{stageAt}
 use Rattle.desk.specs.Acceptable.{accept}
 use Rattle.desk.specs.declared.WithdrawAnswer.the-variants.{Refused as WithdrawRefused}
 use Rattle.desk.specs.Calls.{isLent, done, withdrawStage, withdrawOf}
 use Rattle.desk.specs.Numbers.{withdrawNumbers}
 use Rattle.desk.proofs.CallsLaws.{house-refused, Passed, house-passed, withdraw-other, withdraw-waiting, Report, report-facts}
-use Rattle.image.specs.Image.{deskOf}
-use Rattle.exports.specs.Exports.{effect, over, withdrawCall}
+use Rattle.image.specs.Image.{deskSize, deskOf}
+use Rattle.exports.specs.Exports.{over, withdrawCall}
 use Rattle.exports.proofs.Exports.{block, stage-read, put-row}
 use borrow.Author.Needs.{needs}
 use Rattle.exports.proofs.edd_withdraw.Statement.{statement}
 use Rattle.exports.proofs.edd_withdraw.Tie as tie
-use Rattle.exports.proofs.edd_withdraw.Reads as reads
-use Rattle.exports.proofs.edd_withdraw.Lts as lts
-use Rattle.exports.proofs.number_at.Reads as number-at-reads
-use Rattle.exports.proofs.hand.Reads as hand-reads
-use Rattle.image.proofs.stage_of.Reads as stage-of-reads
-use Rattle.image.proofs.put_stage.Reads as put-stage-reads
-use Rattle.desk.proofs.report_moved.Reads as report-moved-reads
-use Rattle.desk.proofs.given_back.Reads as given-back-reads
 
 abbrev bytes : tie.After-number-at → List ℕ
 bytes c = now (c .before .before .before .before .before .args .desk)
@@ -57,14 +49,24 @@ refused c =
     let d = deskOf (bytes h) in
     house-refused _ _ _ (λ n. done d (WithdrawRefused n) (arena h) (store h)) (withdrawStage d (guest h) (stageAt d (guest h)) (arena h) (store h)) (h .number-at .ensures) (c .if1 .taken)
 
--- the request that the row holds, and what acceptance says of it
-holds : (c : tie.After-known-told) → stageAt (deskOf (bytes (c .before .before .before .before .before .before))) (guest (c .before .before .before .before .before .before)) ≡ Waiting (c .before .stage .given .0 .0)
-holds c = sym (stage-read (bytes (c .before .before .before .before .before .before)) (passed (c .before .before .before .before .before) .acceptable) (guest (c .before .before .before .before .before .before)) (c .before .before .before .stage-of .ensures)) ∙ c .before .stage .given .1
+sized : (c : tie.Else1) → length (bytes (c .before)) ≡ deskSize
+sized c = block (bytes (c .before)) (passed c .acceptable) .size
 
-facts : (c : tie.After-known-told) → Report (c .before .stage .given .0 .0) (guest (c .before .before .before .before .before .before)) (length (arena (c .before .before .before .before .before .before)))
-facts c =
-    let h = c .before .before .before .before .before .before in
-    report-facts (deskOf (bytes h)) (arena h) (store h) (guest h) (c .before .stage .given .0 .0) (passed (c .before .before .before .before .before)) (holds c)
+-- the request that the row holds once the tests have passed, and what acceptance says of it
+abbrev tested : tie.After-known-told → tie.Else1
+tested c = c .before .before .before .before .before
+
+abbrev house : tie.After-known-told → tie.After-number-at
+house c = tested c .before
+
+abbrev request : tie.After-known-told → Request
+request c = c .before .stage .given .0 .0
+
+holds : (c : tie.After-known-told) → stageAt (deskOf (bytes (house c))) (guest (house c)) ≡ Waiting (request c)
+holds c = sym (stage-read (bytes (house c)) (passed (tested c) .acceptable) (guest (house c)) (c .before .before .before .stage-of .ensures)) ∙ c .before .stage .given .1
+
+facts : (c : tie.After-known-told) → Report (request c) (guest (house c)) (length (arena (house c)))
+facts c = let h = house c in report-facts (deskOf (bytes h)) (arena h) (store h) (guest h) (request c) (passed (tested c)) (holds c)
 
 number-at-requires : tie.Need-number-at-requires
 number-at-requires c κs = search needs
@@ -80,7 +82,7 @@ unfolding withdrawCall over withdrawNumbers
 returns c = rw (← refused c)
 
 stage-of-requires : tie.Need-stage-of-requires
-stage-of-requires c κs = (block (bytes (c .before .before)) (passed (c .before) .acceptable) .size, below (c .before))
+stage-of-requires c κs = (sized (c .before), below (c .before))
 
 enum-known-stage : tie.Need-enum-known-stage
 enum-known-stage c = search needs
@@ -100,7 +102,7 @@ report-moved-requires : tie.Need-report-moved-requires
 report-moved-requires c κs = let f = facts (c .before) in (f .guest, f .packet, f .moved)
 
 put-stage-requires : tie.Need-put-stage-requires
-put-stage-requires c κs = (block (bytes (c .before .before .before .before .before .before .before .before .before .before .before)) (passed (c .before .before .before .before .before .before .before .before .before .before) .acceptable) .size, below (c .before .before .before .before .before .before .before .before .before .before))
+put-stage-requires c κs = let t = tested (c .before .before .before .before .before) in (sized t, below t)
 
 given-back-requires : tie.Need-given-back-requires
 given-back-requires c κs = facts (c .before .before .before .before .before .before .before .before) .moved
@@ -117,12 +119,14 @@ same-length-4 c = search needs
 returns-3 : tie.Need-returns-3
 unfolding withdrawCall over withdrawNumbers
 returns-3 c =
-    let h = c .before .before .before .before .before .before .before .before .before .before .before .before .before .before .before .before .before .before .before .before .before .before .before .before in
-    let w = c .before .before .before .before .before .before .before .before .before .before .before .before .before .before .before .before .before .before in
-    let p = passed (c .before .before .before .before .before .before .before .before .before .before .before .before .before .before .before .before .before .before .before .before .before .before .before) in
-    let q = w .before .stage .given .0 .0 in
-    let k = put-row (bytes h) (p .acceptable) (guest h) Vacant (below (c .before .before .before .before .before .before .before .before .before .before .before .before .before .before .before .before .before .before .before .before .before .before .before)) (c .before .before .before .before .before .before .before .before .before .before .before .before .put-stage .ensures) in
-    rw (← withdraw-waiting (deskOf (bytes h)) (guest h) (arena h) (store h) p q (holds w) refl refl (c .before .before .before .before .before .before .before .before .before .before .before .before .before .before .before .before .report-moved .ensures), k, c .hand .ensures, c .before .before .before .before .before .before .before .before .before .given-back .ensures)
+    let g = c .before .before .before .before .before .before .before .before .before in
+    let x = g .before .before .before in
+    let m = x .before .before .before .before in
+    let w = m .before .before in
+    let h = house w in
+    let p = passed (tested w) in
+    let k = put-row (bytes h) (p .acceptable) (guest h) Vacant (below (tested w)) (x .put-stage .ensures) in
+    rw (← withdraw-waiting (deskOf (bytes h)) (guest h) (arena h) (store h) p (request w) (holds w) refl refl (m .report-moved .ensures), k, c .hand .ensures, g .given-back .ensures)
 
 pub edd-withdraw-spec : {M : Type 1} → statement M
 edd-withdraw-spec =

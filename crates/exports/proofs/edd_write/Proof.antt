@@ -1,28 +1,21 @@
-use mathlib.Core.Path.{_≡_, refl, sym, ap, _∙_}
-use mathlib.Core.Bool.{true, false}
+use mathlib.Core.Path.{_≡_, refl, ap, _∙_}
+use mathlib.Core.Bool.{true}
 use mathlib.Core.List.{List}
 use Prim.Native.Nat.{ℕ}
 use lib.ListN.{length}
 use denote.Ref.{now}
 use Rattle.table.specs.declared.Table.{Table}
-use Rattle.table.specs.declared.Written.{Written}
 use Rattle.table.specs.declared.Written.the-variants.{Refused as WriteRefused}
 use Rattle.table.specs.Table.{writeAnswer, writeOut, writtenNumbers}
 use Rattle.desk.specs.Acceptable.{accept}
 use Rattle.desk.specs.Calls.{houseNumber, writtenOf, writtenOut}
 use Rattle.desk.proofs.CallsLaws.{house-tests, house-refused, Passed, house-passed, write-table}
 use Rattle.image.specs.Image.{deskOf, accepted}
-use Rattle.exports.specs.Exports.{effect, over, writeCall}
+use Rattle.exports.specs.Exports.{over, writeCall}
 use Rattle.exports.proofs.Exports.{block, table-read}
 use borrow.Author.Needs.{needs}
 use Rattle.exports.proofs.edd_write.Statement.{statement}
 use Rattle.exports.proofs.edd_write.Tie as tie
-use Rattle.exports.proofs.edd_write.Reads as reads
-use Rattle.exports.proofs.edd_write.Lts as lts
-use Rattle.desk.proofs.house_number.Reads as house-number-reads
-use Rattle.image.proofs.acceptable.Reads as acceptable-reads
-use Rattle.image.proofs.table_of.Reads as table-of-reads
-use Rattle.table.proofs.write_table.Reads as write-table-reads
 
 abbrev bytes : tie.After-house-number → List ℕ
 bytes c = now (c .before .before .before .before .args .desk)

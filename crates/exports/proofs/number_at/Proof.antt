@@ -1,5 +1,5 @@
 use mathlib.Core.Path.{_≡_, refl, sym, _∙_}
-use mathlib.Core.Bool.{true, false}
+use mathlib.Core.Bool.{true}
 use borrow.Author.Tests.{not-true, not-false}
 use denote.Ref.{now}
 use Rattle.desk.specs.Acceptable.{accept}
@@ -9,11 +9,6 @@ use Rattle.exports.proofs.Exports.{block, no-desk, lent-read}
 use borrow.Author.Needs.{needs}
 use Rattle.exports.proofs.number_at.Statement.{statement}
 use Rattle.exports.proofs.number_at.Tie as tie
-use Rattle.exports.proofs.number_at.Reads as reads
-use Rattle.exports.proofs.number_at.Lts as lts
-use Rattle.desk.proofs.house_number.Reads as house-number-reads
-use Rattle.image.proofs.acceptable.Reads as acceptable-reads
-use Rattle.image.proofs.is_lent.Reads as is-lent-reads
 
 good : (c : tie.Else1) → accept (deskOf (now (c .before .before .before .args .desk))) ≡ true
 unfolding accepted

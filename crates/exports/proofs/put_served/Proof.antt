@@ -1,10 +1,6 @@
 use borrow.Author.Needs.{needs}
 use Rattle.exports.proofs.put_served.Statement.{statement}
 use Rattle.exports.proofs.put_served.Tie as tie
-use Rattle.exports.proofs.put_served.Reads as reads
-use Rattle.exports.proofs.put_served.Lts as lts
-use Rattle.image.proofs.put_stage.Reads as put-stage-reads
-use Rattle.image.proofs.put_pointer.Reads as put-pointer-reads
 
 put-stage-requires : tie.Need-put-stage-requires
 put-stage-requires c κs = search needs

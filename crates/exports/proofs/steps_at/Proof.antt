@@ -1,4 +1,4 @@
-use mathlib.Core.Path.{_≡_, ap, _∙_}
+use mathlib.Core.Path.{ap, _∙_}
 use mathlib.Core.Bool.{Bool}
 use Prim.Native.Nat.{ℕ}
 use denote.Ref.{now}
@@ -11,13 +11,6 @@ use Rattle.image.specs.Image.{readDesk}
 use borrow.Author.Needs.{needs}
 use Rattle.exports.proofs.steps_at.Statement.{statement}
 use Rattle.exports.proofs.steps_at.Tie as tie
-use Rattle.exports.proofs.steps_at.Reads as reads
-use Rattle.exports.proofs.steps_at.Lts as lts
-use Rattle.image.proofs.is_drive.Reads as is-drive-reads
-use Rattle.image.proofs.count_of.Reads as count-of-reads
-use Rattle.image.proofs.drive_named.Reads as drive-named-reads
-use Rattle.int13.proofs.dl.Reads as dl-reads
-use Rattle.int13.proofs.steps.Reads as steps-reads
 
 dl-requires : tie.Need-dl-requires
 dl-requires c κs = search needs

@@ -1,13 +1,8 @@
 use borrow.Author.Tests.{le-leb, lt-leb}
 use Rattle.image.specs.Judged.{apart}
-use mathlib.Core.Path.{_≡_}
-use native.Mathlib.Omega.{arith}
 use borrow.Author.Needs.{needs}
 use Rattle.image.proofs.are_apart.Statement.{statement}
 use Rattle.image.proofs.are_apart.Tie as tie
-use Rattle.image.proofs.are_apart.Reads as reads
-use Rattle.image.proofs.are_apart.Lts as lts
-use Rattle.logic.proofs.ends_by.Reads as ends-by-reads
 
 ends-by-requires : tie.Need-ends-by-requires
 ends-by-requires c κs = search needs

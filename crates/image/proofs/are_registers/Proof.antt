@@ -2,11 +2,6 @@ use Rattle.image.specs.Judged.{areRegisters}
 use borrow.Author.Needs.{needs}
 use Rattle.image.proofs.are_registers.Statement.{statement}
 use Rattle.image.proofs.are_registers.Tie as tie
-use Rattle.image.proofs.are_registers.Reads as reads
-use Rattle.image.proofs.are_registers.Lts as lts
-use Rattle.image.proofs.below.Reads as below-reads
-use Rattle.logic.proofs.and.Reads as and-reads
-use Rattle.words.proofs.get64.Reads as get64-reads
 
 add-get64 : tie.Need-add-get64
 add-get64 c = search needs

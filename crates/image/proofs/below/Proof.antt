@@ -1,19 +1,13 @@
 use native.Mathlib.Omega.{arith}
 use borrow.Author.Needs.{needs}
-use Prim.Native.Nat.{ℕ, _+_, _*_, _-_, _≤_, _<_}
-use mathlib.Core.Path.{_≡_, refl, sym, ap, _∙_}
-use mathlib.Core.Bool.{Bool, true, false}
-use lib.Dec.{leb, ltb}
-use Rattle.logic.specs.Logic.{both, allBelow}
+use Prim.Native.Nat.{ℕ, _+_, _*_, _-_, _≤_}
+use mathlib.Core.Path.{_≡_, refl, ap}
+use lib.Dec.{ltb}
 use Rattle.logic.proofs.LogicLaws.{all-more}
 use Rattle.words.specs.Words.{le}
 use Rattle.image.specs.Judged.{below}
 use Rattle.image.proofs.below.Statement.{statement}
 use Rattle.image.proofs.below.Tie as tie
-use Rattle.image.proofs.below.Reads as reads
-use Rattle.image.proofs.below.Lts as lts
-use Rattle.logic.proofs.and.Reads as and-reads
-use Rattle.words.proofs.get64.Reads as get64-reads
 
 abbrev Inv-loop : tie.InvT-loop
 Inv-loop b at n end good₀ j₀ good j = (j ≤ n) × (good ≡ below j end b at)

@@ -3,9 +3,6 @@ use native.Mathlib.Omega.{arith}
 use borrow.Author.Needs.{needs}
 use Rattle.image.proofs.count_of.Statement.{statement}
 use Rattle.image.proofs.count_of.Tie as tie
-use Rattle.image.proofs.count_of.Reads as reads
-use Rattle.image.proofs.count_of.Lts as lts
-use Rattle.words.proofs.get64.Reads as get64-reads
 
 get64-requires : tie.Need-get64-requires
 get64-requires c κs = search needs

@@ -2,13 +2,6 @@ use Rattle.image.specs.Image.{readDrive}
 use borrow.Author.Needs.{needs}
 use Rattle.image.proofs.drive_at.Statement.{statement}
 use Rattle.image.proofs.drive_at.Tie as tie
-use Rattle.image.proofs.drive_at.Reads as reads
-use Rattle.image.proofs.drive_at.Lts as lts
-use Rattle.words.proofs.get16.Reads as get16-reads
-use Rattle.words.proofs.get32.Reads as get32-reads
-use Rattle.words.proofs.get64.Reads as get64-reads
-use Rattle.words.proofs.load4.Reads as load4-reads
-use Rattle.words.proofs.load8.Reads as load8-reads
 
 get32-requires : tie.Need-get32-requires
 get32-requires c κs = search needs
@@ -93,7 +86,23 @@ load8-requires-3 c κs = search needs
 
 returns : tie.Need-returns
 unfolding readDrive
-returns c = cc
+returns c =
+    let h = c .before .before .before .before .before .before in
+    let n = h .before .before .before in
+    rw (
+      c .load83 .ensures,
+      c .before .load82 .ensures,
+      c .before .before .load8 .ensures,
+      c .before .before .before .load4 .ensures,
+      h .get163 .ensures,
+      h .before .get162 .ensures,
+      h .before .before .get16 .ensures,
+      n .get642 .ensures,
+      n .before .get64 .ensures,
+      n .before .before .get323 .ensures,
+      n .before .before .before .get322 .ensures,
+      n .before .before .before .before .get32 .ensures,
+    )
 
 pub drive-at-spec : {M : Type 1} → statement M
 drive-at-spec =

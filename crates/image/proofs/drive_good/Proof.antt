@@ -2,15 +2,9 @@ use Rattle.image.specs.Judged.{driveGood}
 use borrow.Author.Needs.{needs}
 use Rattle.image.proofs.drive_good.Statement.{statement}
 use Rattle.image.proofs.drive_good.Tie as tie
-use Rattle.image.proofs.drive_good.Reads as reads
-use Rattle.image.proofs.drive_good.Lts as lts
-use Rattle.image.proofs.drive_at.Reads as drive-at-reads
-use Rattle.image.proofs.is_place.Reads as is-place-reads
-use Rattle.logic.proofs.and.Reads as and-reads
-use Rattle.table.proofs.obeys.Reads as obeys-reads
 
-is-place-requires : tie.Need-is-place-requires
-is-place-requires c κs = search needs
+is-slot-requires : tie.Need-is-slot-requires
+is-slot-requires c κs = search needs
 
 drive-at-requires : tie.Need-drive-at-requires
 drive-at-requires c κs = search needs
@@ -23,8 +17,8 @@ and-requires c κs = search needs
 
 returns : tie.Need-returns
 unfolding driveGood
-returns c = rw (c .and .ensures, c .before .obeys .ensures, c .before .before .drive-at .ensures, c .before .before .before .is-place .ensures)
+returns c = rw (c .and .ensures, c .before .obeys .ensures, c .before .before .drive-at .ensures, c .before .before .before .is-slot .ensures)
 
 pub drive-good-spec : {M : Type 1} → statement M
 drive-good-spec =
-    tie.close (tie.spec is-place-requires drive-at-requires obeys-requires and-requires returns)
+    tie.close (tie.spec is-slot-requires drive-at-requires obeys-requires and-requires returns)

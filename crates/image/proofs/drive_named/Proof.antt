@@ -1,55 +1,43 @@
-use Prim.Native.Nat.{_-_}
-use Rattle.image.proofs.Fields.{place-of, place-known}
+use Prim.Native.Nat.{_-_, _≤_, _<_, _+_}
+use Rattle.int13.specs.Steps.{firstDrive}
+use Rattle.image.proofs.Fields.{slot-of, slot-known}
 use native.Mathlib.Omega.{arith}
-use mathlib.Core.Path.{_≡_, sym, _∙_}
+use mathlib.Core.Path.{sym, _∙_}
 use borrow.Author.Needs.{needs}
 use Rattle.image.proofs.drive_named.Statement.{statement}
 use Rattle.image.proofs.drive_named.Tie as tie
-use Rattle.image.proofs.drive_named.Reads as reads
-use Rattle.image.proofs.drive_named.Lts as lts
-use Rattle.image.proofs.drive_at.Reads as drive-at-reads
-use Rattle.image.proofs.is_drive.Reads as is-drive-reads
+
+-- a known number is that of one of the slots
+within : (c : tie.Then1) → let n = c .before .before .before .args .n in (firstDrive ≤ n) × (n < firstDrive + 8)
+within c = let s = c .before .before .before .args in slot-known (s .b .now) (s .n) (sym (c .before .is-drive .ensures) ∙ c .if1 .taken)
 
 is-drive-requires : tie.Need-is-drive-requires
 is-drive-requires c κs = search needs
 
-sub-place : tie.Need-sub-place
-sub-place c =
-    let s = c .before .before .before .args in
-    let h = place-known (s .b .now) (s .n) (sym (c .before .is-drive .ensures) ∙ c .if1 .taken) in
-    omega arith
+sub-drive-in : tie.Need-sub-drive-in
+sub-drive-in c = omega (arith, within c .0)
 
-cast-place : tie.Need-cast-place
-cast-place c = search needs
+cast-drive-in : tie.Need-cast-drive-in
+cast-drive-in c = search needs
 
-mul-drive-at : tie.Need-mul-drive-at
-mul-drive-at c = search needs
-
-add-drive-at : tie.Need-add-drive-at
-add-drive-at c = search needs
-
-drive-at-requires : tie.Need-drive-at-requires
-drive-at-requires c κs =
-    let s = c .before .before .before .args in
-    let h = place-known (s .b .now) (s .n) (sym (c .before .is-drive .ensures) ∙ c .if1 .taken) in
-    omega arith
+drive-in-requires : tie.Need-drive-in-requires
+drive-in-requires c κs = let h = within c in (search needs, omega (arith, h))
 
 returns : tie.Need-returns
 returns c =
     let s = c .before .before .before .before .args in
-    let k = sym (c .before .before .is-drive .ensures) ∙ c .before .if1 .taken in
-    let h = place-known (s .b .now) (s .n) k in
-    rw k (c .drive-at .ensures ∙ sym (place-of (s .b .now) (s .n - 128) (omega arith)))
+    let h = within (c .before) in
+    rw (sym (c .before .before .is-drive .ensures) ∙ c .before .if1 .taken) (c .drive-in .ensures ∙ sym (slot-of (s .b .now) (s .n - 128) (omega (arith, h))))
 
-drive-at-requires-2 : tie.Need-drive-at-requires-2
-drive-at-requires-2 c κs = search needs
+drive-in-requires-2 : tie.Need-drive-in-requires-2
+drive-in-requires-2 c κs = search needs
 
 returns-2 : tie.Need-returns-2
 returns-2 c =
     let s = c .before .before .before .before .args in
-    rw (sym (c .before .before .is-drive .ensures) ∙ c .before .if1 .left) (c .drive-at2 .ensures ∙ sym (place-of (s .b .now) 0 (omega arith)))
+    rw (sym (c .before .before .is-drive .ensures) ∙ c .before .if1 .left) (c .drive-in2 .ensures ∙ sym (slot-of (s .b .now) 0 (omega arith)))
 
 pub drive-named-spec : {M : Type 1} → statement M
 drive-named-spec =
     tie.close
-    (tie.spec is-drive-requires sub-place cast-place mul-drive-at add-drive-at drive-at-requires returns drive-at-requires-2 returns-2)
+    (tie.spec is-drive-requires sub-drive-in cast-drive-in drive-in-requires returns drive-in-requires-2 returns-2)

@@ -2,10 +2,6 @@ use native.Mathlib.Omega.{arith}
 use borrow.Author.Needs.{needs}
 use Rattle.image.proofs.drive_words.Statement.{statement}
 use Rattle.image.proofs.drive_words.Tie as tie
-use Rattle.image.proofs.drive_words.Reads as reads
-use Rattle.image.proofs.drive_words.Lts as lts
-use Rattle.words.proofs.value4.Reads as value4-reads
-use Rattle.words.proofs.value8.Reads as value8-reads
 
 cast-t6 : tie.Need-cast-t6
 cast-t6 c = search needs
@@ -47,7 +43,7 @@ value8-requires-3 : tie.Need-value8-requires-3
 value8-requires-3 c κs = search needs
 
 returns : tie.Need-returns
-returns c = cc
+returns c = rw (c .value83 .ensures, c .before .value82 .ensures, c .before .before .value8 .ensures, c .before .before .before .value4 .ensures)
 
 pub drive-words-spec : {M : Type 1} → statement M
 drive-words-spec =

@@ -1,19 +1,12 @@
 use native.Mathlib.Omega.{arith}
 use borrow.Author.Needs.{needs}
-use Prim.Native.Nat.{ℕ, _+_, _*_, _-_, _≤_, _<_}
-use mathlib.Core.Path.{_≡_, refl, sym, ap, _∙_}
-use mathlib.Core.Bool.{Bool, true, false}
-use Rattle.logic.specs.Logic.{both, allBelow}
+use Prim.Native.Nat.{_-_, _≤_}
+use mathlib.Core.Path.{_≡_, refl, sym, _∙_}
 use Rattle.logic.proofs.LogicLaws.{all-more}
 use Rattle.image.specs.Judged.{aloneTo, drivesApart}
 use Rattle.image.proofs.Judged.{ascending-apart}
 use Rattle.image.proofs.drives_apart.Statement.{statement}
 use Rattle.image.proofs.drives_apart.Tie as tie
-use Rattle.image.proofs.drives_apart.Reads as reads
-use Rattle.image.proofs.drives_apart.Lts as lts
-use Rattle.image.proofs.is_alone.Reads as is-alone-reads
-use Rattle.image.proofs.is_ascending.Reads as is-ascending-reads
-use Rattle.logic.proofs.and.Reads as and-reads
 
 abbrev Inv-loop : tie.InvT-loop
 Inv-loop b n good₀ i₀ good i = (i ≤ n) × (good ≡ drivesApart i b)

@@ -1,24 +1,20 @@
 use native.Mathlib.Omega.{arith}
 use borrow.Author.Needs.{needs}
-use Prim.Native.Nat.{ℕ, _+_, _*_, _-_, _≤_, _<_}
-use mathlib.Core.Path.{_≡_, refl, sym, ap, _∙_}
-use mathlib.Core.Bool.{Bool, true, false}
-use Rattle.logic.specs.Logic.{both, allBelow}
-use Rattle.logic.proofs.LogicLaws.{all-more}
-use Rattle.image.specs.Image.{placeAt}
+use borrow.Author.Tests.{not-true, not-false}
+use Prim.Native.Nat.{_-_, _≤_}
+use mathlib.Core.Path.{_≡_, refl}
+use mathlib.Core.Bool.{true}
+use Rattle.logic.proofs.LogicLaws.{all-fails, all-next}
+use Rattle.image.specs.Image.{slotAt}
 use Rattle.image.specs.Judged.{driveGood, drivesGood}
 use Rattle.image.proofs.drives_good.Statement.{statement}
 use Rattle.image.proofs.drives_good.Tie as tie
-use Rattle.image.proofs.drives_good.Reads as reads
-use Rattle.image.proofs.drives_good.Lts as lts
-use Rattle.image.proofs.drive_good.Reads as drive-good-reads
-use Rattle.logic.proofs.and.Reads as and-reads
 
 abbrev Inv-loop : tie.InvT-loop
-Inv-loop b n store good₀ i₀ good i = (i ≤ n) × (good ≡ drivesGood i b store)
+Inv-loop b n store i₀ i = (i ≤ n) × (true ≡ drivesGood i b store)
 
 abbrev μ-loop : tie.MeasureT-loop
-μ-loop b n store good₀ i₀ good i = n - i
+μ-loop b n store i₀ i = n - i
 
 loop-holds : tie.Need-loop-holds Inv-loop μ-loop
 unfolding drivesGood
@@ -33,8 +29,12 @@ add-drive-good c = search needs
 drive-good-requires : tie.Need-drive-good-requires Inv-loop μ-loop
 drive-good-requires c κs = search needs
 
-and-requires : tie.Need-and-requires Inv-loop μ-loop
-and-requires c κs = search needs
+returns : tie.Need-returns Inv-loop μ-loop
+unfolding drivesGood
+returns c =
+    let l = c .before .before .before in
+    let a = l .before .before .args in
+    all-fails (a .n) (l .loop .i) (λ i. driveGood (a .b .now) (a .store) (slotAt i)) (omega arith) (c .before .drive-good .ensures) (not-true _ (c .if1 .taken))
 
 add-i : tie.Need-add-i Inv-loop μ-loop
 add-i c = search needs
@@ -47,10 +47,10 @@ unfolding drivesGood
 loop-again c =
     let l = c .before .before .before in
     let a = l .before .before .args in
-    (search needs, all-more (l .loop .i) (λ i. driveGood (a .b .now) (a .store) (placeAt i)) (l .loop .inv .1) (c .and .ensures) (c .before .drive-good .ensures))
+    (search needs, all-next (l .loop .i) (λ i. driveGood (a .b .now) (a .store) (slotAt i)) (l .loop .inv .1) (c .before .drive-good .ensures) (not-false _ (c .if1 .left)))
 
-returns : tie.Need-returns Inv-loop μ-loop
-returns c =
+returns-2 : tie.Need-returns-2 Inv-loop μ-loop
+returns-2 c =
     let l = c .before in
     let e : l .loop .i ≡ l .before .before .args .n = omega arith in
     rw (← e) (l .loop .inv .1)
@@ -65,8 +65,8 @@ drives-good-spec =
     mul-drive-good
     add-drive-good
     drive-good-requires
-    and-requires
+    returns
     add-i
     loop-less
     loop-again
-    returns)
+    returns-2)

@@ -1,12 +1,8 @@
 use Rattle.image.specs.Image.{deskSize, laid}
 use borrow.Author.Tests.{eq-eqb, ne-eqb}
-use mathlib.Core.Path.{_≡_}
 use borrow.Author.Needs.{needs}
 use Rattle.image.proofs.encode.Statement.{statement}
 use Rattle.image.proofs.encode.Tie as tie
-use Rattle.image.proofs.encode.Reads as reads
-use Rattle.image.proofs.encode.Lts as lts
-use Rattle.image.proofs.lay.Reads as lay-reads
 
 lay-requires : tie.Need-lay-requires
 lay-requires c κs = search needs

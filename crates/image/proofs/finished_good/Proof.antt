@@ -2,11 +2,6 @@ use Rattle.image.specs.Judged.{finishedGood}
 use borrow.Author.Needs.{needs}
 use Rattle.image.proofs.finished_good.Statement.{statement}
 use Rattle.image.proofs.finished_good.Tie as tie
-use Rattle.image.proofs.finished_good.Reads as reads
-use Rattle.image.proofs.finished_good.Lts as lts
-use Rattle.image.proofs.are_registers.Reads as are-registers-reads
-use Rattle.image.proofs.below.Reads as below-reads
-use Rattle.logic.proofs.and.Reads as and-reads
 
 add-below : tie.Need-add-below
 add-below c = search needs

@@ -1,9 +1,6 @@
 use borrow.Author.Needs.{needs}
 use Rattle.image.proofs.finished_words.Statement.{statement}
 use Rattle.image.proofs.finished_words.Tie as tie
-use Rattle.image.proofs.finished_words.Reads as reads
-use Rattle.image.proofs.finished_words.Lts as lts
-use Rattle.image.proofs.bit.Reads as bit-reads
 
 cast-t2 : tie.Need-cast-t2
 cast-t2 c = search needs
@@ -30,7 +27,7 @@ bit-requires : tie.Need-bit-requires
 bit-requires c κs = search needs
 
 returns : tie.Need-returns
-returns c = cc
+returns c = rw (c .bit .ensures)
 
 pub finished-words-spec : {M : Type 1} → statement M
 finished-words-spec =

@@ -1,21 +1,12 @@
 use native.Mathlib.Omega.{arith}
 use borrow.Author.Needs.{needs}
-use Prim.Native.Nat.{ℕ, _+_, _*_, _-_, _≤_, _<_}
-use mathlib.Core.Path.{_≡_, refl, sym, ap, _∙_}
-use mathlib.Core.Bool.{Bool, true, false}
-use lib.Dec.{leb, ltb}
-use Rattle.logic.specs.Logic.{both, allBelow}
+use Prim.Native.Nat.{_-_, _≤_}
+use mathlib.Core.Path.{_≡_, refl, _∙_}
+use Rattle.logic.specs.Logic.{allBelow}
 use Rattle.logic.proofs.LogicLaws.{all-more}
-use Rattle.words.specs.Words.{le}
 use Rattle.image.specs.Judged.{firstIn, blocksIn, apart, aloneTo}
 use Rattle.image.proofs.is_alone.Statement.{statement}
 use Rattle.image.proofs.is_alone.Tie as tie
-use Rattle.image.proofs.is_alone.Reads as reads
-use Rattle.image.proofs.is_alone.Lts as lts
-use Rattle.image.proofs.are_apart.Reads as are-apart-reads
-use Rattle.image.proofs.blocks_in.Reads as blocks-in-reads
-use Rattle.image.proofs.first_in.Reads as first-in-reads
-use Rattle.logic.proofs.and.Reads as and-reads
 
 abbrev Inv-loop : tie.InvT-loop
 Inv-loop b i first blocks good₀ j₀ good j = (j ≤ i) × (good ≡ allBelow j (λ k. apart first blocks (firstIn b k) (blocksIn b k)))

@@ -1,19 +1,12 @@
 use native.Mathlib.Omega.{arith}
 use borrow.Author.Needs.{needs}
-use Prim.Native.Nat.{ℕ, _+_, _*_, _-_, _≤_, _<_}
-use mathlib.Core.Path.{_≡_, refl, sym, ap, _∙_}
-use mathlib.Core.Bool.{Bool, true, false}
-use lib.Dec.{leb, ltb}
-use Rattle.logic.specs.Logic.{both, allBelow}
+use Prim.Native.Nat.{_-_, _≤_}
+use mathlib.Core.Path.{_≡_, refl}
+use Rattle.logic.specs.Logic.{allBelow}
 use Rattle.logic.proofs.LogicLaws.{all-more}
-use Rattle.words.specs.Words.{le}
 use Rattle.image.specs.Judged.{follows, ascending}
 use Rattle.image.proofs.is_ascending.Statement.{statement}
 use Rattle.image.proofs.is_ascending.Tie as tie
-use Rattle.image.proofs.is_ascending.Reads as reads
-use Rattle.image.proofs.is_ascending.Lts as lts
-use Rattle.image.proofs.next_follows.Reads as next-follows-reads
-use Rattle.logic.proofs.and.Reads as and-reads
 
 abbrev Inv-loop : tie.InvT-loop
 Inv-loop b n good₀ i₀ good i = (i ≤ n - 1) × (good ≡ allBelow i (λ k. follows b k))

@@ -2,10 +2,6 @@ use Rattle.image.proofs.Fields.{known}
 use borrow.Author.Needs.{needs}
 use Rattle.image.proofs.is_drive.Statement.{statement}
 use Rattle.image.proofs.is_drive.Tie as tie
-use Rattle.image.proofs.is_drive.Reads as reads
-use Rattle.image.proofs.is_drive.Lts as lts
-use Rattle.image.proofs.count_of.Reads as count-of-reads
-use Rattle.logic.proofs.and.Reads as and-reads
 
 count-of-requires : tie.Need-count-of-requires
 count-of-requires c κs = search needs

@@ -2,10 +2,6 @@ use Rattle.image.specs.Image.{readDesk}
 use borrow.Author.Needs.{needs}
 use Rattle.image.proofs.is_lent.Statement.{statement}
 use Rattle.image.proofs.is_lent.Tie as tie
-use Rattle.image.proofs.is_lent.Reads as reads
-use Rattle.image.proofs.is_lent.Lts as lts
-use Rattle.logic.proofs.and.Reads as and-reads
-use Rattle.words.proofs.get64.Reads as get64-reads
 
 get64-requires : tie.Need-get64-requires
 get64-requires c κs = search needs

@@ -1,15 +1,10 @@
 use Rattle.image.proofs.Fill.{laid-out}
 use denote.Ref.{now}
 use lib.ListN.{length, length-map}
-use mathlib.Core.Path.{_≡_, sym, _∙_}
+use mathlib.Core.Path.{_≡_, _∙_}
 use borrow.Author.Needs.{needs}
 use Rattle.image.proofs.lay.Statement.{statement}
 use Rattle.image.proofs.lay.Tie as tie
-use Rattle.image.proofs.lay.Reads as reads
-use Rattle.image.proofs.lay.Lts as lts
-use Rattle.image.proofs.put_drives.Reads as put-drives-reads
-use Rattle.image.proofs.put_rows.Reads as put-rows-reads
-use Rattle.image.proofs.put_words.Reads as put-words-reads
 
 put-rows-requires : tie.Need-put-rows-requires
 put-rows-requires c κs = search needs

@@ -2,12 +2,6 @@ use Rattle.image.specs.Judged.{follows}
 use borrow.Author.Needs.{needs}
 use Rattle.image.proofs.next_follows.Statement.{statement}
 use Rattle.image.proofs.next_follows.Tie as tie
-use Rattle.image.proofs.next_follows.Reads as reads
-use Rattle.image.proofs.next_follows.Lts as lts
-use Rattle.image.proofs.blocks_in.Reads as blocks-in-reads
-use Rattle.image.proofs.first_in.Reads as first-in-reads
-use Rattle.logic.proofs.and.Reads as and-reads
-use Rattle.logic.proofs.ends_by.Reads as ends-by-reads
 
 first-in-requires : tie.Need-first-in-requires
 first-in-requires c κs = search needs

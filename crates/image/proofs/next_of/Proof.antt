@@ -5,13 +5,10 @@ use Rattle.desk.proofs.Searches.{seek-here, seek-on, seek-none}
 use borrow.Author.Needs.{needs}
 use borrow.Author.Tests.{eq-eqb, ne-eqb}
 use native.Mathlib.Omega.{arith}
-use Prim.Native.Nat.{ℕ, _≤_, _<_, _-_}
-use mathlib.Core.Path.{_≡_, refl, ap, sym, _∙_}
+use Prim.Native.Nat.{ℕ, _<_}
+use mathlib.Core.Path.{_≡_, refl, ap, _∙_}
 use Rattle.image.proofs.next_of.Statement.{statement}
 use Rattle.image.proofs.next_of.Tie as tie
-use Rattle.image.proofs.next_of.Reads as reads
-use Rattle.image.proofs.next_of.Lts as lts
-use Rattle.words.proofs.get64.Reads as get64-reads
 
 abbrev Inv-loop : tie.InvT-loop
 Inv-loop b guest₀ left₀ guest left = (guest < 8) × (firstWaiting (readDesk b .rows) left guest ≡ firstWaiting (readDesk b .rows) left₀ guest₀)

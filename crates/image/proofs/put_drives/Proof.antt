@@ -1,21 +1,17 @@
 use Rattle.image.proofs.Fill.{part-more, length-drive}
-use Rattle.image.specs.Image.{each, flat, driveWords, placeAt, deskSize}
+use Rattle.image.specs.Image.{each, flat, driveWords, slotAt, deskSize}
 use denote.Ref.{now}
 use borrow.Author.Needs.{needs}
 use native.Mathlib.Omega.{arith}
 use lib.Seq.{sets, length-sets, take-all}
 use lib.ListN.{length, take}
 use mathlib.Core.Path.{_≡_, refl, ap, _∙_}
-use Prim.Native.Nat.{ℕ, _+_, _*_, _≤_, _-_}
+use Prim.Native.Nat.{_≤_, _-_}
 use Rattle.image.proofs.put_drives.Statement.{statement}
 use Rattle.image.proofs.put_drives.Tie as tie
-use Rattle.image.proofs.put_drives.Reads as reads
-use Rattle.image.proofs.put_drives.Lts as lts
-use Rattle.image.proofs.drive_words.Reads as drive-words-reads
-use Rattle.image.proofs.put_words.Reads as put-words-reads
 
 abbrev Inv-loop : tie.InvT-loop
-Inv-loop out₀ drives k₀ out k = (k ≤ 8) × (length out ≡ deskSize) × (out ≡ sets out₀ (placeAt 0) (flat (each driveWords (take k drives))))
+Inv-loop out₀ drives k₀ out k = (k ≤ 8) × (length out ≡ deskSize) × (out ≡ sets out₀ (slotAt 0) (flat (each driveWords (take k drives))))
 
 abbrev μ-loop : tie.MeasureT-loop
 μ-loop out₀ drives k₀ out k = 8 - k
@@ -60,7 +56,7 @@ loop-again c =
       search needs,
       ap length e ∙ rw length-sets (h .loop .inv .1),
       e ∙ rw (h .loop .inv .2, c .before .before .before .before .before .drive-words .ensures)
-          (part-more driveWords 14 length-drive (now (a .out)) (placeAt 0) (placeAt (h .loop .k)) (a .t2) (h .loop .k) _ (omega arith) (omega arith)),
+          (part-more driveWords 14 length-drive (now (a .out)) (slotAt 0) (slotAt (h .loop .k)) (a .t2) (h .loop .k) _ (omega arith) (omega arith)),
     )
 
 same-length : tie.Need-same-length Inv-loop μ-loop
@@ -71,7 +67,7 @@ returns c =
     let h = c .before in
     let a = h .before .before .args in
     let l : length (a .t2) ≡ 8 = search needs in
-    h .loop .inv .2 ∙ ap (λ l. sets (now (a .out)) (placeAt 0) (flat (each driveWords l))) (take-all (h .loop .k) (a .t2) (omega arith))
+    h .loop .inv .2 ∙ ap (λ l. sets (now (a .out)) (slotAt 0) (flat (each driveWords l))) (take-all (h .loop .k) (a .t2) (omega arith))
 
 pub put-drives-spec : {M : Type 1} → statement M
 put-drives-spec =

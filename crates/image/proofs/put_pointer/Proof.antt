@@ -2,9 +2,6 @@ use Rattle.image.specs.Image.{putPointer}
 use borrow.Author.Needs.{needs}
 use Rattle.image.proofs.put_pointer.Statement.{statement}
 use Rattle.image.proofs.put_pointer.Tie as tie
-use Rattle.image.proofs.put_pointer.Reads as reads
-use Rattle.image.proofs.put_pointer.Lts as lts
-use Rattle.words.proofs.store64.Reads as store64-reads
 
 store64-requires : tie.Need-store64-requires
 store64-requires c κs = search needs

@@ -6,13 +6,9 @@ use native.Mathlib.Omega.{arith}
 use lib.Seq.{sets, length-sets, take-all}
 use lib.ListN.{length, take}
 use mathlib.Core.Path.{_≡_, refl, ap, _∙_}
-use Prim.Native.Nat.{ℕ, _+_, _*_, _≤_, _-_}
+use Prim.Native.Nat.{_≤_, _-_}
 use Rattle.image.proofs.put_rows.Statement.{statement}
 use Rattle.image.proofs.put_rows.Tie as tie
-use Rattle.image.proofs.put_rows.Reads as reads
-use Rattle.image.proofs.put_rows.Lts as lts
-use Rattle.image.proofs.put_words.Reads as put-words-reads
-use Rattle.image.proofs.stage_words.Reads as stage-words-reads
 
 abbrev Inv-loop : tie.InvT-loop
 Inv-loop out₀ rows k₀ out k = (k ≤ 8) × (length out ≡ deskSize) × (out ≡ sets out₀ (rowAt 0) (flat (each rowWords (take k rows))))

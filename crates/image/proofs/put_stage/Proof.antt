@@ -1,12 +1,7 @@
 use Rattle.image.specs.Image.{putStage}
-use mathlib.Core.Path.{_≡_, _∙_}
 use borrow.Author.Needs.{needs}
 use Rattle.image.proofs.put_stage.Statement.{statement}
 use Rattle.image.proofs.put_stage.Tie as tie
-use Rattle.image.proofs.put_stage.Reads as reads
-use Rattle.image.proofs.put_stage.Lts as lts
-use Rattle.image.proofs.put_words.Reads as put-words-reads
-use Rattle.image.proofs.stage_words.Reads as stage-words-reads
 
 stage-words-requires : tie.Need-stage-words-requires
 stage-words-requires c κs = search needs

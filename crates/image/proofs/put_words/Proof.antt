@@ -6,12 +6,9 @@ use native.Mathlib.Omega.{arith}
 use lib.Seq.{sets, length-sets, take-all}
 use lib.ListN.{length, take}
 use mathlib.Core.Path.{_≡_, refl, ap, _∙_}
-use Prim.Native.Nat.{ℕ, _+_, _*_, _≤_, _-_}
+use Prim.Native.Nat.{_≤_, _-_}
 use Rattle.image.proofs.put_words.Statement.{statement}
 use Rattle.image.proofs.put_words.Tie as tie
-use Rattle.image.proofs.put_words.Reads as reads
-use Rattle.image.proofs.put_words.Lts as lts
-use Rattle.words.proofs.store64.Reads as store64-reads
 
 abbrev Inv-loop : tie.InvT-loop
 Inv-loop out₀ at w j₀ out j = (j ≤ length w) × (out ≡ sets out₀ at (flat (take j w)))

@@ -1,9 +1,6 @@
 use borrow.Author.Needs.{needs}
 use Rattle.image.proofs.registers_at.Statement.{statement}
 use Rattle.image.proofs.registers_at.Tie as tie
-use Rattle.image.proofs.registers_at.Reads as reads
-use Rattle.image.proofs.registers_at.Lts as lts
-use Rattle.words.proofs.get16.Reads as get16-reads
 
 get16-requires : tie.Need-get16-requires
 get16-requires c κs = search needs
@@ -51,7 +48,7 @@ shared-slice-read-t18 : tie.Need-shared-slice-read-t18
 shared-slice-read-t18 c = search needs
 
 returns : tie.Need-returns
-returns c = cc
+returns c = rw (c .before .get167 .ensures, c .before .before .get166 .ensures, c .before .before .before .get165 .ensures, c .before .before .before .before .get164 .ensures, c .before .before .before .before .before .get163 .ensures, c .before .before .before .before .before .before .get162 .ensures, c .before .before .before .before .before .before .before .get16 .ensures)
 
 pub registers-at-spec : {M : Type 1} → statement M
 registers-at-spec =

@@ -1,15 +1,8 @@
 use borrow.Author.Tests.{eq-eqb, ne-eqb}
-use mathlib.Core.Path.{_≡_, sym, _∙_}
 use Rattle.image.specs.Judged.{rowGood}
 use borrow.Author.Needs.{needs}
 use Rattle.image.proofs.row_good.Statement.{statement}
 use Rattle.image.proofs.row_good.Tie as tie
-use Rattle.image.proofs.row_good.Reads as reads
-use Rattle.image.proofs.row_good.Lts as lts
-use Rattle.image.proofs.below.Reads as below-reads
-use Rattle.image.proofs.finished_good.Reads as finished-good-reads
-use Rattle.image.proofs.waiting_good.Reads as waiting-good-reads
-use Rattle.words.proofs.get64.Reads as get64-reads
 
 get64-requires : tie.Need-get64-requires
 get64-requires c κs = search needs

@@ -1,24 +1,20 @@
 use native.Mathlib.Omega.{arith}
 use borrow.Author.Needs.{needs}
-use Prim.Native.Nat.{ℕ, _+_, _*_, _-_, _≤_, _<_}
-use mathlib.Core.Path.{_≡_, refl, sym, ap, _∙_}
-use mathlib.Core.Bool.{Bool, true, false}
-use Rattle.logic.specs.Logic.{both, allBelow}
-use Rattle.logic.proofs.LogicLaws.{all-more}
+use borrow.Author.Tests.{not-true, not-false}
+use Prim.Native.Nat.{_-_, _≤_}
+use mathlib.Core.Path.{_≡_, refl}
+use mathlib.Core.Bool.{true}
+use Rattle.logic.proofs.LogicLaws.{all-fails, all-next}
 use Rattle.image.specs.Image.{rowAt}
 use Rattle.image.specs.Judged.{rowGood, rowsGood}
 use Rattle.image.proofs.rows_good.Statement.{statement}
 use Rattle.image.proofs.rows_good.Tie as tie
-use Rattle.image.proofs.rows_good.Reads as reads
-use Rattle.image.proofs.rows_good.Lts as lts
-use Rattle.image.proofs.row_good.Reads as row-good-reads
-use Rattle.logic.proofs.and.Reads as and-reads
 
 abbrev Inv-loop : tie.InvT-loop
-Inv-loop b m good₀ g₀ good g = (g ≤ 8) × (good ≡ rowsGood g b m)
+Inv-loop b m g₀ g = (g ≤ 8) × (true ≡ rowsGood g b m)
 
 abbrev μ-loop : tie.MeasureT-loop
-μ-loop b m good₀ g₀ good g = 8 - g
+μ-loop b m g₀ g = 8 - g
 
 loop-holds : tie.Need-loop-holds Inv-loop μ-loop
 unfolding rowsGood
@@ -30,8 +26,12 @@ mul-row-good c = search needs
 row-good-requires : tie.Need-row-good-requires Inv-loop μ-loop
 row-good-requires c κs = search needs
 
-and-requires : tie.Need-and-requires Inv-loop μ-loop
-and-requires c κs = search needs
+returns : tie.Need-returns Inv-loop μ-loop
+unfolding rowsGood
+returns c =
+    let l = c .before .before .before in
+    let a = l .before .before .args in
+    all-fails 8 (l .loop .g) (λ g. rowGood (a .b .now) (a .m) (rowAt g)) (omega arith) (c .before .row-good .ensures) (not-true _ (c .if1 .taken))
 
 add-g : tie.Need-add-g Inv-loop μ-loop
 add-g c = search needs
@@ -44,10 +44,10 @@ unfolding rowsGood
 loop-again c =
     let l = c .before .before .before in
     let a = l .before .before .args in
-    (search needs, all-more (l .loop .g) (λ g. rowGood (a .b .now) (a .m) (rowAt g)) (l .loop .inv .1) (c .and .ensures) (c .before .row-good .ensures))
+    (search needs, all-next (l .loop .g) (λ g. rowGood (a .b .now) (a .m) (rowAt g)) (l .loop .inv .1) (c .before .row-good .ensures) (not-false _ (c .if1 .left)))
 
-returns : tie.Need-returns Inv-loop μ-loop
-returns c =
+returns-2 : tie.Need-returns-2 Inv-loop μ-loop
+returns-2 c =
     let l = c .before in
     let e : l .loop .g ≡ 8 = omega arith in
     rw (← e) (l .loop .inv .1)
@@ -61,8 +61,8 @@ rows-good-spec =
     loop-holds
     mul-row-good
     row-good-requires
-    and-requires
+    returns
     add-g
     loop-less
     loop-again
-    returns)
+    returns-2)

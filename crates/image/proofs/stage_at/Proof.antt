@@ -3,10 +3,6 @@ use Rattle.image.specs.Image.{readStage}
 use borrow.Author.Needs.{needs}
 use Rattle.image.proofs.stage_at.Statement.{statement}
 use Rattle.image.proofs.stage_at.Tie as tie
-use Rattle.image.proofs.stage_at.Reads as reads
-use Rattle.image.proofs.stage_at.Lts as lts
-use Rattle.image.proofs.registers_at.Reads as registers-at-reads
-use Rattle.image.proofs.request_at.Reads as request-at-reads
 
 shared-slice-read-number : tie.Need-shared-slice-read-number
 shared-slice-read-number c = search needs

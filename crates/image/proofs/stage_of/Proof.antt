@@ -3,9 +3,6 @@ use mathlib.Core.Path.{sym, _∙_}
 use borrow.Author.Needs.{needs}
 use Rattle.image.proofs.stage_of.Statement.{statement}
 use Rattle.image.proofs.stage_of.Tie as tie
-use Rattle.image.proofs.stage_of.Reads as reads
-use Rattle.image.proofs.stage_of.Lts as lts
-use Rattle.image.proofs.stage_at.Reads as stage-at-reads
 
 mul-stage-at : tie.Need-mul-stage-at
 mul-stage-at c = search needs

@@ -1,10 +1,6 @@
 use borrow.Author.Needs.{needs}
 use Rattle.image.proofs.stage_words.Statement.{statement}
 use Rattle.image.proofs.stage_words.Tie as tie
-use Rattle.image.proofs.stage_words.Reads as reads
-use Rattle.image.proofs.stage_words.Lts as lts
-use Rattle.image.proofs.finished_words.Reads as finished-words-reads
-use Rattle.image.proofs.waiting_words.Reads as waiting-words-reads
 
 enum-told : tie.Need-enum-told
 enum-told c = search needs
@@ -22,13 +18,13 @@ finished-words-requires : tie.Need-finished-words-requires
 finished-words-requires c κs = search needs
 
 returns : tie.Need-returns
-returns c = cc
+returns c = rw (c .enum-told .given .1)
 
 returns-2 : tie.Need-returns-2
-returns-2 c = cc
+returns-2 c = rw (c .before .before .s .given .1) (c .waiting-words .ensures)
 
 returns-3 : tie.Need-returns-3
-returns-3 c = cc
+returns-3 c = rw (c .before .before .s2 .given .1) (c .finished-words .ensures)
 
 pub stage-words-spec : {M : Type 1} → statement M
 stage-words-spec =

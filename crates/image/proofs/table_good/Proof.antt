@@ -3,13 +3,6 @@ use borrow.Author.Tests.{not-true, not-false}
 use borrow.Author.Needs.{needs}
 use Rattle.image.proofs.table_good.Statement.{statement}
 use Rattle.image.proofs.table_good.Tie as tie
-use Rattle.image.proofs.table_good.Reads as reads
-use Rattle.image.proofs.table_good.Lts as lts
-use Rattle.image.proofs.drives_apart.Reads as drives-apart-reads
-use Rattle.image.proofs.drives_good.Reads as drives-good-reads
-use Rattle.image.proofs.rest_zero.Reads as rest-zero-reads
-use Rattle.logic.proofs.and.Reads as and-reads
-use Rattle.words.proofs.get64.Reads as get64-reads
 
 get64-requires : tie.Need-get64-requires
 get64-requires c κs = search needs

@@ -1,18 +1,9 @@
 use Rattle.image.proofs.Judged.{waiting-unknown, waiting-tests}
-use mathlib.Core.Path.{_≡_, sym, _∙_}
+use mathlib.Core.Path.{sym, _∙_}
 use borrow.Author.Tests.{not-true, not-false}
 use borrow.Author.Needs.{needs}
 use Rattle.image.proofs.waiting_good.Statement.{statement}
 use Rattle.image.proofs.waiting_good.Tie as tie
-use Rattle.image.proofs.waiting_good.Reads as reads
-use Rattle.image.proofs.waiting_good.Lts as lts
-use Rattle.desk.proofs.request_ok.Reads as request-ok-reads
-use Rattle.image.proofs.below.Reads as below-reads
-use Rattle.image.proofs.drive_named.Reads as drive-named-reads
-use Rattle.image.proofs.is_drive.Reads as is-drive-reads
-use Rattle.image.proofs.is_request.Reads as is-request-reads
-use Rattle.image.proofs.request_at.Reads as request-at-reads
-use Rattle.logic.proofs.and.Reads as and-reads
 
 add-request-at : tie.Need-add-request-at
 add-request-at c = search needs

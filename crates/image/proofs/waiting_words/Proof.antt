@@ -1,9 +1,6 @@
 use borrow.Author.Needs.{needs}
 use Rattle.image.proofs.waiting_words.Statement.{statement}
 use Rattle.image.proofs.waiting_words.Tie as tie
-use Rattle.image.proofs.waiting_words.Reads as reads
-use Rattle.image.proofs.waiting_words.Lts as lts
-use Rattle.image.proofs.bit.Reads as bit-reads
 
 cast-t4 : tie.Need-cast-t4
 cast-t4 c = search needs
@@ -33,7 +30,7 @@ cast-t12 : tie.Need-cast-t12
 cast-t12 c = search needs
 
 returns : tie.Need-returns
-returns c = cc
+returns c = rw (c .before .bit .ensures)
 
 pub waiting-words-spec : {M : Type 1} → statement M
 waiting-words-spec =

@@ -1,12 +1,7 @@
-use Rattle.image.specs.Judged.{isPlace}
+use Rattle.image.specs.Judged.{isSlot}
 use borrow.Author.Needs.{needs}
-use Rattle.image.proofs.is_place.Statement.{statement}
-use Rattle.image.proofs.is_place.Tie as tie
-use Rattle.image.proofs.is_place.Reads as reads
-use Rattle.image.proofs.is_place.Lts as lts
-use Rattle.image.proofs.below.Reads as below-reads
-use Rattle.logic.proofs.and.Reads as and-reads
-use Rattle.words.proofs.get64.Reads as get64-reads
+use Rattle.image.proofs.is_slot.Statement.{statement}
+use Rattle.image.proofs.is_slot.Tie as tie
 
 add-below : tie.Need-add-below
 add-below c = search needs
@@ -39,11 +34,11 @@ and-requires-3 : tie.Need-and-requires-3
 and-requires-3 c κs = search needs
 
 returns : tie.Need-returns
-unfolding isPlace
+unfolding isSlot
 returns c = rw (c .and3 .ensures, c .before .get64 .ensures, c .before .before .and2 .ensures, c .before .before .before .below3 .ensures, c .before .before .before .before .and .ensures, c .before .before .before .before .before .below2 .ensures, c .before .before .before .before .before .before .below .ensures)
 
-pub is-place-spec : {M : Type 1} → statement M
-is-place-spec =
+pub is-slot-spec : {M : Type 1} → statement M
+is-slot-spec =
     tie.close
     (tie.spec
     add-below
