@@ -46,7 +46,7 @@ saveJob = record { registers = postedRegisters saved; drive = 0x81; start = 32; 
 abbrev pub wrote : Registers
 wrote = record { ax = 0x0301; bx = 9; cx = 0x0205; dx = 0x0181; ds = 0x3333; si = 0x4444; es = 4; carry = false }
 
-abbrev writeJob : Job
+abbrev pub writeJob : Job
 writeJob = record { registers = postedRegisters wrote; drive = 0x81; start = 49; count = 1; buffer = 73; packet = 0 }
 
 -- guest 6: 43h to drive 80h, which is protected; its packet stands at 0001:0008
@@ -56,7 +56,7 @@ spoiled = record { ax = 0x4301; bx = 0x5555; cx = 0x6666; dx = 0x0080; ds = 1; s
 abbrev pub packet : Packet
 packet = record { size = 16; count = 3; buffer = 101; start = 4 }
 
-by-sectors : (r : Registers) (j : Job) (w : List ℕ) → length w ≡ M → sectors true plain r M ≡ Waits j
+pub by-sectors : (r : Registers) (j : Job) (w : List ℕ) → length w ≡ M → sectors true plain r M ≡ Waits j
     → begin (fed table) r w ≡ unchanged w (sectors true plain r (length w)) → begin (fed table) r w ≡ unchanged w (Waits j)
 by-sectors r j w l e f = f ∙ ap (λ (n : ℕ). unchanged w (sectors true plain r n)) l ∙ ap (unchanged w) e
 
@@ -64,7 +64,7 @@ check-save : (w : List ℕ) → length w ≡ M → begin (fed table) saved w ≡
 unfolding begin steps sectors isDrive blockOf inLimits isValid
 check-save w l = by-sectors saved saveJob w l refl refl
 
-check-write : (w : List ℕ) → length w ≡ M → begin (fed table) wrote w ≡ unchanged w (Waits writeJob)
+pub check-write : (w : List ℕ) → length w ≡ M → begin (fed table) wrote w ≡ unchanged w (Waits writeJob)
 unfolding begin steps sectors isDrive blockOf inLimits isValid
 check-write w l = by-sectors wrote writeJob w l refl refl
 
