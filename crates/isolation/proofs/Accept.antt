@@ -3,25 +3,21 @@
 use Prim.Native.Nat.{ℕ, zero, suc, _+_, _*_, _/_, _%_, _≤_, _<_}
 use mathlib.Core.Path.{_≡_, refl, sym, ap, subst, _∙_}
 use mathlib.Core.Logic.{⊎-elim, _↔_}
-use mathlib.Core.Bool.{Bool, true, false, not}
+use mathlib.Core.Bool.{true}
 use mathlib.Core.List.{List}
 use native.Mathlib.Omega.{arith}
 use lib.ListN.{length, replicate, getD-replicate, List·getD-eq-default}
-use lib.Dec.{leb, ltb, eqb}
-use borrow.Author.Tests.{leb-true, ltb-true, lt-ltb, eqb-true}
-use Rattle.logic.specs.Logic.{pick, both}
+use lib.Dec.{ltb}
+use borrow.Author.Tests.{ltb-true, lt-ltb}
+use Rattle.logic.specs.Logic.{both}
 use Rattle.logic.proofs.LogicLaws.{both-true, both-intro, lt-or-le, impossible}
-use Rattle.chs.specs.Chs.{size}
-use Rattle.drive.specs.Drive.{same, blankNumbers, blankNames, isBlank}
 use Rattle.table.specs.declared.Table.{Table}
 use Rattle.table.specs.declared.Answer.{Answer}
 use Rattle.table.specs.declared.Answer.the-variants.{Accepted, Refused as TableRefused}
-use Rattle.table.specs.Table.{soundTo, blankTo, isSound, readTable}
+use Rattle.table.specs.Table.{isSound, readTable}
 use Rattle.memory.specs.Window.{guests}
 use Rattle.memory.specs.Blocks.{blockLength}
-use Rattle.int13.specs.declared.Job.{Job}
-use Rattle.int13.specs.Answers.{ah, isSectors, isWrite}
-use Rattle.int13.specs.Steps.{isDrive, driveAt}
+use Rattle.int13.specs.Answers.{ah}
 use Rattle.int13.specs.Alone.{storeBlock}
 use Rattle.desk.specs.declared.Request.{Request}
 use Rattle.desk.specs.declared.Stage.the-variants.{Vacant, Waiting}
@@ -29,7 +25,7 @@ use Rattle.desk.specs.declared.Row.{Row}
 use Rattle.desk.specs.declared.Desk.{Desk}
 use Rattle.desk.specs.declared.OpenAnswer.the-variants.{Opened}
 use Rattle.desk.specs.Parts.{windowSize, storeBlocks, vacantRow, stageIn, stageAt}
-use Rattle.desk.specs.Acceptable.{isTransfer, countOk, rangeOk, packetOk, jobOk, movedOk, stageOk, rowsOk, accept}
+use Rattle.desk.specs.Acceptable.{packetOk, jobOk, stageOk, rowsOk, accept}
 use Rattle.desk.specs.Calls.{opened, openDesk, openAnswer, openOf}
 use Rattle.table.proofs.Sound.{Good, accepted-good}
 use Rattle.desk.proofs.AcceptableLaws.{job-facts, rowsOk-at, Waits, waits-facts}

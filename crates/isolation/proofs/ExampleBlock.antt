@@ -13,8 +13,8 @@ use Rattle.desk.specs.Calls.{openOf}
 use Rattle.image.specs.Image.{deskSize, FitsRegisters}
 use Rattle.isolation.specs.Lists.{openTable, Call, opening, run}
 use Rattle.isolation.specs.Words.{NoneOpens}
-use Rattle.isolation.specs.Blocks.{FitsCalls, stepBlock, ClaimBlock}
-use Rattle.isolation.proofs.Blocks.{demand-block, none-block}
+use Rattle.isolation.specs.DeskBlocks.{FitsCalls, stepBlock, ClaimBlock}
+use Rattle.isolation.proofs.DeskBlocks.{demand-block, none-block}
 use Rattle.isolation.proofs.Trace.{calls, closed}
 use Rattle.isolation.proofs.ExampleDesk.{tableBytes, arenaLength, M, storeLength, opening as opens-table}
 use Rattle.isolation.proofs.ExampleWrite.{wrote}

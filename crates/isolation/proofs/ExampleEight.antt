@@ -3,7 +3,7 @@
 -- Assumes nothing.
 use Prim.Native.Nat.{ℕ, _+_, _*_, _≤_, _<_}
 use mathlib.Core.Path.{_≡_, refl, sym, ap, subst, _∙_}
-use mathlib.Core.Bool.{true, false}
+use mathlib.Core.Bool.{false}
 use mathlib.Core.List.{List, [], _∷_, _++_}
 use native.Mathlib.Omega.{arith}
 use native.Mathlib.Nat.{zero-add, add-zero, one-mul}
@@ -22,11 +22,10 @@ use Rattle.int13.specs.declared.Plan.the-variants.{Wait}
 use Rattle.int13.specs.Answers.{succeed}
 use Rattle.int13.specs.Steps.{unchanged, isDrive, verifyOk, packetJob, packetTests, packetRead, packetPlan, carryOut, fed, steps, begin}
 use Rattle.int13.specs.Alone.{alone}
-use Rattle.desk.specs.declared.Request.{Request}
 use Rattle.desk.specs.declared.Stage.the-variants.{Waiting, Finished}
 use Rattle.desk.specs.declared.Desk.{Desk}
 use Rattle.desk.specs.Calls.{firstWaiting, stageAfter}
-use Rattle.isolation.specs.Lists.{Call, Out, step, run, after}
+use Rattle.isolation.specs.Lists.{Out, step, run, after}
 use Rattle.isolation.specs.Words.{Waits as WaitsOn, turns, services, turnsFor}
 use Rattle.isolation.specs.Demand.{foundBy, askedBy, firstBy, Ends, Same, Claim}
 use Rattle.isolation.proofs.Equal.{request}

@@ -26,7 +26,7 @@ use Rattle.desk.specs.declared.Stage.the-variants.{Waiting, Finished}
 use Rattle.desk.specs.declared.Desk.{Desk}
 use Rattle.desk.specs.declared.CollectAnswer.the-variants.{Given as CollectGiven}
 use Rattle.desk.specs.Calls.{firstWaiting, stageAfter}
-use Rattle.isolation.specs.Lists.{Call, collected, Out, step, run, after}
+use Rattle.isolation.specs.Lists.{collected, Out, step, run, after}
 use Rattle.isolation.specs.Words.{refused, hands, kindOf, Finishes, collects}
 use Rattle.isolation.specs.Demand.{foundBy, firstBy, Same, SameAtOnce, Claim}
 use Rattle.isolation.proofs.Equal.{request}

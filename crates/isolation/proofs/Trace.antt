@@ -36,7 +36,7 @@ use Rattle.desk.specs.declared.WithdrawAnswer.the-variants.{Given as WithdrawGi
 use Rattle.desk.specs.Parts.{windowSize, stageAt, withStage, next, withPointer}
 use Rattle.desk.specs.Calls.{otherLength, isLent, openOf, postChecked, postRow, postOf, firstWaiting, quota, stageAfter, memoryOf, movedBy, serve, serveStage, turnNext, turnOf, collectStage, collectOf, withdrawnWindow, withdrawStage, withdrawOf}
 use Rattle.isolation.specs.Lists.{Op, openTable, post, turn, collect, withdraw, Call, Answer, opening, posted, turned, collected, withdrawn, Out, outOf, step, Event, run, after}
-use Rattle.isolation.specs.Words.{Kind, opens, serves, kindOf, NoneOpens, Accepted, Waits as WaitsOn, Finishes, moved, Named, Writes, Unwritten, Left}
+use Rattle.isolation.specs.Words.{Kind, opens, serves, kindOf, NoneOpens, Waits as WaitsOn, Finishes, moved, Named, Writes, Unwritten, Left}
 use Rattle.isolation.specs.Demand.{foundBy, askedBy, firstBy, Taken, Same, Claim}
 use Rattle.isolation.proofs.Moves.{moves-size}
 use Rattle.isolation.proofs.Accept.{Inv, inv-accept}

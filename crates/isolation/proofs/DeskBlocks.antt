@@ -27,7 +27,7 @@ use Rattle.image.specs.Image.{image, deskSize, isImage, deskOf, accepted, laid,
 use Rattle.image.proofs.ImageLaws.{length-image, desk-image, exact}
 use Rattle.isolation.specs.Lists.{Op, openTable, post, turn, collect, withdraw, write, Call, Answer, opening, Out, openedDesk, stepOf, step, Event, run, after}
 use Rattle.isolation.specs.Words.{Kind, opens, kindOf, houseNumber, NoneOpens}
-use Rattle.isolation.specs.Blocks.{FitsOp, FitsCalls, AtBlocks, OutBlock, blockAfter, outBlock, numberOf, left25, stepBlockOf, stepBlock, EventBlock, runBlock, afterBlock, NoneOpensBlock, imageOut, imageEvent, ClaimBlock, DemandBlock}
+use Rattle.isolation.specs.DeskBlocks.{FitsOp, FitsCalls, AtBlocks, OutBlock, blockAfter, outBlock, numberOf, left25, stepBlockOf, stepBlock, EventBlock, runBlock, afterBlock, NoneOpensBlock, imageOut, imageEvent, ClaimBlock, DemandBlock}
 use Rattle.isolation.proofs.Accept.{Facts, accept-facts, Inv, inv-accept, inv-opened}
 use Rattle.isolation.proofs.View.{Did, same, idle, answer, accepting, serving, giving, withdrawing, Quiet, refusing, writing, view}
 use Rattle.isolation.proofs.Keep.{inv-step}
