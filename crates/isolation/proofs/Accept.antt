@@ -25,7 +25,7 @@ use Rattle.desk.specs.declared.Row.{Row}
 use Rattle.desk.specs.declared.Desk.{Desk}
 use Rattle.desk.specs.declared.OpenAnswer.the-variants.{Opened}
 use Rattle.desk.specs.Parts.{windowSize, storeBlocks, vacantRow, stageIn, stageAt}
-use Rattle.desk.specs.Acceptable.{packetOk, jobOk, stageOk, rowsOk, accept}
+use Rattle.desk.specs.Acceptable.{turnBlocks, packetOk, jobOk, stageOk, rowsOk, accept}
 use Rattle.desk.specs.Calls.{opened, openDesk, openAnswer, openOf}
 use Rattle.table.proofs.Sound.{Good, accepted-good}
 use Rattle.desk.proofs.AcceptableLaws.{job-facts, rowsOk-at, Waits, waits-facts}
@@ -106,10 +106,10 @@ pub record Ready (b : Table) (M S : ℕ) (q : Request) : Type 0 where
   pub buffer : q .job .buffer + blockLength * q .job .count ≤ M
   pub range : blockLength * (storeBlock b (q .job) + q .job .count) ≤ S
   pub rest : q .moved < q .job .count
-  pub whole : q .moved % 16 ≡ 0
+  pub whole : q .moved % turnBlocks ≡ 0
   pub packet : packetOk (ah (q .job .registers)) (q .job .packet) M ≡ true
 
-pub job-ready : (b : Table) (M S : ℕ) (q : Request) → Good b (S / blockLength) → jobOk b M (q .job) ≡ true → q .moved < q .job .count → q .moved % 16 ≡ 0 → Ready b M S q
+pub job-ready : (b : Table) (M S : ℕ) (q : Request) → Good b (S / blockLength) → jobOk b M (q .job) ≡ true → q .moved < q .job .count → q .moved % turnBlocks ≡ 0 → Ready b M S q
 job-ready b M S q g e m w =
     let f = job-facts b M (q .job) e in
     let k = known b (S / blockLength) (q .job .drive) g (f .drive) in

@@ -14,6 +14,7 @@ use Rattle.desk.specs.declared.Stage.{Stage}
 use Rattle.desk.specs.declared.Stage.the-variants.{Vacant, Waiting, Finished}
 use Rattle.desk.specs.declared.Desk.{Desk}
 use Rattle.desk.specs.Parts.{stageAt, next}
+use Rattle.desk.specs.Acceptable.{turnBlocks}
 use Rattle.desk.specs.Calls.{quota, later, stageAfter}
 use Rattle.isolation.specs.Lists.{Call, Out, step}
 use Rattle.isolation.specs.Words.{Kind, withdraws, opens, kindOf, turnIn, withdrawalIn, movedIn, serviceIn, ifSame}
@@ -36,7 +37,7 @@ pub data Fate (g : ℕ) (q : Request) (d : Desk) (o : Out) : Type 0 where
   -- a turn that serves another guest
   passes : stageAt (o .desk) g ≡ Waiting q → dist (o .desk .pointer) g < dist (d .pointer) g → Counts g (kindOf (o .answer)) 1 0 0 0 → Fate g q d o
   -- a turn that serves it and leaves some
-  parts : stageAt (o .desk) g ≡ Waiting (later q 16) → q .moved + 16 < q .job .count → o .desk .pointer ≡ next g → Counts g (kindOf (o .answer)) 1 0 16 1 → Fate g q d o
+  parts : stageAt (o .desk) g ≡ Waiting (later q turnBlocks) → q .moved + turnBlocks < q .job .count → o .desk .pointer ≡ next g → Counts g (kindOf (o .answer)) 1 0 turnBlocks 1 → Fate g q d o
   -- the finishing turn
   ends : stageAt (o .desk) g ≡ Finished (succeed (q .job .registers)) → (k : ℕ) → q .moved + k ≡ q .job .count → Counts g (kindOf (o .answer)) 1 0 k 1 → Fate g q d o
   leaves : kindOf (o .answer) ≡ withdraws g → Fate g q d o
@@ -48,14 +49,14 @@ pub same-request : {p q : Request} → Waiting p ≡ Waiting q → p ≡ q
 same-request e = cc
 
 -- sixteen where some are left, else the rest
-full : (n m : ℕ) → m + min 16 (n - m) < n → min 16 (n - m) ≡ 16
+full : (n m : ℕ) → m + min turnBlocks (n - m) < n → min turnBlocks (n - m) ≡ turnBlocks
 full n m h = omega arith
 
-pub rest : (n m : ℕ) → m < n → n ≤ m + min 16 (n - m) → m + min 16 (n - m) ≡ n
+pub rest : (n m : ℕ) → m < n → n ≤ m + min turnBlocks (n - m) → m + min turnBlocks (n - m) ≡ n
 rest n m l h = omega arith
 
 -- the stage that a service leaves, by cases
-pub after-cases : (P : Stage → Type 0) (q : Request) → (q .moved + quota q < q .job .count → quota q ≡ 16 → P (Waiting (later q (quota q))))
+pub after-cases : (P : Stage → Type 0) (q : Request) → (q .moved + quota q < q .job .count → quota q ≡ turnBlocks → P (Waiting (later q (quota q))))
     → (q .job .count ≤ q .moved + quota q → P (Finished (succeed (q .job .registers)))) → P (stageAfter q)
 unfolding stageAfter
 after-cases P q f g =
