@@ -20,7 +20,7 @@ use Rattle.isolation.specs.Lists.{step, after}
 use Rattle.isolation.specs.Demand.{foundBy, firstBy, Same}
 use Rattle.isolation.proofs.Equal.{request}
 use Rattle.isolation.proofs.Trace.{Place, place, Line, waiting, serving, All, _also_, Sized, window-lent, Story, posting, meanwhile, finishing, calls, closed, equal}
-use Rattle.isolation.proofs.ExampleDesk.{tableBytes, arenaLength, M, storeLength, table, d₀, inv₀, claimed}
+use Rattle.isolation.proofs.ExampleDesk.{tableBytes, arenaLength, M, storeLength, table, d₀, inv₀, claimed, sevens, length-sevens}
 use Rattle.isolation.proofs.ExampleWrite.{wrote, writeJob, by-sectors, check-write}
 
 -- guest 2: 02h, 17 sectors from 1/2/3 of drive 81h, store blocks 56 to 72; buffer 0002:0015. Guest 5: 03h of store block 73
@@ -79,21 +79,14 @@ module _ (a s : List ℕ) (la : length a ≡ arenaLength) (ls : length s ≡ sto
 pub zeros : List ℕ
 zeros = replicate arenaLength 0
 
-pub sevens : List ℕ
-sevens = replicate storeLength 7
-
 pub long-arena : length zeros ≡ arenaLength
 unfolding zeros
 long-arena = length-replicate {A = ℕ} arenaLength 0
 
-pub long-store : length sevens ≡ storeLength
-unfolding sevens
-long-store = length-replicate {A = ℕ} storeLength 7
-
 abbrev pub storyOfBytes : Story (place d₀ zeros sevens)
-storyOfBytes = story zeros sevens long-arena long-store
+storyOfBytes = story zeros sevens long-arena length-sevens
 
 pub example-bytes : Same M 2 (firstBy table M (posting storyOfBytes) 2 read) 17
     (step (after (step d₀ (posting storyOfBytes) .desk) (meanwhile storyOfBytes)) (finishing storyOfBytes))
     (alone (fed tableBytes) read (foundBy M (posting storyOfBytes) 2))
-example-bytes = example zeros sevens long-arena long-store
+example-bytes = example zeros sevens long-arena length-sevens

@@ -7,7 +7,7 @@ use mathlib.Core.Bool.{false}
 use mathlib.Core.List.{List, [], _∷_, _++_}
 use native.Mathlib.Omega.{arith}
 use native.Mathlib.Nat.{zero-add, add-zero, one-mul}
-use lib.ListN.{length, getD, replicate, length-replicate}
+use lib.ListN.{length, getD, replicate}
 use Rattle.words.specs.Words.{le}
 use Rattle.layout.specs.declared.Packet.{Packet}
 use Rattle.layout.specs.declared.PacketRead.{PacketRead}
@@ -30,7 +30,7 @@ use Rattle.isolation.specs.Words.{Waits as WaitsOn, turns, services, tur
 use Rattle.isolation.specs.Demand.{foundBy, askedBy, firstBy, Ends, Same, Claim}
 use Rattle.isolation.proofs.Equal.{request}
 use Rattle.isolation.proofs.Trace.{Place, place, Line, waiting, serving, idling, leaves, placeAfter, callsOf, All, _also_, Sized, window-lent, step-line, sized, followed, arrives, all-split, Story, middle, posting, meanwhile, finishing, afterwards, calls, split, at-first, at-middle, since-at, before, whole, closed, taken, waits, equal}
-use Rattle.isolation.proofs.ExampleDesk.{tableBytes, arenaLength, M, storeLength, plain, table, d₀, inv₀, claimed, read-packet, windowWith, length-window-with, filled, length-filled, window-filled}
+use Rattle.isolation.proofs.ExampleDesk.{tableBytes, arenaLength, M, storeLength, plain, table, d₀, inv₀, claimed, read-packet, windowWith, arenaOf, length-arena, held-arena, sevens, length-sevens}
 
 -- ---- the requests: each guest's packet stands at 0001:0008 of its window, and names drive 81h
 
@@ -46,16 +46,16 @@ verifies = record { ax = 0x4302; bx = 0x9999; cx = 0xAAAA; dx = 0xBB81; ds = 1; 
 
 -- each guest's count, the offset and the segment of its buffer, and its start. Guest 2 names store blocks 29 to 45; guest 0 writes those up to 28,
 -- guest 5 block 46, and guests 3 and 7 read some of guest 2's
-abbrev counts : List ℕ
+abbrev pub counts : List ℕ
 counts = 5 ∷ 11 ∷ 17 ∷ 16 ∷ 2 ∷ 1 ∷ 3 ∷ 7 ∷ []
 
-abbrev offsets : List ℕ
+abbrev pub offsets : List ℕ
 offsets = 13 ∷ 15 ∷ 11 ∷ 1 ∷ 4 ∷ 6 ∷ 8 ∷ 10 ∷ []
 
-abbrev segments : List ℕ
+abbrev pub segments : List ℕ
 segments = 14 ∷ 16 ∷ 3 ∷ 2 ∷ 5 ∷ 7 ∷ 9 ∷ 12 ∷ []
 
-abbrev starts : List ℕ
+abbrev pub starts : List ℕ
 starts = 0 ∷ 50 ∷ 5 ∷ 5 ∷ 40 ∷ 22 ∷ 57 ∷ 9 ∷ []
 
 abbrev pub packet : ℕ → Packet
@@ -202,43 +202,28 @@ module _ (a s : List ℕ) (la : length a ≡ arenaLength) (ls : length s ≡ sto
       (subst (λ (n : ℕ). turnsFor n ≤ turns (run (step d₀ (posting story) .desk) (meanwhile story ++ finishing story ∷ afterwards story))) (sym count-is)
       (omega (arith, sixteen)))
 
--- ---- such an arena, and a store: zeros but for the packets, and sevens
+-- ---- such an arena, and a store
 
-abbrev bytesOf : ℕ → List ℕ
+abbrev pub bytesOf : ℕ → List ℕ
 bytesOf g = 16 ∷ 0 ∷ getD counts g 0 ∷ 0 ∷ getD offsets g 0 ∷ 0 ∷ getD segments g 0 ∷ 0 ∷ getD starts g 0 ∷ replicate 7 0
 
-abbrev windows : ℕ → List ℕ
-windows g = windowWith (bytesOf g)
+abbrev pub someArena : List ℕ
+someArena = arenaOf bytesOf (λ g. refl)
 
-long : (g : ℕ) → length (windows g) ≡ M
-long g = length-window-with (bytesOf g) refl
+pub long-arena : length someArena ≡ arenaLength
+long-arena = length-arena bytesOf (λ g. refl)
 
-pub someArena : List ℕ
-someArena = filled windows long 8
-
-pub someStore : List ℕ
-someStore = replicate storeLength 7
-
-in-window : (g : ℕ) → packetAt (windows g) 24 ≡ packet g
+in-window : (g : ℕ) → packetAt (windowWith (bytesOf g)) 24 ≡ packet g
 unfolding packetAt le
 in-window g = simp (zero-add, add-zero, one-mul)
 
 pub held-there : (g : ℕ) → g < guests → packetAt (windowOf someArena g M) 24 ≡ packet g
-unfolding someArena
-held-there g b = ap (λ (w : List ℕ). packetAt w 24) (window-filled windows long 8 g (omega arith) b) ∙ in-window g
+held-there g b = held-arena bytesOf (λ g. refl) g b ∙ in-window g
 
-pub long-arena : length someArena ≡ arenaLength
-unfolding someArena
-long-arena = length-filled windows long 8
-
-pub long-store : length someStore ≡ storeLength
-unfolding someStore
-long-store = length-replicate {A = ℕ} storeLength 7
-
-abbrev pub storyOfBytes : Story (place d₀ someArena someStore)
-storyOfBytes = story someArena someStore long-arena long-store held-there
+abbrev pub storyOfBytes : Story (place d₀ someArena sevens)
+storyOfBytes = story someArena sevens long-arena length-sevens held-there
 
 pub example-bytes : Same M 2 (firstBy table M (posting storyOfBytes) 2 verifies) (askedBy M (posting storyOfBytes) 2 verifies)
     (step (after (step d₀ (posting storyOfBytes) .desk) (meanwhile storyOfBytes)) (finishing storyOfBytes))
     (alone (fed tableBytes) verifies (foundBy M (posting storyOfBytes) 2))
-example-bytes = example someArena someStore long-arena long-store held-there
+example-bytes = example someArena sevens long-arena length-sevens held-there

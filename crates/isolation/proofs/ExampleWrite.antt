@@ -6,7 +6,7 @@ use mathlib.Core.Path.{_≡_, refl, sym, ap, subst, _∙_}
 use mathlib.Core.Bool.{true, false}
 use mathlib.Core.List.{List, [], _∷_, _++_}
 use native.Mathlib.Omega.{arith}
-use lib.ListN.{length, replicate, length-replicate}
+use lib.ListN.{length}
 use Rattle.logic.proofs.LogicLaws.{impossible}
 use Rattle.words.specs.Words.{le}
 use Rattle.chs.specs.Chs.{inLimits, isValid, blockOf}
@@ -31,7 +31,7 @@ use Rattle.isolation.specs.Words.{refused, hands, kindOf, Finishes, coll
 use Rattle.isolation.specs.Demand.{foundBy, firstBy, Same, SameAtOnce, Claim}
 use Rattle.isolation.proofs.Equal.{request}
 use Rattle.isolation.proofs.Trace.{Place, place, Line, waiting, answering, serving, idling, unlent, withdrawing, collecting, misopening, leaves, callOf, outAt, placeAfter, callsOf, All, _also_, Sized, window-lent, step-line, sized-line, sized, followed, arrives, all-split, Story, middle, posting, meanwhile, finishing, calls, split, at-middle, since-at, closed, taken, finishes, equal}
-use Rattle.isolation.proofs.ExampleDesk.{tableBytes, arenaLength, M, storeLength, guarded, plain, table, d₀, inv₀, claimed, read-packet, windowWith, length-window-with, filled, length-filled, window-filled}
+use Rattle.isolation.proofs.ExampleDesk.{tableBytes, arenaLength, M, storeLength, guarded, plain, table, d₀, inv₀, claimed, read-packet, arenaOf, length-arena, held-arena, sevens, length-sevens}
 
 -- ---- the requests
 
@@ -209,40 +209,25 @@ module _ (a s : List ℕ) (la : length a ≡ arenaLength) (ls : length s ≡ sto
       (claim .atOnce (callsOf p₀ six) (callsOf (leaves p₆ refusing) (waiting 5 wrote writeJob ∷ serving 5 writing (Finished (succeed wrote)) ∷ last ∷ later))
       (callOf p₆ refusing) 6 spoiled (refuse writeProtected spoiled) refl refl (ap (λ (o : Out). o .answer) refused-then))
 
--- ---- such an arena, and a store: zeros but for the packet, and sevens
+-- ---- such an arena, and a store
 
 abbrev pub packetBytes : List ℕ
 packetBytes = 16 ∷ 0 ∷ 3 ∷ 0 ∷ 5 ∷ 0 ∷ 6 ∷ 0 ∷ 4 ∷ 0 ∷ 0 ∷ 0 ∷ 0 ∷ 0 ∷ 0 ∷ 0 ∷ []
 
-long : (g : ℕ) → length (windowWith packetBytes) ≡ M
-long g = length-window-with packetBytes refl
-
-pub someArena : List ℕ
-someArena = filled (λ g. windowWith packetBytes) long 8
-
-pub someStore : List ℕ
-someStore = replicate storeLength 7
-
-in-window : packetAt (windowWith packetBytes) 24 ≡ packet
-unfolding packetAt le
-in-window = refl
-
-pub held-there : packetAt (windowOf someArena 6 M) 24 ≡ packet
-unfolding someArena
-held-there = ap (λ (w : List ℕ). packetAt w 24) (window-filled (λ g. windowWith packetBytes) long 8 6 (omega arith) (omega arith)) ∙ in-window
+abbrev pub someArena : List ℕ
+someArena = arenaOf (λ g. packetBytes) (λ g. refl)
 
 pub long-arena : length someArena ≡ arenaLength
-unfolding someArena
-long-arena = length-filled (λ g. windowWith packetBytes) long 8
+long-arena = length-arena (λ g. packetBytes) (λ g. refl)
 
-pub long-store : length someStore ≡ storeLength
-unfolding someStore
-long-store = length-replicate {A = ℕ} storeLength 7
+pub held-there : packetAt (windowOf someArena 6 M) 24 ≡ packet
+unfolding packetAt le
+held-there = held-arena (λ g. packetBytes) (λ g. refl) 6 (omega arith)
 
-abbrev pub storyOfBytes : Story (place d₀ someArena someStore)
-storyOfBytes = story someArena someStore long-arena long-store held-there
+abbrev pub storyOfBytes : Story (place d₀ someArena sevens)
+storyOfBytes = story someArena sevens long-arena length-sevens held-there
 
 pub example-bytes : Same M 2 (firstBy table M (posting storyOfBytes) 2 saved) 17
     (step (after (step d₀ (posting storyOfBytes) .desk) (meanwhile storyOfBytes)) (finishing storyOfBytes))
     (alone (fed tableBytes) saved (foundBy M (posting storyOfBytes) 2))
-example-bytes = example someArena someStore long-arena long-store held-there
+example-bytes = example someArena sevens long-arena length-sevens held-there

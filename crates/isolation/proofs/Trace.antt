@@ -40,7 +40,7 @@ use Rattle.isolation.specs.Words.{Kind, opens, serves, kindOf, NoneOpens
 use Rattle.isolation.specs.Demand.{foundBy, askedBy, firstBy, Taken, Same, Claim}
 use Rattle.isolation.proofs.Moves.{moves-size}
 use Rattle.isolation.proofs.Accept.{Inv, inv-accept}
-use Rattle.isolation.proofs.Keep.{inv-step}
+use Rattle.isolation.proofs.Keep.{inv-step, fixed-step}
 use Rattle.isolation.proofs.Fate.{same-request}
 use Rattle.isolation.proofs.Equal.{request}
 
@@ -405,22 +405,17 @@ line-apart g first n p (withdrawing h q) a t h′ k b q′ e = impossible cc
 line-apart g first n p (collecting h r) a t h′ k b q e = impossible cc
 line-apart g first n p misopening a t h′ k b q e = impossible cc
 
-same-table : (p : Place) (l : Line) → leaves p l .desk .table ≡ p .desk .table
-same-table p (waiting g r j) = refl
-same-table p (answering g r x f) = refl
-same-table p (serving g q st) = refl
-same-table p idling = refl
-same-table p unlent = refl
-same-table p (withdrawing g q) = refl
-same-table p (collecting g r) = refl
-same-table p misopening = refl
+same-table : (p : Place) (l : Line) → Sized p → Holds p l → leaves p l .desk .table ≡ p .desk .table
+same-table p l z h =
+    let e = step-line p z l h in
+    ap (λ (o : Out). o .desk .table) (sym e) ∙ fixed-step (p .desk) (callOf p l) (z .inv) (subst (λ (o : Out). kindOf (o .answer) ≡ opens → ⊥) (sym e) (no-opening l)) .table
 
-pub unwritten : (ls : List Line) (p : Place) (g first n : ℕ) (es : List Event) → All p ls → areApart g first n (p .desk .table) ls ≡ true
+pub unwritten : (ls : List Line) (p : Place) → Sized p → (g first n : ℕ) (es : List Event) → All p ls → areApart g first n (p .desk .table) ls ≡ true
     → Unwritten g first n es → Unwritten g first n (events p ls ++ es)
-unwritten [] p g first n es h t u = u
-unwritten (l ∷ ls) p g first n es h t u =
+unwritten [] p z g first n es h t u = u
+unwritten (l ∷ ls) p z g first n es h t u =
     let b = both-true (isApart g first n (p .desk .table) l) (areApart g first n (p .desk .table) ls) t in
-    (line-apart g first n p l (h .0) (b .0), unwritten ls (leaves p l) g first n es (h .1) (rw (same-table p l) (b .1)) u)
+    (line-apart g first n p l (h .0) (b .0), unwritten ls (leaves p l) (sized-line p l z (h .0)) g first n es (h .1) (rw (same-table p l z (h .0)) (b .1)) u)
 
 -- ---- a request of a list: the lines between its post and its finishing turn, that turn, and the lines after it
 
@@ -533,4 +528,4 @@ module _ {p : Place} (y : Story p) where
           (left (y .between) (leaves p first) m (y .guest) _ (left (y .last ∷ []) middle m (y .guest) [] tt))))
           (subst₂ (λ (f k : ℕ). Unwritten (y .guest) f k (run (step (p .desk) posting .desk) (meanwhile ++ finishing ∷ []))) (sym start) (sym count)
           (subst (Unwritten (y .guest) lo n) (sym upto)
-          (unwritten (y .between) (leaves p first) (y .guest) lo n _ (split .0) b (unwritten (y .last ∷ []) middle (y .guest) lo n [] (split .1 .0, tt) e tt))))
+          (unwritten (y .between) (leaves p first) at-first (y .guest) lo n _ (split .0) b (unwritten (y .last ∷ []) middle at-middle (y .guest) lo n [] (split .1 .0, tt) e tt))))
