@@ -23,11 +23,11 @@ use Rattle.desk.specs.Parts.{windowSize, stageAt}
 use Rattle.desk.specs.Acceptable.{turnBlocks}
 use Rattle.desk.specs.Calls.{quota, later, stageAfter, movedBy, withdrawnWindow}
 use Rattle.isolation.specs.Lists.{Call, Out, step, run, after}
-use Rattle.isolation.specs.Words.{Kind, serves, withdraws, opens, kindOf, NoneOpens, touchIn, movedIn, moved, withdrawalIn, withdrawals, Named, Writes, Unwritten, LeftIf, Left}
+use Rattle.isolation.specs.Words.{Marks, Kind, serves, withdraws, opens, kindOf, NoneOpens, touchIn, movedIn, moved, withdrawalIn, withdrawals, Named, Writes, Unwritten, LeftIf, Left}
 use Rattle.isolation.proofs.Turn.{vacant≢waiting, finished≢waiting}
 use Rattle.isolation.proofs.Moves.{Agree, Alike, Off, SameSize, moves-size, moves-add, moves-alike, moves-off}
 use Rattle.isolation.proofs.Accept.{Inv, Ready, ready}
-use Rattle.isolation.proofs.View.{Lent, Did, same, idle, answer, accepting, serving, giving, withdrawing, view, still, postedOut, servedOut, collectedOut, withdrawnOut, windowIn, window-length, span-lent, quiet-touch, quiet-moved}
+use Rattle.isolation.proofs.View.{Lent, Did, same, idle, answer, accepting, serving, giving, withdrawing, view, still, postedOut, servedOut, collectedOut, withdrawnOut, windowIn, window-length, span-lent, quiet-marks}
 use Rattle.isolation.proofs.Keep.{stage-same, stage-other, waiting-below, inv-step, fixed-step, served-size, withdrawn-size, same-guest}
 use Rattle.isolation.proofs.Fate.{other-guest, same-request, rest, after-cases}
 
@@ -185,7 +185,7 @@ module _ (lo : ℕ) (d : Desk) (inv : Inv d) (c : Call) (g : ℕ) (j : Job) (n :
   pub goes : (o : Out) → Did d c o → If o (touchIn (kindOf (o .answer)))
       → ((h k b : ℕ) (q : Request) → kindOf (o .answer) ≡ serves h k → (h ≡ g → ⊥) → stageAt d h ≡ Waiting q → Writes (d .table) q k b → Named lo (j .count) b → ⊥) → Goes o
   goes o (same x p k) i u =
-      stay (still d c x) refl refl refl refl (quiet-moved g p) w s refl refl (λ k a z. refl) (skipped (still d c x) (touchIn (kindOf x)) (quiet-touch p) i)
+      stay (still d c x) refl refl refl refl (ap (λ (m : Marks). m .moved) (quiet-marks g p)) w s refl refl (λ k a z. refl) (skipped (still d c x) (touchIn (kindOf x)) (ap (λ (m : Marks). m .touch) (quiet-marks guests p)) i)
   goes o (idle t f) i u = absurd (f g (request j n) below (mid .here))
   goes o (answer h r x w′ t b l v ko kw k) i u =
       let gh : g ≢ h = λ y. vacant≢waiting (sym v ∙ (rw y at (mid .here))) in

@@ -17,11 +17,11 @@ use Rattle.desk.specs.Parts.{stageAt, next}
 use Rattle.desk.specs.Acceptable.{turnBlocks}
 use Rattle.desk.specs.Calls.{quota, later, stageAfter}
 use Rattle.isolation.specs.Lists.{Call, Out, step}
-use Rattle.isolation.specs.Words.{Kind, withdraws, opens, kindOf, turnIn, withdrawalIn, movedIn, serviceIn, ifSame}
+use Rattle.isolation.specs.Words.{Marks, line, marks, Kind, withdraws, opens, kindOf, turnIn, withdrawalIn, movedIn, serviceIn, ifSame}
 use Rattle.isolation.proofs.Turn.{dist, dist-less, vacant≢waiting, finished≢waiting}
 use Rattle.logic.proofs.LogicLaws.{pick-cases}
 use Rattle.isolation.proofs.Accept.{Inv, ready}
-use Rattle.isolation.proofs.View.{Did, same, idle, answer, accepting, serving, giving, withdrawing, view, servedOut, withdrawnOut, quiet-turn, quiet-withdrawal, quiet-moved, quiet-service}
+use Rattle.isolation.proofs.View.{Did, same, idle, answer, accepting, serving, giving, withdrawing, view, servedOut, withdrawnOut, quiet-marks}
 use Rattle.isolation.proofs.Keep.{stage-same, stage-other, waiting-below, same-guest}
 
 -- the numbers of one call: turns, and withdrawals, blocks and services of g
@@ -30,6 +30,16 @@ pub record Counts (g : ℕ) (k : Kind) (t w m s : ℕ) : Type 0 where
   pub withdrawal : withdrawalIn g k ≡ w
   pub moved : movedIn g k ≡ m
   pub service : serviceIn g k ≡ s
+
+-- those of a line of zeros
+counted : {g : ℕ} {k : Kind} → marks guests k ≡ line 0 0 0 0 0 0 0 → marks g k ≡ line 0 0 0 0 0 0 0 → Counts g k 0 0 0 0
+counted e f =
+    record {
+      turn = ap (λ (m : Marks). m .turn) e;
+      withdrawal = ap (λ (m : Marks). m .withdrawal) f;
+      moved = ap (λ (m : Marks). m .moved) f;
+      service = ap (λ (m : Marks). m .service) f;
+    }
 
 pub data Fate (g : ℕ) (q : Request) (d : Desk) (o : Out) : Type 0 where
   -- no turn of this desk
@@ -94,7 +104,7 @@ module _ (d : Desk) (inv : Inv d) (c : Call) (g : ℕ) (q : Request) (e : stageA
       stays (stage-other d h g Vacant (λ z. y (sym z)) ∙ e) refl (record { turn = refl; withdrawal = other-guest h g 1 y; moved = refl; service = refl })
 
   pub fate : (o : Out) → Did d c o → Fate g q d o
-  fate o (same x p n) = stays e refl (record { turn = quiet-turn p; withdrawal = quiet-withdrawal g p; moved = quiet-moved g p; service = quiet-service g p })
+  fate o (same x p n) = stays e refl (counted (quiet-marks guests p) (quiet-marks g p))
   fate o (idle t f) = absurd (f g q below e)
   fate o (answer h r x w t b l v ko kw k) = stays e refl (record { turn = refl; withdrawal = refl; moved = refl; service = refl })
   fate o (accepting h r j t b l v ko kw f) =

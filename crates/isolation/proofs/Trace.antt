@@ -264,37 +264,28 @@ no-opening (withdrawing g q) e = impossible cc
 no-opening (collecting g r) e = impossible cc
 no-opening misopening e = impossible cc
 
-arena-line : (p : Place) (l : Line) → Sized p → length (leaves p l .arena) ≡ leaves p l .desk .arena
-arena-line p (waiting g r j) z = z .arena
-arena-line p (answering g r x f) z = length-with-window (p .arena) g (windowSize (p .desk)) (f (windowAt p g)) ∙ z .arena
-arena-line p (serving g q st) z =
-    pick-cases (λ (a : List ℕ). length a ≡ p .desk .arena) (isWriting q) _ _ (λ e. z .arena)
-    (λ e. length-with-window (p .arena) g (windowSize (p .desk)) (movedBy (p .desk) g q (p .arena) (p .store) .window) ∙ z .arena)
-arena-line p idling z = z .arena
-arena-line p unlent z = z .arena
-arena-line p (withdrawing g q) z = z .arena
-arena-line p (collecting g r) z = z .arena
-arena-line p misopening z = z .arena
-
-store-line : (p : Place) (l : Line) → Sized p → length (leaves p l .store) ≡ leaves p l .desk .store
-store-line p (waiting g r j) z = z .store
-store-line p (answering g r x f) z = z .store
-store-line p (serving g q st) z =
-    pick-cases (λ (s : List ℕ). length s ≡ p .desk .store) (isWriting q) _ _
-    (λ e. moves-size (q .job) (storeBlock (p .desk .table) (q .job)) (q .moved) (quota q) (memoryOf (p .desk) g (p .arena) (p .store)) .store ∙ z .store)
-    (λ e. z .store)
-store-line p idling z = z .store
-store-line p unlent z = z .store
-store-line p (withdrawing g q) z = z .store
-store-line p (collecting g r) z = z .store
-store-line p misopening z = z .store
+-- arena and store keep their lengths
+lengths-line : (p : Place) (l : Line) → Sized p → (length (leaves p l .arena) ≡ leaves p l .desk .arena) × (length (leaves p l .store) ≡ leaves p l .desk .store)
+lengths-line p (waiting g r j) z = (z .arena, z .store)
+lengths-line p (answering g r x f) z = (length-with-window (p .arena) g (windowSize (p .desk)) (f (windowAt p g)) ∙ z .arena, z .store)
+lengths-line p (serving g q st) z = (
+  pick-cases (λ (a : List ℕ). length a ≡ p .desk .arena) (isWriting q) _ _ (λ e. z .arena)
+      (λ e. length-with-window (p .arena) g (windowSize (p .desk)) (movedBy (p .desk) g q (p .arena) (p .store) .window) ∙ z .arena),
+  pick-cases (λ (s : List ℕ). length s ≡ p .desk .store) (isWriting q) _ _
+      (λ e. moves-size (q .job) (storeBlock (p .desk .table) (q .job)) (q .moved) (quota q) (memoryOf (p .desk) g (p .arena) (p .store)) .store ∙ z .store) (λ e. z .store),
+)
+lengths-line p idling z = (z .arena, z .store)
+lengths-line p unlent z = (z .arena, z .store)
+lengths-line p (withdrawing g q) z = (z .arena, z .store)
+lengths-line p (collecting g r) z = (z .arena, z .store)
+lengths-line p misopening z = (z .arena, z .store)
 
 pub sized-line : (p : Place) (l : Line) → Sized p → Holds p l → Sized (leaves p l)
 sized-line p l z h =
     record {
       inv = subst (λ (x : Out). Inv (x .desk)) e (inv-step (p .desk) (callOf p l) (z .inv) (subst (λ (x : Out). kindOf (x .answer) ≡ opens → ⊥) (sym e) (no-opening l)));
-      arena = arena-line p l z;
-      store = store-line p l z;
+      arena = lengths-line p l z .0;
+      store = lengths-line p l z .1;
     }
   where
     e : step (p .desk) (callOf p l) ≡ outAt p l
