@@ -3,25 +3,21 @@
 use Prim.Native.Nat.{ℕ, zero, suc, _+_, _*_, _/_, _%_, _≤_, _<_}
 use mathlib.Core.Path.{_≡_, refl, sym, ap, subst, _∙_}
 use mathlib.Core.Logic.{⊎-elim, _↔_}
-use mathlib.Core.Bool.{Bool, true, false, not}
+use mathlib.Core.Bool.{true}
 use mathlib.Core.List.{List}
 use native.Mathlib.Omega.{arith}
 use lib.ListN.{length, replicate, getD-replicate, List·getD-eq-default}
-use lib.Dec.{leb, ltb, eqb}
-use borrow.Author.Tests.{leb-true, ltb-true, lt-ltb, eqb-true}
-use Rattle.logic.specs.Logic.{pick, both}
+use lib.Dec.{ltb}
+use borrow.Author.Tests.{ltb-true, lt-ltb}
+use Rattle.logic.specs.Logic.{both}
 use Rattle.logic.proofs.LogicLaws.{both-true, both-intro, lt-or-le, impossible}
-use Rattle.chs.specs.Chs.{size}
-use Rattle.drive.specs.Drive.{same, blankNumbers, blankNames, isBlank}
 use Rattle.table.specs.declared.Table.{Table}
 use Rattle.table.specs.declared.Answer.{Answer}
 use Rattle.table.specs.declared.Answer.the-variants.{Accepted, Refused as TableRefused}
-use Rattle.table.specs.Table.{soundTo, blankTo, isSound, readTable}
+use Rattle.table.specs.Table.{isSound, readTable}
 use Rattle.memory.specs.Window.{guests}
 use Rattle.memory.specs.Blocks.{blockLength}
-use Rattle.int13.specs.declared.Job.{Job}
-use Rattle.int13.specs.Answers.{ah, isSectors, isWrite}
-use Rattle.int13.specs.Steps.{isDrive, driveAt}
+use Rattle.int13.specs.Answers.{ah}
 use Rattle.int13.specs.Alone.{storeBlock}
 use Rattle.desk.specs.declared.Request.{Request}
 use Rattle.desk.specs.declared.Stage.the-variants.{Vacant, Waiting}
@@ -29,7 +25,7 @@ use Rattle.desk.specs.declared.Row.{Row}
 use Rattle.desk.specs.declared.Desk.{Desk}
 use Rattle.desk.specs.declared.OpenAnswer.the-variants.{Opened}
 use Rattle.desk.specs.Parts.{windowSize, storeBlocks, vacantRow, stageIn, stageAt}
-use Rattle.desk.specs.Acceptable.{isTransfer, countOk, rangeOk, packetOk, jobOk, movedOk, stageOk, rowsOk, accept}
+use Rattle.desk.specs.Acceptable.{turnBlocks, packetOk, jobOk, stageOk, rowsOk, accept}
 use Rattle.desk.specs.Calls.{opened, openDesk, openAnswer, openOf}
 use Rattle.table.proofs.Sound.{Good, accepted-good}
 use Rattle.desk.proofs.AcceptableLaws.{job-facts, rowsOk-at, Waits, waits-facts}
@@ -110,10 +106,10 @@ pub record Ready (b : Table) (M S : ℕ) (q : Request) : Type 0 where
   pub buffer : q .job .buffer + blockLength * q .job .count ≤ M
   pub range : blockLength * (storeBlock b (q .job) + q .job .count) ≤ S
   pub rest : q .moved < q .job .count
-  pub whole : q .moved % 16 ≡ 0
+  pub whole : q .moved % turnBlocks ≡ 0
   pub packet : packetOk (ah (q .job .registers)) (q .job .packet) M ≡ true
 
-pub job-ready : (b : Table) (M S : ℕ) (q : Request) → Good b (S / blockLength) → jobOk b M (q .job) ≡ true → q .moved < q .job .count → q .moved % 16 ≡ 0 → Ready b M S q
+pub job-ready : (b : Table) (M S : ℕ) (q : Request) → Good b (S / blockLength) → jobOk b M (q .job) ≡ true → q .moved < q .job .count → q .moved % turnBlocks ≡ 0 → Ready b M S q
 job-ready b M S q g e m w =
     let f = job-facts b M (q .job) e in
     let k = known b (S / blockLength) (q .job .drive) g (f .drive) in

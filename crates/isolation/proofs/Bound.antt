@@ -5,10 +5,12 @@ use mathlib.Core.Path.{_≡_, refl, sym, ap, _∙_}
 use mathlib.Core.List.{List, [], _∷_, _++_}
 use native.Mathlib.Omega.{arith}
 use native.Mathlib.Nat.{zero-add}
+use Rattle.memory.specs.Window.{guests}
 use Rattle.desk.specs.declared.Request.{Request}
 use Rattle.desk.specs.declared.Stage.the-variants.{Waiting}
 use Rattle.desk.specs.declared.Desk.{Desk}
 use Rattle.desk.specs.Parts.{stageAt, next}
+use Rattle.desk.specs.Acceptable.{turnBlocks}
 use Rattle.desk.specs.Calls.{later}
 use Rattle.isolation.specs.Lists.{Call, step, run, after}
 use Rattle.isolation.specs.Words.{Kind, withdraws, opens, kindOf, NoneOpens, total, turnIn, turns, withdrawalIn, withdrawals, movedIn, moved, serviceIn, services, turnsFor}
@@ -90,22 +92,22 @@ near (c ∷ cs) d inv n g q e w s =
 -- ---- eight for each part still to move, less what the pointer has come
 
 pub waitFor : ℕ → ℕ → Request → ℕ
-waitFor p g q = 8 * ((q .job .count - q .moved - 1) / 16) + dist p g
+waitFor p g q = guests * ((q .job .count - q .moved - 1) / turnBlocks) + dist p g
 
 wait-same : (p p′ g : ℕ) (q : Request) → p′ ≡ p → waitFor p′ g q ≡ waitFor p g q
 wait-same p p′ g q e = rw e
 
 wait-less : (p p′ g : ℕ) (q : Request) → dist p′ g < dist p g → waitFor p′ g q + 1 ≤ waitFor p g q
 unfolding waitFor
-wait-less p p′ g q e = sum (8 * ((q .job .count - q .moved - 1) / 16)) (dist p′ g) (dist p g) e
+wait-less p p′ g q e = sum (guests * ((q .job .count - q .moved - 1) / turnBlocks)) (dist p′ g) (dist p g) e
   where
     sum : (a b c : ℕ) → b < c → a + b + 1 ≤ a + c
     sum a b c h = omega arith
 
-part-less : (n m u v : ℕ) → m + 16 < n → u ≡ 7 → 8 * ((n - (m + 16) - 1) / 16) + u + 1 ≤ 8 * ((n - m - 1) / 16) + v
+part-less : (n m u v : ℕ) → m + turnBlocks < n → u ≡ 7 → guests * ((n - (m + turnBlocks) - 1) / turnBlocks) + u + 1 ≤ guests * ((n - m - 1) / turnBlocks) + v
 part-less n m u v h e = omega arith
 
-wait-part : (p p′ g : ℕ) (q : Request) → g < 8 → p′ ≡ next g → q .moved + 16 < q .job .count → waitFor p′ g (later q 16) + 1 ≤ waitFor p g q
+wait-part : (p p′ g : ℕ) (q : Request) → g < guests → p′ ≡ next g → q .moved + turnBlocks < q .job .count → waitFor p′ g (later q turnBlocks) + 1 ≤ waitFor p g q
 unfolding waitFor
 wait-part p p′ g q gb e h = part-less (q .job .count) (q .moved) (dist p′ g) (dist p g) h (ap (λ (x : ℕ). dist x g) e ∙ dist-own g gb)
 
@@ -113,7 +115,7 @@ pub wait-start : (p g : ℕ) (q : Request) → q .moved ≡ 0 → 0 < q .job .co
 unfolding waitFor
 wait-start p g q z h = start (q .job .count) (q .moved) (dist p g) z h (dist-lt p g)
   where
-    start : (n m u : ℕ) → m ≡ 0 → 0 < n → u < 8 → 8 * ((n - m - 1) / 16) + u < turnsFor n
+    start : (n m u : ℕ) → m ≡ 0 → 0 < n → u < guests → guests * ((n - m - 1) / turnBlocks) + u < turnsFor n
     start n m u z h b = omega arith
 
 -- ---- how it goes on
@@ -167,7 +169,7 @@ course-step g q p d c cs j m w b (finishing front t rest s k f u) =
 course-step g q p d c cs j m w b (leaving front t rest s k f) =
     leaving (c ∷ front) t rest (ap (λ (l : List Call). c ∷ l) s) (track-step g q p d c front j m w b k) f
 
-course-fate : (cs : List Call) (d : Desk) (c : Call) (g : ℕ) (q : Request) → g < 8 → stageAt d g ≡ Waiting q
+course-fate : (cs : List Call) (d : Desk) (c : Call) (g : ℕ) (q : Request) → g < guests → stageAt d g ≡ Waiting q
     → ((p : Request) → stageAt (step d c .desk) g ≡ Waiting p → Course g p (step d c .desk) cs)
     → Fate g q d (step d c) → Course g q d (c ∷ cs)
 unfolding run after
@@ -178,8 +180,8 @@ course-fate cs d c g q gb e ih (passes r p k) =
     course-step g q q d c cs refl (omega (arith, k .moved)) (k .withdrawal)
     (omega (arith, k .turn, wait-less (d .pointer) (step d c .desk .pointer) g q p)) (ih q r)
 course-fate cs d c g q gb e ih (parts r h p k) =
-    course-step g q (later q 16) d c cs refl (omega (arith, k .moved)) (k .withdrawal)
-    (omega (arith, k .turn, wait-part (d .pointer) (step d c .desk .pointer) g q gb p h)) (ih (later q 16) r)
+    course-step g q (later q turnBlocks) d c cs refl (omega (arith, k .moved)) (k .withdrawal)
+    (omega (arith, k .turn, wait-part (d .pointer) (step d c .desk .pointer) g q gb p h)) (ih (later q turnBlocks) r)
 course-fate cs d c g q gb e ih (ends r n h k) = finishing [] c cs refl (track-none g q d e) (at-end n h k) (k .turn)
   where
     at-end : (n : ℕ) → q .moved + n ≡ q .job .count → Counts g (kindOf (step d c .answer)) 1 0 n 1

@@ -20,13 +20,14 @@ use Rattle.desk.specs.declared.Stage.{Stage}
 use Rattle.desk.specs.declared.Stage.the-variants.{Vacant, Waiting, Finished}
 use Rattle.desk.specs.declared.Desk.{Desk}
 use Rattle.desk.specs.Parts.{windowSize, stageAt}
+use Rattle.desk.specs.Acceptable.{turnBlocks}
 use Rattle.desk.specs.Calls.{quota, later, stageAfter, movedBy, withdrawnWindow}
 use Rattle.isolation.specs.Lists.{Call, Out, step, run, after}
-use Rattle.isolation.specs.Words.{Kind, serves, withdraws, opens, kindOf, NoneOpens, touchIn, movedIn, moved, withdrawalIn, withdrawals, Named, Writes, Unwritten, LeftIf, Left}
+use Rattle.isolation.specs.Words.{Marks, Kind, serves, withdraws, opens, kindOf, NoneOpens, touchIn, movedIn, moved, withdrawalIn, withdrawals, Named, Writes, Unwritten, LeftIf, Left}
 use Rattle.isolation.proofs.Turn.{vacant≢waiting, finished≢waiting}
 use Rattle.isolation.proofs.Moves.{Agree, Alike, Off, SameSize, moves-size, moves-add, moves-alike, moves-off}
 use Rattle.isolation.proofs.Accept.{Inv, Ready, ready}
-use Rattle.isolation.proofs.View.{Lent, Did, same, idle, answer, accepting, serving, giving, withdrawing, view, still, postedOut, servedOut, collectedOut, withdrawnOut, windowIn, window-length, span-lent, quiet-touch, quiet-moved}
+use Rattle.isolation.proofs.View.{Lent, Did, same, idle, answer, accepting, serving, giving, withdrawing, view, still, postedOut, servedOut, collectedOut, withdrawnOut, windowIn, window-length, span-lent, quiet-marks}
 use Rattle.isolation.proofs.Keep.{stage-same, stage-other, waiting-below, inv-step, fixed-step, served-size, withdrawn-size, same-guest}
 use Rattle.isolation.proofs.Fate.{other-guest, same-request, rest, after-cases}
 
@@ -60,7 +61,7 @@ alike-from lo n w w′ s s′ m e l a k =
 same-store : (lo n : ℕ) (s s′ : List ℕ) → s′ ≡ s → Agree lo n s′ s
 same-store lo n s s′ e i h b = ap (λ (t : List ℕ). getD t i 0) e
 
-fits : (n m : ℕ) → m < n → m + min 16 (n - m) ≤ n
+fits : (n m : ℕ) → m < n → m + min turnBlocks (n - m) ≤ n
 fits n m l = omega arith
 
 module _ (lo : ℕ) (d : Desk) (inv : Inv d) (c : Call) (g : ℕ) (j : Job) (n : ℕ) (m₀ : Memory) (w s : List ℕ) (mid : Mid lo d g j n m₀ w s)
@@ -142,7 +143,7 @@ module _ (lo : ℕ) (d : Desk) (inv : Inv d) (c : Call) (g : ℕ) (j : Job) (n :
           = subst (λ (f : ℕ). Alike lo (j .count) (moves j f n q mm) (moves j lo 0 (n + q) m₀)) (sym (mid .first)) al in
           record { window = new ∙ a .window; length = a .length; named = a .named }
 
-      goes-on : n + q < j .count → q ≡ 16 → stageAt (o .desk) g ≡ Waiting (later (request j n) q) → Goes o
+      goes-on : n + q < j .count → q ≡ turnBlocks → stageAt (o .desk) g ≡ Waiting (later (request j n) q) → Goes o
       goes-on h k r =
           on (n + q) (windowOf (o .arena) g (windowSize d)) (o .store)
           (record { here = r; first = mid .first; alike = al′; window = ap length new ∙ sizes .window ∙ len; store = sizes .store ∙ l .store })
@@ -184,7 +185,7 @@ module _ (lo : ℕ) (d : Desk) (inv : Inv d) (c : Call) (g : ℕ) (j : Job) (n :
   pub goes : (o : Out) → Did d c o → If o (touchIn (kindOf (o .answer)))
       → ((h k b : ℕ) (q : Request) → kindOf (o .answer) ≡ serves h k → (h ≡ g → ⊥) → stageAt d h ≡ Waiting q → Writes (d .table) q k b → Named lo (j .count) b → ⊥) → Goes o
   goes o (same x p k) i u =
-      stay (still d c x) refl refl refl refl (quiet-moved g p) w s refl refl (λ k a z. refl) (skipped (still d c x) (touchIn (kindOf x)) (quiet-touch p) i)
+      stay (still d c x) refl refl refl refl (ap (λ (m : Marks). m .moved) (quiet-marks g p)) w s refl refl (λ k a z. refl) (skipped (still d c x) (touchIn (kindOf x)) (ap (λ (m : Marks). m .touch) (quiet-marks guests p)) i)
   goes o (idle t f) i u = absurd (f g (request j n) below (mid .here))
   goes o (answer h r x w′ t b l v ko kw k) i u =
       let gh : g ≢ h = λ y. vacant≢waiting (sym v ∙ (rw y at (mid .here))) in

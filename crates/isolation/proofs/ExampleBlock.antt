@@ -13,26 +13,32 @@ use Rattle.desk.specs.Calls.{openOf}
 use Rattle.image.specs.Image.{deskSize, FitsRegisters}
 use Rattle.isolation.specs.Lists.{openTable, Call, opening, run}
 use Rattle.isolation.specs.Words.{NoneOpens}
-use Rattle.isolation.specs.Blocks.{FitsCalls, stepBlock, ClaimBlock}
-use Rattle.isolation.proofs.Blocks.{demand-block, none-block}
-use Rattle.isolation.proofs.Example.{table₁, arenaLength, storeLength, opening as opens-table, read, wrote, calls, closed}
+use Rattle.isolation.specs.DeskBlocks.{FitsCalls, stepBlock, ClaimBlock}
+use Rattle.isolation.proofs.DeskBlocks.{demand-block, none-block}
+use Rattle.isolation.proofs.Trace.{calls, closed}
+use Rattle.isolation.proofs.ExampleDesk.{tableBytes, arenaLength, M, storeLength, opening as opens-table}
+use Rattle.isolation.proofs.ExampleWrite.{wrote}
+use Rattle.isolation.proofs.Example.{read, story, z₀}
 
-bytes-table : Bytes table₁
+bytes-table : Bytes tableBytes
 unfolding le leBytes
-bytes-table = bytes-leBytes 72 (le 72 table₁ 0)
+bytes-table = bytes-leBytes 140 (le 140 tableBytes 0)
 
 abbrev zeros : List ℕ
 zeros = replicate deskSize 0
 
 module _ (a s : List ℕ) (la : length a ≡ arenaLength) (ls : length s ≡ storeLength) where
+  abbrev list : List Call
+  list = calls (story a s la ls)
+
   abbrev first : Call
-  first = record { op = openTable table₁ arenaLength storeLength; arena = a; store = s }
+  first = record { op = openTable tableBytes arenaLength storeLength; arena = a; store = s }
 
   passes : stepBlock zeros first .answer ≡ opening Opened
   unfolding stepBlock
   passes = ap (λ (o : Opening). opening (o .answer)) opens-table
 
-  fit : FitsCalls (calls a s)
+  fit : FitsCalls list
   fit = (fits-read, (fits-wrote, (tt, (tt, (tt, tt)))))
     where
       fits-read : FitsRegisters read
@@ -41,10 +47,10 @@ module _ (a s : List ℕ) (la : length a ≡ arenaLength) (ls : length s ≡ sto
       fits-wrote : FitsRegisters wrote
       fits-wrote = record { ax = omega arith; bx = omega arith; cx = omega arith; dx = omega arith; ds = omega arith; si = omega arith; es = omega arith }
 
-  none : NoneOpens (run (openOf table₁ arenaLength storeLength .desk) (calls a s))
-  none = subst (λ (o : Opening). NoneOpens (run (o .desk) (calls a s))) (sym opens-table) (closed a s la ls)
+  none : NoneOpens (run (openOf tableBytes arenaLength storeLength .desk) list)
+  none = subst (λ (o : Opening). NoneOpens (run (o .desk) list)) (sym opens-table) (closed (story a s la ls) (z₀ a s la ls))
 
-  pub example-block : ClaimBlock table₁ (openOf table₁ arenaLength storeLength .desk) 8704 (stepBlock zeros first .block) (calls a s)
+  pub example-block : ClaimBlock tableBytes (openOf tableBytes arenaLength storeLength .desk) M (stepBlock zeros first .block) list
   example-block =
-      demand-block zeros table₁ arenaLength storeLength first (calls a s) refl (bytes-table, omega arith, omega arith) passes fit
-      (none-block zeros table₁ arenaLength storeLength first (calls a s) refl (bytes-table, omega arith, omega arith) passes fit none)
+      demand-block zeros tableBytes arenaLength storeLength first list refl (bytes-table, omega arith, omega arith) passes fit
+      (none-block zeros tableBytes arenaLength storeLength first list refl (bytes-table, omega arith, omega arith) passes fit none)

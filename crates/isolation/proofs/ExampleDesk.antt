@@ -114,28 +114,31 @@ read-packet w p l e = rw l (ap Whole e)
 abbrev pub windowWith : List ℕ → List ℕ
 windowWith bytes = replicate 24 0 ++ (bytes ++ replicate 8920 0)
 
-pub length-window-with : (bytes : List ℕ) → length bytes ≡ packetLength → length (windowWith bytes) ≡ M
+length-window-with : (bytes : List ℕ) → length bytes ≡ packetLength → length (windowWith bytes) ≡ M
 length-window-with bytes e =
     length-append (replicate 24 0) (bytes ++ replicate 8920 0)
     ∙ omega (arith, length-append bytes (replicate 8920 0), length-replicate {A = ℕ} 8920 0, length-replicate {A = ℕ} 24 0, e)
 
--- ---- an arena with given windows
+-- ---- such an arena, each guest's packet in its window, and a store of sevens
 
-module _ (w : ℕ → List ℕ) (lw : (g : ℕ) → length (w g) ≡ M) where
-  -- those of the first k guests, zeros elsewhere
-  pub filled : ℕ → List ℕ
+module _ (packet : ℕ → List ℕ) (whole : (g : ℕ) → length (packet g) ≡ packetLength) where
+  long : (g : ℕ) → length (windowWith (packet g)) ≡ M
+  long g = length-window-with (packet g) (whole g)
+
+  -- with the windows of the first k guests
+  filled : ℕ → List ℕ
   filled zero = replicate arenaLength 0
-  filled (suc k) = withWindow (filled k) k M (w k)
+  filled (suc k) = withWindow (filled k) k M (windowWith (packet k))
 
-  pub length-filled : (k : ℕ) → length (filled k) ≡ arenaLength
+  length-filled : (k : ℕ) → length (filled k) ≡ arenaLength
   unfolding filled
   length-filled zero = length-replicate {A = ℕ} arenaLength 0
-  length-filled (suc k) = length-with-window (filled k) k M (w k) ∙ length-filled k
+  length-filled (suc k) = length-with-window (filled k) k M (windowWith (packet k)) ∙ length-filled k
 
   span-filled : (k g : ℕ) → g < guests → spanLength (length (filled k)) g M ≡ M
   span-filled k g b = ap (λ (n : ℕ). spanLength n g M) (length-filled k) ∙ span-in arenaLength g M (omega arith) b .1
 
-  pub window-filled : (k g : ℕ) → k ≤ guests → g < k → windowOf (filled k) g M ≡ w g
+  window-filled : (k g : ℕ) → k ≤ guests → g < k → windowOf (filled k) g M ≡ windowWith (packet g)
   unfolding filled
   window-filled zero g l b = absurd (omega arith)
   window-filled (suc k) g l b = by-guest (ℕ-discrete k g) (window-filled k g (omega arith))
@@ -143,9 +146,27 @@ module _ (w : ℕ → List ℕ) (lw : (g : ℕ) → length (w g) ≡ M) where
       below : (k g : ℕ) → g < suc k → (k ≡ g → ⊥) → g < k
       below k g b n = ⊎-elim (λ x. x) (λ x. absurd (n (omega arith))) (lt-or-le g k)
 
-      by-guest : Dec (k ≡ g) → (g < k → windowOf (filled k) g M ≡ w g) → windowOf (withWindow (filled k) k M (w k)) g M ≡ w g
+      by-guest : Dec (k ≡ g) → (g < k → windowOf (filled k) g M ≡ windowWith (packet g)) → windowOf (withWindow (filled k) k M (windowWith (packet k))) g M ≡ windowWith (packet g)
       by-guest (yes y) ih =
-          subst (λ (h : ℕ). windowOf (withWindow (filled k) k M (w k)) h M ≡ w h) y
-          (window-with-same (filled k) k M (w k) (lw k ∙ sym (span-filled k k (omega arith))))
+          subst (λ (h : ℕ). windowOf (withWindow (filled k) k M (windowWith (packet k))) h M ≡ windowWith (packet h)) y
+          (window-with-same (filled k) k M (windowWith (packet k)) (long k ∙ sym (span-filled k k (omega arith))))
       by-guest (no y) ih =
-          window-with-other (filled k) k g M (w k) y (lw k ∙ sym (span-filled k k (omega arith))) ∙ ih (below k g b y)
+          window-with-other (filled k) k g M (windowWith (packet k)) y (long k ∙ sym (span-filled k k (omega arith))) ∙ ih (below k g b y)
+
+  pub arenaOf : List ℕ
+  arenaOf = filled guests
+
+  pub length-arena : length arenaOf ≡ arenaLength
+  unfolding arenaOf
+  length-arena = length-filled guests
+
+  pub held-arena : (g : ℕ) → g < guests → packetAt (windowOf arenaOf g M) 24 ≡ packetAt (windowWith (packet g)) 24
+  unfolding arenaOf
+  held-arena g b = ap (λ (w : List ℕ). packetAt w 24) (window-filled guests g (omega arith) b)
+
+pub sevens : List ℕ
+sevens = replicate storeLength 7
+
+pub length-sevens : length sevens ≡ storeLength
+unfolding sevens
+length-sevens = length-replicate {A = ℕ} storeLength 7

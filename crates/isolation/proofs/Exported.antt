@@ -1,7 +1,7 @@
 -- The exported calls are the calls of a list.
 -- Assumes nothing.
 use Prim.Native.Nat.{ℕ}
-use mathlib.Core.Path.{_≡_, refl, sym, ap, ap₂, _∙_}
+use mathlib.Core.Path.{_≡_, refl, ap, ap₂, _∙_}
 use mathlib.Core.Bool.{Bool, true, false, not}
 use mathlib.Core.List.{List, [], _∷_}
 use lib.ListN.{length}
@@ -28,16 +28,16 @@ use Rattle.desk.specs.declared.CollectAnswer.{CollectAnswer}
 use Rattle.desk.specs.declared.CollectAnswer.the-variants.{Given as CollectGiven, Refused as CollectRefused}
 use Rattle.desk.specs.declared.WithdrawAnswer.{WithdrawAnswer}
 use Rattle.desk.specs.declared.WithdrawAnswer.the-variants.{Given as WithdrawGiven, Refused as WithdrawRefused}
-use Rattle.int13.specs.Steps.{Checked, fed, begin}
+use Rattle.int13.specs.Steps.{fed, begin}
 use Rattle.desk.specs.Parts.{windowSize, stageAt}
 use Rattle.desk.specs.Acceptable.{accept}
 use Rattle.desk.specs.Calls.{Done, done, notAcceptable, noGuest, isLent, postChecked, postRow, collectStage, withdrawStage, openOf, writtenOf, writtenOut, postOf, turnOf, collectOf, withdrawOf}
 use Rattle.desk.specs.Numbers.{openNumbers, collectNumbers}
-use Rattle.image.specs.Image.{deskSize, deskOf, laid}
-use Rattle.exports.specs.Exports.{Effect, effect, over, openBlock, openCall, writeCall, given, changed, postBlock, postEffect, postCall, turnBlock, turnEffect, turnCall, collectBlock, collectEffect, collectCall, withdrawBlock, withdrawEffect, withdrawCall}
-use Rattle.isolation.specs.Lists.{Op, openTable, post, turn, collect, withdraw, write, opening, posted, turned, collected, withdrawn, written, openedDesk, stepOf}
+use Rattle.image.specs.Image.{deskSize, deskOf}
+use Rattle.exports.specs.Exports.{effect, over, openBlock, openCall, writeCall, given, changed, postBlock, postEffect, postCall, turnBlock, turnEffect, turnCall, collectBlock, collectEffect, collectCall, withdrawBlock, withdrawEffect, withdrawCall}
+use Rattle.isolation.specs.Lists.{openTable, post, turn, collect, withdraw, write, opening, posted, turned, collected, withdrawn, written, openedDesk}
 use Rattle.isolation.specs.Words.{kindOf}
-use Rattle.isolation.specs.Blocks.{OutBlock, blockAfter, outBlock, stepBlockOf, stepBlock}
+use Rattle.isolation.specs.DeskBlocks.{OutBlock, blockAfter, stepBlock}
 use Rattle.isolation.specs.Exported.{numbersOf, does, Exported}
 
 -- ---- the block that each call leaves

@@ -14,13 +14,14 @@ use Rattle.desk.specs.declared.Stage.{Stage}
 use Rattle.desk.specs.declared.Stage.the-variants.{Vacant, Waiting, Finished}
 use Rattle.desk.specs.declared.Desk.{Desk}
 use Rattle.desk.specs.Parts.{stageAt, next}
+use Rattle.desk.specs.Acceptable.{turnBlocks}
 use Rattle.desk.specs.Calls.{quota, later, stageAfter}
 use Rattle.isolation.specs.Lists.{Call, Out, step}
-use Rattle.isolation.specs.Words.{Kind, withdraws, opens, kindOf, turnIn, withdrawalIn, movedIn, serviceIn, ifSame}
+use Rattle.isolation.specs.Words.{Marks, line, marks, Kind, withdraws, opens, kindOf, turnIn, withdrawalIn, movedIn, serviceIn, ifSame}
 use Rattle.isolation.proofs.Turn.{dist, dist-less, vacant≢waiting, finished≢waiting}
 use Rattle.logic.proofs.LogicLaws.{pick-cases}
 use Rattle.isolation.proofs.Accept.{Inv, ready}
-use Rattle.isolation.proofs.View.{Did, same, idle, answer, accepting, serving, giving, withdrawing, view, servedOut, withdrawnOut, quiet-turn, quiet-withdrawal, quiet-moved, quiet-service}
+use Rattle.isolation.proofs.View.{Did, same, idle, answer, accepting, serving, giving, withdrawing, view, servedOut, withdrawnOut, quiet-marks}
 use Rattle.isolation.proofs.Keep.{stage-same, stage-other, waiting-below, same-guest}
 
 -- the numbers of one call: turns, and withdrawals, blocks and services of g
@@ -30,13 +31,23 @@ pub record Counts (g : ℕ) (k : Kind) (t w m s : ℕ) : Type 0 where
   pub moved : movedIn g k ≡ m
   pub service : serviceIn g k ≡ s
 
+-- those of a line of zeros
+counted : {g : ℕ} {k : Kind} → marks guests k ≡ line 0 0 0 0 0 0 0 → marks g k ≡ line 0 0 0 0 0 0 0 → Counts g k 0 0 0 0
+counted e f =
+    record {
+      turn = ap (λ (m : Marks). m .turn) e;
+      withdrawal = ap (λ (m : Marks). m .withdrawal) f;
+      moved = ap (λ (m : Marks). m .moved) f;
+      service = ap (λ (m : Marks). m .service) f;
+    }
+
 pub data Fate (g : ℕ) (q : Request) (d : Desk) (o : Out) : Type 0 where
   -- no turn of this desk
   stays : stageAt (o .desk) g ≡ Waiting q → o .desk .pointer ≡ d .pointer → Counts g (kindOf (o .answer)) 0 0 0 0 → Fate g q d o
   -- a turn that serves another guest
   passes : stageAt (o .desk) g ≡ Waiting q → dist (o .desk .pointer) g < dist (d .pointer) g → Counts g (kindOf (o .answer)) 1 0 0 0 → Fate g q d o
   -- a turn that serves it and leaves some
-  parts : stageAt (o .desk) g ≡ Waiting (later q 16) → q .moved + 16 < q .job .count → o .desk .pointer ≡ next g → Counts g (kindOf (o .answer)) 1 0 16 1 → Fate g q d o
+  parts : stageAt (o .desk) g ≡ Waiting (later q turnBlocks) → q .moved + turnBlocks < q .job .count → o .desk .pointer ≡ next g → Counts g (kindOf (o .answer)) 1 0 turnBlocks 1 → Fate g q d o
   -- the finishing turn
   ends : stageAt (o .desk) g ≡ Finished (succeed (q .job .registers)) → (k : ℕ) → q .moved + k ≡ q .job .count → Counts g (kindOf (o .answer)) 1 0 k 1 → Fate g q d o
   leaves : kindOf (o .answer) ≡ withdraws g → Fate g q d o
@@ -48,14 +59,14 @@ pub same-request : {p q : Request} → Waiting p ≡ Waiting q → p ≡ q
 same-request e = cc
 
 -- sixteen where some are left, else the rest
-full : (n m : ℕ) → m + min 16 (n - m) < n → min 16 (n - m) ≡ 16
+full : (n m : ℕ) → m + min turnBlocks (n - m) < n → min turnBlocks (n - m) ≡ turnBlocks
 full n m h = omega arith
 
-pub rest : (n m : ℕ) → m < n → n ≤ m + min 16 (n - m) → m + min 16 (n - m) ≡ n
+pub rest : (n m : ℕ) → m < n → n ≤ m + min turnBlocks (n - m) → m + min turnBlocks (n - m) ≡ n
 rest n m l h = omega arith
 
 -- the stage that a service leaves, by cases
-pub after-cases : (P : Stage → Type 0) (q : Request) → (q .moved + quota q < q .job .count → quota q ≡ 16 → P (Waiting (later q (quota q))))
+pub after-cases : (P : Stage → Type 0) (q : Request) → (q .moved + quota q < q .job .count → quota q ≡ turnBlocks → P (Waiting (later q (quota q))))
     → (q .job .count ≤ q .moved + quota q → P (Finished (succeed (q .job .registers)))) → P (stageAfter q)
 unfolding stageAfter
 after-cases P q f g =
@@ -93,7 +104,7 @@ module _ (d : Desk) (inv : Inv d) (c : Call) (g : ℕ) (q : Request) (e : stageA
       stays (stage-other d h g Vacant (λ z. y (sym z)) ∙ e) refl (record { turn = refl; withdrawal = other-guest h g 1 y; moved = refl; service = refl })
 
   pub fate : (o : Out) → Did d c o → Fate g q d o
-  fate o (same x p n) = stays e refl (record { turn = quiet-turn p; withdrawal = quiet-withdrawal g p; moved = quiet-moved g p; service = quiet-service g p })
+  fate o (same x p n) = stays e refl (counted (quiet-marks guests p) (quiet-marks g p))
   fate o (idle t f) = absurd (f g q below e)
   fate o (answer h r x w t b l v ko kw k) = stays e refl (record { turn = refl; withdrawal = refl; moved = refl; service = refl })
   fate o (accepting h r j t b l v ko kw f) =

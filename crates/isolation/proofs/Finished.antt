@@ -1,7 +1,7 @@
 -- A finished row stays until its guest collects, and that hands out its registers.
 -- Assumes nothing.
 use Prim.Native.Nat.{ℕ}
-use mathlib.Core.Path.{_≡_, refl, sym, subst, _∙_}
+use mathlib.Core.Path.{_≡_, refl, sym, ap, subst, _∙_}
 use mathlib.Core.List.{List, [], _∷_}
 use native.Mathlib.Omega.{arith}
 use native.Mathlib.Decide.{ℕ-discrete}
@@ -15,9 +15,9 @@ use Rattle.desk.specs.declared.CollectAnswer.the-variants.{Given, Refused as Co
 use Rattle.desk.specs.Parts.{stageAt}
 use Rattle.desk.specs.Calls.{stageAfter, collectOf}
 use Rattle.isolation.specs.Lists.{Op, collect, Call, collected, Out, stepOf, step, run, after}
-use Rattle.isolation.specs.Words.{refused, opens, kindOf, NoneOpens, collectIn, collects}
+use Rattle.isolation.specs.Words.{Marks, refused, opens, kindOf, NoneOpens, collectIn, collects}
 use Rattle.isolation.proofs.Accept.{Inv}
-use Rattle.isolation.proofs.View.{Did, same, idle, answer, accepting, serving, giving, withdrawing, view, quiet-collect, collectedOut}
+use Rattle.isolation.proofs.View.{Did, same, idle, answer, accepting, serving, giving, withdrawing, view, quiet-marks, collectedOut}
 use Rattle.isolation.proofs.Keep.{stage-other, inv-step, same-guest}
 use Rattle.isolation.proofs.Fate.{other-guest}
 use Rattle.isolation.proofs.Equal.{request}
@@ -45,7 +45,7 @@ module _ (d : Desk) (inv : Inv d) (c : Call) (g : ℕ) (x : Registers) (e : stag
   collect-holds h r v (no y) = keeps (stage-other d h g Vacant (λ z. y (sym z)) ∙ e) (other-guest h g 1 y)
 
   holds : (o : Out) → Did d c o → Holds g x o
-  holds o (same y p n) = keeps e (quiet-collect g p)
+  holds o (same y p n) = keeps e (ap (λ (m : Marks). m .collect) (quiet-marks g p))
   holds o (idle t f) = keeps e refl
   holds o (answer h r y w t b l v ko kw k) = keeps e refl
   holds o (accepting h r j t b l v ko kw f) = keeps (stage-other d h g (Waiting (request j 0)) (λ y. vacant≢finished (sym v ∙ (rw y at e))) ∙ e) refl

@@ -44,7 +44,7 @@ use Rattle.desk.proofs.AcceptableLaws.{waits-facts}
 use Rattle.image.specs.Image.{FitsRegisters, FitsRequest, FitsStage, FitsDrive, FitsTable, FitsDesk}
 use Rattle.isolation.specs.Lists.{Op, openTable, post, turn, collect, withdraw, write, Call, Answer, opening, posted as postedTo, turned, collected, withdrawn, written, Out, openedDesk, stepOf, step}
 use Rattle.isolation.specs.Words.{opens, kindOf}
-use Rattle.isolation.specs.Blocks.{FitsOp}
+use Rattle.isolation.specs.DeskBlocks.{FitsOp}
 use Rattle.isolation.proofs.Accept.{Inv, opened-desk, all-vacant}
 use Rattle.isolation.proofs.View.{Did, same, idle, answer, accepting, serving, giving, withdrawing, view}
 use Rattle.isolation.proofs.Keep.{stage-same, stage-other, inv-did}

@@ -24,7 +24,7 @@ use Rattle.desk.specs.declared.Stage.the-variants.{Vacant, Waiting}
 use Rattle.desk.specs.declared.Row.{Row}
 use Rattle.desk.specs.declared.Desk.{Desk}
 use Rattle.desk.specs.Parts.{windowSize, vacantRow, stageAt, withStage, withPointer, next}
-use Rattle.desk.specs.Acceptable.{jobOk, stageOk}
+use Rattle.desk.specs.Acceptable.{turnBlocks, jobOk, stageOk}
 use Rattle.desk.specs.Calls.{quota, later, stageAfter, memoryOf, movedBy, withdrawnWindow}
 use Rattle.isolation.specs.Lists.{post, turn, collect, withdraw, Call, Out, step, run, after}
 use Rattle.isolation.specs.Words.{opens, kindOf, NoneOpens, serviceIn, ifSame}
@@ -67,7 +67,7 @@ inv-set d g s p inv b pb ok =
     go h (no y) = ap (stageOk (d .table) (windowSize d)) (stage-other d g h s y) ∙ inv .stages h
 
 -- sixteen more leave a multiple of sixteen
-next-whole : (n m : ℕ) → m % 16 ≡ 0 → m + min 16 (n - m) < n → (m + min 16 (n - m)) % 16 ≡ 0
+next-whole : (n m : ℕ) → m % turnBlocks ≡ 0 → m + min turnBlocks (n - m) < n → (m + min turnBlocks (n - m)) % turnBlocks ≡ 0
 next-whole n m e h = omega arith
 
 after-ok : (b : Table) (M S : ℕ) (q : Request) → jobOk b M (q .job) ≡ true → Ready b M S q → stageOk b M (stageAfter q) ≡ true
@@ -75,7 +75,7 @@ unfolding stageAfter
 after-ok b M S q j a =
     pick-cases (λ (s : Stage). stageOk b M s ≡ true) (ltb (q .moved + quota q) (q .job .count)) _ _
     (λ e. waiting-ok b M (later q (quota q)) j
-    (both-intro (eqb ((q .moved + quota q) % 16) 0) (ltb (q .moved + quota q) (q .job .count))
+    (both-intro (eqb ((q .moved + quota q) % turnBlocks) 0) (ltb (q .moved + quota q) (q .job .count))
     (eq-eqb _ _ (next-whole (q .job .count) (q .moved) (a .whole) (ltb-true _ _ e))) e))
     (λ e. refl)
 

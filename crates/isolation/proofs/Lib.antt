@@ -17,7 +17,7 @@ pub mod Example
 pub mod Written
 pub mod Fits
 pub mod Refusals
-pub mod Blocks
+pub mod DeskBlocks
 pub mod Strays
 pub mod Reopened
 pub mod ExampleBlock

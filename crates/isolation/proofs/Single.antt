@@ -1,10 +1,9 @@
 -- The registers that no answer changes, and the turn that serves.
 -- Assumes nothing.
 use Prim.Native.Nat.{ℕ, _+_, _*_, _<_}
-use mathlib.Core.Path.{_≡_, refl, sym, ap, _∙_}
-use mathlib.Core.Bool.{Bool, true, false, not}
+use mathlib.Core.Path.{_≡_, refl, ap}
+use mathlib.Core.Bool.{true, not}
 use mathlib.Core.List.{List}
-use native.Mathlib.Omega.{arith}
 use lib.ListN.{length, drop}
 use lib.Dec.{leb, ltb, eqb}
 use Rattle.logic.specs.Logic.{both, either}
@@ -26,25 +25,22 @@ use Rattle.layout.specs.declared.ResultAnswer.the-variants.{Written, Refused as
 use Rattle.layout.specs.Packet.{packetLength, readPacket}
 use Rattle.layout.specs.ResultBuffer.{resultAnswer}
 use Rattle.int13.specs.declared.Registers.{Registers}
-use Rattle.int13.specs.declared.Job.{Job}
 use Rattle.int13.specs.declared.Outcome.{Outcome}
-use Rattle.int13.specs.declared.Outcome.the-variants.{Answered, Waits}
 use Rattle.int13.specs.declared.Plan.{Plan}
 use Rattle.int13.specs.declared.Plan.the-variants.{Refuse, Clear, Finish, Wait}
-use Rattle.int13.specs.Answers.{ah, al, dl, isWrite, succeed, withdraw}
+use Rattle.int13.specs.Answers.{ah, al, dl, isWrite}
 use Rattle.int13.specs.Steps.{Checked, mostRun, mostBlocks, isDrive, driveNamed, packetPlace, verifyOk, packetTests, packetRead, packetPlan, carryOut, seekRead, seek, sectorBuffer, sectorRun, sectors, parameters, extensions, resultGiven, result, fed, driveCount, steps, begin}
 use Rattle.desk.specs.declared.Request.{Request}
 use Rattle.desk.specs.declared.Stage.the-variants.{Waiting}
 use Rattle.desk.specs.declared.Desk.{Desk}
 use Rattle.desk.specs.declared.Next.{Next}
 use Rattle.desk.specs.declared.Next.the-variants.{Guest, Nobody}
-use Rattle.desk.specs.declared.TurnAnswer.{TurnAnswer}
 use Rattle.desk.specs.Parts.{stageAt}
 use Rattle.desk.specs.Acceptable.{accept}
-use Rattle.desk.specs.Calls.{Done, isLent, firstWaiting as seekRow, quota, serveStage, turnNext, turnOf}
+use Rattle.desk.specs.Calls.{isLent, firstWaiting as seekRow, quota, serveStage, turnNext, turnOf}
 use Rattle.isolation.specs.Single.{SameSegments, KeepsSegments, Serves, Single}
 use Rattle.isolation.proofs.Accept.{accept-facts}
-use Rattle.isolation.proofs.Turn.{dist-lt, Found, seek-guest, seek-nobody}
+use Rattle.isolation.proofs.Turn.{dist-lt, seek-guest, seek-nobody}
 
 -- ---- DS, SI and ES
 

@@ -2,9 +2,9 @@
 -- Assumes nothing.
 use mathlib.Core.Path.{refl, ap, ap₂}
 use mathlib.Core.List.{List, [], _∷_}
-use Rattle.isolation.specs.Blocks.{OutBlock, stepBlock, EventBlock, eventBlock, runBlock}
+use Rattle.isolation.specs.DeskBlocks.{OutBlock, stepBlock, EventBlock, eventBlock, runBlock}
 use Rattle.isolation.specs.Strays.{own, other, runLent, Strays}
-use Rattle.isolation.proofs.Blocks.{other-size}
+use Rattle.isolation.proofs.DeskBlocks.{other-size}
 
 pub strays : Strays
 unfolding runLent runBlock

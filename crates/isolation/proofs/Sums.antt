@@ -2,12 +2,13 @@
 -- registers; P9 and P10 are turns at desks that were opened with document 01's table and posted to, whatever arenas and stores of the opening's
 -- lengths the calls are lent.
 -- Assumes nothing.
-use Prim.Native.Nat.{ℕ, zero, suc, _+_, _/_, _<_}
+use Prim.Native.Nat.{ℕ, zero, suc, _+_, _/_}
 use mathlib.Core.Path.{_≡_, refl, sym, ap, ap₂, subst, _∙_}
 use mathlib.Core.Bool.{true}
 use mathlib.Core.List.{List, [], _∷_, _++_, map}
-use native.Mathlib.Omega.{arith}
 use lib.ListN.{length, getD, replicate}
+use lib.Dec.{ltb}
+use borrow.Author.Tests.{ltb-true}
 use Rattle.logic.proofs.LogicLaws.{impossible}
 use Rattle.words.specs.Words.{le, leBytes}
 use Rattle.chs.specs.Chs.{inLimits, isValid, blockOf, blockNumbers}
@@ -35,13 +36,12 @@ use Rattle.desk.specs.declared.TurnAnswer.the-variants.{Served, Idle, Refused a
 use Rattle.desk.specs.Parts.{windowSize, stageAt, withStage, withPointer}
 use Rattle.desk.specs.Calls.{Done, isLent, opened, openOf, firstWaiting, stageAfter, serve, serveStage, turnNext, turnOf}
 use Rattle.desk.specs.Numbers.{turnNumbers}
-use Rattle.isolation.specs.Lists.{post, turn, Call, turned, outOf, step, after}
+use Rattle.isolation.specs.Lists.{post, turn, Call, turned, Out, step, after}
 use Rattle.isolation.specs.Words.{opens, kindOf}
 use Rattle.isolation.proofs.Accept.{Inv, inv-accept, inv-opened}
 use Rattle.isolation.proofs.Keep.{inv-step, Fixed, fixed-step}
-use Rattle.isolation.proofs.Bound.{after-none}
 use Rattle.isolation.proofs.Equal.{request}
-use Rattle.isolation.proofs.Trace.{call, lent, window-lent, post-waits, turn-serves, waitsOut, goes-on, goes}
+use Rattle.isolation.proofs.Trace.{call, place, Line, waiting, serving, Holds, Sized, lent, window-lent, step-line, sized-line}
 
 abbrev pub flat : List (List ℕ) → List ℕ
 flat [] = []
@@ -172,8 +172,8 @@ inv₀ = subst (λ (o : Opening). Inv (o .desk)) opening (inv-opened tableBytes 
 abbrev job : Job
 job = record { registers = postedRegisters reads; drive = 0x80; start = 0; count = 40; buffer = 0; packet = 0 }
 
-abbrev waiting : Stage
-waiting = Waiting (request job 0)
+abbrev waits : Stage
+waits = Waiting (request job 0)
 
 sectors-reads : (n : ℕ) → n ≡ 20480 → sectors true drive reads n ≡ Waits job
 unfolding sectors blockOf inLimits isValid
@@ -225,8 +225,14 @@ fixed-turn d arena store inv = fixed-step d (call turn arena store) inv (turn-no
 
 -- ---- the desks
 
+abbrev rowsOf : List Stage → ℕ → Desk
+rowsOf stages pointer = record { rows = map (λ x. record { stage = x }) stages; pointer = pointer; table = tableRead; arena = arenaLength; store = storeLength }
+
 abbrev at9 : Desk
-at9 = withStage (withStage d₀ 2 waiting) 5 waiting
+at9 = rowsOf (Vacant ∷ Vacant ∷ waits ∷ Vacant ∷ Vacant ∷ waits ∷ Vacant ∷ Vacant ∷ []) 0
+
+abbrev at10 : Desk
+at10 = rowsOf (Waiting (request job 16) ∷ replicate 7 waits) 1
 
 module _ (a s : ℕ → List ℕ) (la : (i : ℕ) → length (a i) ≡ arenaLength) (ls : (i : ℕ) → length (s i) ≡ storeLength) where
   -- an acceptable desk of the opening's lengths
@@ -239,144 +245,102 @@ module _ (a s : ℕ → List ℕ) (la : (i : ℕ) → length (a i) ≡ arenaLeng
   at₀ : At d₀
   at₀ = record { inv = inv₀; arena = refl; store = refl; table = refl }
 
-  lent-at : (d : Desk) (i : ℕ) → At d → isLent d (a i) (s i) ≡ true
-  lent-at d i t = lent d (a i) (s i) (la i ∙ sym (t .arena)) (ls i ∙ sym (t .store))
+  sized-at : (d : Desk) (i : ℕ) → At d → Sized (place d (a i) (s i))
+  sized-at d i t = record { inv = t .inv; arena = la i ∙ sym (t .arena); store = ls i ∙ sym (t .store) }
 
   as-bare : (k : ℕ) (d : Desk) → At d → turnsOf a s k d ≡ bareTurns k d
   as-bare zero d t = refl
   as-bare (suc k) d t =
-      let b = turn-bare d (t .inv) (a k) (s k) (lent-at d k t) in
+      let b = turn-bare d (t .inv) (a k) (s k) (lent d (a k) (s k) (la k ∙ sym (t .arena)) (ls k ∙ sym (t .store))) in
       let f = fixed-turn d (a k) (s k) (t .inv) in
       let u : At (turnOf d (a k) (s k) .desk)
       = record { inv = turn-inv d (t .inv) (a k) (s k); arena = f .arena ∙ t .arena; store = f .store ∙ t .store; table = f .table ∙ t .table } in
       ap (λ (l : List (List ℕ)). turnNumbers (turnOf d (a k) (s k) .answer) ∷ l) (as-bare k (turnOf d (a k) (s k) .desk) u)
       ∙ ap₂ (λ (x : TurnAnswer) (y : Desk). turnNumbers x ∷ bareTurns k y) (b .answer) (b .desk)
 
-  -- a post of a vacant row waits
-  posts : (d : Desk) (i g : ℕ) → At d → g < guests → stageAt d g ≡ Vacant → step d (posting a s i g) ≡ waitsOut d (a i) (s i) g job
-  posts d i g t b v =
-      post-waits d (t .inv) (a i) (s i) g reads job (lent-at d i t) b v
-      (subst (λ (x : Table). begin (fed x) reads (windowOf (a i) g (windowSize d)) ≡ unchanged (windowOf (a i) g (windowSize d)) (Waits job)) (sym (t .table))
-      (check-reads (windowOf (a i) g (windowSize d)) (window-lent d (a i) g (la i ∙ sym (t .arena)) b ∙ ap windowLength (t .arena))))
+  -- the guests of a list post one after the other, the calls numbered from i
+  abbrev postings : ℕ → List ℕ → List Call
+  postings i [] = []
+  postings i (g ∷ gs) = posting a s i g ∷ postings (i + 1) gs
 
-  posted-at : (d : Desk) (i g : ℕ) → At d → g < guests → stageAt d g ≡ Vacant → At (withStage d g waiting)
-  posted-at d i g t b v =
-      record {
-        inv = goes-on d (posting a s i g) (waitsOut d (a i) (s i) g job) (t .inv) (posts d i g t b v) (λ e. impossible cc);
-        arena = t .arena;
-        store = t .store;
-        table = t .table;
-      }
+  abbrev asked : Desk → List ℕ → Desk
+  asked d [] = d
+  asked d (g ∷ gs) = asked (withStage d g waits) gs
 
-  -- one more post of the list
-  more : (d : Desk) (i g : ℕ) (cs : List Call) (x : Desk) → At d → g < guests → stageAt d g ≡ Vacant → after (withStage d g waiting) cs ≡ x
-      → after d (posting a s i g ∷ cs) ≡ x
-  more d i g cs x t b v f = goes d (posting a s i g) (waitsOut d (a i) (s i) g job) cs x (posts d i g t b v) f
+  abbrev Free : Desk → List ℕ → Type 0
+  Free d [] = Unit
+  Free d (g ∷ gs) = ((ltb g guests ≡ true) × (stageAt d g ≡ Vacant)) × Free (withStage d g waits) gs
+
+  holds : (d : Desk) (i g : ℕ) → At d → (ltb g guests ≡ true) × (stageAt d g ≡ Vacant) → Holds (place d (a i) (s i)) (waiting g reads job)
+  holds d i g t f = (
+    f .0,
+    f .1,
+    subst (λ (x : Table). begin (fed x) reads (windowOf (a i) g (windowSize d)) ≡ unchanged (windowOf (a i) g (windowSize d)) (Waits job)) (sym (t .table))
+        (check-reads (windowOf (a i) g (windowSize d)) (window-lent d (a i) g (la i ∙ sym (t .arena)) (ltb-true g guests (f .0)) ∙ ap windowLength (t .arena))),
+  )
+
+  all-post : (gs : List ℕ) (i : ℕ) (d : Desk) → At d → Free d gs → (after d (postings i gs) ≡ asked d gs) × At (asked d gs)
+  unfolding after
+  all-post [] i d t f = (refl, t)
+  all-post (g ∷ gs) i d t f =
+      let h = holds d i g t (f .0) in
+      let u : At (withStage d g waits)
+      = record { inv = sized-line (place d (a i) (s i)) (waiting g reads job) (sized-at d i t) h .inv; arena = t .arena; store = t .store; table = t .table } in
+      let r = all-post gs (i + 1) (withStage d g waits) u (f .1) in
+      (ap (λ (o : Out). after (o .desk) (postings (i + 1) gs)) (step-line (place d (a i) (s i)) (sized-at d i t) (waiting g reads job) h) ∙ r .0, r .1)
 
   from-start : (cs : List Call) → after (start a s) cs ≡ after d₀ cs
   from-start cs = ap (λ (o : Opening). after (o .desk) cs) opening
 
-  at₉′ : At (withStage d₀ 2 waiting)
-  at₉′ = posted-at d₀ 0 2 at₀ (omega arith) refl
-
-  p9-is : p9 a s ≡ at9
-  p9-is =
-      from-start (posting a s 0 2 ∷ posting a s 1 5 ∷ [])
-      ∙ more d₀ 0 2 _ at9 at₀ (omega arith) refl (more (withStage d₀ 2 waiting) 1 5 _ at9 at₉′ (omega arith) refl (after-none at9))
+  two : (after d₀ (postings 0 (2 ∷ 5 ∷ [])) ≡ at9) × At at9
+  two = all-post (2 ∷ 5 ∷ []) 0 d₀ at₀ ((refl, refl), ((refl, refl), tt))
 
   -- guest 0 waits, is served once, and then the others wait
   abbrev t₁ : Desk
-  t₁ = withStage d₀ 0 waiting
+  t₁ = withStage d₀ 0 waits
 
   abbrev t₂ : Desk
   t₂ = withPointer (withStage t₁ 0 (Waiting (request job 16))) 1
 
-  abbrev t₃ : Desk
-  t₃ = withStage t₂ 1 waiting
+  abbrev serves₀ : Line
+  serves₀ = serving 0 (request job 0) (Waiting (request job 16))
 
-  abbrev t₄ : Desk
-  t₄ = withStage t₃ 2 waiting
+  one : At t₁
+  one = all-post (0 ∷ []) 0 d₀ at₀ ((refl, refl), tt) .1
 
-  abbrev t₅ : Desk
-  t₅ = withStage t₄ 3 waiting
+  served : Holds (place t₁ (a 1) (s 1)) serves₀
+  unfolding firstWaiting stageAfter
+  served = (refl, refl, refl)
 
-  abbrev t₆ : Desk
-  t₆ = withStage t₅ 4 waiting
+  at₂ : At t₂
+  at₂ = record { inv = sized-line (place t₁ (a 1) (s 1)) serves₀ (sized-at t₁ 1 one) served .inv; arena = refl; store = refl; table = refl }
 
-  abbrev t₇ : Desk
-  t₇ = withStage t₆ 5 waiting
+  abbrev others : List ℕ
+  others = 1 ∷ 2 ∷ 3 ∷ 4 ∷ 5 ∷ 6 ∷ 7 ∷ []
 
-  abbrev t₈ : Desk
-  t₈ = withStage t₇ 6 waiting
+  seven : (after t₂ (postings 2 others) ≡ at10) × At at10
+  seven =
+      all-post others 2 t₂ at₂
+      ((refl, refl), ((refl, refl), ((refl, refl), ((refl, refl), ((refl, refl), ((refl, refl), ((refl, refl), tt)))))))
 
-  abbrev t₉ : Desk
-  t₉ = withStage t₈ 7 waiting
-
-  x₁ : At t₁
-  x₁ = posted-at d₀ 0 0 at₀ (omega arith) refl
-
-  served : step t₁ (turning a s 1) ≡ outOf turned (serve t₁ 0 (request job 0) (a 1) (s 1))
-  unfolding firstWaiting
-  served = turn-serves t₁ (x₁ .inv) (a 1) (s 1) 0 (request job 0) (lent-at t₁ 1 x₁) refl refl
-
-  x₂ : At t₂
-  unfolding stageAfter
-  x₂ =
-      record {
-        inv = goes-on t₁ (turning a s 1) (outOf turned (serve t₁ 0 (request job 0) (a 1) (s 1))) (x₁ .inv) served (λ e. impossible cc);
-        arena = refl;
-        store = refl;
-        table = refl;
-      }
-
-  x₃ : At t₃
-  x₃ = posted-at t₂ 2 1 x₂ (omega arith) refl
-
-  x₄ : At t₄
-  x₄ = posted-at t₃ 3 2 x₃ (omega arith) refl
-
-  x₅ : At t₅
-  x₅ = posted-at t₄ 4 3 x₄ (omega arith) refl
-
-  x₆ : At t₆
-  x₆ = posted-at t₅ 5 4 x₅ (omega arith) refl
-
-  x₇ : At t₇
-  x₇ = posted-at t₆ 6 5 x₆ (omega arith) refl
-
-  x₈ : At t₈
-  x₈ = posted-at t₇ 7 6 x₇ (omega arith) refl
-
-  then : (cs : List Call) (x : Desk) → after t₂ cs ≡ x → after t₁ (turning a s 1 ∷ cs) ≡ x
-  unfolding stageAfter
-  then cs x f = goes t₁ (turning a s 1) (outOf turned (serve t₁ 0 (request job 0) (a 1) (s 1))) cs x served f
-
-  p10-is : p10 a s ≡ t₉
+  p10-is : p10 a s ≡ at10
+  unfolding after
   p10-is =
-      from-start _
-      ∙ more d₀ 0 0 _ t₉ at₀ (omega arith) refl
-      (then _ t₉
-      (more t₂ 2 1 _ t₉ x₂ (omega arith) refl
-      (more t₃ 3 2 _ t₉ x₃ (omega arith) refl
-      (more t₄ 4 3 _ t₉ x₄ (omega arith) refl
-      (more t₅ 5 4 _ t₉ x₅ (omega arith) refl
-      (more t₆ 6 5 _ t₉ x₆ (omega arith) refl
-      (more t₇ 7 6 _ t₉ x₇ (omega arith) refl
-      (more t₈ 8 7 _ t₉ x₈ (omega arith) refl (after-none t₉)))))))))
-
-  x₉ : At t₉
-  x₉ = posted-at t₈ 8 7 x₈ (omega arith) refl
+      from-start (posting a s 0 0 ∷ turning a s 1 ∷ postings 2 others)
+      ∙ ap (λ (o : Out). after (o .desk) (turning a s 1 ∷ postings 2 others))
+      (step-line (place d₀ (a 0) (s 0)) (sized-at d₀ 0 at₀) (waiting 0 reads job) (holds d₀ 0 0 at₀ (refl, refl)))
+      ∙ ap (λ (o : Out). after (o .desk) (postings 2 others)) (step-line (place t₁ (a 1) (s 1)) (sized-at t₁ 1 one) serves₀ served)
+      ∙ seven .0
 
   p9-turns : flat (turnsOf a s 6 (p9 a s)) ≡ 0 ∷ 2 ∷ 16 ∷ 0 ∷ 5 ∷ 16 ∷ 0 ∷ 2 ∷ 16 ∷ 0 ∷ 5 ∷ 16 ∷ 0 ∷ 2 ∷ 8 ∷ 0 ∷ 5 ∷ 8 ∷ []
   unfolding firstWaiting stageAfter turnNumbers
   p9-turns =
-      ap (λ (d : Desk). flat (turnsOf a s 6 d)) p9-is
-      ∙ ap flat (as-bare 6 at9 (posted-at (withStage d₀ 2 waiting) 1 5 at₉′ (omega arith) refl))
+      ap (λ (d : Desk). flat (turnsOf a s 6 d)) (from-start (postings 0 (2 ∷ 5 ∷ [])) ∙ two .0) ∙ ap flat (as-bare 6 at9 (two .1))
 
   p10-turns : flat (turnsOf a s 8 (p10 a s))
       ≡ 0 ∷ 1 ∷ 16 ∷ 0 ∷ 2 ∷ 16 ∷ 0 ∷ 3 ∷ 16 ∷ 0 ∷ 4 ∷ 16 ∷ 0 ∷ 5 ∷ 16 ∷ 0 ∷ 6 ∷ 16 ∷ 0 ∷ 7 ∷ 16 ∷ 0 ∷ 0 ∷ 16 ∷ []
   unfolding firstWaiting stageAfter turnNumbers
-  p10-turns = ap (λ (d : Desk). flat (turnsOf a s 8 d)) p10-is ∙ ap flat (as-bare 8 t₉ x₉)
+  p10-turns = ap (λ (d : Desk). flat (turnsOf a s 8 d)) p10-is ∙ ap flat (as-bare 8 at10 (seven .1))
 
   -- ---- the sums, one statement over one list: code and value of each
 

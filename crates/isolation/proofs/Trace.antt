@@ -1,50 +1,190 @@
--- A list of calls followed one by one: each call by its result, and what the conditions of the demand ask at each. For the instances.
+-- Lists of calls by lines: a line is a call and what it comes to. From the facts that each line asks for, its list follows by number: the events, that
+-- none opens, and the conditions of the demand. For the instances.
 -- Assumes nothing.
-use Prim.Native.Nat.{ℕ, _≤_, _<_}
-use mathlib.Core.Path.{_≡_, refl, sym, ap, subst, _∙_}
-use mathlib.Core.Bool.{true, false}
-use mathlib.Core.List.{List, [], _∷_}
+use Prim.Native.Nat.{ℕ, _+_, _≤_, _<_}
+use mathlib.Core.Path.{_≡_, refl, sym, ap, subst, subst₂, _∙_}
+use mathlib.Core.Logic.{⊎-elim}
+use mathlib.Core.Bool.{Bool, true, false, not}
+use mathlib.Core.List.{List, [], _∷_, _++_, append-nil}
 use native.Mathlib.Omega.{arith}
 use lib.ListN.{length}
-use lib.Dec.{eqb}
-use borrow.Author.Tests.{eq-eqb, lt-ltb}
-use Rattle.logic.proofs.LogicLaws.{both-intro}
+use lib.Dec.{eqb, leb, ltb}
+use borrow.Author.Tests.{eq-eqb, eqb-true, leb-true, not-true}
+use Rattle.logic.specs.Logic.{pick, both, either}
+use Rattle.logic.proofs.LogicLaws.{impossible, both-true, both-intro, either-true, pick-cases, true≢false}
 use Rattle.memory.specs.Window.{guests, windowLength, windowOf, withWindow}
 use Rattle.memory.proofs.WindowLaws.{span-in, length-window, length-with-window, with-window-same}
+use Rattle.table.specs.declared.Table.{Table}
+use Rattle.table.specs.Table.{headerOf, headerAt, stepOf as tableStepOf, stepAt, readFrom, readTable}
 use Rattle.int13.specs.declared.Registers.{Registers}
 use Rattle.int13.specs.declared.Job.{Job}
 use Rattle.int13.specs.declared.Outcome.the-variants.{Answered, Waits}
 use Rattle.int13.specs.Answers.{ah, isSectors, isWrite, withdraw as withdrawnRegisters}
 use Rattle.int13.specs.Steps.{Checked, unchanged, fed, begin}
-use Rattle.int13.specs.Alone.{storeBlock, moves}
+use Rattle.int13.specs.Alone.{Memory, storeBlock, moves, alone}
 use Rattle.desk.specs.declared.Request.{Request}
 use Rattle.desk.specs.declared.Stage.{Stage}
 use Rattle.desk.specs.declared.Stage.the-variants.{Vacant, Waiting, Finished}
 use Rattle.desk.specs.declared.Desk.{Desk}
 use Rattle.desk.specs.declared.Next.{Next}
 use Rattle.desk.specs.declared.Next.the-variants.{Guest, Nobody}
+use Rattle.desk.specs.declared.OpenAnswer.the-variants.{Refused as OpenRefused}
 use Rattle.desk.specs.declared.PostAnswer.the-variants.{Answered as PostAnswered, Waits as PostWaits}
 use Rattle.desk.specs.declared.TurnAnswer.the-variants.{Served, Idle, Refused as TurnRefused}
 use Rattle.desk.specs.declared.CollectAnswer.the-variants.{Given as CollectGiven}
 use Rattle.desk.specs.declared.WithdrawAnswer.the-variants.{Given as WithdrawGiven}
 use Rattle.desk.specs.Parts.{windowSize, stageAt, withStage, next, withPointer}
-use Rattle.desk.specs.Calls.{otherLength, isLent, postChecked, postRow, postOf, firstWaiting, quota, stageAfter, memoryOf, movedBy, serve, serveStage, turnNext, turnOf, collectStage, collectOf, withdrawnWindow, withdrawStage, withdrawOf}
-use Rattle.isolation.specs.Lists.{Op, post, turn, collect, withdraw, Call, posted, turned, collected, withdrawn, Out, outOf, step, Event, run, after}
-use Rattle.isolation.specs.Words.{Kind, refused, plain, opens, answers, accepts, serves, idles, hands, withdraws, kindOf, kindIn, NoneOpens, total, Named, Writes}
+use Rattle.desk.specs.Calls.{otherLength, isLent, openOf, postChecked, postRow, postOf, firstWaiting, quota, stageAfter, memoryOf, movedBy, serve, serveStage, turnNext, turnOf, collectStage, collectOf, withdrawnWindow, withdrawStage, withdrawOf}
+use Rattle.isolation.specs.Lists.{Op, openTable, post, turn, collect, withdraw, Call, Answer, opening, posted, turned, collected, withdrawn, Out, outOf, step, Event, run, after}
+use Rattle.isolation.specs.Words.{Kind, opens, serves, kindOf, NoneOpens, Waits as WaitsOn, Finishes, moved, Named, Writes, Unwritten, Left}
+use Rattle.isolation.specs.Demand.{foundBy, askedBy, firstBy, Taken, Same, Claim}
 use Rattle.isolation.proofs.Moves.{moves-size}
 use Rattle.isolation.proofs.Accept.{Inv, inv-accept}
-use Rattle.isolation.proofs.Keep.{inv-step}
+use Rattle.isolation.proofs.Keep.{inv-step, fixed-step}
 use Rattle.isolation.proofs.Fate.{same-request}
 use Rattle.isolation.proofs.Equal.{request}
 
 abbrev pub call : Op → List ℕ → List ℕ → Call
 call op arena store = record { op = op; arena = arena; store = store }
 
--- the next call finds what the one before left
-abbrev pub then : Op → Out → Call
-then op o = call op (o .arena) (o .store)
+-- ---- where a list has come to, and its next line
 
--- ---- each call by its result, at an acceptable desk
+-- the desk, and the arena and the store that the next call is lent
+pub record Place : Type 0 where
+  pub desk : Desk
+  pub arena : List ℕ
+  pub store : List ℕ
+
+abbrev pub place : Desk → List ℕ → List ℕ → Place
+place d a s = record { desk = d; arena = a; store = s }
+
+abbrev pub windowAt : Place → ℕ → List ℕ
+windowAt p g = windowOf (p .arena) g (windowSize (p .desk))
+
+pub data Line : Type 0 where
+  -- a post that waits, with its job
+  waiting : ℕ → Registers → Job → Line
+  -- a post that is answered at once, and what becomes of its window
+  answering : ℕ → Registers → Registers → (List ℕ → List ℕ) → Line
+  -- a turn that serves a guest's request, and the row's stage after it
+  serving : ℕ → Request → Stage → Line
+  -- a turn while nobody waits; one that is lent nothing
+  idling : Line
+  unlent : Line
+  -- a withdrawal of an 02h or 03h, which has its blocks in AL
+  withdrawing : ℕ → Request → Line
+  collecting : ℕ → Registers → Line
+  -- an opening with no table
+  misopening : Line
+
+abbrev opOf : Line → Op
+opOf (waiting g r j) = post g r
+opOf (answering g r x f) = post g r
+opOf (serving g q st) = turn
+opOf idling = turn
+opOf unlent = turn
+opOf (withdrawing g q) = withdraw g
+opOf (collecting g r) = collect g
+opOf misopening = openTable [] 0 0
+
+abbrev answerTo : Line → Answer
+answerTo (waiting g r j) = posted g PostWaits
+answerTo (answering g r x f) = posted g (PostAnswered x)
+answerTo (serving g q st) = turned (Served g (quota q))
+answerTo idling = turned Idle
+answerTo unlent = turned (TurnRefused otherLength)
+answerTo (withdrawing g q) = withdrawn g (WithdrawGiven (withdrawnRegisters (q .moved) (q .job .registers)))
+answerTo (collecting g r) = collected g (CollectGiven r)
+answerTo misopening = opening (OpenRefused 1 0)
+
+-- whether it is lent arena and store
+abbrev isGiven : Line → Bool
+isGiven (waiting g r j) = true
+isGiven (answering g r x f) = true
+isGiven (serving g q st) = true
+isGiven idling = true
+isGiven unlent = false
+isGiven (withdrawing g q) = true
+isGiven (collecting g r) = false
+isGiven misopening = false
+
+abbrev isWriting : Request → Bool
+isWriting q = isWrite (ah (q .job .registers))
+
+-- a turn that writes leaves the arena, one that reads the store
+abbrev arenaIf : Bool → Place → ℕ → Request → List ℕ
+arenaIf w p g q = pick w (p .arena) (withWindow (p .arena) g (windowSize (p .desk)) (movedBy (p .desk) g q (p .arena) (p .store) .window))
+
+abbrev storeIf : Bool → Place → ℕ → Request → List ℕ
+storeIf w p g q = pick w (movedBy (p .desk) g q (p .arena) (p .store) .store) (p .store)
+
+abbrev pub leaves : Place → Line → Place
+leaves p (waiting g r j) = place (withStage (p .desk) g (Waiting (request j 0))) (p .arena) (p .store)
+leaves p (answering g r x f) = place (p .desk) (withWindow (p .arena) g (windowSize (p .desk)) (f (windowAt p g))) (p .store)
+leaves p (serving g q st) = place (withPointer (withStage (p .desk) g st) (next g)) (arenaIf (isWriting q) p g q) (storeIf (isWriting q) p g q)
+leaves p idling = p
+leaves p unlent = p
+leaves p (withdrawing g q) = place (withStage (p .desk) g Vacant) (p .arena) (p .store)
+leaves p (collecting g r) = place (withStage (p .desk) g Vacant) (p .arena) (p .store)
+leaves p misopening = p
+
+abbrev pub callOf : Place → Line → Call
+callOf p l = call (opOf l) (pick (isGiven l) (p .arena) []) (pick (isGiven l) (p .store) [])
+
+abbrev pub outAt : Place → Line → Out
+outAt p l =
+    record {
+      desk = leaves p l .desk;
+      answer = answerTo l;
+      arena = pick (isGiven l) (leaves p l .arena) [];
+      store = pick (isGiven l) (leaves p l .store) [];
+    }
+
+-- what a line asks for
+abbrev pub Holds : Place → Line → Type 0
+Holds p (waiting g r j) =
+    (ltb g guests ≡ true) × (stageAt (p .desk) g ≡ Vacant) × (begin (fed (p .desk .table)) r (windowAt p g) ≡ unchanged (windowAt p g) (Waits j))
+Holds p (answering g r x f) =
+    (ltb g guests ≡ true) × (stageAt (p .desk) g ≡ Vacant) × (begin (fed (p .desk .table)) r (windowAt p g) ≡ record { outcome = Answered x; window = f (windowAt p g) })
+Holds p (serving g q st) = (firstWaiting (p .desk .rows) guests (p .desk .pointer) ≡ Guest g) × (stageAt (p .desk) g ≡ Waiting q) × (stageAfter q ≡ st)
+Holds p idling = firstWaiting (p .desk .rows) guests (p .desk .pointer) ≡ Nobody
+Holds p unlent = isLent (p .desk) [] [] ≡ false
+Holds p (withdrawing g q) = (ltb g guests ≡ true) × (stageAt (p .desk) g ≡ Waiting q) × (isSectors (ah (q .job .registers)) ≡ true)
+Holds p (collecting g r) = (ltb g guests ≡ true) × (stageAt (p .desk) g ≡ Finished r)
+Holds p misopening = Unit
+
+-- ---- a list of lines
+
+abbrev pub placeAfter : Place → List Line → Place
+placeAfter p [] = p
+placeAfter p (l ∷ ls) = placeAfter (leaves p l) ls
+
+abbrev pub callsOf : Place → List Line → List Call
+callsOf p [] = []
+callsOf p (l ∷ ls) = callOf p l ∷ callsOf (leaves p l) ls
+
+abbrev pub entry : Place → Line → Event
+entry p l = record { desk = p .desk; call = callOf p l; out = outAt p l }
+
+abbrev pub events : Place → List Line → List Event
+events p [] = []
+events p (l ∷ ls) = entry p l ∷ events (leaves p l) ls
+
+abbrev pub All : Place → List Line → Type 0
+All p [] = Unit
+All p (l ∷ ls) = Holds p l × All (leaves p l) ls
+
+-- one line's facts, and those of the lines after it
+infixr 5 _also_
+pub _also_ : {A B : Type 0} → A → B → A × B
+x also y = (x, y)
+
+-- ---- each line by its result, at an acceptable desk and with the opening's lengths
+
+pub record Sized (p : Place) : Type 0 where
+  pub inv : Inv (p .desk)
+  pub arena : length (p .arena) ≡ p .desk .arena
+  pub store : length (p .store) ≡ p .desk .store
 
 pub lent : (d : Desk) (a s : List ℕ) → length a ≡ d .arena → length s ≡ d .store → isLent d a s ≡ true
 lent d a s e f = both-intro (eqb (length a) (d .arena)) (eqb (length s) (d .store)) (eq-eqb _ _ e) (eq-eqb _ _ f)
@@ -54,184 +194,329 @@ window-lent d a g e b =
     let l : windowSize d ≤ windowLength (length a) = omega (arith, e) in
     length-window a g (windowSize d) ∙ span-in (length a) g (windowSize d) l b .1
 
--- what each call leaves
-module _ (d : Desk) (a s : List ℕ) where
-  -- a post that waits writes nothing
-  abbrev pub waitsOut : ℕ → Job → Out
-  waitsOut g j = record { desk = withStage d g (Waiting (request j 0)); answer = posted g PostWaits; arena = a; store = s }
-
-  abbrev pub answeredOut : ℕ → Registers → List ℕ → Out
-  answeredOut g x w = record { desk = d; answer = posted g (PostAnswered x); arena = withWindow a g (windowSize d) w; store = s }
-
-  -- what a turn leaves that serves g's request q, by the stage after it: a write leaves the arena, a read the store
-  abbrev pub servedTo : ℕ → Request → Stage → List ℕ → List ℕ → Out
-  servedTo g q st arena store =
-      record { desk = withPointer (withStage d g st) (next g); answer = turned (Served g (quota q)); arena = arena; store = store }
-
-  abbrev pub storeAfter : ℕ → Request → List ℕ
-  storeAfter g q = movedBy d g q a s .store
-
-  abbrev pub arenaAfter : ℕ → Request → List ℕ
-  arenaAfter g q = withWindow a g (windowSize d) (movedBy d g q a s .window)
-
-  -- their lengths stay
-  pub length-store : (g : ℕ) (q : Request) → length (storeAfter g q) ≡ length s
-  length-store g q = moves-size (q .job) (storeBlock (d .table) (q .job)) (q .moved) (quota q) (memoryOf d g a s) .store
-
-  pub length-arena : (g : ℕ) (q : Request) → length (arenaAfter g q) ≡ length a
-  length-arena g q = length-with-window a g (windowSize d) (movedBy d g q a s .window)
-
-  abbrev pub idleOut : Out
-  idleOut = record { desk = d; answer = turned Idle; arena = a; store = s }
-
-  abbrev pub turn24Out : Out
-  turn24Out = record { desk = d; answer = turned (TurnRefused otherLength); arena = a; store = s }
-
-  -- a withdrawn 02h or 03h has its moved blocks in AL, and nothing is written
-  abbrev pub withdrawnTo : ℕ → Request → Out
-  withdrawnTo g q = record { desk = withStage d g Vacant; answer = withdrawn g (WithdrawGiven (withdrawnRegisters (q .moved) (q .job .registers))); arena = a; store = s }
-
-  abbrev pub collectedTo : ℕ → Registers → Out
-  collectedTo g r = record { desk = withStage d g Vacant; answer = collected g (CollectGiven r); arena = a; store = s }
-
-module _ (d : Desk) (inv : Inv d) (a s : List ℕ) where
-  checked : (g : ℕ) (r : Registers) → isLent d a s ≡ true → g < guests → stageAt d g ≡ Vacant → (k : Checked)
+module _ (d : Desk) (inv : Inv d) (a s : List ℕ) (l : isLent d a s ≡ true) where
+  pub post-checked : (g : ℕ) (r : Registers) → ltb g guests ≡ true → stageAt d g ≡ Vacant → (k : Checked)
       → begin (fed (d .table)) r (windowOf a g (windowSize d)) ≡ k → step d (call (post g r) a s) ≡ outOf (posted g) (postChecked d g a s (k .outcome) (k .window))
   unfolding step postOf
-  checked g r l b v k e =
-      rw (inv-accept d inv, l, lt-ltb g guests b)
+  post-checked g r b v k e =
+      rw (inv-accept d inv, l, b)
       (ap (λ (x : Stage). outOf (posted g) (postRow d g r a s x)) v ∙ ap (λ (x : Checked). outOf (posted g) (postChecked d g a s (x .outcome) (x .window))) e)
 
-  pub post-waits : (g : ℕ) (r : Registers) (j : Job) → isLent d a s ≡ true → g < guests → stageAt d g ≡ Vacant
-      → begin (fed (d .table)) r (windowOf a g (windowSize d)) ≡ unchanged (windowOf a g (windowSize d)) (Waits j) → step d (call (post g r) a s) ≡ waitsOut d a s g j
-  post-waits g r j l b v e =
-      checked g r l b v (unchanged (windowOf a g (windowSize d)) (Waits j)) e
-      ∙ ap (λ (x : List ℕ). record { desk = withStage d g (Waiting (request j 0)); answer = posted g PostWaits; arena = x; store = s }) (with-window-same a g (windowSize d))
-
-  pub post-answered : (g : ℕ) (r x : Registers) (w : List ℕ) → isLent d a s ≡ true → g < guests → stageAt d g ≡ Vacant
-      → begin (fed (d .table)) r (windowOf a g (windowSize d)) ≡ record { outcome = Answered x; window = w } → step d (call (post g r) a s) ≡ answeredOut d a s g x w
-  post-answered g r x w l b v e = checked g r l b v (record { outcome = Answered x; window = w }) e
-
-  pub turn-serves : (g : ℕ) (q : Request) → isLent d a s ≡ true → firstWaiting (d .rows) guests (d .pointer) ≡ Guest g → stageAt d g ≡ Waiting q
+  pub turn-serves : (g : ℕ) (q : Request) → firstWaiting (d .rows) guests (d .pointer) ≡ Guest g → stageAt d g ≡ Waiting q
       → step d (call turn a s) ≡ outOf turned (serve d g q a s)
   unfolding step turnOf
-  turn-serves g q l n v =
+  turn-serves g q n v =
       rw (inv-accept d inv, l)
       (ap (λ (x : Next). outOf turned (turnNext d x a s)) n ∙ ap (λ (x : Stage). outOf turned (serveStage d g x a s)) v)
 
-  pub turn-writes : (g : ℕ) (q : Request) (st : Stage) → isLent d a s ≡ true → firstWaiting (d .rows) guests (d .pointer) ≡ Guest g → stageAt d g ≡ Waiting q
-      → isWrite (ah (q .job .registers)) ≡ true → stageAfter q ≡ st → step d (call turn a s) ≡ servedTo d a s g q st a (storeAfter d a s g q)
+module _ (p : Place) (z : Sized p) where
+  given : isLent (p .desk) (p .arena) (p .store) ≡ true
+  given = lent (p .desk) (p .arena) (p .store) (z .arena) (z .store)
+
+  -- a window that is written back as it was leaves the arena
+  same-arena : (f : List ℕ → Out) (g : ℕ) (w : List ℕ) → w ≡ windowAt p g → f (withWindow (p .arena) g (windowSize (p .desk)) w) ≡ f (p .arena)
+  same-arena f g w e = rw e (ap f (with-window-same (p .arena) g (windowSize (p .desk))))
+
+  serves-line : (g : ℕ) (q : Request) (st : Stage) → Holds p (serving g q st) → step (p .desk) (callOf p (serving g q st)) ≡ outAt p (serving g q st)
   unfolding moves
-  turn-writes g q st l n v w e =
-      turn-serves g q l n v
-      ∙ ap (λ (x : List ℕ). servedTo d a s g q (stageAfter q) (withWindow a g (windowSize d) x) (storeAfter d a s g q)) same-window
-      ∙ ap (λ (x : List ℕ). servedTo d a s g q (stageAfter q) x (storeAfter d a s g q)) (with-window-same a g (windowSize d))
-      ∙ ap (λ (x : Stage). servedTo d a s g q x a (storeAfter d a s g q)) e
+  serves-line g q st h =
+      turn-serves (p .desk) (z .inv) (p .arena) (p .store) given g q (h .0) (h .1)
+      ∙ ap (λ (x : Stage). left x (withWindow (p .arena) g (windowSize (p .desk)) (to .window)) (to .store)) (h .2)
+      ∙ by (isWriting q) refl
     where
-      same-window : movedBy d g q a s .window ≡ windowOf a g (windowSize d)
-      same-window = rw w
+      to : Memory
+      to = movedBy (p .desk) g q (p .arena) (p .store)
 
-  pub turn-reads : (g : ℕ) (q : Request) (st : Stage) → isLent d a s ≡ true → firstWaiting (d .rows) guests (d .pointer) ≡ Guest g → stageAt d g ≡ Waiting q
-      → isWrite (ah (q .job .registers)) ≡ false → stageAfter q ≡ st → step d (call turn a s) ≡ servedTo d a s g q st (arenaAfter d a s g q) s
-  unfolding moves
-  turn-reads g q st l n v w e =
-      turn-serves g q l n v
-      ∙ ap (λ (x : List ℕ). servedTo d a s g q (stageAfter q) (arenaAfter d a s g q) x) same-store
-      ∙ ap (λ (x : Stage). servedTo d a s g q x (arenaAfter d a s g q) s) e
-    where
-      same-store : movedBy d g q a s .store ≡ s
-      same-store = rw w
+      left : Stage → List ℕ → List ℕ → Out
+      left x a s = record { desk = withPointer (withStage (p .desk) g x) (next g); answer = turned (Served g (quota q)); arena = a; store = s }
 
-  pub turn-idle : isLent d a s ≡ true → firstWaiting (d .rows) guests (d .pointer) ≡ Nobody → step d (call turn a s) ≡ idleOut d a s
-  unfolding step turnOf
-  turn-idle l n = rw (inv-accept d inv, l) (ap (λ (x : Next). outOf turned (turnNext d x a s)) n)
+      by : (w : Bool) → isWriting q ≡ w
+          → left st (withWindow (p .arena) g (windowSize (p .desk)) (to .window)) (to .store) ≡ left st (arenaIf w p g q) (storeIf w p g q)
+      by true e = same-arena (λ a. left st a (to .store)) g (to .window) (rw e)
+      by false e = ap (left st (withWindow (p .arena) g (windowSize (p .desk)) (to .window))) (rw e)
 
-  pub turn-24 : isLent d a s ≡ false → step d (call turn a s) ≡ turn24Out d a s
-  unfolding step turnOf
-  turn-24 l = rw (inv-accept d inv, l)
+  pub step-line : (l : Line) → Holds p l → step (p .desk) (callOf p l) ≡ outAt p l
+  unfolding step turnOf collectOf withdrawOf openOf readTable readFrom stepAt tableStepOf headerAt headerOf
+  step-line (waiting g r j) h =
+      post-checked (p .desk) (z .inv) (p .arena) (p .store) given g r (h .0) (h .1) (unchanged (windowAt p g) (Waits j)) (h .2)
+      ∙ same-arena (λ a. record { desk = withStage (p .desk) g (Waiting (request j 0)); answer = posted g PostWaits; arena = a; store = p .store }) g (windowAt p g) refl
+  step-line (answering g r x f) h =
+      post-checked (p .desk) (z .inv) (p .arena) (p .store) given g r (h .0) (h .1) (record { outcome = Answered x; window = f (windowAt p g) }) (h .2)
+  step-line (serving g q st) h = serves-line g q st h
+  step-line idling h = rw (inv-accept (p .desk) (z .inv), given) (ap (λ (x : Next). outOf turned (turnNext (p .desk) x (p .arena) (p .store))) h)
+  step-line unlent h = rw (inv-accept (p .desk) (z .inv), h)
+  step-line (withdrawing g q) h =
+      rw (inv-accept (p .desk) (z .inv), given, h .0)
+      (ap (λ (x : Stage). outOf (withdrawn g) (withdrawStage (p .desk) g x (p .arena) (p .store))) (h .1)
+      ∙ same-arena (λ a. record { desk = withStage (p .desk) g Vacant; answer = answerTo (withdrawing g q); arena = a; store = p .store }) g
+      (withdrawnWindow q (windowAt p g)) (rw (h .2)))
+  step-line (collecting g r) h =
+      rw (inv-accept (p .desk) (z .inv), h .0) (ap (λ (x : Stage). outOf (collected g) (collectStage (p .desk) g x [] [])) (h .1))
+  step-line misopening h = refl
 
-  pub withdraw-sectors : (g : ℕ) (q : Request) → isLent d a s ≡ true → g < guests → stageAt d g ≡ Waiting q → isSectors (ah (q .job .registers)) ≡ true
-      → step d (call (withdraw g) a s) ≡ withdrawnTo d a s g q
-  unfolding step withdrawOf
-  withdraw-sectors g q l b v f =
-      rw (inv-accept d inv, l, lt-ltb g guests b)
-      (ap (λ (x : Stage). outOf (withdrawn g) (withdrawStage d g x a s)) v
-      ∙ ap (λ (x : List ℕ). left (withWindow a g (windowSize d) x)) same-window
-      ∙ ap left (with-window-same a g (windowSize d)))
-    where
-      left : List ℕ → Out
-      left x = record { desk = withStage d g Vacant; answer = withdrawn g (WithdrawGiven (withdrawnRegisters (q .moved) (q .job .registers))); arena = x; store = s }
+pub no-opening : (l : Line) → kindOf (answerTo l) ≡ opens → ⊥
+no-opening (waiting g r j) e = impossible cc
+no-opening (answering g r x f) e = impossible cc
+no-opening (serving g q st) e = impossible cc
+no-opening idling e = impossible cc
+no-opening unlent e = impossible cc
+no-opening (withdrawing g q) e = impossible cc
+no-opening (collecting g r) e = impossible cc
+no-opening misopening e = impossible cc
 
-      same-window : withdrawnWindow q (windowOf a g (windowSize d)) ≡ windowOf a g (windowSize d)
-      same-window = rw f
+-- arena and store keep their lengths
+lengths-line : (p : Place) (l : Line) → Sized p → (length (leaves p l .arena) ≡ leaves p l .desk .arena) × (length (leaves p l .store) ≡ leaves p l .desk .store)
+lengths-line p (waiting g r j) z = (z .arena, z .store)
+lengths-line p (answering g r x f) z = (length-with-window (p .arena) g (windowSize (p .desk)) (f (windowAt p g)) ∙ z .arena, z .store)
+lengths-line p (serving g q st) z = (
+  pick-cases (λ (a : List ℕ). length a ≡ p .desk .arena) (isWriting q) _ _ (λ e. z .arena)
+      (λ e. length-with-window (p .arena) g (windowSize (p .desk)) (movedBy (p .desk) g q (p .arena) (p .store) .window) ∙ z .arena),
+  pick-cases (λ (s : List ℕ). length s ≡ p .desk .store) (isWriting q) _ _
+      (λ e. moves-size (q .job) (storeBlock (p .desk .table) (q .job)) (q .moved) (quota q) (memoryOf (p .desk) g (p .arena) (p .store)) .store ∙ z .store) (λ e. z .store),
+)
+lengths-line p idling z = (z .arena, z .store)
+lengths-line p unlent z = (z .arena, z .store)
+lengths-line p (withdrawing g q) z = (z .arena, z .store)
+lengths-line p (collecting g r) z = (z .arena, z .store)
+lengths-line p misopening z = (z .arena, z .store)
 
-  pub collect-gives : (g : ℕ) (r : Registers) → g < guests → stageAt d g ≡ Finished r
-      → step d (call (collect g) a s) ≡ collectedTo d a s g r
-  unfolding step collectOf
-  collect-gives g r b v =
-      rw (inv-accept d inv, lt-ltb g guests b) (ap (λ (x : Stage). outOf (collected g) (collectStage d g x a s)) v)
+pub sized-line : (p : Place) (l : Line) → Sized p → Holds p l → Sized (leaves p l)
+sized-line p l z h =
+    record {
+      inv = subst (λ (x : Out). Inv (x .desk)) e (inv-step (p .desk) (callOf p l) (z .inv) (subst (λ (x : Out). kindOf (x .answer) ≡ opens → ⊥) (sym e) (no-opening l)));
+      arena = lengths-line p l z .0;
+      store = lengths-line p l z .1;
+    }
+  where
+    e : step (p .desk) (callOf p l) ≡ outAt p l
+    e = step-line p z l h
 
--- ---- the list
+pub sized : (ls : List Line) (p : Place) → Sized p → All p ls → Sized (placeAfter p ls)
+sized [] p z h = z
+sized (l ∷ ls) p z h = sized ls (leaves p l) (sized-line p l z (h .0)) (h .1)
 
-abbrev pub entry : Desk → Call → Out → Event
-entry d c o = record { desk = d; call = c; out = o }
+-- ---- the list by its result, and what follows it
 
--- the desk after a call is acceptable too
-pub goes-on : (d : Desk) (c : Call) (o : Out) → Inv d → step d c ≡ o → (kindOf (o .answer) ≡ opens → ⊥) → Inv (o .desk)
-goes-on d c o inv e n = subst (λ (x : Out). Inv (x .desk)) e (inv-step d c inv (subst (λ (x : Out). kindOf (x .answer) ≡ opens → ⊥) (sym e) n))
-
-pub one : (d : Desk) (c : Call) (o : Out) (cs : List Call) (es : List Event) → step d c ≡ o → run (o .desk) cs ≡ es → run d (c ∷ cs) ≡ entry d c o ∷ es
+pub follow : (ls : List Line) (p : Place) → Sized p → All p ls → (cs : List Call) (es : List Event) → run (placeAfter p ls .desk) cs ≡ es
+    → run (p .desk) (callsOf p ls ++ cs) ≡ events p ls ++ es
 unfolding run
-one d c o cs es e f = ap (λ (x : Out). entry d c x ∷ run (x .desk) cs) e ∙ ap (λ (l : List Event). entry d c o ∷ l) f
+follow [] p z h cs es f = f
+follow (l ∷ ls) p z h cs es f =
+    ap (λ (x : Out). record { desk = p .desk; call = callOf p l; out = x } ∷ run (x .desk) (callsOf (leaves p l) ls ++ cs)) (step-line p z l (h .0))
+    ∙ ap (λ (x : List Event). entry p l ∷ x) (follow ls (leaves p l) (sized-line p l z (h .0)) (h .1) cs es f)
 
-pub none : (d : Desk) → run d [] ≡ []
+pub followed : (ls : List Line) (p : Place) → Sized p → All p ls → run (p .desk) (callsOf p ls) ≡ events p ls
 unfolding run
-none d = refl
+followed ls p z h =
+    ap (run (p .desk)) (sym (append-nil (callsOf p ls))) ∙ follow ls p z h [] [] refl ∙ append-nil (events p ls)
 
-pub goes : (d : Desk) (c : Call) (o : Out) (cs : List Call) (x : Desk) → step d c ≡ o → after (o .desk) cs ≡ x → after d (c ∷ cs) ≡ x
+pub reaches : (ls : List Line) (p : Place) → Sized p → All p ls → (cs : List Call) → after (p .desk) (callsOf p ls ++ cs) ≡ after (placeAfter p ls .desk) cs
 unfolding after
-goes d c o cs x e f = ap (λ (y : Out). after (y .desk) cs) e ∙ f
+reaches [] p z h cs = refl
+reaches (l ∷ ls) p z h cs =
+    ap (λ (x : Out). after (x .desk) (callsOf (leaves p l) ls ++ cs)) (step-line p z l (h .0)) ∙ reaches ls (leaves p l) (sized-line p l z (h .0)) (h .1) cs
 
--- ---- the conditions of `equal`, call by call
+pub arrives : (ls : List Line) (p : Place) → Sized p → All p ls → after (p .desk) (callsOf p ls) ≡ placeAfter p ls .desk
+unfolding after
+arrives ls p z h = ap (after (p .desk)) (sym (append-nil (callsOf p ls))) ∙ reaches ls p z h []
 
--- the call finds the guest's window and the store as they were left
-pub found : {w s : List ℕ} {A : Type 0} → A → (w ≡ w) × (s ≡ s) × A
-found x = (refl, refl, x)
+pub none-opens : (ls : List Line) (p : Place) (es : List Event) → NoneOpens es → NoneOpens (events p ls ++ es)
+none-opens [] p es n = n
+none-opens (l ∷ ls) p es n = (no-opening l, none-opens ls (leaves p l) es n)
 
-pub also : {A B : Type 0} → A → B → A × B
-also x y = (x, y)
+-- ---- the conditions of `equal`
 
--- no other guest writes a named block, by what one call answers
+-- each call of the list is lent what the one before left
+pub left : (ls : List Line) (p : Place) (m g : ℕ) (es : List Event) → Left m g (windowOf (placeAfter p ls .arena) g m) (placeAfter p ls .store) es
+    → Left m g (windowOf (p .arena) g m) (p .store) (events p ls ++ es)
+left [] p m g es h = h
+left (waiting h r j ∷ ls) p m g es k = (refl, refl, left ls _ m g es k)
+left (answering h r x f ∷ ls) p m g es k = (refl, refl, left ls _ m g es k)
+left (serving h q st ∷ ls) p m g es k = (refl, refl, left ls _ m g es k)
+left (idling ∷ ls) p m g es k = (refl, refl, left ls p m g es k)
+left (unlent ∷ ls) p m g es k = left ls p m g es k
+left (withdrawing h q ∷ ls) p m g es k = (refl, refl, left ls _ m g es k)
+left (collecting h r ∷ ls) p m g es k = left ls _ m g es k
+left (misopening ∷ ls) p m g es k = left ls p m g es k
 
-abbrev pub Spares : ℕ → ℕ → ℕ → Desk → Kind → Type 0
+-- a turn of another guest that writes ends below the first of n blocks or begins past them
+abbrev pub isApart : ℕ → ℕ → ℕ → Table → Line → Bool
+isApart g first n b (waiting h r j) = true
+isApart g first n b (answering h r x f) = true
+isApart g first n b (serving h q st) =
+    either (eqb h g) (either (not (isWriting q))
+    (either (leb (storeBlock b (q .job) + q .moved + quota q) first) (leb (first + n) (storeBlock b (q .job) + q .moved))))
+isApart g first n b idling = true
+isApart g first n b unlent = true
+isApart g first n b (withdrawing h q) = true
+isApart g first n b (collecting h r) = true
+isApart g first n b misopening = true
+
+abbrev pub areApart : ℕ → ℕ → ℕ → Table → List Line → Bool
+areApart g first n b [] = true
+areApart g first n b (l ∷ ls) = both (isApart g first n b l) (areApart g first n b ls)
+
+abbrev Spares : ℕ → ℕ → ℕ → Desk → Kind → Type 0
 Spares g first n d kind = (h k b : ℕ) (q : Request) → kind ≡ serves h k → (h ≡ g → ⊥) → stageAt d h ≡ Waiting q → Writes (d .table) q k b → Named first n b → ⊥
 
--- the guest itself is served
-pub own-turn : (g first n k : ℕ) (d : Desk) → Spares g first n d (serves g k)
-own-turn g first n k d h k′ b q e ne v w m = ne (let y : g ≡ h = cc in sym y)
+serving-apart : (g first n : ℕ) (p : Place) (h : ℕ) (q : Request) → stageAt (p .desk) h ≡ Waiting q
+    → either (eqb h g) (either (not (isWriting q))
+    (either (leb (storeBlock (p .desk .table) (q .job) + q .moved + quota q) first) (leb (first + n) (storeBlock (p .desk .table) (q .job) + q .moved)))) ≡ true
+    → Spares g first n (p .desk) (serves h (quota q))
+serving-apart g first n p h q v t h′ k b q′ e ne v′ w m =
+    ⊎-elim (λ x. ne (sym hh ∙ eqb-true h g x))
+    (λ x. ⊎-elim (λ y. true≢false (isWriting q) (w′ .0) (not-true (isWriting q) y))
+    (λ y. ⊎-elim (λ u. let f : from + quota q ≤ first = leb-true _ _ u in omega (arith, w′ .1 .1, m .0)) (λ u. let f : first + n ≤ from = leb-true _ _ u in omega (arith, w′ .1 .0, m .1))
+    (either-true (leb (storeBlock (p .desk .table) (q .job) + q .moved + quota q) first) _ y))
+    (either-true (not (isWriting q)) _ x))
+    (either-true (eqb h g) _ t)
+  where
+    from : ℕ
+    from = storeBlock (p .desk .table) (q .job) + q .moved
 
--- another one is, and what it moves goes to no named block
-pub other-turn : (g first n h k : ℕ) (d : Desk) (q : Request) → stageAt d h ≡ Waiting q → ((b : ℕ) → Writes (d .table) q k b → Named first n b → ⊥)
-    → Spares g first n d (serves h k)
-other-turn g first n h k d q v off h′ k′ b q′ e ne v′ w m =
-    let hh : h ≡ h′ = cc in
-    let kk : k ≡ k′ = cc in
-    let qq : q ≡ q′ = same-request (sym v ∙ subst (λ (x : ℕ). stageAt d x ≡ Waiting q′) (sym hh) v′) in
-    off b (subst (λ (x : Request). Writes (d .table) x k b) (sym qq) (subst (λ (x : ℕ). Writes (d .table) q′ x b) (sym kk) w)) m
+    hh : h ≡ h′
+    hh = cc
 
--- ---- no opening passes, by number
+    kk : quota q ≡ k
+    kk = cc
 
-abbrev pub passesIn : Kind → ℕ
-passesIn refused = 0
-passesIn plain = 0
-passesIn opens = 1
-passesIn (answers h) = 0
-passesIn (accepts h) = 0
-passesIn (serves h k) = 0
-passesIn idles = 0
-passesIn (hands h r) = 0
-passesIn (withdraws h) = 0
+    qq : q ≡ q′
+    qq = same-request (sym v ∙ subst (λ (x : ℕ). stageAt (p .desk) x ≡ Waiting q′) (sym hh) v′)
 
-pub none-opens : (es : List Event) → total passesIn es ≡ 0 → NoneOpens es
-none-opens [] z = tt
-none-opens (e ∷ es) z = ((λ x. let y : passesIn (kindIn e) ≡ 1 = ap passesIn x in omega arith), none-opens es (omega arith))
+    w′ : Writes (p .desk .table) q (quota q) b
+    w′ = subst₂ (λ (x : Request) (y : ℕ). Writes (p .desk .table) x y b) (sym qq) (sym kk) w
+
+line-apart : (g first n : ℕ) (p : Place) (l : Line) → Holds p l → isApart g first n (p .desk .table) l ≡ true → Spares g first n (p .desk) (kindOf (answerTo l))
+line-apart g first n p (waiting h r j) a t h′ k b q e = impossible cc
+line-apart g first n p (answering h r x f) a t h′ k b q e = impossible cc
+line-apart g first n p (serving h q st) a t h′ k b q′ e = serving-apart g first n p h q (a .1) t h′ k b q′ e
+line-apart g first n p idling a t h′ k b q e = impossible cc
+line-apart g first n p unlent a t h′ k b q e = impossible cc
+line-apart g first n p (withdrawing h q) a t h′ k b q′ e = impossible cc
+line-apart g first n p (collecting h r) a t h′ k b q e = impossible cc
+line-apart g first n p misopening a t h′ k b q e = impossible cc
+
+same-table : (p : Place) (l : Line) → Sized p → Holds p l → leaves p l .desk .table ≡ p .desk .table
+same-table p l z h =
+    let e = step-line p z l h in
+    ap (λ (o : Out). o .desk .table) (sym e) ∙ fixed-step (p .desk) (callOf p l) (z .inv) (subst (λ (o : Out). kindOf (o .answer) ≡ opens → ⊥) (sym e) (no-opening l)) .table
+
+pub unwritten : (ls : List Line) (p : Place) → Sized p → (g first n : ℕ) (es : List Event) → All p ls → areApart g first n (p .desk .table) ls ≡ true
+    → Unwritten g first n es → Unwritten g first n (events p ls ++ es)
+unwritten [] p z g first n es h t u = u
+unwritten (l ∷ ls) p z g first n es h t u =
+    let b = both-true (isApart g first n (p .desk .table) l) (areApart g first n (p .desk .table) ls) t in
+    (line-apart g first n p l (h .0) (b .0), unwritten ls (leaves p l) (sized-line p l z (h .0)) g first n es (h .1) (rw (same-table p l z (h .0)) (b .1)) u)
+
+-- ---- a request of a list: the lines between its post and its finishing turn, that turn, and the lines after it
+
+pub all-split : (xs ys : List Line) (p : Place) → All p (xs ++ ys) → All p xs × All (placeAfter p xs) ys
+all-split [] ys p h = (tt, h)
+all-split (x ∷ xs) ys p h = let t = all-split xs ys (leaves p x) (h .1) in ((h .0, t .0), t .1)
+
+pub record Story (p : Place) : Type 0 where
+  pub guest : ℕ
+  pub registers : Registers
+  pub job : Job
+  pub between : List Line
+  pub last : Line
+  pub rest : List Line
+  pub lines : All p (waiting guest registers job ∷ (between ++ last ∷ rest))
+
+module _ {p : Place} (y : Story p) where
+  abbrev first : Line
+  first = waiting (y .guest) (y .registers) (y .job)
+
+  abbrev pub middle : Place
+  middle = placeAfter (leaves p first) (y .between)
+
+  abbrev pub posting : Call
+  posting = callOf p first
+
+  abbrev pub meanwhile : List Call
+  meanwhile = callsOf (leaves p first) (y .between)
+
+  abbrev pub finishing : Call
+  finishing = callOf middle (y .last)
+
+  abbrev pub afterwards : List Call
+  afterwards = callsOf (leaves middle (y .last)) (y .rest)
+
+  abbrev pub calls : List Call
+  calls = posting ∷ (meanwhile ++ finishing ∷ afterwards)
+
+  module _ (z : Sized p) where
+    pub posts : step (p .desk) posting ≡ outAt p first
+    posts = step-line p z first (y .lines .0)
+
+    pub at-first : Sized (leaves p first)
+    at-first = sized-line p first z (y .lines .0)
+
+    pub split : All (leaves p first) (y .between) × All middle (y .last ∷ y .rest)
+    split = all-split (y .between) (y .last ∷ y .rest) (leaves p first) (y .lines .1)
+
+    pub at-middle : Sized middle
+    at-middle = sized (y .between) (leaves p first) at-first (split .0)
+
+    -- the calls since the post
+    pub since : (cs : List Call) (es : List Event) → run (middle .desk) cs ≡ es
+        → run (step (p .desk) posting .desk) (meanwhile ++ cs) ≡ events (leaves p first) (y .between) ++ es
+    since cs es f =
+        ap (λ (o : Out). run (o .desk) (meanwhile ++ cs)) posts ∙ follow (y .between) (leaves p first) at-first (split .0) cs es f
+
+    pub since-at : (ls : List Line) → All middle ls → after (step (p .desk) posting .desk) (meanwhile ++ callsOf middle ls) ≡ placeAfter middle ls .desk
+    since-at ls h =
+        ap (λ (o : Out). after (o .desk) (meanwhile ++ callsOf middle ls)) posts
+        ∙ reaches (y .between) (leaves p first) at-first (split .0) (callsOf middle ls) ∙ arrives ls middle at-middle h
+
+    -- up to the finishing turn, and with it
+    pub before : run (step (p .desk) posting .desk) meanwhile ≡ events (leaves p first) (y .between)
+    before = ap (λ (o : Out). run (o .desk) meanwhile) posts ∙ followed (y .between) (leaves p first) at-first (split .0)
+
+    pub upto : run (step (p .desk) posting .desk) (meanwhile ++ finishing ∷ []) ≡ events (leaves p first) (y .between) ++ entry middle (y .last) ∷ []
+    upto = since (finishing ∷ []) _ (followed (y .last ∷ []) middle at-middle (split .1 .0, tt))
+
+    pub whole : run (step (p .desk) posting .desk) (meanwhile ++ finishing ∷ afterwards)
+        ≡ events (leaves p first) (y .between) ++ events middle (y .last ∷ y .rest)
+    whole = since (finishing ∷ afterwards) _ (followed (y .last ∷ y .rest) middle at-middle (split .1))
+
+    pub closed : NoneOpens (run (p .desk) calls)
+    closed = subst NoneOpens (sym (follow (first ∷ y .between) p z (y .lines .0, split .0) (finishing ∷ afterwards) _ (followed (y .last ∷ y .rest) middle at-middle (split .1))))
+        (none-opens (first ∷ y .between) p _ (subst NoneOpens (append-nil (events middle (y .last ∷ y .rest))) (none-opens (y .last ∷ y .rest) middle [] tt)))
+
+    unfoldable pub taken : Taken (p .desk) calls
+    unfolding after
+    taken =
+        record {
+          before = [];
+          call = posting;
+          guest = y .guest;
+          registers = y .registers;
+          since = meanwhile ++ finishing ∷ afterwards;
+          place = refl;
+          accepted = record { posts = refl; waits = ap (λ (o : Out). o .answer) posts };
+        }
+
+    -- n and the first block by number, and what the events come to
+    module _ (m n lo : ℕ) (count : askedBy m posting (y .guest) (y .registers) ≡ n) (start : firstBy (p .desk .table) m posting (y .guest) (y .registers) ≡ lo)
+        (waited : WaitsOn (y .guest) n (events (leaves p first) (y .between)))
+        (reached : moved (y .guest) (events (leaves p first) (y .between) ++ entry middle (y .last) ∷ []) ≡ n) where
+      pub waits : WaitsOn (y .guest) (askedBy m posting (y .guest) (y .registers)) (run (step (p .desk) posting .desk) meanwhile)
+      waits = subst₂ (WaitsOn (y .guest)) (sym count) (sym before) waited
+
+      pub finishes : Finishes (y .guest) (askedBy m posting (y .guest) (y .registers)) (step (p .desk) posting .desk) meanwhile finishing
+      finishes = record { waited = waits; reached = ap (moved (y .guest)) upto ∙ reached ∙ sym count }
+
+      pub equal : (bytes : List ℕ) → Claim bytes (p .desk) m calls
+          → areApart (y .guest) lo n (leaves p first .desk .table) (y .between) ≡ true → areApart (y .guest) lo n (middle .desk .table) (y .last ∷ []) ≡ true
+          → Same m (y .guest) (firstBy (p .desk .table) m posting (y .guest) (y .registers)) (askedBy m posting (y .guest) (y .registers))
+          (step (after (step (p .desk) posting .desk) meanwhile) finishing) (alone (fed bytes) (y .registers) (foundBy m posting (y .guest)))
+      unfolding after taken
+      equal bytes claim b e =
+          claim .equal taken meanwhile afterwards finishing refl finishes
+          (subst (λ (o : Out). Left m (y .guest) (windowOf (o .arena) (y .guest) m) (o .store) (run (step (p .desk) posting .desk) (meanwhile ++ finishing ∷ []))) (sym posts)
+          (subst (Left m (y .guest) (windowOf (p .arena) (y .guest) m) (p .store)) (sym upto)
+          (left (y .between) (leaves p first) m (y .guest) _ (left (y .last ∷ []) middle m (y .guest) [] tt))))
+          (subst₂ (λ (f k : ℕ). Unwritten (y .guest) f k (run (step (p .desk) posting .desk) (meanwhile ++ finishing ∷ []))) (sym start) (sym count)
+          (subst (Unwritten (y .guest) lo n) (sym upto)
+          (unwritten (y .between) (leaves p first) at-first (y .guest) lo n _ (split .0) b (unwritten (y .last ∷ []) middle at-middle (y .guest) lo n [] (split .1 .0, tt) e tt))))

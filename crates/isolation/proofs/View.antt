@@ -39,7 +39,7 @@ use Rattle.desk.specs.Parts.{windowSize, stageAt}
 use Rattle.desk.specs.Acceptable.{accept}
 use Rattle.desk.specs.Calls.{isLent, Done, openOf, writtenOf, writtenOut, postChecked, postRow, postOf, firstWaiting, serve, serveStage, turnNext, turnOf, collectStage, collectOf, withdrawStage, withdrawOf}
 use Rattle.isolation.specs.Lists.{Op, openTable, post, turn, collect, withdraw, write, Call, Answer, opening, posted, turned, collected, withdrawn, written, Out, openedDesk, outOf, stepOf, step}
-use Rattle.isolation.specs.Words.{Kind, refused, plain, opens, kindOf, houseNumber, turnIn, serviceIn, movedIn, withdrawalIn, collectIn, touchIn}
+use Rattle.isolation.specs.Words.{Kind, refused, plain, opens, kindOf, houseNumber, line, marks}
 use Rattle.isolation.proofs.Turn.{dist, dist-lt, Found, seek-guest, seek-nobody, vacant≢waiting, finished≢waiting}
 use Rattle.isolation.proofs.Check.{Fresh, Says, check-says}
 use Rattle.isolation.proofs.Accept.{Inv, inv-accept}
@@ -53,29 +53,9 @@ pub data Quiet : Kind → Type 0 where
   refusing : Quiet refused
   writing : Quiet plain
 
-pub quiet-turn : {k : Kind} → Quiet k → turnIn k ≡ 0
-quiet-turn refusing = refl
-quiet-turn writing = refl
-
-pub quiet-touch : {k : Kind} → Quiet k → touchIn k ≡ 0
-quiet-touch refusing = refl
-quiet-touch writing = refl
-
-pub quiet-service : {k : Kind} (g : ℕ) → Quiet k → serviceIn g k ≡ 0
-quiet-service g refusing = refl
-quiet-service g writing = refl
-
-pub quiet-moved : {k : Kind} (g : ℕ) → Quiet k → movedIn g k ≡ 0
-quiet-moved g refusing = refl
-quiet-moved g writing = refl
-
-pub quiet-withdrawal : {k : Kind} (g : ℕ) → Quiet k → withdrawalIn g k ≡ 0
-quiet-withdrawal g refusing = refl
-quiet-withdrawal g writing = refl
-
-pub quiet-collect : {k : Kind} (g : ℕ) → Quiet k → collectIn g k ≡ 0
-quiet-collect g refusing = refl
-quiet-collect g writing = refl
+pub quiet-marks : {k : Kind} (g : ℕ) → Quiet k → marks g k ≡ line 0 0 0 0 0 0 0
+quiet-marks g refusing = refl
+quiet-marks g writing = refl
 
 -- ---- the cases of a call
 

@@ -1,15 +1,13 @@
 -- Demand 2, at the desk: a table that an opening took is written back as the same bytes.
 -- Assumes nothing.
 use Prim.Native.Nat.{ℕ, _/_, _≤_}
-use mathlib.Core.Path.{_≡_, refl, sym, ap, _∙_}
+use mathlib.Core.Path.{_≡_, ap, _∙_}
 use mathlib.Core.List.{List, _++_}
 use lib.ListN.{length, drop}
-use lib.Dec.{ltb}
 use borrow.Author.Tests.{le-ltb}
 use Rattle.words.specs.Words.{Bytes}
-use Rattle.table.specs.declared.Table.{Table}
 use Rattle.table.specs.declared.Written.the-variants.{Bytes as WrittenBytes}
-use Rattle.table.specs.Table.{readTable, tableOf, writeAnswer, writeOut}
+use Rattle.table.specs.Table.{tableOf, writeAnswer, writeOut}
 use Rattle.table.proofs.WriteRead.{write-read-table}
 use Rattle.memory.specs.Blocks.{blockLength}
 use Rattle.desk.specs.declared.Desk.{Desk}

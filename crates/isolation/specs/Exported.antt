@@ -15,7 +15,7 @@ use Rattle.desk.specs.Numbers.{openNumbers, postNumbers, turnNumbers, collectNu
 use Rattle.image.specs.Image.{deskSize}
 use Rattle.exports.specs.Exports.{effect, over, openCall, writeCall, given, changed, postCall, turnCall, collectCall, withdrawCall}
 use Rattle.isolation.specs.Lists.{Op, openTable, post, turn, collect, withdraw, write, Call, Answer, opening, posted, turned, collected, withdrawn, written}
-use Rattle.isolation.specs.Blocks.{OutBlock, stepBlock}
+use Rattle.isolation.specs.DeskBlocks.{OutBlock, stepBlock}
 
 -- ---- "Calls the host makes", the calls for C
 

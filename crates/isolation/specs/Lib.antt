@@ -1,7 +1,7 @@
 pub mod Lists
 pub mod Words
 pub mod Demand
-pub mod Blocks
+pub mod DeskBlocks
 pub mod Strays
 pub mod Reopened
 pub mod Exported

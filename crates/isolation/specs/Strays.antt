@@ -6,7 +6,7 @@ use mathlib.Core.List.{List, [], _∷_}
 use lib.ListN.{length}
 use Rattle.image.specs.Image.{deskSize}
 use Rattle.isolation.specs.Lists.{Call}
-use Rattle.isolation.specs.Blocks.{left25, stepBlock, EventBlock, eventBlock, runBlock}
+use Rattle.isolation.specs.DeskBlocks.{left25, stepBlock, EventBlock, eventBlock, runBlock}
 
 -- ---- "Calls the host makes", a desk block of another size
 

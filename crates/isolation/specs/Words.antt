@@ -98,8 +98,8 @@ total f (e ∷ es) = f (kindIn e) + total f es
 abbrev pub ifSame : ℕ → ℕ → ℕ → ℕ
 ifSame h g k = pick (eqb h g) k 0
 
--- what one answer counts for: a turn not refused; a post, turn or withdrawal without a house number; and of one guest a service, the blocks
--- moved, a withdrawal and a collect
+-- what one answer counts for: a turn not refused; a post, turn or withdrawal without a house number; of one guest a service, the blocks
+-- moved, a withdrawal and a collect; and a desk that is another afterwards
 pub record Marks : Type 0 where
   pub turn : ℕ
   pub touch : ℕ
@@ -107,23 +107,24 @@ pub record Marks : Type 0 where
   pub moved : ℕ
   pub withdrawal : ℕ
   pub collect : ℕ
+  pub desk : ℕ
 
 -- such a line
-abbrev pub line : ℕ → ℕ → ℕ → ℕ → ℕ → ℕ → Marks
-line turn touch service moved withdrawal collect =
-    record { turn = turn; touch = touch; service = service; moved = moved; withdrawal = withdrawal; collect = collect }
+abbrev pub line : ℕ → ℕ → ℕ → ℕ → ℕ → ℕ → ℕ → Marks
+line turn touch service moved withdrawal collect desk =
+    record { turn = turn; touch = touch; service = service; moved = moved; withdrawal = withdrawal; collect = collect; desk = desk }
 
 -- a line for each kind of answer, in that order, for guest g. "A turn serves it by answering that guest", whatever the number
 abbrev pub marks : ℕ → Kind → Marks
-marks g refused = line 0 0 0 0 0 0
-marks g plain = line 0 0 0 0 0 0
-marks g opens = line 0 0 0 0 0 0
-marks g (answers h) = line 0 1 0 0 0 0
-marks g (accepts h) = line 0 1 0 0 0 0
-marks g (serves h k) = line 1 1 (ifSame h g 1) (ifSame h g k) 0 0
-marks g idles = line 1 1 0 0 0 0
-marks g (hands h r) = line 0 0 0 0 0 (ifSame h g 1)
-marks g (withdraws h) = line 0 1 0 0 (ifSame h g 1) 0
+marks g refused = line 0 0 0 0 0 0 0
+marks g plain = line 0 0 0 0 0 0 0
+marks g opens = line 0 0 0 0 0 0 1
+marks g (answers h) = line 0 1 0 0 0 0 0
+marks g (accepts h) = line 0 1 0 0 0 0 1
+marks g (serves h k) = line 1 1 (ifSame h g 1) (ifSame h g k) 0 0 1
+marks g idles = line 1 1 0 0 0 0 0
+marks g (hands h r) = line 0 0 0 0 0 (ifSame h g 1) 1
+marks g (withdraws h) = line 0 1 0 0 (ifSame h g 1) 0 1
 
 -- turns not refused, of whatever guest: 8 is none
 abbrev pub turnIn : Kind → ℕ
@@ -148,6 +149,10 @@ withdrawalIn g k = marks g k .withdrawal
 -- collects of g not refused
 abbrev pub collectIn : ℕ → Kind → ℕ
 collectIn g k = marks g k .collect
+
+-- answers after which the desk is another
+abbrev pub deskIn : Kind → ℕ
+deskIn k = marks guests k .desk
 
 -- how many turns of the list were not refused
 abbrev pub turns : List Event → ℕ

@@ -1,6 +1,7 @@
 // Runs document 01's "run by program" cases and its sums, the ends of the two largest geometries, and the sources' worked values that document
 // 01 keeps (`sources`). A line for each. The functions are called on the paper's 72-byte table and a window of 65,536 bytes; the turns of P9
-// and P10 are given at desks with a drive of 64 blocks.
+// and P10 are given at desks with a drive of 64 blocks. A case is a call with numbers, and makes its own table and window: to lend a slice costs
+// the check some four times what a number does.
 mod sources;
 
 use chs::Address;
@@ -11,7 +12,6 @@ use desk::Desk;
 use desk::TurnAnswer;
 use int13::Outcome;
 use int13::Registers;
-use table::Table;
 ghost use mathlib.Core.Path.{_≡_};
 ghost use Prim.Native.Nat.{_+_, _≤_};
 ghost use lib.ListN.{length};
@@ -24,29 +24,32 @@ const STORE_BLOCKS: u64 = 4294967296;
 
 const PACKET_SIZE: u16 = 16;
 
+// ---- tables
+
+// Which table a call is made at: document 01's, or that one with protection, with information flag bit 3, or with P6's geometry.
+const PLAIN: u8 = 0;
+
+const PROTECTED: u8 = 1;
+
+const VERIFYING: u8 = 2;
+
+const LARGEST: u8 = 3;
+
 // The record of document 01's drive and the end record, but for its number of blocks, its C and H, and protection in byte 39.
 fn table_bytes(blocks: u16, c: u8, h: u8, protection: u8) -> [u8; 72] {
     let mut t = [0u8; 72];
-    t[0] = 0x44;
-    t[2] = 0x01;
-    t[4] = 0x02;
-    t[8] = 0x10;
-    t[12] = 0x3F;
-    t[16] = (blocks % 256) as u8;
-    t[17] = (blocks / 256) as u8;
+    words::store(
+        &mut t,
+        0,
+        b"\x44\x00\x01\x00\x02\x00\x00\x00\x10\x00\x00\x00\x3F",
+    );
+    words::store(&mut t, 40, b"PCI\x00ATA\x00\x00\x00\x00\x00\x00\x1F\x01");
+    words::store16(&mut t, 16, blocks);
     t[32] = 0x02;
     t[34] = c;
     t[36] = h;
     t[38] = 0x3F;
     t[39] = protection;
-    t[40] = b'P';
-    t[41] = b'C';
-    t[42] = b'I';
-    t[44] = b'A';
-    t[45] = b'T';
-    t[46] = b'A';
-    t[53] = 0x1F;
-    t[54] = 0x01;
     t[68] = 0x04;
     t
 }
@@ -59,9 +62,96 @@ fn largest_table() -> [u8; 72] {
     t
 }
 
+// A drive with information flag bit 3 set, which can write with verify.
+fn verifying_table() -> [u8; 72] {
+    let mut t = table_bytes(2048, 2, 16, 0);
+    t[32] = 0x0A;
+    t
+}
+
+fn table_of(which: u8) -> [u8; 72] {
+    if which == LARGEST {
+        return largest_table();
+    }
+    if which == VERIFYING {
+        return verifying_table();
+    }
+    if which == PROTECTED {
+        return table_bytes(2048, 2, 16, 1);
+    }
+    table_bytes(2048, 2, 16, 0)
+}
+
+// ---- lines
+
 fn say(text: &[u8]) {
     io::write_all(OUTPUT, text);
 }
+
+fn end_line() {
+    say(b"\n");
+}
+
+fn say_byte(b: u8) {
+    say(b" ");
+    io::print_hex(OUTPUT, b as u64, 2);
+}
+
+fn say_word(text: &[u8], n: u16) {
+    say(text);
+    io::print_hex(OUTPUT, n as u64, 4);
+}
+
+// A register by its letter, as ` AX 0000`.
+fn say_register(letter: u8, n: u16) {
+    let text = [b' ', letter, b'X', b' '];
+    say_word(&text, n);
+}
+
+// What a case is about, as `AL 128: `.
+fn say_case(text: &[u8], n: u64) {
+    say(text);
+    io::print_decimal(OUTPUT, n);
+    say(b": ");
+}
+
+fn say_range(start: u64, count: u16) {
+    say(b"start ");
+    io::print_decimal(OUTPUT, start);
+    say_case(b" count ", count as u64);
+}
+
+// What stands before an answer's registers, as `08h drive 80:`.
+fn say_call(function: u16, drive: u16) {
+    io::print_hex(OUTPUT, function as u64, 2);
+    say(b"h drive ");
+    io::print_hex(OUTPUT, drive as u64, 2);
+    say(b":");
+}
+
+fn say_code(code: u64) {
+    say(b"AH ");
+    io::print_hex(OUTPUT, code, 2);
+}
+
+// That the call waits, or the code in AH.
+fn say_outcome(outcome: Outcome) {
+    match outcome {
+        Outcome::Waits(_) => say(b"waits"),
+        Outcome::Answered(r) => say_code((r.ax / 256) as u64),
+    }
+    end_line();
+}
+
+fn say_address(a: Address) {
+    io::print_decimal(OUTPUT, a.cylinder as u64);
+    say(b"/");
+    io::print_decimal(OUTPUT, a.head as u64);
+    say(b"/");
+    io::print_decimal(OUTPUT, a.sector as u64);
+}
+
+// ---- calls
 
 fn registers(ax: u16, cx: u16, dx: u16) -> Registers {
     Registers {
@@ -76,31 +166,22 @@ fn registers(ax: u16, cx: u16, dx: u16) -> Registers {
     }
 }
 
-fn say_word(text: &[u8], n: u16) {
-    say(text);
-    io::print_hex(OUTPUT, n as u64, 4);
+// A call at the drives of a table.
+fn begin(t: &[u8], r: Registers, window: &mut [u8]) -> Outcome {
+    let reading = table::read_table(t, STORE_BLOCKS);
+    let b = reading.table;
+    int13::begin(b, r, window)
 }
 
-// That the call waits, or the code in AH.
-fn say_outcome(outcome: Outcome) {
-    match outcome {
-        Outcome::Waits(_) => {
-            say(b"waits\n");
-        }
-        Outcome::Answered(r) => {
-            say(b"AH ");
-            io::print_hex(OUTPUT, (r.ax / 256) as u64, 2);
-            say(b"\n");
-        }
-    }
+fn begin_at(which: u8, r: Registers, window: &mut [u8]) -> Outcome {
+    let t = table_of(which);
+    begin(&t, r, window)
 }
 
-fn say_address(a: Address) {
-    io::print_decimal(OUTPUT, a.cylinder as u64);
-    say(b"/");
-    io::print_decimal(OUTPUT, a.head as u64);
-    say(b"/");
-    io::print_decimal(OUTPUT, a.sector as u64);
+// A call that needs nothing in the window.
+fn bare_call(which: u8, r: Registers) -> Outcome {
+    let mut window = io::large_buffer();
+    begin_at(which, r, &mut window)
 }
 
 // A packet of 16 bytes whose buffer is at 0:0, with the size that byte 0 gives it. Every caller has seen that it fits.
@@ -114,86 +195,88 @@ fn put_packet(arena: &mut [u8], at: usize, size: u16, start: u64, count: u16)
 }
 
 // A packet call with the packet at place 0 of the window and the buffer over it.
-fn packet_call(b: Table, ax: u16, start: u64, count: u16, window: &mut [u8]) {
-    if window.len() < 16 {
-        return;
-    }
-    put_packet(window, 0, PACKET_SIZE, start, count);
-    say_outcome(int13::begin(b, registers(ax, 0, FIRST_DRIVE), window));
+fn packet_call(which: u8, ax: u16, size: u16, start: u64, count: u16) {
+    let mut window = io::large_buffer();
+    put_packet(&mut window, 0, size, start, count);
+    say_outcome(begin_at(which, registers(ax, 0, FIRST_DRIVE), &mut window));
+}
+
+fn range_call(start: u64, count: u16) {
+    say_range(start, count);
+    packet_call(PLAIN, 0x4200, PACKET_SIZE, start, count);
+}
+
+fn count_call(count: u16) {
+    say_case(b"count ", count as u64);
+    packet_call(PLAIN, 0x4200, PACKET_SIZE, 0, count);
 }
 
 // 02h from cylinder 0, head 0, sector 1.
-fn sector_call(b: Table, al: u16, window: &mut [u8]) {
-    if 255 < al {
-        return;
-    }
-    say_outcome(int13::begin(b, registers(0x0200 + al, 0x0001, FIRST_DRIVE), window));
+fn sector_call(al: u8) {
+    say_case(b"AL ", al as u64);
+    say_outcome(bare_call(PLAIN, registers(0x0200 + al as u16, 0x0001, FIRST_DRIVE)));
 }
 
 fn say_result(asked: u16, r: Registers, out: &[u8]) {
     if out.len() < 66 {
         return;
     }
-    say(b"48h size ");
-    io::print_decimal(OUTPUT, asked as u64);
-    say(b": AH ");
-    io::print_hex(OUTPUT, (r.ax / 256) as u64, 2);
+    say_case(b"48h size ", asked as u64);
+    say_code((r.ax / 256) as u64);
     say(b" size word ");
     io::print_decimal(OUTPUT, words::get16(out, 0) as u64);
-    say(b" byte 65 ");
-    io::print_hex(OUTPUT, (words::get16(out, 64) / 256) as u64, 2);
-    say(b"\n");
+    say(b" byte 65");
+    say_byte(out[65]);
+    end_line();
 }
 
 // 48h with a result buffer of that size at place 0: the code, the size word and byte 65 afterwards.
-fn result_call(b: Table, asked: u16, window: &mut [u8]) {
-    if window.len() < 66 {
-        return;
-    }
-    words::store16(window, 0, asked);
-    let outcome = int13::begin(b, registers(0x4800, 0, FIRST_DRIVE), window);
+fn result_call(asked: u16) {
+    let mut window = io::large_buffer();
+    words::store16(&mut window, 0, asked);
+    let outcome = begin_at(PLAIN, registers(0x4800, 0, FIRST_DRIVE), &mut window);
     let Outcome::Answered(r) = outcome else {
         return;
     };
-    say_result(asked, r, &window[..]);
+    say_result(asked, r, &window);
 }
 
-// What stands before an answer's registers, as `08h drive 80:`.
-fn say_call(function: u16, drive: u16) {
-    io::print_hex(OUTPUT, function as u64, 2);
-    say(b"h drive ");
-    io::print_hex(OUTPUT, drive as u64, 2);
-    say(b":");
-}
-
-// 08h.
-fn geometry_call(b: Table, drive: u16, window: &mut [u8]) {
-    let outcome = int13::begin(b, registers(0x0800, 0, drive), window);
+fn say_geometry(drive: u16, outcome: Outcome) {
     let Outcome::Answered(r) = outcome else {
         return;
     };
     say_call(0x08, drive);
-    say_word(b" AX ", r.ax);
-    say_word(b" CX ", r.cx);
-    say_word(b" DX ", r.dx);
-    say(b"\n");
+    say_register(b'A', r.ax);
+    say_register(b'C', r.cx);
+    say_register(b'D', r.dx);
+    end_line();
+}
+
+// 08h.
+fn geometry_call(which: u8, drive: u16) {
+    say_geometry(drive, bare_call(which, registers(0x0800, 0, drive)));
 }
 
 // 41h.
-fn extensions_call(b: Table, drive: u16, bx: u16, window: &mut [u8]) {
+fn extensions_call(drive: u16, bx: u16) {
     let asked = Registers {
         bx,
         ..registers(0x4100, 0, drive)
     };
-    let outcome = int13::begin(b, asked, window);
+    let outcome = bare_call(PLAIN, asked);
     let Outcome::Answered(r) = outcome else {
         return;
     };
     say_call(0x41, drive);
-    say_word(b" AX ", r.ax);
-    say_word(b" BX ", r.bx);
-    say_word(b" CX ", r.cx);
-    say(b"\n");
+    say_register(b'A', r.ax);
+    say_register(b'B', r.bx);
+    say_register(b'C', r.cx);
+    end_line();
+}
+
+fn say_refused(code: u64) {
+    say(b" ");
+    say_code(code);
 }
 
 // The address of a block in the geometry 1024/h/63.
@@ -207,12 +290,9 @@ fn address_case(h: u32, n: u64) {
             say(b" is ");
             say_address(x);
         }
-        ToAddress::Refused(code) => {
-            say(b" AH ");
-            io::print_hex(OUTPUT, code as u64, 2);
-        }
+        ToAddress::Refused(code) => say_refused(code as u64),
     }
-    say(b"\n");
+    end_line();
 }
 
 // The block of an address in the geometry of the sums, 1024/16/63.
@@ -234,17 +314,75 @@ fn block_case(cylinder: u32, head: u32, sector: u32) {
             say(b" block ");
             io::print_decimal(OUTPUT, n as u64);
         }
-        ToBlock::Refused(code) => {
-            say(b" AH ");
-            io::print_hex(OUTPUT, code as u64, 2);
-        }
+        ToBlock::Refused(code) => say_refused(code as u64),
     }
-    say(b"\n");
+    end_line();
 }
 
-fn say_byte(b: u8) {
-    say(b" ");
-    io::print_hex(OUTPUT, b as u64, 2);
+// ---- the cases of the functions
+
+fn blocks() {
+    block_case(0, 0, 1);
+    block_case(0, 1, 1);
+    block_case(1, 0, 1);
+    block_case(1023, 15, 63);
+    block_case(0, 0, 0);
+}
+
+fn last_blocks() {
+    address_case(16, 1032191);
+    address_case(16, 1032192);
+    address_case(255, 16450559);
+    address_case(255, 16450560);
+}
+
+// A write to a protected drive, out of range as well.
+fn protected() {
+    say(b"protected, ");
+    say_range(2048, 1);
+    packet_call(PROTECTED, 0x4300, PACKET_SIZE, 2048, 1);
+}
+
+fn ranges() {
+    range_call(2047, 1);
+    range_call(2048, 0);
+    range_call(2048, 1);
+}
+
+fn counts() {
+    sector_call(128);
+    sector_call(129);
+    count_call(127);
+    count_call(128);
+}
+
+fn sizes() {
+    result_call(25);
+    result_call(26);
+    result_call(29);
+    result_call(30);
+    result_call(65);
+    result_call(66);
+    result_call(65535);
+}
+
+fn functions() {
+    protected();
+    ranges();
+    counts();
+    extensions_call(FIRST_DRIVE, 0x55AA);
+    geometry_call(PLAIN, FIRST_DRIVE);
+    sizes();
+    geometry_call(LARGEST, FIRST_DRIVE);
+}
+
+// ---- turns
+
+// A desk with a drive of 64 blocks.
+fn opened(arena: u64, store: u64) -> Desk {
+    let t = table_bytes(64, 1, 1, 0);
+    let opening = Desk::open(&t, arena, store);
+    opening.desk
 }
 
 // A guest waits with 40 blocks from block 0, the packet at place 0 of its window.
@@ -274,7 +412,7 @@ fn say_parts(guest: usize, arena: &[u8]) {
     say_byte(arena[at + 100]);
     say_byte(arena[at + 8292]);
     say_byte(arena[at + 16484]);
-    say(b"\n");
+    end_line();
 }
 
 fn say_served(guest: usize, moved: u64, arena: &[u8]) {
@@ -282,7 +420,7 @@ fn say_served(guest: usize, moved: u64, arena: &[u8]) {
     io::print_decimal(OUTPUT, guest as u64);
     say(b" moved ");
     io::print_decimal(OUTPUT, moved);
-    say(b"\n");
+    end_line();
     say_parts(guest, arena);
 }
 
@@ -297,106 +435,20 @@ fn one_turn(desk: Desk, arena: &mut [u8], store: &mut [u8]) -> Desk {
     turned.desk
 }
 
-fn blocks() {
-    block_case(0, 0, 1);
-    block_case(0, 1, 1);
-    block_case(1, 0, 1);
-    block_case(1023, 15, 63);
-    block_case(0, 0, 0);
+fn turns(desk: Desk, number: u64, arena: &mut [u8], store: &mut [u8]) {
+    let mut next = desk;
+    for _ in 0..number {
+        next = one_turn(next, arena, store);
+    }
 }
 
-fn last_blocks() {
-    address_case(16, 1032191);
-    address_case(16, 1032192);
-    address_case(255, 16450559);
-    address_case(255, 16450560);
-}
-
-fn ranges(b: Table, window: &mut [u8]) {
-    say(b"start 2047 count 1: ");
-    packet_call(b, 0x4200, 2047, 1, window);
-    say(b"start 2048 count 0: ");
-    packet_call(b, 0x4200, 2048, 0, window);
-    say(b"start 2048 count 1: ");
-    packet_call(b, 0x4200, 2048, 1, window);
-}
-
-fn counts(b: Table, window: &mut [u8]) {
-    say(b"AL 128: ");
-    sector_call(b, 128, window);
-    say(b"AL 129: ");
-    sector_call(b, 129, window);
-    say(b"count 127: ");
-    packet_call(b, 0x4200, 0, 127, window);
-    say(b"count 128: ");
-    packet_call(b, 0x4200, 0, 128, window);
-}
-
-fn small_sizes(b: Table, window: &mut [u8]) {
-    result_call(b, 25, window);
-    result_call(b, 26, window);
-    result_call(b, 29, window);
-    result_call(b, 30, window);
-}
-
-fn large_sizes(b: Table, window: &mut [u8]) {
-    result_call(b, 65, window);
-    result_call(b, 66, window);
-    result_call(b, 65535, window);
-}
-
-fn functions(window: &mut [u8]) {
-    let plain = table_bytes(2048, 2, 16, 0);
-    let reading = table::read_table(&plain, STORE_BLOCKS);
-    let b = reading.table;
-    ranges(b, window);
-    counts(b, window);
-    extensions_call(b, FIRST_DRIVE, 0x55AA, window);
-    geometry_call(b, FIRST_DRIVE, window);
-    small_sizes(b, window);
-    large_sizes(b, window);
-}
-
-// A write to a protected drive, out of range as well.
-fn protected(window: &mut [u8]) {
-    let guarded = table_bytes(2048, 2, 16, 1);
-    let reading = table::read_table(&guarded, STORE_BLOCKS);
-    let b = reading.table;
-    say(b"protected, start 2048 count 1: ");
-    packet_call(b, 0x4300, 2048, 1, window);
-}
-
-fn largest(window: &mut [u8]) {
-    let t = largest_table();
-    let reading = table::read_table(&t, STORE_BLOCKS);
-    let b = reading.table;
-    geometry_call(b, FIRST_DRIVE, window);
-}
-
-fn two_turns(desk: Desk, arena: &mut [u8], store: &mut [u8]) -> Desk {
-    let next = one_turn(desk, arena, store);
-    one_turn(next, arena, store)
-}
-
-fn four_turns(desk: Desk, arena: &mut [u8], store: &mut [u8]) -> Desk {
-    let next = two_turns(desk, arena, store);
-    two_turns(next, arena, store)
-}
-
-fn six_turns(desk: Desk, arena: &mut [u8], store: &mut [u8]) -> Desk {
-    let next = four_turns(desk, arena, store);
-    two_turns(next, arena, store)
-}
-
-fn seven_turns(desk: Desk, arena: &mut [u8], store: &mut [u8]) {
-    let next = six_turns(desk, arena, store);
-    one_turn(next, arena, store);
-}
-
-// Guests 2 and 5 wait with 40 blocks each.
-fn waiting(desk: Desk, arena: &mut [u8], store: &[u8]) -> Desk {
-    let one = wait_40(desk, 2, arena, store);
-    wait_40(one, 5, arena, store)
+// All eight wait.
+fn all_wait(desk: Desk, arena: &mut [u8], store: &[u8]) -> Desk {
+    let mut next = desk;
+    for guest in 0..8 {
+        next = wait_40(next, guest, arena, store);
+    }
+    next
 }
 
 // A store in which each block, and each byte of a block, can be told: byte i is seed + 7 x its block + i, modulo 251.
@@ -406,49 +458,21 @@ fn fill(store: &mut [u8], seed: u8) {
     }
 }
 
-// P9.
-fn turns(arena: &mut [u8], store: &mut [u8]) {
+// P9: guests 2 and 5 wait with 40 blocks each, and seven turns follow.
+fn two_guests(arena: &mut [u8], store: &mut [u8]) {
     fill(store, 1);
-    let t = table_bytes(64, 1, 1, 0);
-    let opening = Desk::open(&t, arena.len() as u64, store.len() as u64);
-    let desk = opening.desk;
-    let both = waiting(desk, arena, &store[..]);
-    seven_turns(both, arena, store);
-}
-
-fn lower_wait(desk: Desk, arena: &mut [u8], store: &[u8]) -> Desk {
-    let one = wait_40(desk, 0, arena, store);
-    let two = wait_40(one, 1, arena, store);
-    let three = wait_40(two, 2, arena, store);
-    wait_40(three, 3, arena, store)
-}
-
-fn upper_wait(desk: Desk, arena: &mut [u8], store: &[u8]) -> Desk {
-    let one = wait_40(desk, 4, arena, store);
-    let two = wait_40(one, 5, arena, store);
-    let three = wait_40(two, 6, arena, store);
-    wait_40(three, 7, arena, store)
-}
-
-fn nine_turns(desk: Desk, arena: &mut [u8], store: &mut [u8]) {
-    let first = one_turn(desk, arena, store);
-    let next = four_turns(first, arena, store);
-    four_turns(next, arena, store);
+    let desk = opened(arena.len() as u64, store.len() as u64);
+    let one = wait_40(desk, 2, arena, &store[..]);
+    let both = wait_40(one, 5, arena, &store[..]);
+    turns(both, 7, arena, store);
 }
 
 // P10: the first turn leaves pointer 1 and all eight waiting, and eight follow.
 fn eight_guests(arena: &mut [u8], store: &mut [u8]) {
-    let t = table_bytes(64, 1, 1, 0);
-    let opening = Desk::open(&t, arena.len() as u64, store.len() as u64);
-    let desk = opening.desk;
-    let half = lower_wait(desk, arena, &store[..]);
-    let all = upper_wait(half, arena, &store[..]);
-    nine_turns(all, arena, store);
-}
-
-fn filled_eight(arena: &mut [u8], store: &mut [u8]) {
     fill(store, 101);
-    eight_guests(arena, store);
+    let desk = opened(arena.len() as u64, store.len() as u64);
+    let all = all_wait(desk, arena, &store[..]);
+    turns(all, 9, arena, store);
 }
 
 fn zero_arena() -> [u8; 163840]
@@ -464,17 +488,14 @@ fn zero_store() -> [u8; 32768]
 }
 
 fn main() {
-    let mut window = io::large_buffer();
     blocks();
     last_blocks();
-    protected(&mut window);
-    functions(&mut window);
-    largest(&mut window);
+    functions();
     let mut arena = zero_arena();
     let mut store = zero_store();
-    turns(&mut arena, &mut store);
-    filled_eight(&mut arena, &mut store);
-    sources::functions(&mut window);
-    sources::tables(&mut window);
-    sources::filled_withdrawal(&mut arena, &mut store);
+    two_guests(&mut arena, &mut store);
+    eight_guests(&mut arena, &mut store);
+    sources::functions();
+    sources::tables();
+    sources::withdrawal(&mut arena, &mut store);
 }

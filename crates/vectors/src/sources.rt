@@ -1,18 +1,29 @@
 // The sources' worked values that document 01 keeps, beyond its own cases: docs/PROMISES.md, "The sources' values", has them all.
 use super::FIRST_DRIVE;
 use super::OUTPUT;
+use super::PACKET_SIZE;
+use super::PLAIN;
 use super::STORE_BLOCKS;
+use super::VERIFYING;
+use super::bare_call;
+use super::begin;
+use super::begin_at;
+use super::end_line;
 use super::extensions_call;
 use super::fill;
 use super::geometry_call;
 use super::one_turn;
+use super::opened;
 use super::packet_call;
 use super::put_packet;
 use super::registers;
 use super::say;
 use super::say_byte;
 use super::say_call;
+use super::say_case;
+use super::say_geometry;
 use super::say_outcome;
+use super::say_range;
 use super::say_word;
 use super::sector_call;
 use super::table_bytes;
@@ -21,7 +32,6 @@ use desk::Desk;
 use desk::WithdrawAnswer;
 use int13::Outcome;
 use table::Answer;
-use table::Table;
 ghost use Prim.Native.Nat.{_+_, _≤_};
 ghost use lib.ListN.{length};
 
@@ -33,19 +43,38 @@ fn address_case(segment: u16, offset: u16) {
     say_word(b":", offset);
     say(b" is ");
     io::print_decimal(OUTPUT, layout::linear(segment, offset) as u64);
-    say(b"\n");
+    end_line();
 }
 
 // 42h of one block by a packet whose byte 0 gives that size.
-fn size_call(b: Table, size: u16, window: &mut [u8]) {
-    if window.len() < 16 {
-        return;
-    }
-    put_packet(window, 0, size, 0, 1);
-    say(b"packet size ");
-    io::print_decimal(OUTPUT, size as u64);
-    say(b": ");
-    say_outcome(int13::begin(b, registers(0x4200, 0, FIRST_DRIVE), window));
+fn size_call(size: u16) {
+    say_case(b"packet size ", size as u64);
+    packet_call(PLAIN, 0x4200, size, 0, 1);
+}
+
+fn packets() {
+    address_case(0, 0x7C00);
+    address_case(0xA000, 0);
+    size_call(15);
+    size_call(16);
+    size_call(17);
+    sector_call(0);
+}
+
+// ---- writes, verifies and seeks
+
+fn write_call(al: u8) {
+    say_case(b"43h AL ", al as u64);
+    packet_call(PLAIN, 0x4300 + al as u16, PACKET_SIZE, 0, 1);
+}
+
+fn writes() {
+    write_call(0);
+    write_call(1);
+    write_call(2);
+    write_call(3);
+    say(b"43h AL 2, flag bit 3 set: ");
+    packet_call(VERIFYING, 0x4302, PACKET_SIZE, 0, 1);
 }
 
 // The count word of a packet at place 0, after the call.
@@ -55,97 +84,69 @@ fn say_count(window: &[u8]) {
     }
     say(b"count word ");
     io::print_decimal(OUTPUT, words::get16(window, 2) as u64);
-    say(b"\n");
+    end_line();
 }
 
-fn packets(b: Table, window: &mut [u8]) {
-    address_case(0, 0x7C00);
-    address_case(0xA000, 0);
-    size_call(b, 15, window);
-    size_call(b, 16, window);
-    size_call(b, 17, window);
-    say(b"AL 0: ");
-    sector_call(b, 0, window);
+// 44h of one block.
+fn verify_call(start: u64) {
+    say(b"44h ");
+    say_range(start, 1);
+    let mut window = io::large_buffer();
+    put_packet(&mut window, 0, PACKET_SIZE, start, 1);
+    say_outcome(begin_at(PLAIN, registers(0x4400, 0, FIRST_DRIVE), &mut window));
+    say_count(&window);
 }
 
-// ---- writes, verifies and seeks
-
-fn writes(b: Table, window: &mut [u8]) {
-    say(b"43h AL 0: ");
-    packet_call(b, 0x4300, 0, 1, window);
-    say(b"43h AL 1: ");
-    packet_call(b, 0x4301, 0, 1, window);
-    say(b"43h AL 2: ");
-    packet_call(b, 0x4302, 0, 1, window);
-    say(b"43h AL 3: ");
-    packet_call(b, 0x4303, 0, 1, window);
+fn seek_call(start: u64) {
+    say_case(b"47h start ", start);
+    packet_call(PLAIN, 0x4700, PACKET_SIZE, start, 1);
 }
 
-// A drive with information flag bit 3 set, which can write with verify.
-fn verified_write(window: &mut [u8]) {
-    let mut t = table_bytes(2048, 2, 16, 0);
-    t[32] = 0x0A;
-    let reading = table::read_table(&t, STORE_BLOCKS);
-    let b = reading.table;
-    say(b"43h AL 2, flag bit 3 set: ");
-    packet_call(b, 0x4302, 0, 1, window);
-}
-
-fn verifies(b: Table, window: &mut [u8]) {
-    say(b"44h start 2047 count 1: ");
-    packet_call(b, 0x4400, 2047, 1, window);
-    say_count(&window[..]);
-    say(b"44h start 2048 count 1: ");
-    packet_call(b, 0x4400, 2048, 1, window);
-    say_count(&window[..]);
-    say(b"47h start 2047: ");
-    packet_call(b, 0x4700, 2047, 1, window);
-    say(b"47h start 2048: ");
-    packet_call(b, 0x4700, 2048, 1, window);
+fn verifies() {
+    verify_call(2047);
+    verify_call(2048);
+    seek_call(2047);
+    seek_call(2048);
 }
 
 // ---- functions and drives that are not there
 
 // A call of which only the code in AH is shown.
-fn plain_call(b: Table, ax: u16, drive: u16, window: &mut [u8]) {
+fn plain_call(ax: u16, drive: u16) {
     say_call(ax / 256, drive);
     say(b" ");
-    say_outcome(int13::begin(b, registers(ax, 0, drive), window));
+    say_outcome(bare_call(PLAIN, registers(ax, 0, drive)));
 }
 
-fn unknown_functions(b: Table, window: &mut [u8]) {
-    plain_call(b, 0x4500, FIRST_DRIVE, window);
-    plain_call(b, 0x4600, FIRST_DRIVE, window);
-    plain_call(b, 0x4900, FIRST_DRIVE, window);
-    plain_call(b, 0x4E00, FIRST_DRIVE, window);
-    plain_call(b, 0x5000, FIRST_DRIVE, window);
+fn unknown_functions() {
+    plain_call(0x4500, FIRST_DRIVE);
+    plain_call(0x4600, FIRST_DRIVE);
+    plain_call(0x4900, FIRST_DRIVE);
+    plain_call(0x4E00, FIRST_DRIVE);
+    plain_call(0x5000, FIRST_DRIVE);
 }
 
 // High numbers that some BIOSes take for drive 80h.
-fn unknown_drive(b: Table, drive: u16, window: &mut [u8]) {
-    geometry_call(b, drive, window);
-    plain_call(b, 0x4800, drive, window);
+fn unknown_drive(drive: u16) {
+    geometry_call(PLAIN, drive);
+    plain_call(0x4800, drive);
 }
 
-fn unknown_drives(b: Table, window: &mut [u8]) {
-    extensions_call(b, 0x81, 0x55AA, window);
-    extensions_call(b, FIRST_DRIVE, 0xAA55, window);
-    unknown_drive(b, 0x90, window);
-    unknown_drive(b, 0xB0, window);
-    unknown_drive(b, 0xD0, window);
-    unknown_drive(b, 0xF0, window);
+fn unknown_drives() {
+    extensions_call(0x81, 0x55AA);
+    extensions_call(FIRST_DRIVE, 0xAA55);
+    unknown_drive(0x90);
+    unknown_drive(0xB0);
+    unknown_drive(0xD0);
+    unknown_drive(0xF0);
 }
 
-pub(crate) fn functions(window: &mut [u8]) {
-    let plain = table_bytes(2048, 2, 16, 0);
-    let reading = table::read_table(&plain, STORE_BLOCKS);
-    let b = reading.table;
-    packets(b, window);
-    writes(b, window);
-    verified_write(window);
-    verifies(b, window);
-    unknown_functions(b, window);
-    unknown_drives(b, window);
+pub(crate) fn functions() {
+    packets();
+    writes();
+    verifies();
+    unknown_functions();
+    unknown_drives();
 }
 
 // ---- tables and results
@@ -158,82 +159,75 @@ fn say_bytes(out: &[u8], from: usize, to: usize) {
     for i in from..to {
         say_byte(out[i]);
     }
-    say(b"\n");
+    end_line();
 }
 
 // Bytes of a whole result of 48h.
-fn result_case(t: &[u8; 72], from: usize, to: usize, window: &mut [u8]) {
-    if window.len() < 66 {
-        return;
-    }
-    let reading = table::read_table(t, STORE_BLOCKS);
-    let b = reading.table;
-    words::store16(window, 0, 66);
-    let outcome = int13::begin(b, registers(0x4800, 0, FIRST_DRIVE), window);
-    let Outcome::Answered(_) = outcome else {
-        return;
-    };
+fn result_case(t: &[u8; 72], from: usize, to: usize) {
+    let mut window = io::large_buffer();
+    words::store16(&mut window, 0, 66);
+    begin(t, registers(0x4800, 0, FIRST_DRIVE), &mut window);
     say(b"48h bytes from ");
     io::print_decimal(OUTPUT, from as u64);
     say(b":");
-    say_bytes(&window[..], from, to);
+    say_bytes(&window, from, to);
+}
+
+fn whole_result() {
+    let plain = table_bytes(2048, 2, 16, 0);
+    result_case(&plain, 0, 66);
 }
 
 // The paper's drive on another host bus and interface.
-fn names_case(bus: &[u8; 4], interface: &[u8; 8], window: &mut [u8]) {
+fn names_case(bus_and_interface: &[u8; 12]) {
     let mut t = table_bytes(2048, 2, 16, 0);
-    t[40] = bus[0];
-    t[41] = bus[1];
-    t[42] = bus[2];
-    t[43] = bus[3];
-    t[44] = interface[0];
-    t[45] = interface[1];
-    t[46] = interface[2];
-    t[47] = interface[3];
-    t[48] = interface[4];
-    t[49] = interface[5];
-    t[50] = interface[6];
-    t[51] = interface[7];
-    result_case(&t, 36, 48, window);
+    words::store(&mut t, 40, bus_and_interface);
+    result_case(&t, 36, 48);
 }
 
-fn names(window: &mut [u8]) {
-    names_case(b"ISA\x00", b"ATA\x00\x00\x00\x00\x00", window);
-    names_case(b"PCI\x00", b"ATAPI\x00\x00\x00", window);
-    names_case(b"PCI\x00", b"SCSI\x00\x00\x00\x00", window);
-    names_case(b"PCI\x00", b"USB\x00\x00\x00\x00\x00", window);
-    names_case(b"PCI\x00", b"1394\x00\x00\x00\x00", window);
-    names_case(b"PCI\x00", b"FIBRE\x00\x00\x00", window);
+fn names() {
+    names_case(b"ISA\x00ATA\x00\x00\x00\x00\x00");
+    names_case(b"PCI\x00ATAPI\x00\x00\x00");
+    names_case(b"PCI\x00SCSI\x00\x00\x00\x00");
+    names_case(b"PCI\x00USB\x00\x00\x00\x00\x00");
+    names_case(b"PCI\x001394\x00\x00\x00\x00");
+    names_case(b"PCI\x00FIBRE\x00\x00\x00");
 }
 
 // A drive of 2^25 blocks with these flags and this C, H and S.
-fn limits_case(flags: u8, c: u16, h: u16, s: u8) {
+fn limits_table(flags: u8, c: u16, h: u16, s: u8) -> [u8; 72] {
     let mut t = table_bytes(0, 0, 0, 0);
+    words::store16(&mut t, 34, c);
+    words::store16(&mut t, 36, h);
     t[19] = 0x02;
     t[32] = flags;
-    t[34] = (c % 256) as u8;
-    t[35] = (c / 256) as u8;
-    t[36] = (h % 256) as u8;
-    t[37] = (h / 256) as u8;
     t[38] = s;
+    t
+}
+
+fn say_answer(answer: Answer) {
+    match answer {
+        Answer::Accepted => say(b"table ok"),
+        Answer::Refused(number, _) => {
+            say(b"table refused ");
+            io::print_decimal(OUTPUT, number as u64);
+        }
+    }
+    end_line();
+}
+
+fn limits_case(flags: u8, c: u16, h: u16, s: u8) {
     say(b"flags ");
     io::print_hex(OUTPUT, flags as u64, 2);
     say(b" chs ");
     io::print_decimal(OUTPUT, c as u64);
     say(b"/");
     io::print_decimal(OUTPUT, h as u64);
-    say(b"/");
-    io::print_decimal(OUTPUT, s as u64);
+    say_case(b"/", s as u64);
+    let t = limits_table(flags, c, h, s);
     let reading = table::read_table(&t, STORE_BLOCKS);
     let answer = reading.answer;
-    match answer {
-        Answer::Accepted => say(b": table ok\n"),
-        Answer::Refused(number, _) => {
-            say(b": table refused ");
-            io::print_decimal(OUTPUT, number as u64);
-            say(b"\n");
-        }
-    }
+    say_answer(answer);
 }
 
 fn limits() {
@@ -253,52 +247,55 @@ fn put_drive(t: &mut [u8], at: usize, first: u64)
     words::store64(t, at + 24, first);
 }
 
-// 80h to 83h are drives, 84h is not.
-fn four_drives(window: &mut [u8]) {
+// 08h at a table of four drives.
+fn four_drives_call(drive: u16) {
     let mut t = [0u8; 276];
     put_drive(&mut t, 0, 0);
     put_drive(&mut t, 68, 2048);
     put_drive(&mut t, 136, 4096);
     put_drive(&mut t, 204, 6144);
-    let reading = table::read_table(&t, STORE_BLOCKS);
-    let b = reading.table;
-    geometry_call(b, 0x80, window);
-    geometry_call(b, 0x81, window);
-    geometry_call(b, 0x82, window);
-    geometry_call(b, 0x83, window);
-    geometry_call(b, 0x84, window);
+    let mut window = io::large_buffer();
+    say_geometry(drive, begin(&t, registers(0x0800, 0, drive), &mut window));
 }
 
-pub(crate) fn tables(window: &mut [u8]) {
-    let plain = table_bytes(2048, 2, 16, 0);
-    result_case(&plain, 0, 66, window);
-    names(window);
+// 80h to 83h are drives, 84h is not.
+fn four_drives() {
+    four_drives_call(0x80);
+    four_drives_call(0x81);
+    four_drives_call(0x82);
+    four_drives_call(0x83);
+    four_drives_call(0x84);
+}
+
+pub(crate) fn tables() {
+    whole_result();
+    names();
     limits();
-    four_drives(window);
+    four_drives();
 }
 
 // ---- the desk
 
-// Guest 0 withdraws after 16 of 40 blocks have been laid over its packet.
-fn withdrawal(arena: &mut [u8], store: &mut [u8]) {
-    let t = table_bytes(64, 1, 1, 0);
-    let opening = Desk::open(&t, arena.len() as u64, store.len() as u64);
-    let desk = opening.desk;
-    let waiting = wait_40(desk, 0, arena, &store[..]);
-    let served = one_turn(waiting, arena, store);
-    let withdrawn = served.withdraw(0, arena, &store[..]);
-    let answer = withdrawn.answer;
-    match answer {
-        WithdrawAnswer::Given(r) => {
-            say_word(b"withdrawn: AX ", r.ax);
-            say(b"\n");
-        }
-        WithdrawAnswer::Refused(_) => say(b"withdrawal refused\n"),
-    }
-    say_count(&arena[..]);
+// What a guest's withdrawal is answered.
+fn withdraw(desk: Desk, guest: usize, arena: &mut [u8], store: &[u8]) -> WithdrawAnswer {
+    let withdrawn = desk.withdraw(guest, arena, store);
+    withdrawn.answer
 }
 
-pub(crate) fn filled_withdrawal(arena: &mut [u8], store: &mut [u8]) {
+fn say_withdrawn(answer: WithdrawAnswer) {
+    match answer {
+        WithdrawAnswer::Given(r) => say_word(b"withdrawn: AX ", r.ax),
+        WithdrawAnswer::Refused(_) => say(b"withdrawal refused"),
+    }
+    end_line();
+}
+
+// Guest 0 withdraws after 16 of 40 blocks have been laid over its packet.
+pub(crate) fn withdrawal(arena: &mut [u8], store: &mut [u8]) {
     fill(store, 201);
-    withdrawal(arena, store);
+    let desk = opened(arena.len() as u64, store.len() as u64);
+    let waiting = wait_40(desk, 0, arena, &store[..]);
+    let served = one_turn(waiting, arena, store);
+    say_withdrawn(withdraw(served, 0, arena, &store[..]));
+    say_count(&arena[..]);
 }

@@ -4,14 +4,14 @@ use Rattle.vectors.proofs.sources.say_bytes.Statement.{statement}
 use Rattle.vectors.proofs.sources.say_bytes.Tie as tie
 use Rattle.vectors.proofs.sources.say_bytes.Reads as reads
 use Rattle.vectors.proofs.sources.say_bytes.Lts as lts
-use Rattle.vectors.proofs.say.Reads as say-reads
+use Rattle.vectors.proofs.end_line.Reads as end-line-reads
 use Rattle.vectors.proofs.say_byte.Reads as say-byte-reads
 
 abbrev Inv-loop : tie.InvT-loop
-Inv-loop out from to i₀ t5 i = from ≤ i
+Inv-loop out from to i₀ i = from ≤ i
 
 abbrev μ-loop : tie.MeasureT-loop
-μ-loop out from to i₀ t5 i = to - i
+μ-loop out from to i₀ i = to - i
 
 returns : tie.Need-returns Inv-loop μ-loop
 returns c = search needs
@@ -34,11 +34,8 @@ loop-less c = search needs
 loop-again : tie.Need-loop-again Inv-loop μ-loop
 loop-again c = search needs
 
-slice-aggregate-say : tie.Need-slice-aggregate-say Inv-loop μ-loop
-slice-aggregate-say c = search needs
-
-say-requires : tie.Need-say-requires Inv-loop μ-loop
-say-requires c κs = search needs
+end-line-requires : tie.Need-end-line-requires Inv-loop μ-loop
+end-line-requires c κs = search needs
 
 returns-2 : tie.Need-returns-2 Inv-loop μ-loop
 returns-2 c = search needs
@@ -56,6 +53,5 @@ say-bytes-spec =
     add-i
     loop-less
     loop-again
-    slice-aggregate-say
-    say-requires
+    end-line-requires
     returns-2)

@@ -19,7 +19,7 @@ use Rattle.desk.specs.declared.WithdrawAnswer.the-variants.{Refused as Withdraw
 use Rattle.desk.specs.Calls.{notAcceptable, openOf}
 use Rattle.image.specs.Image.{image, deskSize, deskOf, accepted, laid, FitsRegisters}
 use Rattle.isolation.specs.Lists.{Op, openTable, post, turn, collect, withdraw, write, Call, Answer, opening, posted, turned, collected, withdrawn, written, Out, stepOf, Event, run}
-use Rattle.isolation.specs.Words.{Kind, refused, plain, opens, answers, accepts, serves, idles, hands, withdraws, kindOf, houseNumber}
+use Rattle.isolation.specs.Words.{Kind, opens, kindOf, houseNumber, deskIn}
 use Rattle.isolation.specs.Demand.{Claim}
 
 -- ---- "Calls the host makes", the calls for C over a desk block
@@ -47,17 +47,9 @@ pub record OutBlock : Type 0 where
   pub arena : List ℕ
   pub store : List ℕ
 
--- by the answer, the desk that is left is laid out in the block, or the block stays
+-- a desk that is another is laid out in the block; else the block stays
 abbrev pub blockAfter : List ℕ → Desk → Kind → List ℕ
-blockAfter b d refused = b
-blockAfter b d plain = b
-blockAfter b d opens = laid b d
-blockAfter b d (answers g) = b
-blockAfter b d (accepts g) = laid b d
-blockAfter b d (serves g k) = laid b d
-blockAfter b d idles = b
-blockAfter b d (hands g r) = laid b d
-blockAfter b d (withdraws g) = laid b d
+blockAfter b d k = pick (eqb (deskIn k) 1) (laid b d) b
 
 -- the block that is left, with the rest as at the desk
 abbrev pub outBlock : List ℕ → Out → OutBlock

@@ -26,10 +26,10 @@ use Rattle.desk.specs.Calls.{openOf, writtenOf, writtenOut, postOf, turnOf, col
 use Rattle.image.specs.Image.{image, deskSize, isImage, deskOf, accepted, laid, FitsDesk}
 use Rattle.image.proofs.ImageLaws.{length-image, desk-image, exact}
 use Rattle.isolation.specs.Lists.{Op, openTable, post, turn, collect, withdraw, write, Call, Answer, opening, Out, openedDesk, stepOf, step, Event, run, after}
-use Rattle.isolation.specs.Words.{Kind, opens, kindOf, houseNumber, NoneOpens}
-use Rattle.isolation.specs.Blocks.{FitsOp, FitsCalls, AtBlocks, OutBlock, blockAfter, outBlock, numberOf, left25, stepBlockOf, stepBlock, EventBlock, runBlock, afterBlock, NoneOpensBlock, imageOut, imageEvent, ClaimBlock, DemandBlock}
+use Rattle.isolation.specs.Words.{Marks, opens, kindOf, houseNumber, NoneOpens}
+use Rattle.isolation.specs.DeskBlocks.{FitsOp, FitsCalls, AtBlocks, OutBlock, blockAfter, outBlock, numberOf, left25, stepBlockOf, stepBlock, EventBlock, runBlock, afterBlock, NoneOpensBlock, imageOut, imageEvent, ClaimBlock, DemandBlock}
 use Rattle.isolation.proofs.Accept.{Facts, accept-facts, Inv, inv-accept, inv-opened}
-use Rattle.isolation.proofs.View.{Did, same, idle, answer, accepting, serving, giving, withdrawing, Quiet, refusing, writing, view}
+use Rattle.isolation.proofs.View.{Did, same, idle, answer, accepting, serving, giving, withdrawing, quiet-marks, view}
 use Rattle.isolation.proofs.Keep.{inv-step}
 use Rattle.isolation.proofs.Bound.{opens-front}
 use Rattle.isolation.proofs.Posts.{never as never-did}
@@ -56,13 +56,9 @@ laid-image : (b : List ℕ) (d : Desk) → length b ≡ deskSize → laid b d �
 unfolding laid
 laid-image b d l = rw (eq-eqb (length b) deskSize l)
 
-quiet-block : {k : Kind} (b : List ℕ) (d : Desk) → Quiet k → blockAfter b d k ≡ b
-quiet-block b d refusing = refl
-quiet-block b d writing = refl
-
 -- the block after a call is the image of the desk after it
 block-did : (d : Desk) (c : Call) (o : Out) → length (image d) ≡ deskSize → Did d c o → blockAfter (image d) (o .desk) (kindOf (o .answer)) ≡ image (o .desk)
-block-did d c o l (same x k n) = quiet-block (image d) d k
+block-did d c o l (same x k n) = ap (λ (m : Marks). pick (eqb (m .desk) 1) (laid (image d) d) (image d)) (quiet-marks guests k)
 block-did d c o l (idle e f) = refl
 block-did d c o l (answer g r x w e b t v ko kw k) = refl
 block-did d c o l (accepting g r j e b t v ko kw f) = laid-image (image d) _ l
