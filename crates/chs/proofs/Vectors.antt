@@ -26,6 +26,10 @@ g = chs 5 7 11
 pub unpacked : unpack 0x12C5 ≡ record { cylinder = 0x312; sector = 5 }
 unpacked = refl
 
+-- CH 34h, CL BEh: all six bits of the sector, 3Eh
+pub unpacked-low : unpack 0x34BE ≡ record { cylinder = 0x234; sector = 0x3E }
+unpacked-low = refl
+
 -- CH 12h, CL 85h, DH 34h, DL 81h: the head is DH, and DL is not looked at
 pub registers-say : addressIn 0x1285 0x3481 ∷ addressIn 0x1285 0x34FF ∷ [] ≡ at 0x212 0x34 5 ∷ at 0x212 0x34 5 ∷ []
 registers-say = refl

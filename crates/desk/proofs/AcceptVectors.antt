@@ -11,7 +11,7 @@ use Rattle.words.specs.Words.{le, leBytes}
 use Rattle.chs.specs.Chs.{inLimits, isValid, blockOf}
 use Rattle.drive.specs.declared.Drive.{Drive}
 use Rattle.drive.specs.Drive.{driveOf, recordOf, geometryBytes, sizeBytes, nameBytes, isBlank, blankNumbers, blankNames, same, busOk, interfaceOk, geometryFits, fieldsOk, inStore, overlap, isa, pci, ata, scsi}
-use Rattle.table.specs.Table.{zeroDrive, headerOf, headerAt, overlapsAny, refusal, driveStep, endStep, stepOf, stepAt, readFrom, readTable, recordsOf, bytesOf, tableOf, writeAnswer, writeOut, writtenNumbers, soundTo, blankTo, isSound}
+use Rattle.table.specs.Table.{zeroDrive, headerOf, headerAt, overlapsAny, refusal, driveStep, endStep, stepOf, stepAt, readFrom, readTable, recordNumbers, numbersFrom, tableNumbers, recordsOf, bytesOf, tableOf, writeAnswer, writeOut, writtenNumbers, soundTo, blankTo, isSound}
 use Rattle.memory.specs.Window.{spanLength, windowOf, withWindow}
 use Rattle.memory.proofs.WindowLaws.{length-window}
 use Rattle.memory.specs.Blocks.{blocks}
@@ -23,7 +23,8 @@ use Rattle.desk.specs.declared.Row.{Row}
 use Rattle.desk.specs.declared.Stage.{Stage}
 use Rattle.desk.specs.declared.Stage.the-variants.{Vacant, Waiting, Finished}
 use Rattle.desk.specs.declared.Desk.{Desk}
-use Rattle.desk.specs.declared.OpenAnswer.the-variants.{Opened}
+use Rattle.desk.specs.declared.Opening.{Opening}
+use Rattle.desk.specs.declared.OpenAnswer.the-variants.{Opened, Refused as OpenRefused}
 use Rattle.desk.specs.declared.PostAnswer.the-variants.{Waits as PostWaits}
 use Rattle.desk.specs.declared.TurnAnswer.the-variants.{Served}
 use Rattle.desk.specs.declared.CollectAnswer.the-variants.{Given as CollectGiven}
@@ -31,6 +32,7 @@ use Rattle.desk.specs.declared.WithdrawAnswer.the-variants.{Given as Wit
 use Rattle.desk.specs.Parts.{vacantRow}
 use Rattle.desk.specs.Acceptable.{requestOk, rowsOk, accept}
 use Rattle.desk.specs.Calls.{done, openOf, writtenOf, writtenOut, postOf, firstWaiting, stageAfter, turnOf, collectOf, withdrawOf}
+use Rattle.desk.specs.Numbers.{openGiven, turnGiven}
 
 -- ---- the table: two drives, of 4000 blocks from store block 5 and of 300 from 4010; C x H x S 459 and 280; the second is protected
 
@@ -243,6 +245,16 @@ pub opening : openOf tableBytes 560005 2207235
 unfolding openOf le driveOf readTable readFrom stepAt stepOf endStep driveStep headerAt headerOf refusal overlapsAny overlap inStore fieldsOk geometryFits inLimits busOk interfaceOk same
 opening = refl
 
+-- a store of one byte less than its 4310 blocks: refused at the second record, and the desk is of no use. By the second promise too
+pub opening-short : openOf tableBytes 560005 2206719
+    ≡ record { desk = desk (replicate 8 zeroDrive) 0 8 560005 2206719 (replicate 8 vacantRow); answer = OpenRefused 6 68 }
+unfolding openOf le driveOf readTable readFrom stepAt stepOf endStep driveStep headerAt headerOf refusal overlapsAny overlap inStore fieldsOk geometryFits inLimits busOk interfaceOk same
+opening-short = refl
+
+pub openings-given : map (openGiven tableBytes) (2207235 ∷ 2206719 ∷ []) ≡ (0 ∷ []) ∷ (6 ∷ 68 ∷ []) ∷ []
+unfolding openGiven le driveOf tableNumbers numbersFrom recordNumbers stepAt stepOf endStep driveStep headerAt headerOf refusal overlapsAny overlap inStore fieldsOk geometryFits inLimits busOk interfaceOk same
+openings-given = refl
+
 -- ---- write: the bytes of the opening again, in a buffer that has room; bytes past them stay
 
 pub table-written : map (λ (room : ℕ). writtenNumbers (writtenOf (good 7) room)) (139 ∷ 140 ∷ 142 ∷ []) ≡ (19 ∷ []) ∷ (0 ∷ 140 ∷ []) ∷ (0 ∷ 140 ∷ []) ∷ []
@@ -279,6 +291,19 @@ module _ (arena store : List ℕ) (la : length arena ≡ 560005) (ls : length st
       ≡ Served 0 16 ∷ Served 1 1 ∷ Served 2 16 ∷ Served 3 1 ∷ Served 6 2 ∷ Served 6 2 ∷ Served 6 2 ∷ Served 7 3 ∷ []
   unfolding turnOf firstWaiting accept rowsOk requestOk isDrive isSound soundTo blankTo refusal overlapsAny overlap inStore fieldsOk geometryFits inLimits busOk interfaceOk isBlank blankNumbers blankNames same
   turns = rw (la, ls)
+
+  -- the only waiting row is the last that the search comes to; and the turns by the second promise
+  abbrev lone : Desk
+  lone = desk (places secondDrive zeroDrive) 2 5 560005 2207235 (set (replicate 8 vacantRow) 4 (waits 0x420B 0x80 5 3 68464 33 0))
+
+  pub turn-round : turnOf lone arena store .answer ≡ Served 4 3
+  unfolding turnOf firstWaiting accept rowsOk requestOk isDrive isSound soundTo blankTo refusal overlapsAny overlap inStore fieldsOk geometryFits inLimits busOk interfaceOk isBlank blankNumbers blankNames same
+  turn-round = rw (la, ls)
+
+  pub turns-given : map (λ (d : Desk). turnGiven d arena store) (lone ∷ map good (0 ∷ 1 ∷ 4 ∷ 7 ∷ []))
+      ≡ (0 ∷ 4 ∷ 3 ∷ []) ∷ (0 ∷ 0 ∷ 16 ∷ []) ∷ (0 ∷ 1 ∷ 1 ∷ []) ∷ (0 ∷ 6 ∷ 2 ∷ []) ∷ (0 ∷ 7 ∷ 3 ∷ []) ∷ []
+  unfolding turnGiven firstWaiting accept rowsOk requestOk isDrive isSound soundTo blankTo refusal overlapsAny overlap inStore fieldsOk geometryFits inLimits busOk interfaceOk isBlank blankNumbers blankNames same
+  turns-given = rw (la, ls)
 
   pub turn-desks : map (λ (p : ℕ). turnOf (good p) arena store .desk) (0 ∷ 1 ∷ 2 ∷ 3 ∷ 4 ∷ 7 ∷ [])
       ≡ after 1 0 (Finished (success 0x0005))

@@ -1,30 +1,36 @@
 -- Calls at small desks, by number: the order of the house numbers, both stages that refuse a post, what a collect leaves, and the pointer.
 -- Assumes nothing.
 use mathlib.Core.Path.{_≡_, refl}
-use mathlib.Core.Bool.{true, false}
-use mathlib.Core.List.{List, [], _∷_, map}
-use Prim.Native.Nat.{ℕ}
+use mathlib.Core.Bool.{Bool, true, false}
+use mathlib.Core.List.{List, [], _∷_, _++_, map}
+use Prim.Native.Nat.{ℕ, zero, suc}
 use lib.ListN.{length, replicate, set, take}
 use Rattle.words.specs.Words.{leBytes}
 use Rattle.chs.specs.Chs.{inLimits, isValid, blockOf}
 use Rattle.memory.specs.Window.{spanStart, spanLength}
 use Rattle.layout.specs.Packet.{readPacket}
+use Rattle.layout.specs.ResultBuffer.{returnedSize, parameterBytes, blockBytes, interfaceBytes, pathBytes, sum, wholeResult, resultBytes, resultAnswer}
 use Rattle.drive.specs.Drive.{driveOf, isBlank, blankNumbers, blankNames, same, busOk, interfaceOk, geometryFits, fieldsOk, inStore, overlap}
-use Rattle.table.specs.Table.{emptyTable, headerOf, headerAt, overlapsAny, refusal, driveStep, endStep, stepOf, stepAt, readFrom, readTable, recordsOf, bytesOf, tableOf, writeAnswer, writeOut, writtenNumbers, soundTo, blankTo, isSound}
+use Rattle.table.specs.declared.Table.{Table}
+use Rattle.table.specs.Table.{emptyTable, headerOf, headerAt, overlapsAny, refusal, driveStep, endStep, stepOf, stepAt, readFrom, readTable, recordsOf, bytesOf, tableOf, writeAnswer, writeOut, writtenNumbers, writeNumbers, soundTo, blankTo, isSound}
 use Rattle.words.specs.Words.{le}
 use Rattle.int13.specs.declared.Registers.{Registers}
 use Rattle.int13.specs.declared.Outcome.{Outcome}
 use Rattle.int13.specs.declared.Outcome.the-variants.{Answered, Waits}
+use Rattle.int13.specs.Numbers.{checkGiven, bufferGiven, stepsGiven, beginGiven}
 use Rattle.int13.specs.Steps.{isDrive, fed, parameters, extensions, packetPlan, seek as seekSteps, sectors, result, steps, begin}
 use Rattle.desk.specs.declared.Row.{Row}
 use Rattle.desk.specs.declared.Stage.{Stage}
 use Rattle.desk.specs.declared.Stage.the-variants.{Vacant, Waiting, Finished}
 use Rattle.desk.specs.declared.Desk.{Desk}
-use Rattle.desk.specs.declared.Next.the-variants.{Guest}
+use Rattle.desk.specs.declared.Next.{Next}
+use Rattle.desk.specs.declared.Next.the-variants.{Guest, Nobody}
+use Rattle.desk.specs.declared.PostAnswer.the-variants.{Waits as PostWaits}
+use Rattle.desk.specs.declared.TurnAnswer.the-variants.{Served}
 use Rattle.desk.specs.Parts.{vacantRow}
-use Rattle.desk.specs.Acceptable.{rowsOk, accept}
-use Rattle.desk.specs.Calls.{openOf, writtenOf, writtenOut, postRow, postOf, firstWaiting, turnOf, collectStage, collectOf, withdrawStage, withdrawOf}
-use Rattle.desk.specs.Numbers.{openNumbers, postNumbers, turnNumbers, collectNumbers, withdrawNumbers}
+use Rattle.desk.specs.Acceptable.{requestOk, rowsOk, accept}
+use Rattle.desk.specs.Calls.{openOf, writtenOf, writtenOut, postVacant, postRow, postOf, firstWaiting, turnOf, collectStage, collectOf, withdrawStage, withdrawOf}
+use Rattle.desk.specs.Numbers.{openNumbers, postNumbers, turnNumbers, collectNumbers, withdrawNumbers, writeGiven, postRowGiven, postGiven, turnRowGiven, turnGiven, collectRowGiven, collectGiven, withdrawRowGiven, withdrawGiven}
 
 -- 41h of drive 80h
 abbrev registers : Registers
@@ -40,11 +46,16 @@ desk s pointer = record { rows = set (replicate 8 vacantRow) 3 (row s); pointer 
 abbrev arena : List ℕ
 arena = replicate 8 7
 
--- the house numbers of post, turn, collect, withdraw and write at a desk, for a guest, an arena, a store and a buffer
+-- the house numbers of post, turn, collect, withdraw and write at a desk, for a guest, an arena, a store and a buffer; then the same by the
+-- second promise of each call
 abbrev houses : Desk → ℕ → List ℕ → List ℕ → List ℕ → List (List ℕ)
 houses d g a s out =
     postNumbers (postOf d g registers a s .answer) ∷ turnNumbers (turnOf d a s .answer) ∷ collectNumbers (collectOf d g a s .answer)
-    ∷ withdrawNumbers (withdrawOf d g a s .answer) ∷ writtenNumbers (writtenOf d (length out)) ∷ []
+    ∷ withdrawNumbers (withdrawOf d g a s .answer) ∷ writtenNumbers (writtenOf d (length out))
+    ∷ postGiven d g registers a s ∷ turnGiven d a s ∷ collectGiven d g ∷ withdrawGiven d g a s ∷ writeGiven d (length out) ∷ []
+
+abbrev twice : List (List ℕ) → List (List ℕ)
+twice l = l ++ l
 
 -- a bad pointer, wrong lengths, no guest and a short buffer: 25. An acceptable desk with wrong lengths (24, where they are lent; a turn's
 -- also with no row waiting), then with right ones and no guest (20), then by its row: vacant
@@ -54,13 +65,14 @@ pub order : houses (desk Vacant 8) 8 [] arena []
     ∷ houses (desk Vacant 0) 8 arena [] []
     ∷ houses (desk Vacant 0) 3 arena [] (replicate 4 0)
     ∷ []
-    ≡ ((25 ∷ []) ∷ (25 ∷ []) ∷ (25 ∷ []) ∷ (25 ∷ []) ∷ (25 ∷ []) ∷ [])
+    ≡ map twice
+    (((25 ∷ []) ∷ (25 ∷ []) ∷ (25 ∷ []) ∷ (25 ∷ []) ∷ (25 ∷ []) ∷ [])
     ∷ ((24 ∷ []) ∷ (24 ∷ []) ∷ (20 ∷ []) ∷ (24 ∷ []) ∷ (19 ∷ []) ∷ [])
     ∷ ((24 ∷ []) ∷ (24 ∷ []) ∷ (20 ∷ []) ∷ (24 ∷ []) ∷ (19 ∷ []) ∷ [])
     ∷ ((20 ∷ []) ∷ (256 ∷ []) ∷ (20 ∷ []) ∷ (20 ∷ []) ∷ (19 ∷ []) ∷ [])
     ∷ ((0 ∷ 0x0107 ∷ 0x55AA ∷ 3 ∷ 0x80 ∷ 4 ∷ 5 ∷ 6 ∷ 1 ∷ []) ∷ (256 ∷ []) ∷ (22 ∷ []) ∷ (23 ∷ []) ∷ (0 ∷ 4 ∷ []) ∷ [])
-    ∷ []
-unfolding postOf turnOf collectOf withdrawOf writtenOf postNumbers turnNumbers collectNumbers withdrawNumbers writtenNumbers writeAnswer tableOf bytesOf recordsOf leBytes accept rowsOk isSound soundTo blankTo isBlank blankNumbers blankNames same firstWaiting begin steps isDrive parameters extensions
+    ∷ [])
+unfolding postOf turnOf collectOf withdrawOf writtenOf postNumbers turnNumbers collectNumbers withdrawNumbers writtenNumbers writeAnswer tableOf bytesOf recordsOf leBytes accept rowsOk isSound soundTo blankTo isBlank blankNumbers blankNames same firstWaiting begin steps isDrive parameters extensions writeNumbers beginGiven stepsGiven checkGiven writeGiven postGiven turnGiven collectGiven withdrawGiven
 order = refl
 
 -- a finished row refuses a post (21) and a withdrawal (23), and is collected once; any registers may stand in it
@@ -71,9 +83,13 @@ pub finished-row : postNumbers (postOf finished 3 registers arena [] .answer)
     ∷ withdrawNumbers (withdrawOf finished 3 arena [] .answer)
     ∷ collectNumbers (collectOf finished 3 [] [] .answer)
     ∷ collectNumbers (collectOf (collectOf finished 3 [] [] .desk) 3 [] [] .answer)
+    ∷ postGiven finished 3 registers arena []
+    ∷ withdrawGiven finished 3 arena []
+    ∷ collectGiven finished 3
     ∷ []
-    ≡ (21 ∷ []) ∷ (23 ∷ []) ∷ (0 ∷ 0x4107 ∷ 0x55AA ∷ 3 ∷ 0x80 ∷ 4 ∷ 5 ∷ 6 ∷ 1 ∷ []) ∷ (22 ∷ []) ∷ []
-unfolding postOf collectOf withdrawOf postNumbers collectNumbers withdrawNumbers accept rowsOk isSound soundTo blankTo isBlank blankNumbers blankNames same
+    ≡ (21 ∷ []) ∷ (23 ∷ []) ∷ (0 ∷ 0x4107 ∷ 0x55AA ∷ 3 ∷ 0x80 ∷ 4 ∷ 5 ∷ 6 ∷ 1 ∷ []) ∷ (22 ∷ [])
+    ∷ (21 ∷ []) ∷ (23 ∷ []) ∷ (0 ∷ 0x4107 ∷ 0x55AA ∷ 3 ∷ 0x80 ∷ 4 ∷ 5 ∷ 6 ∷ 1 ∷ []) ∷ []
+unfolding postOf collectOf withdrawOf postNumbers collectNumbers withdrawNumbers postGiven collectGiven withdrawGiven accept rowsOk isSound soundTo blankTo isBlank blankNumbers blankNames same
 finished-row = refl
 
 -- a request that waits, whatever it asks
@@ -143,6 +159,48 @@ pub waiting-row : postNumbers (postRow small 1 registers (replicate 128 7) [] (p
     ∷ []
 unfolding postNumbers collectNumbers withdrawNumbers leBytes spanStart spanLength
 waiting-row = refl
+
+-- the same by the second promises, and the numbers of a turn that serves and of a post that waits
+pub waiting-given : postRowGiven small 1 registers (replicate 128 7) (partly packetCall 0)
+    ∷ collectRowGiven (partly packetCall 0)
+    ∷ withdrawRowGiven (partly sectorCall 0)
+    ∷ withdrawRowGiven (partly packetCall 0)
+    ∷ turnRowGiven 3 (partly packetCall 0)
+    ∷ turnNumbers (Served 3 16)
+    ∷ postNumbers PostWaits
+    ∷ []
+    ≡ (21 ∷ [])
+    ∷ (22 ∷ [])
+    ∷ (0 ∷ 0x8010 ∷ 0 ∷ 1 ∷ 0x80 ∷ 4 ∷ 5 ∷ 0 ∷ 1 ∷ [])
+    ∷ (0 ∷ 0x8005 ∷ 0 ∷ 3 ∷ 0x80 ∷ 0 ∷ 8 ∷ 6 ∷ 1 ∷ [])
+    ∷ (0 ∷ 3 ∷ 1 ∷ [])
+    ∷ (0 ∷ 3 ∷ 16 ∷ [])
+    ∷ (256 ∷ [])
+    ∷ []
+unfolding turnNumbers postNumbers
+waiting-given = refl
+
+-- ---- a post that is answered at once and writes the guest's window: 48h of guest 3, whose window is bytes 99 to 131, with the size 26 at place 4
+
+abbrev lending : Desk
+lending = record { rows = replicate 8 vacantRow; pointer = 0; table = readTable tableBytes 17 .table; arena = 270; store = 0 }
+
+abbrev resultCall : Registers
+resultCall = record { ax = 0x4855; bx = 1; cx = 2; dx = 0x80; ds = 0; si = 4; es = 3; carry = true }
+
+abbrev around : List ℕ → List ℕ
+around bytes = replicate 99 9 ++ (7 ∷ 7 ∷ 7 ∷ 7 ∷ (bytes ++ (7 ∷ 7 ∷ 7 ∷ replicate 138 9)))
+
+pub post-writes : postNumbers (postVacant lending 3 resultCall (around (26 ∷ 0 ∷ replicate 24 7)) [] .answer)
+    ∷ postVacant lending 3 resultCall (around (26 ∷ 0 ∷ replicate 24 7)) [] .arena
+    ∷ postRowGiven lending 3 resultCall (around (26 ∷ 0 ∷ replicate 24 7)) Vacant
+    ∷ []
+    ≡ (0 ∷ 0x0055 ∷ 1 ∷ 2 ∷ 0x80 ∷ 0 ∷ 4 ∷ 3 ∷ 0 ∷ [])
+    ∷ around (26 ∷ 0 ∷ 2 ∷ 0 ∷ 2 ∷ 0 ∷ 0 ∷ 0 ∷ 16 ∷ 0 ∷ 0 ∷ 0 ∷ 63 ∷ 0 ∷ 0 ∷ 0 ∷ 17 ∷ 0 ∷ 0 ∷ 0 ∷ 0 ∷ 0 ∷ 0 ∷ 0 ∷ 0 ∷ 2 ∷ [])
+    ∷ (0 ∷ 0x0055 ∷ 1 ∷ 2 ∷ 0x80 ∷ 0 ∷ 4 ∷ 3 ∷ 0 ∷ [])
+    ∷ []
+unfolding postNumbers spanStart spanLength begin steps result isDrive returnedSize parameterBytes blockBytes interfaceBytes pathBytes sum wholeResult resultBytes resultAnswer beginGiven stepsGiven bufferGiven le leBytes inLimits driveOf same busOk interfaceOk geometryFits fieldsOk inStore overlap headerOf headerAt overlapsAny refusal driveStep endStep stepOf stepAt readFrom readTable
+post-writes = refl
 
 -- with no window 02h is 09h, 42h and 48h are 01h, and 08h and 41h still succeed
 abbrev call : ℕ → Registers

@@ -13,7 +13,7 @@ use Rattle.desk.specs.declared.Stage.the-variants.{Waiting, Finished}
 use Rattle.desk.specs.declared.Row.{Row}
 use Rattle.desk.specs.declared.Desk.{Desk}
 use Rattle.desk.specs.Parts.{vacantRow}
-use Rattle.image.specs.Image.{each, deskWords, image}
+use Rattle.image.specs.Image.{each, deskWords, image, readStage, readDrive, readDesk}
 
 -- the first n words of a block: word w begins at byte 8 w, lowest byte first
 abbrev words : ℕ → List ℕ → List ℕ
@@ -120,3 +120,8 @@ block = refl
 pub block-length : length (image desk) ≡ 2400
 unfolding image deskWords each leBytes
 block-length = refl
+
+-- read back: each field from its own words
+pub read-back : readDesk (image desk) ≡ desk
+unfolding image deskWords each leBytes le readDesk readStage readDrive
+read-back = refl

@@ -5,8 +5,11 @@ use mathlib.Core.Path.{_≡_, refl}
 use mathlib.Core.Bool.{Bool, true, false}
 use mathlib.Core.List.{List, [], _∷_, _++_, map}
 use Prim.Native.Nat.{ℕ, _+_}
-use lib.ListN.{take, replicate}
-use Rattle.words.specs.Words.{le, leBytes}
+use lib.ListN.{length, getD, take, drop, replicate}
+use lib.Seq.{sets}
+use lib.Dec.{eqb}
+use Rattle.logic.specs.Logic.{pick}
+use Rattle.words.specs.Words.{le, leBytes, part}
 use Rattle.chs.specs.Chs.{inLimits, isValid, blockOf}
 use Rattle.drive.specs.declared.Drive.{Drive}
 use Rattle.drive.specs.Drive.{driveOf as driveRead, same, busOk, interfaceOk, geometryFits, fieldsOk, inStore, overlap}
@@ -14,6 +17,7 @@ use Rattle.table.specs.declared.Table.{Table}
 use Rattle.table.specs.Table.{headerOf, headerAt, overlapsAny, refusal, driveStep, endStep, stepOf, stepAt, zeroDrive, emptyTable, readFrom, readTable}
 use Rattle.layout.specs.Packet.{packetAt, readPacket}
 use Rattle.layout.specs.ResultBuffer.{returnedSize, parameterBytes, blockBytes, interfaceBytes, pathBytes, sum, wholeResult, resultBytes, resultAnswer}
+use Rattle.memory.specs.Blocks.{blocks}
 use Rattle.int13.specs.declared.Registers.{Registers}
 use Rattle.int13.specs.declared.Job.{Job}
 use Rattle.int13.specs.declared.Outcome.{Outcome}
@@ -22,7 +26,8 @@ use Rattle.int13.specs.declared.Plan.{Plan}
 use Rattle.int13.specs.declared.Plan.the-variants.{Refuse, Clear, Finish, Wait}
 use Rattle.int13.specs.Answers.{dl, succeed, withdraw, posted, outcomeNumbers}
 use Rattle.int13.specs.Steps.{Checked, fed, isDrive, driveAt, driveIn, driveNamed, verifyOk, packetTests, packetPlan, seek, sectors, parameters, extensions, result, steps, begin}
-use Rattle.int13.specs.Alone.{asked, namedFrom, storeBlock}
+use Rattle.int13.specs.Numbers.{sectorsGiven, parametersGiven, checkGiven, packetTestsGiven, packetNumbersAt, extendedGiven, seekGiven, bufferGiven, stepsGiven, beginGiven}
+use Rattle.int13.specs.Alone.{asked, namedFrom, Memory, storeBlock, moves, Served, alone}
 use Rattle.int13.specs.AloneBytes.{askedBuffer}
 
 -- ---- tables
@@ -117,9 +122,24 @@ asks41 bx dx = record { ax = 0x4155; bx = bx; cx = 0x2222; dx = dx; ds = 0; si =
 abbrev result4 : Registers
 result4 = record { ax = 0x4800; bx = 0; cx = 0; dx = 0x80; ds = 0; si = 4; es = 0; carry = true }
 
+-- what came of a call, and the numbers that its second promise gives, straight from the registers, the drive and the window's bytes
+pub record Called (A : Type 0) : Type 0 where
+  pub made : A
+  pub numbers : List ℕ
+
+-- a call at a table, and over one drive
+abbrev at : Table → Registers → List ℕ → Called Checked
+at b r w = record { made = begin (fed b) r w; numbers = beginGiven b r w }
+
+abbrev over : Bool → ℕ → Drive → Registers → List ℕ → Called Checked
+over known n d r w = record { made = steps known n d r w; numbers = stepsGiven known n d r w }
+
 -- 02h and 03h at a table, in a window of that many bytes
-abbrev sectorsOf : Table → Registers → ℕ → Outcome
-sectorsOf b r M = sectors (isDrive b (dl r)) (driveNamed b r) r M
+abbrev sectorsOf : Table → Registers → ℕ → Called Outcome
+sectorsOf b r M = record {
+  made = sectors (isDrive b (dl r)) (driveNamed b r) r M;
+  numbers = sectorsGiven (isDrive b (dl r)) (driveNamed b r) r M;
+}
 
 -- size byte, count, offset and segment of the buffer, start; byte 1 is A5h, which nobody reads
 abbrev packet : ℕ → ℕ → ℕ → ℕ → ℕ → List ℕ
@@ -149,6 +169,13 @@ abbrev whole : Outcome → List ℕ
 whole (Answered r) = registers r
 whole (Waits j) = j .drive ∷ registers (j .registers)
 
+-- the same of the second promise's numbers, 0 and the registers, or 256, drive, start, count, buffer, packet and the registers kept
+abbrev shortly : List ℕ → List ℕ
+shortly l = pick (eqb (getD l 0 0) 256) (part 4 l 2) (getD l 1 0 ∷ getD l 8 0 ∷ [])
+
+abbrev wholly : List ℕ → List ℕ
+wholly l = pick (eqb (getD l 0 0) 256) (getD l 1 0 ∷ drop 6 l) (drop 1 l)
+
 -- a plan: refused 0, refused with the count word set to 0 1, at once 2, waiting 3
 abbrev planned : Plan → List ℕ
 planned (Refuse code) = 0 ∷ code ∷ []
@@ -169,21 +196,18 @@ pub record Case : Type 0 where
 abbrev Hold : List Case → Type 0
 Hold cases = map (λ (c : Case). c .made) cases ≡ map (λ (c : Case). c .given) cases
 
-abbrev at : Table → Registers → List ℕ → Checked
-at b = begin (fed b)
+-- its answer in short; an outcome in short; its answer whole; its answer in short and the window after it; all by both promises
+abbrev gives : Called Checked → List ℕ → Case
+gives c l = record { made = short (c .made .outcome) ∷ shortly (c .numbers) ∷ []; given = l ∷ l ∷ [] }
 
--- its answer in short; an outcome in short; its answer whole; its answer in short and the window after it
-abbrev gives : Checked → List ℕ → Case
-gives c l = record { made = short (c .outcome) ∷ []; given = l ∷ [] }
+abbrev comes : Called Outcome → List ℕ → Case
+comes o l = record { made = short (o .made) ∷ shortly (o .numbers) ∷ []; given = l ∷ l ∷ [] }
 
-abbrev comes : Outcome → List ℕ → Case
-comes o l = record { made = short o ∷ []; given = l ∷ [] }
+abbrev givesAll : Called Checked → List ℕ → Case
+givesAll c l = record { made = whole (c .made .outcome) ∷ wholly (c .numbers) ∷ []; given = l ∷ l ∷ [] }
 
-abbrev givesAll : Checked → List ℕ → Case
-givesAll c l = record { made = whole (c .outcome) ∷ []; given = l ∷ [] }
-
-abbrev leaves : Checked → List ℕ → List ℕ → Case
-leaves c l w = record { made = short (c .outcome) ∷ c .window ∷ []; given = l ∷ w ∷ [] }
+abbrev leaves : Called Checked → List ℕ → List ℕ → Case
+leaves c l w = record { made = short (c .made .outcome) ∷ shortly (c .numbers) ∷ c .made .window ∷ []; given = l ∷ l ∷ w ∷ [] }
 
 abbrev plans : Plan → List ℕ → Case
 plans p l = record { made = planned p ∷ []; given = l ∷ [] }
@@ -523,7 +547,7 @@ pub record Vectors : Type 0 where
       ∷ [])
 
 pub vectors : Vectors
-unfolding le leBytes inLimits isValid blockOf readPacket packetAt returnedSize parameterBytes blockBytes interfaceBytes pathBytes sum wholeResult resultBytes resultAnswer isDrive verifyOk packetTests packetPlan seek sectors parameters extensions result steps begin outcomeNumbers
+unfolding le leBytes inLimits isValid blockOf readPacket packetAt returnedSize parameterBytes blockBytes interfaceBytes pathBytes sum wholeResult resultBytes resultAnswer isDrive verifyOk packetTests packetPlan seek sectors parameters extensions result steps begin outcomeNumbers sectorsGiven parametersGiven checkGiven packetTestsGiven packetNumbersAt extendedGiven seekGiven bufferGiven stepsGiven beginGiven
 vectors =
     record {
       registers-sectors = refl;
@@ -630,13 +654,13 @@ placed p rest = replicate 19 15 ++ (p ++ replicate rest 7)
 abbrev one57 : ℕ → ℕ → List ℕ
 one57 count start = placed (packet 16 count 9 3 start) 534
 
--- an outcome as numbers: 0 and the registers; or 256, drive, start, count, buffer, packet and the registers kept
-abbrev numbers : Checked → List ℕ → Case
-numbers c l = record { made = outcomeNumbers (c .outcome) ∷ []; given = l ∷ [] }
+-- an outcome as numbers, by both promises: 0 and the registers; or 256, drive, start, count, buffer, packet and the registers kept
+abbrev numbers : Called Checked → List ℕ → Case
+numbers c l = record { made = outcomeNumbers (c .made .outcome) ∷ c .numbers ∷ []; given = l ∷ l ∷ [] }
 
 -- the same, and the window after it
-abbrev both-ways : Checked → List ℕ → List ℕ → Case
-both-ways c l w = record { made = outcomeNumbers (c .outcome) ∷ c .window ∷ []; given = l ∷ w ∷ [] }
+abbrev both-ways : Called Checked → List ℕ → List ℕ → Case
+both-ways c l w = record { made = outcomeNumbers (c .made .outcome) ∷ c .numbers ∷ c .made .window ∷ []; given = l ∷ l ∷ w ∷ [] }
 
 abbrev asks82 : Job
 asks82 = record { registers = own 0x4277 5 0x0242 0x0182; drive = 0x82; start = 4; count = 1; buffer = 57; packet = 19 }
@@ -696,8 +720,8 @@ pub record Apart : Type 0 where
       ∷ (numbers (at apart (own 0x0877 5 0x0242 0x0181) []) (0 ∷ kept19 0 5 0x2B42 0x0203 0))
       ∷ (numbers (at apart (own 0x0877 5 0x0242 0x0182) []) (0 ∷ kept19 0 5 0x0105 0x0303 0))
       ∷ (numbers (at apart (own 0x0877 5 0x0242 0x0183) []) (0 ∷ kept19 0x0777 5 0x0242 0x0183 1))
-      ∷ (numbers (steps true 6 drive81 (own 0x0877 5 0x0242 0x0180) []) (0 ∷ kept19 0 5 0x2B42 0x0206 0))
-      ∷ (numbers (steps false 6 drive81 (own 0x0877 5 0x0242 0x0180) []) (0 ∷ kept19 0x0777 5 0x0242 0x0180 1))
+      ∷ (numbers (over true 6 drive81 (own 0x0877 5 0x0242 0x0180) []) (0 ∷ kept19 0 5 0x2B42 0x0206 0))
+      ∷ (numbers (over false 6 drive81 (own 0x0877 5 0x0242 0x0180) []) (0 ∷ kept19 0x0777 5 0x0242 0x0180 1))
       ∷ [])
   -- 41h: 82h is known and 83h is not; the registers that are not named stay
   pub own-extensions : Hold
@@ -732,7 +756,7 @@ pub record Apart : Type 0 where
       ≡ 2 ∷ 37 ∷ 7551 ∷ 1 ∷ 57 ∷ 9041 ∷ 9005 ∷ []
 
 pub apart-vectors : Apart
-unfolding le leBytes inLimits isValid blockOf readPacket packetAt returnedSize parameterBytes blockBytes interfaceBytes pathBytes sum wholeResult resultBytes resultAnswer isDrive verifyOk packetTests packetPlan seek sectors parameters extensions result steps begin outcomeNumbers
+unfolding le leBytes inLimits isValid blockOf readPacket packetAt returnedSize parameterBytes blockBytes interfaceBytes pathBytes sum wholeResult resultBytes resultAnswer isDrive verifyOk packetTests packetPlan seek sectors parameters extensions result steps begin outcomeNumbers sectorsGiven parametersGiven checkGiven packetTestsGiven packetNumbersAt extendedGiven seekGiven bufferGiven stepsGiven beginGiven
 apart-vectors =
     record {
       drive-places = refl;
@@ -745,3 +769,53 @@ apart-vectors =
       own-answers = refl;
       own-words = refl;
     }
+
+-- each of eight drives at its place, and a number below 80h
+pub places-of-eight : map (λ (n : ℕ). driveIn eight n .first) (0x80 ∷ 0x84 ∷ 0x87 ∷ 0x0F ∷ []) ≡ 0 ∷ 8192 ∷ 14336 ∷ 14336 ∷ []
+places-of-eight = refl
+
+-- ---- the blocks that move, in any window and store: the buffer is 7 and block 0 of the job is store block 5
+
+abbrev moved : ℕ → ℕ → ℕ → Memory → Memory
+moved ax = moves (record { registers = own ax 5 0x0242 0x0181; drive = 0x81; start = 3; count = 4; buffer = 7; packet = 19 }) 5
+
+-- three blocks from block 2 on: 02h and 42h from the store, 03h and 43h to it
+pub blocks-moved : (m : Memory) → moved 0x0202 2 3 m ∷ moved 0x4277 2 3 m ∷ moved 0x0302 2 3 m ∷ moved 0x4302 2 3 m ∷ []
+    ≡ record { window = blocks (m .window) 1031 (m .store) 3584 3; store = m .store }
+    ∷ record { window = blocks (m .window) 1031 (m .store) 3584 3; store = m .store }
+    ∷ record { window = m .window; store = blocks (m .store) 3584 (m .window) 1031 3 }
+    ∷ record { window = m .window; store = blocks (m .store) 3584 (m .window) 1031 3 }
+    ∷ []
+unfolding moves
+blocks-moved m = refl
+
+-- ---- served alone, on a drive of 3 blocks from store block 1, with C, H and S 1, 1 and 3
+
+abbrev small : List ℕ
+small = sets bytes 16 (leBytes 8 3 ++ leBytes 8 1 ++ leBytes 2 2 ++ leBytes 2 1 ++ leBytes 2 1 ++ (3 ∷ []))
+
+-- by AX; CX is 0/0/2, the buffer at ES:BX place 37, the packet at DS:SI place 19
+abbrev served : ℕ → List ℕ → List ℕ → Served
+served ax window store = alone (fed small) (own ax 5 2 0x80) (record { window = window; store = store })
+
+abbrev leaving : ℕ → Bool → List ℕ → List ℕ → Served
+leaving ax carry window store = record {
+  registers = record { ax = ax; bx = 5; cx = 2; dx = 0x80; ds = 1; si = 3; es = 2; carry = carry };
+  memory = record { window = window; store = store };
+}
+
+-- 02h and 03h of two sectors, blocks 2 and 3 of a store of four; 44h with count 128, which is answered at once and writes the window; 02h with
+-- a store of one byte less than four blocks, for which the table is refused
+module _ (window store : List ℕ) (lw : length window ≡ 1061) where
+  pub served-alone : length store ≡ 2048
+      → served 0x0202 window store ∷ served 0x0302 window store ∷ served 0x4477 (placed (packet 16 128 9 3 1) 0) store ∷ []
+      ≡ leaving 0x0002 false (blocks window 37 store 1024 2) store
+      ∷ leaving 0x0002 false window (blocks store 1024 window 37 2)
+      ∷ leaving 0x0177 true (placed (packet 16 0 9 3 1) 0) store
+      ∷ []
+  unfolding alone moves le leBytes inLimits isValid blockOf driveRead same busOk interfaceOk geometryFits fieldsOk inStore overlap headerOf headerAt overlapsAny refusal driveStep endStep stepOf stepAt readFrom readTable readPacket packetAt isDrive packetTests packetPlan sectors steps begin
+  served-alone ls = rw (lw, ls)
+
+  pub served-short : length store ≡ 2047 → served 0x0202 window store ≡ leaving 0x0100 true window store
+  unfolding alone moves le leBytes inLimits isValid blockOf driveRead same busOk interfaceOk geometryFits fieldsOk inStore overlap headerOf headerAt overlapsAny refusal driveStep endStep stepOf stepAt readFrom readTable isDrive sectors steps begin
+  served-short ls = rw (lw, ls)

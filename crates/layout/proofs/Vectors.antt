@@ -85,6 +85,11 @@ pub results : map (λ asked. resultOut drive pointer asked (replicate 68 9)) (25
 unfolding leBytes returnedSize parameterBytes blockBytes interfaceBytes pathBytes sum wholeResult resultBytes resultAnswer
 results = refl
 
+-- a room of 29 bytes: enough for 26, and where 30 are asked for all of it stays
+pub results-short : map (λ asked. resultOut drive pointer asked (replicate 29 9)) (29 ∷ 30 ∷ []) ≡ (26 ∷ 0 ∷ (from2 ++ replicate 3 9)) ∷ replicate 29 9 ∷ []
+unfolding leBytes returnedSize parameterBytes blockBytes interfaceBytes pathBytes sum wholeResult resultBytes resultAnswer
+results-short = refl
+
 -- the pointer of today: FFFFh:FFFFh
 pub none : leBytes 2 (noPointer .offset) ++ leBytes 2 (noPointer .segment) ≡ 0xFF ∷ 0xFF ∷ 0xFF ∷ 0xFF ∷ []
 unfolding leBytes

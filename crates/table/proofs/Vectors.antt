@@ -11,7 +11,7 @@ use Rattle.chs.specs.Chs.{inLimits}
 use Rattle.drive.specs.declared.Drive.{Drive}
 use Rattle.drive.specs.Drive.{driveOf, recordOf, geometryBytes, sizeBytes, nameBytes, same, busOk, interfaceOk, geometryFits, fieldsOk, inStore, overlap, blankNumbers, blankNames, isBlank}
 use Rattle.table.specs.declared.Table.{Table}
-use Rattle.table.specs.Table.{headerOf, headerAt, overlapsAny, refusal, driveStep, endStep, stepOf, stepAt, zeroDrive, readFrom, readTable, recordsOf, bytesOf, tableOf, writeAnswer, writeOut, soundTo, blankTo, isSound, answerNumbers, writtenNumbers}
+use Rattle.table.specs.Table.{headerOf, headerAt, overlapsAny, refusal, driveStep, endStep, stepOf, stepAt, zeroDrive, emptyTable, readFrom, readTable, recordsOf, bytesOf, tableOf, writeAnswer, writeOut, soundTo, blankTo, isSound, stepNumbers, answerNumbers, writtenNumbers, recordNumbers, numbersFrom, tableNumbers, writeNumbers, noDrive}
 
 -- the drive record of document 01's table, and the end record
 abbrev record₁ : List ℕ
@@ -138,10 +138,37 @@ pub overlaps : answers ((from 0 ++ from 4096 ++ from 2048 ++ end) ∷ (from 2048
 unfolding le leBytes inLimits driveOf same busOk interfaceOk geometryFits fieldsOk inStore overlap headerOf headerAt overlapsAny refusal driveStep endStep stepOf stepAt readFrom readTable answerNumbers
 overlaps = refl
 
+-- the second of two earlier ones: 7 at 136
+pub overlaps-second : answers ((from 0 ++ from 4096 ++ from 4097 ++ end) ∷ []) ≡ (7 ∷ 136 ∷ []) ∷ []
+unfolding le leBytes inLimits driveOf same busOk interfaceOk geometryFits fieldsOk inStore overlap headerOf headerAt overlapsAny refusal driveStep endStep stepOf stepAt readFrom readTable answerNumbers
+overlaps-second = refl
+
 -- a store of no blocks: every drive is past it, and the table with none passes
 pub no-store : map (λ (t : List ℕ). answerNumbers (readTable t 0 .answer)) ((record₁ ++ end) ∷ end ∷ []) ≡ (6 ∷ 0 ∷ []) ∷ (0 ∷ []) ∷ []
 unfolding le leBytes inLimits driveOf same busOk interfaceOk geometryFits fieldsOk inStore overlap headerOf headerAt overlapsAny refusal driveStep endStep stepOf stepAt readFrom readTable answerNumbers
 no-store = refl
+
+-- ---- the same by the second promise of each call: the numbers straight from the bytes
+
+abbrev given : List (List ℕ) → List (List ℕ)
+given = map (λ (t : List ℕ). tableNumbers t store)
+
+pub order-given : given ([] ∷ (4 ∷ 0 ∷ 9 ∷ []) ∷ (5 ∷ 0 ∷ 9 ∷ 0 ∷ []) ∷ (67 ∷ 0 ∷ 1 ∷ 0 ∷ []) ∷ (5 ∷ 0 ∷ 0 ∷ 0 ∷ 0 ∷ []) ∷ (take 67 (but 39 (2 ∷ []))) ∷ (drives 8 ++ take 67 record₁) ∷ (drives 8 ++ but 39 (2 ∷ []) ++ end) ∷ (but 24 (leBytes 8 store ++ leBytes 2 128) ++ end) ∷ (from 4294965248 ++ from 4294967295 ++ end) ∷ (record₁ ++ record₁ ++ end ++ end) ∷ [])
+    ≡ (1 ∷ 0 ∷ []) ∷ (1 ∷ 0 ∷ []) ∷ (3 ∷ 0 ∷ []) ∷ (2 ∷ 0 ∷ []) ∷ (2 ∷ 0 ∷ []) ∷ (1 ∷ 0 ∷ []) ∷ (1 ∷ 544 ∷ []) ∷ (4 ∷ 544 ∷ []) ∷ (5 ∷ 0 ∷ []) ∷ (6 ∷ 68 ∷ []) ∷ (7 ∷ 68 ∷ []) ∷ []
+unfolding le leBytes inLimits driveOf same busOk interfaceOk geometryFits fieldsOk inStore overlap headerOf headerAt overlapsAny refusal driveStep endStep stepOf stepAt recordNumbers numbersFrom tableNumbers
+order-given = refl
+
+pub places-given : given ((record₁ ++ end) ∷ record₁ ∷ (end ++ (0 ∷ [])) ∷ (record₁ ++ end ++ (0 ∷ [])) ∷ (record₁ ++ (4 ∷ 0 ∷ 2 ∷ 0 ∷ [])) ∷ [])
+    ≡ (0 ∷ []) ∷ (1 ∷ 68 ∷ []) ∷ (8 ∷ 4 ∷ []) ∷ (8 ∷ 72 ∷ []) ∷ (3 ∷ 68 ∷ []) ∷ []
+unfolding le leBytes inLimits driveOf same busOk interfaceOk geometryFits fieldsOk inStore overlap headerOf headerAt overlapsAny refusal driveStep endStep stepOf stepAt recordNumbers numbersFrom tableNumbers
+places-given = refl
+
+-- one record: a drive with the next place, the end, and fewer than 4 bytes left
+pub steps-given : map (λ (at : ℕ). stepNumbers (stepAt (record₁ ++ end) at emptyTable store .step)) (0 ∷ 68 ∷ 69 ∷ [])
+    ++ map (λ (at : ℕ). recordNumbers (record₁ ++ end) at emptyTable store) (0 ∷ 68 ∷ 69 ∷ [])
+    ≡ (0 ∷ 1 ∷ 68 ∷ []) ∷ (0 ∷ []) ∷ (1 ∷ 69 ∷ []) ∷ (0 ∷ 1 ∷ 68 ∷ []) ∷ (0 ∷ []) ∷ (1 ∷ 69 ∷ []) ∷ []
+unfolding le leBytes inLimits driveOf same busOk interfaceOk geometryFits fieldsOk inStore overlap headerOf headerAt overlapsAny refusal driveStep endStep stepOf stepAt recordNumbers stepNumbers
+steps-given = refl
 
 -- ---- what is read and written, by value
 
@@ -180,6 +207,10 @@ two-written = refl
 pub buffers : map (λ (n : ℕ). writtenNumbers (writeAnswer two n)) (0 ∷ 139 ∷ 140 ∷ 142 ∷ []) ≡ (19 ∷ []) ∷ (19 ∷ []) ∷ (0 ∷ 140 ∷ []) ∷ (0 ∷ 140 ∷ []) ∷ []
 unfolding leBytes recordOf geometryBytes sizeBytes nameBytes recordsOf bytesOf tableOf writeAnswer writtenNumbers
 buffers = refl
+
+pub buffers-given : map (writeNumbers two) (0 ∷ 139 ∷ 140 ∷ 142 ∷ []) ≡ (19 ∷ []) ∷ (19 ∷ []) ∷ (0 ∷ 140 ∷ []) ∷ (0 ∷ 140 ∷ []) ∷ []
+unfolding leBytes recordOf geometryBytes sizeBytes nameBytes recordsOf bytesOf tableOf writeNumbers
+buffers-given = refl
 
 pub laid : map (writeOut two) (replicate 139 7 ∷ replicate 140 7 ∷ replicate 142 7 ∷ [])
     ≡ replicate 139 7 ∷ (first-bytes ++ second-bytes ++ end) ∷ (first-bytes ++ second-bytes ++ end ++ (7 ∷ 7 ∷ [])) ∷ []
