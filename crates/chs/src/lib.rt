@@ -7,7 +7,7 @@ ghost use mathlib.Core.Bool.{true};
 ghost use Rattle.chs.specs.Chs.{unpack, addressIn, isValid, number, size, split, inLimits, blockOf, addressOf, blockNumbers, addressNumbers, blockGiven, addressGiven, pack};
 
 // AH 04h: blocks outside the drive or geometry.
-const OUTSIDE: u8 = 0x04;
+pub const OUTSIDE: u8 = 0x04;
 
 // The table's limits of C, H and S, each from 1.
 const MOST_CYLINDERS: u64 = 1024;

@@ -59,11 +59,11 @@ pub enum Plan {
 
 // ---- document 01, "Numbers given back": the codes in AH
 
-const BAD_PARAMETER: u8 = 0x01;
+const BAD_PARAMETER: u8 = layout::BAD_PARAMETER;
 
 const WRITE_PROTECTED: u8 = 0x03;
 
-const OUTSIDE: u8 = 0x04;
+const OUTSIDE: u8 = chs::OUTSIDE;
 
 const NO_PARAMETERS: u8 = 0x07;
 
@@ -195,7 +195,7 @@ fn posted(r: Registers) -> Registers
 // ---- drives and ranges
 
 // The number of drive 0.
-const FIRST_DRIVE: u8 = 0x80;
+pub const FIRST_DRIVE: u8 = 0x80;
 
 fn drive_count(b: Table) -> u8
     ensures { λ n. ⌜ (n ≡ driveCount b) × (n ≤ 8) ⌝ }
@@ -228,12 +228,12 @@ fn ends_past(end: u64, start: u64, count: u64) -> bool
 }
 
 // Bytes of a block.
-const BLOCK_LENGTH: u64 = 512;
+const BLOCK_LENGTH: u64 = memory::BLOCK_LENGTH as u64;
 
 // ---- 02h, 03h: read and write sectors
 
 // The most sectors of one call.
-const MOST_RUN: u8 = 128;
+pub const MOST_RUN: u8 = 128;
 
 // The buffer stands at ES:BX.
 fn sector_buffer(r: Registers) -> u64
@@ -366,10 +366,10 @@ fn extensions_41(known: bool, r: Registers) -> Outcome
 // ---- 42h, 43h, 44h: extended read, write and verify
 
 // The most blocks of one packet.
-const MOST_BLOCKS: u16 = 127;
+pub const MOST_BLOCKS: u16 = 127;
 
 // The least size byte of a packet.
-const PACKET_LENGTH: u8 = 16;
+const PACKET_LENGTH: u8 = layout::PACKET_LENGTH as u8;
 
 // The packet, and the result of 48h, stand at DS:SI.
 fn packet_place(r: Registers) -> usize

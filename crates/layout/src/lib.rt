@@ -9,7 +9,7 @@ ghost use Rattle.layout.specs.Packet.{linear, packetLength, packetAt, re
 ghost use Rattle.layout.specs.ResultBuffer.{pathSize, returnedSize, flagsShown, parameterBytes, blockBytes, interfaceBytes, pathBytes, sum, checksum, wholeResult, resultAnswer, resultOut, resultNumbers, sizeGiven};
 
 // AH 01h.
-const BAD_PARAMETER: u8 = 0x01;
+pub const BAD_PARAMETER: u8 = 0x01;
 
 // ---- the device address packet
 
@@ -36,7 +36,7 @@ pub enum PacketRead {
     Refused(u8),
 }
 
-const PACKET_LENGTH: u64 = 16;
+pub const PACKET_LENGTH: u64 = 16;
 
 // The fields of a packet that is wholly inside the window.
 fn packet_at(window: &[u8], at: usize) -> Packet
@@ -77,7 +77,7 @@ const POINTER_SIZE: u16 = 30;
 
 const PATH_SIZE: u16 = 66;
 
-const BLOCK_LENGTH: u16 = 512;
+const BLOCK_LENGTH: u16 = memory::BLOCK_LENGTH as u16;
 
 const PATH_KEY: u16 = 0xBEDD;
 

@@ -10,10 +10,10 @@ ghost use Rattle.memory.specs.Window.{windowLength, spanStart, spanLengt
 ghost use Rattle.memory.specs.Blocks.{blockLength, blocks};
 
 // Guests are 0 to 7.
-const GUESTS: usize = 8;
+pub const GUESTS: usize = 8;
 
 // Bytes of a block.
-const BLOCK_LENGTH: usize = 512;
+pub const BLOCK_LENGTH: usize = 512;
 
 // Where a window lies in the arena: the bytes from start up to, not including, end.
 pub struct Span {
