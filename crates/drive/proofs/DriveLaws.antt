@@ -10,7 +10,7 @@ use lib.Dec.{leb, ltb, eqb}
 use borrow.Author.Tests.{eq-eqb, eqb-true, eqb-false, le-leb, lt-leb, leb-true, leb-false, lt-ltb, ltb-true}
 use Rattle.logic.specs.Logic.{pick, both}
 use Rattle.logic.proofs.LogicLaws.{impossible, both-true, leb-iff}
-use lib.ListN.{length, getD, set, take, drop, length-append, length-drop}
+use lib.ListN.{length, getD, set, drop, length-append, length-drop}
 use lib.Seq.{sets, take-at, drop-append-add, drop-drop, take-all, take-add, drop-cons, length-take-le}
 use Rattle.chs.specs.Chs.{inLimits, size}
 use Rattle.words.specs.Words.{Bytes, le, leBytes, part}
@@ -196,13 +196,13 @@ named k b name lb ln hb t = same-value k b name lb ln hb (allBytes-true name t)
 
 -- ---- two drives, by differences
 
-pub overlap-before : (a b : Drive) → a .first ≤ b .first → ltb (b .first - a .first) (a .blocks) ≡ overlap a b
-unfolding overlap
-overlap-before a b h = rw (le-leb (a .first) (b .first) h) (leb-iff (suc (b .first - a .first)) (a .blocks) (suc (b .first)) (a .first + a .blocks) (λ q. omega arith) (λ q. omega arith))
+-- the one run of blocks begins first, or the other does
+module _ (first blocks other others : ℕ) where
+  pub overlap-before : first ≤ other → ltb (other - first) blocks ≡ pick (leb first other) (ltb other (first + blocks)) (ltb first (other + others))
+  overlap-before h = rw (le-leb first other h) (leb-iff (suc (other - first)) blocks (suc other) (first + blocks) (λ q. omega arith) (λ q. omega arith))
 
-pub overlap-after : (a b : Drive) → b .first < a .first → ltb (a .first - b .first) (b .blocks) ≡ overlap a b
-unfolding overlap
-overlap-after a b h = rw (lt-leb (a .first) (b .first) h) (leb-iff (suc (a .first - b .first)) (b .blocks) (suc (a .first)) (b .first + b .blocks) (λ q. omega arith) (λ q. omega arith))
+  pub overlap-after : other < first → ltb (first - other) others ≡ pick (leb first other) (ltb other (first + blocks)) (ltb first (other + others))
+  overlap-after h = rw (lt-leb first other h) (leb-iff (suc (first - other)) others (suc first) (other + others) (λ q. omega arith) (λ q. omega arith))
 
 -- drives of at least one block overlap exactly where some store block is in both
 pub overlap-common : (a b : Drive) → 1 ≤ a .blocks → 1 ≤ b .blocks → (overlap a b ≡ true) ↔ ((n : ℕ) × (Holds a n × Holds b n))

@@ -4,15 +4,15 @@ use mathlib.Core.Path.{_≡_, refl, sym, _∙_}
 use mathlib.Core.Logic.{⊎-elim}
 use mathlib.Core.Bool.{Bool, true, false}
 use mathlib.Core.List.{List}
-use Prim.Native.Nat.{ℕ, suc, _+_, _-_, _≤_, _<_}
+use Prim.Native.Nat.{ℕ, _+_, _-_, _≤_, _<_}
 use native.Mathlib.Omega.{arith}
 use native.Mathlib.Decide.{ℕ-discrete}
 use lib.ListN.{length, getD, set, length-set}
 use lib.Seq.{getD-set-same, getD-set-other}
 use lib.Dec.{ltb, eqb}
-use borrow.Author.Tests.{eqb-true, eqb-false, eq-eqb, ne-eqb, le-leb, lt-leb, lt-ltb, le-ltb}
+use borrow.Author.Tests.{eqb-true, eqb-false, eq-eqb, ne-eqb, le-leb, lt-ltb, le-ltb}
 use Rattle.logic.specs.Logic.{pick}
-use Rattle.logic.proofs.LogicLaws.{leb-iff, lt-or-le, some-ext}
+use Rattle.logic.proofs.LogicLaws.{lt-or-le, some-ext}
 use Rattle.words.specs.Words.{part}
 use Rattle.drive.specs.declared.Drive.{Drive}
 use Rattle.drive.specs.Drive.{driveOf, overlap}
@@ -26,18 +26,6 @@ use Rattle.table.specs.declared.Found.{Found}
 use Rattle.table.specs.declared.Answer.the-variants.{Accepted, Refused as AnswerRefused}
 use Rattle.table.specs.Table.{noDrive, zeroDrive, emptyTable, headerAt, overlapsAny, refusal, more, stepped, driveStep, endStep, driveRecord, stepOf, stepAt, reading, goOn, readFrom, mostRecords, readTable, Reads, foundEnd, foundOf, foundAt, overlapRuns, overlapsRun, refusalAmong}
 use Rattle.table.proofs.TableLaws.{whole-at, lengthOk-end, lengthOk-drive, room, refusal-room, readFrom-on, readFrom-zero, reads-is}
-
--- ---- runs by differences
-
-pub runs-before : (first blocks other others : ℕ) → first ≤ other → ltb (other - first) blocks ≡ overlapRuns first blocks other others
-unfolding overlapRuns
-runs-before first blocks other others h =
-    rw (le-leb first other h) (leb-iff (suc (other - first)) blocks (suc other) (first + blocks) (λ q. omega arith) (λ q. omega arith))
-
-pub runs-after : (first blocks other others : ℕ) → other < first → ltb (first - other) others ≡ overlapRuns first blocks other others
-unfolding overlapRuns
-runs-after first blocks other others h =
-    rw (lt-leb first other h) (leb-iff (suc (first - other)) others (suc first) (other + others) (λ q. omega arith) (λ q. omega arith))
 
 -- ---- runs beside drives
 
@@ -73,10 +61,10 @@ unfolding Beside Along refusalAmong refusal overlapsRun overlapsAny overlapRuns 
 among-is b firsts sizes d store h = rw (some-ext (b .count) (λ i. overlapRuns (d .first) (d .blocks) (getD firsts i 0) (getD sizes i 0)) (λ i. overlap d (getD (b .drives) i noDrive)) (λ i l. rw (h .0 i l, h .1 i l)))
 
 -- the runs of all eight slots are enough, whatever the count
-pub among-eight : (b : Table) (firsts sizes : List ℕ) (d : Drive) (store : ℕ) → Beside 8 (b .drives) firsts sizes → refusalAmong (b .count) firsts sizes d store ≡ refusal b d store
+pub among-eight : {k : ℕ} (b : Table) (firsts sizes : List ℕ) (d : Drive) (store : ℕ) → Beside 8 (b .drives) firsts sizes → k ≡ refusalAmong (b .count) firsts sizes d store → k ≡ refusal b d store
 unfolding Beside Along refusalAmong refusal
-among-eight b firsts sizes d store h =
-    ⊎-elim (λ l. among-is b firsts sizes d store (λ i q. h .0 i (omega arith), λ i q. h .1 i (omega arith))) (λ l. rw (le-leb 8 (b .count) l)) (lt-or-le (b .count) 8)
+among-eight b firsts sizes d store h e =
+    e ∙ ⊎-elim (λ l. among-is b firsts sizes d store (λ i q. h .0 i (omega arith), λ i q. h .1 i (omega arith))) (λ l. rw (le-leb 8 (b .count) l)) (lt-or-le (b .count) 8)
 
 -- ---- what was found, by the tests of the code
 

@@ -1,3 +1,4 @@
+use Rattle.drive.specs.Drive.{overlap}
 use Rattle.drive.proofs.DriveLaws.{overlap-before, overlap-after}
 use borrow.Author.Needs.{needs}
 use Rattle.drive.proofs.overlaps.Statement.{statement}
@@ -7,10 +8,12 @@ sub-result : tie.Need-sub-result
 sub-result c = search needs
 
 returns : tie.Need-returns
-returns c = overlap-before (c .before .before .before .before .before .before .args .a) (c .before .before .before .before .before .before .args .b) (c .before .before .before .if1 .taken)
+unfolding overlap
+returns c = overlap-before _ _ _ _ (c .before .before .before .if1 .taken)
 
 returns-2 : tie.Need-returns-2
-returns-2 c = overlap-after (c .before .before .before .before .before .before .args .a) (c .before .before .before .before .before .before .args .b) (c .before .before .before .if1 .left)
+unfolding overlap
+returns-2 c = overlap-after _ _ _ _ (c .before .before .before .if1 .left)
 
 pub overlaps-spec : {M : Type 1} → statement M
 overlaps-spec = tie.close (tie.spec sub-result returns returns-2)

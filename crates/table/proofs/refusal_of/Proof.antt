@@ -55,7 +55,7 @@ returns c =
     let l = c .before .before .before .before in
     let a = l .before .before .args in
     let e : l .loop .i ≡ 8 = omega arith in
-    c .refusal-among .ensures ∙ among-eight (a .b) (l .loop .firsts) (l .loop .sizes) (a .d) (a .store) (rw e at (l .loop .inv .3))
+    among-eight (a .b) (l .loop .firsts) (l .loop .sizes) (a .d) (a .store) (rw e at (l .loop .inv .3)) (c .refusal-among .ensures)
 
 pub refusal-of-spec : {M : Type 1} → statement M
 refusal-of-spec =

@@ -1,4 +1,5 @@
-use Rattle.table.proofs.Runs.{runs-before, runs-after}
+use Rattle.drive.proofs.DriveLaws.{overlap-before, overlap-after}
+use Rattle.table.specs.Table.{overlapRuns}
 use borrow.Author.Needs.{needs}
 use Rattle.table.proofs.runs_overlap.Statement.{statement}
 use Rattle.table.proofs.runs_overlap.Tie as tie
@@ -7,10 +8,12 @@ sub-result : tie.Need-sub-result
 sub-result c = search needs
 
 returns : tie.Need-returns
-returns c = let a = c .before .args in runs-before (a .first) (a .blocks) (a .other) (a .others) (c .if1 .taken)
+unfolding overlapRuns
+returns c = overlap-before _ _ _ _ (c .if1 .taken)
 
 returns-2 : tie.Need-returns-2
-returns-2 c = let a = c .before .args in runs-after (a .first) (a .blocks) (a .other) (a .others) (c .if1 .left)
+unfolding overlapRuns
+returns-2 c = overlap-after _ _ _ _ (c .if1 .left)
 
 pub runs-overlap-spec : {M : Type 1} → statement M
 runs-overlap-spec = tie.close (tie.spec sub-result returns returns-2)
