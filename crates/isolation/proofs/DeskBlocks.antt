@@ -114,17 +114,18 @@ pub other-size : (b : List ℕ) (c : Call) → (length b ≡ deskSize → ⊥) �
 unfolding accepted deskOf isImage
 other-size b c n = is-25 b c (rw (ne-eqb (length b) deskSize n) (closed-refused 0 0)) (λ t a s o l. n l)
 
+-- a table's number is none
+low-25 : (y : OpenAnswer) → LowOpening y → numberOf (opening y) ≡ 25 → ⊥
+low-25 Opened l x = omega arith
+low-25 (OpenRefused n place) l x = omega arith
+
 -- a call at a desk that is no 25 by its house number is none
 never-25 : (d : Desk) (c : Call) → (houseNumber (step d c .answer) ≡ 25 → ⊥) → numberOf (step d c .answer) ≡ 25 → ⊥
 unfolding step
 never-25 d c n x = by-op (c .op) n x
   where
-    by-opening : (y : OpenAnswer) → LowOpening y → numberOf (opening y) ≡ 25 → ⊥
-    by-opening Opened l x = omega arith
-    by-opening (OpenRefused k place) l x = omega arith
-
     by-op : (o : Op) → (houseNumber (stepOf d o (c .arena) (c .store) .answer) ≡ 25 → ⊥) → numberOf (stepOf d o (c .arena) (c .store) .answer) ≡ 25 → ⊥
-    by-op (openTable t a s) n x = by-opening (openOf t a s .answer) (opening-low t a s) x
+    by-op (openTable t a s) n x = low-25 (openOf t a s .answer) (opening-low t a s) x
     by-op (post g r) n x = n x
     by-op turn n x = n x
     by-op (collect g) n x = n x
@@ -338,15 +339,11 @@ never b c h e x =
 openings : (b : List ℕ) (c : Call) (t : List ℕ) (a s : ℕ) → c .op ≡ openTable t a s → length b ≡ deskSize → numberOf (stepBlock b c .answer) ≡ 25 → ⊥
 unfolding stepBlock
 openings b c t a s e l x =
-    by-answer (openOf t a s .answer) (opening-low t a s)
+    low-25 (openOf t a s .answer) (opening-low t a s)
     (sym (ap (λ (o : Op). numberOf (stepBlockOf b o (c .arena) (c .store) .answer)) e ∙ ap (λ (y : Bool). numberOf (pick y here (left25 b (openTable t a s) (c .arena) (c .store)) .answer)) (eq-eqb (length b) deskSize l)) ∙ x)
   where
     here : OutBlock
     here = outBlock b (stepOf (deskOf b) (openTable t a s) (c .arena) (c .store))
-
-    by-answer : (y : OpenAnswer) → LowOpening y → numberOf (opening y) ≡ 25 → ⊥
-    by-answer Opened low x = omega arith
-    by-answer (OpenRefused n place) low x = omega arith
 
 pub at-blocks : AtBlocks
 at-blocks = record { notAccepted = not-accepted; otherSize = other-size; never = never; openings = openings; kept = kept }

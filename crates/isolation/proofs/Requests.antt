@@ -151,10 +151,7 @@ module _ (d : Desk) (inv : Inv d) (c : Call) (g : ℕ) (r : Registers) (acc : Ac
       inv₂ = reached mid d₁ inv₁ o₁ .inv
 
       no-last : (kindOf (step d₂ last .answer) ≡ opens → ⊥) × NoneOpens (run (step d₂ last .desk) [])
-      no-last = closed (opens-rest mid (last ∷ []) d₁ no-open)
-        where
-          closed : NoneOpens (run d₂ (last ∷ [])) → (kindOf (step d₂ last .answer) ≡ opens → ⊥) × NoneOpens (run (step d₂ last .desk) [])
-          closed x = opens-cons d₂ last [] x
+      no-last = opens-cons d₂ last [] (opens-rest mid (last ∷ []) d₁ no-open)
 
       t : Track g (request job 0) d₁ mid
       t = tracked mid o₁ (f .waited)

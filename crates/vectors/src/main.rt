@@ -1,7 +1,7 @@
 // Runs document 01's "run by program" cases and its sums, the ends of the two largest geometries, and the sources' worked values that document
 // 01 keeps (`sources`). A line for each. The functions are called on the paper's 72-byte table and a window of 65,536 bytes; the turns of P9
-// and P10 are given at desks with a drive of 64 blocks. A case is a call with numbers, and makes its own table and window: to lend a slice costs
-// the check some four times what a number does.
+// and P10 are given at desks with a drive of 64 blocks. The check pays for each slice that is lent, and in each statement for every local, a desk or
+// a table most: so a case is a call with numbers that makes its own table and window, and a function that holds a desk or a table does little else.
 mod sources;
 
 use chs::Address;
@@ -385,16 +385,21 @@ fn opened(arena: u64, store: u64) -> Desk {
     opening.desk
 }
 
-// A guest waits with 40 blocks from block 0, the packet at place 0 of its window.
-fn wait_40(desk: Desk, guest: usize, arena: &mut [u8], store: &[u8]) -> Desk {
+// A packet for 40 blocks from block 0, at place 0 of a guest's window.
+fn put_40(guest: usize, arena: &mut [u8]) {
     if 8 <= guest {
-        return desk;
+        return;
     }
     let at = 20480 * guest;
     if arena.len() < at + 16 {
-        return desk;
+        return;
     }
     put_packet(arena, at, PACKET_SIZE, 0, 40);
+}
+
+// A guest waits with them.
+fn wait_40(desk: Desk, guest: usize, arena: &mut [u8], store: &[u8]) -> Desk {
+    put_40(guest, arena);
     let posted = desk.post(guest, registers(0x4200, 0, FIRST_DRIVE), arena, store);
     posted.desk
 }
@@ -424,14 +429,18 @@ fn say_served(guest: usize, moved: u64, arena: &[u8]) {
     say_parts(guest, arena);
 }
 
-fn one_turn(desk: Desk, arena: &mut [u8], store: &mut [u8]) -> Desk {
-    let turned = desk.turn(arena, store);
-    let answer = turned.answer;
+fn say_turned(answer: TurnAnswer, arena: &[u8]) {
     match answer {
-        TurnAnswer::Served(guest, moved) => say_served(guest, moved, &arena[..]),
+        TurnAnswer::Served(guest, moved) => say_served(guest, moved, arena),
         TurnAnswer::Idle => say(b"turn: idle\n"),
         TurnAnswer::Refused(_) => say(b"turn: refused\n"),
     }
+}
+
+fn one_turn(desk: Desk, arena: &mut [u8], store: &mut [u8]) -> Desk {
+    let turned = desk.turn(arena, store);
+    let answer = turned.answer;
+    say_turned(answer, &arena[..]);
     turned.desk
 }
 
@@ -442,13 +451,14 @@ fn turns(desk: Desk, number: u64, arena: &mut [u8], store: &mut [u8]) {
     }
 }
 
-// All eight wait.
-fn all_wait(desk: Desk, arena: &mut [u8], store: &[u8]) -> Desk {
-    let mut next = desk;
-    for guest in 0..8 {
-        next = wait_40(next, guest, arena, store);
+fn four_wait(desk: Desk, first: usize, arena: &mut [u8], store: &[u8]) -> Desk {
+    if 4 < first {
+        return desk;
     }
-    next
+    let one = wait_40(desk, first, arena, store);
+    let two = wait_40(one, first + 1, arena, store);
+    let three = wait_40(two, first + 2, arena, store);
+    wait_40(three, first + 3, arena, store)
 }
 
 // A store in which each block, and each byte of a block, can be told: byte i is seed + 7 x its block + i, modulo 251.
@@ -458,20 +468,29 @@ fn fill(store: &mut [u8], seed: u8) {
     }
 }
 
+fn two_wait(arena: &mut [u8], store: &[u8]) -> Desk {
+    let desk = opened(arena.len() as u64, store.len() as u64);
+    let one = wait_40(desk, 2, arena, store);
+    wait_40(one, 5, arena, store)
+}
+
 // P9: guests 2 and 5 wait with 40 blocks each, and seven turns follow.
 fn two_guests(arena: &mut [u8], store: &mut [u8]) {
     fill(store, 1);
-    let desk = opened(arena.len() as u64, store.len() as u64);
-    let one = wait_40(desk, 2, arena, &store[..]);
-    let both = wait_40(one, 5, arena, &store[..]);
+    let both = two_wait(arena, &store[..]);
     turns(both, 7, arena, store);
+}
+
+fn eight_wait(arena: &mut [u8], store: &[u8]) -> Desk {
+    let desk = opened(arena.len() as u64, store.len() as u64);
+    let half = four_wait(desk, 0, arena, store);
+    four_wait(half, 4, arena, store)
 }
 
 // P10: the first turn leaves pointer 1 and all eight waiting, and eight follow.
 fn eight_guests(arena: &mut [u8], store: &mut [u8]) {
     fill(store, 101);
-    let desk = opened(arena.len() as u64, store.len() as u64);
-    let all = all_wait(desk, arena, &store[..]);
+    let all = eight_wait(arena, &store[..]);
     turns(all, 9, arena, store);
 }
 

@@ -216,7 +216,7 @@ fn say_answer(answer: Answer) {
     end_line();
 }
 
-fn limits_case(flags: u8, c: u16, h: u16, s: u8) {
+fn say_limits(flags: u8, c: u16, h: u16, s: u8) {
     say(b"flags ");
     io::print_hex(OUTPUT, flags as u64, 2);
     say(b" chs ");
@@ -224,10 +224,17 @@ fn limits_case(flags: u8, c: u16, h: u16, s: u8) {
     say(b"/");
     io::print_decimal(OUTPUT, h as u64);
     say_case(b"/", s as u64);
+}
+
+fn limits_answer(flags: u8, c: u16, h: u16, s: u8) -> Answer {
     let t = limits_table(flags, c, h, s);
     let reading = table::read_table(&t, STORE_BLOCKS);
-    let answer = reading.answer;
-    say_answer(answer);
+    reading.answer
+}
+
+fn limits_case(flags: u8, c: u16, h: u16, s: u8) {
+    say_limits(flags, c, h, s);
+    say_answer(limits_answer(flags, c, h, s));
 }
 
 fn limits() {
@@ -290,12 +297,16 @@ fn say_withdrawn(answer: WithdrawAnswer) {
     end_line();
 }
 
+fn one_served(arena: &mut [u8], store: &mut [u8]) -> Desk {
+    let desk = opened(arena.len() as u64, store.len() as u64);
+    let waiting = wait_40(desk, 0, arena, &store[..]);
+    one_turn(waiting, arena, store)
+}
+
 // Guest 0 withdraws after 16 of 40 blocks have been laid over its packet.
 pub(crate) fn withdrawal(arena: &mut [u8], store: &mut [u8]) {
     fill(store, 201);
-    let desk = opened(arena.len() as u64, store.len() as u64);
-    let waiting = wait_40(desk, 0, arena, &store[..]);
-    let served = one_turn(waiting, arena, store);
+    let served = one_served(arena, store);
     say_withdrawn(withdraw(served, 0, arena, &store[..]));
     say_count(&arena[..]);
 }
