@@ -131,19 +131,22 @@ pub const NOT_WAITING: u8 = 23;
 
 const OTHER_LENGTH: u8 = 24;
 
-const NOT_ACCEPTABLE: u8 = 25;
+pub const NOT_ACCEPTABLE: u8 = 25;
 
 // Blocks that a turn moves at most, bytes of a block, bytes of a packet.
-const PART: u64 = 16;
+const TURN_BLOCKS: u64 = 16;
 
-const BLOCK_LENGTH: u64 = 512;
+const BLOCK_LENGTH: u64 = memory::BLOCK_LENGTH as u64;
 
-const PACKET_LENGTH: u64 = 16;
+const PACKET_LENGTH: u64 = layout::PACKET_LENGTH;
 
 // Blocks of a request at most: of 02h and 03h, and of 42h and 43h.
-const MOST_RUN: u64 = 128;
+const MOST_RUN: u64 = int13::MOST_RUN as u64;
 
-const MOST_BLOCKS: u64 = 127;
+const MOST_BLOCKS: u64 = int13::MOST_BLOCKS as u64;
+
+// Rows of a desk.
+const GUESTS: usize = memory::GUESTS;
 
 // ---- the tests before the row's
 
@@ -199,7 +202,7 @@ fn range_ok(d: Drive, sectors: bool, start: u64, count: u64) -> bool
 fn moved_ok(moved: u64, count: u64) -> bool
     ensures { λ r. ⌜ r ≡ movedOk moved count ⌝ }
 {
-    logic::and(moved % PART == 0, moved < count)
+    logic::and(moved % TURN_BLOCKS == 0, moved < count)
 }
 
 // The count first, so that its bytes do not wrap.
@@ -247,7 +250,7 @@ fn rows_ok(rows: [Row; 8], b: Table, m: u64) -> bool
 {
     let mut good = true;
     let mut i: usize = 0;
-    while i < 8 {
+    while i < GUESTS {
         let row = rows[i];
         let stage = row.stage;
         good = logic::and(stage_ok(b, m, stage), good);
@@ -265,7 +268,7 @@ impl Desk {
         let b = self.table;
         let sound = table::is_sound(b, self.store / BLOCK_LENGTH);
         let good = rows_ok(rows, b, self.arena / 8);
-        logic::and(sound, logic::and(self.pointer < 8, good))
+        logic::and(sound, logic::and(self.pointer < GUESTS, good))
     }
 }
 
@@ -298,14 +301,14 @@ fn next_waiting(rows: [Row; 8], pointer: usize) -> Next
     ensures { λ r. ⌜ r ≡ firstWaiting rows guests pointer ⌝ }
 {
     let mut guest = pointer;
-    let mut left: usize = 8;
+    let mut left: usize = GUESTS;
     while 0 < left {
         let row = rows[guest];
         let stage = row.stage;
         if waits(stage) {
             return Next::Guest(guest);
         }
-        guest = (guest + 1) % 8;
+        guest = (guest + 1) % GUESTS;
         left -= 1;
     }
     Next::Nobody
@@ -321,7 +324,7 @@ fn quota_of(q: Request) -> u64
         return 0;
     }
     let left = q.job.count - q.moved;
-    if left < PART { left } else { PART }
+    if left < TURN_BLOCKS { left } else { TURN_BLOCKS }
 }
 
 pub fn service_of(q: Request) -> Service
@@ -493,7 +496,7 @@ impl Desk {
             Answer::Refused(n, place) => {
                 let none = table::empty_table();
                 Opening {
-                    desk: vacant(8, none, arena, store),
+                    desk: vacant(GUESTS, none, arena, store),
                     answer: OpenAnswer::Refused(n, place),
                 }
             }
@@ -533,7 +536,7 @@ impl Desk {
     pub fn post(self, guest: usize, registers: Registers, arena: &mut [u8], store: &[u8]) -> Posted
         ensures { λ r. ⌜ (done (r .desk) (r .answer) (now (arena .exit)) (now (store .entry)) ≡ postOf self guest registers (now (arena .entry)) (now (store .entry))) × (postNumbers (r .answer) ≡ postGiven self guest registers (now (arena .entry)) (now (store .entry))) ⌝ }
     {
-        let number = self.house(arena.len(), store.len(), guest < 8);
+        let number = self.house(arena.len(), store.len(), guest < GUESTS);
         if number != 0 {
             return Posted {
                 desk: self,
@@ -560,7 +563,7 @@ impl Desk {
     {
         let stage = service.stage;
         let mut next = self.with_stage(guest, stage);
-        next.pointer = (guest + 1) % 8;
+        next.pointer = (guest + 1) % GUESTS;
         Turned {
             desk: next,
             answer: TurnAnswer::Served(guest, service.moved),
@@ -614,7 +617,7 @@ impl Desk {
     pub fn collect(self, guest: usize) -> Collected
         ensures { λ r. ⌜ ((arena store : List ℕ) → done (r .desk) (r .answer) arena store ≡ collectOf self guest arena store) × (collectNumbers (r .answer) ≡ collectGiven self guest) ⌝ }
     {
-        let number = house_number(self.accept(), true, guest < 8);
+        let number = house_number(self.accept(), true, guest < GUESTS);
         if number != 0 {
             return Collected {
                 desk: self,
@@ -639,7 +642,7 @@ impl Desk {
     pub fn withdraw(self, guest: usize, arena: &mut [u8], store: &[u8]) -> Withdrawn
         ensures { λ r. ⌜ (done (r .desk) (r .answer) (now (arena .exit)) (now (store .entry)) ≡ withdrawOf self guest (now (arena .entry)) (now (store .entry))) × (withdrawNumbers (r .answer) ≡ withdrawGiven self guest (now (arena .entry)) (now (store .entry))) ⌝ }
     {
-        let number = self.house(arena.len(), store.len(), guest < 8);
+        let number = self.house(arena.len(), store.len(), guest < GUESTS);
         if number != 0 {
             return Withdrawn {
                 desk: self,

@@ -32,7 +32,7 @@ ghost use Rattle.exports.specs.Exports.{version, effect, openCall, write
 const NOTHING_YET: u32 = 256;
 
 // House number of a block of another size.
-const NOT_ACCEPTABLE: u32 = 25;
+const NOT_ACCEPTABLE: u32 = desk::NOT_ACCEPTABLE as u32;
 
 // House numbers of a row in another stage.
 const NOT_VACANT: u32 = desk::NOT_VACANT as u32;
@@ -43,6 +43,9 @@ const NOT_WAITING: u32 = desk::NOT_WAITING as u32;
 
 // The version of the interface and of the block's form: 1 is the base, and each change request adds 1.
 const VERSION: u32 = 1;
+
+// Guests are 0 to 7.
+const GUESTS: u64 = memory::GUESTS as u64;
 
 #[no_mangle]
 pub extern "C" fn edd_version() -> u32
@@ -111,7 +114,7 @@ fn number_at(desk: &[u8], arena: usize, store: usize, guest: u64) -> u8
     if !image::acceptable(desk) {
         return desk::house_number(false, false, false);
     }
-    desk::house_number(true, image::is_lent(desk, arena, store), guest < 8)
+    desk::house_number(true, image::is_lent(desk, arena, store), guest < GUESTS)
 }
 
 // The steps of a post over the one drive that DL names.
@@ -203,7 +206,7 @@ fn put_served(desk: &mut [u8], guest: usize, stage: Stage)
     ensures { λ _. ⌜ now (desk .exit) ≡ putPointer (putStage (now (desk .entry)) guest stage) (next guest) ⌝ }
 {
     image::put_stage(desk, guest, stage);
-    image::put_pointer(desk, (guest + 1) % 8);
+    image::put_pointer(desk, (guest + 1) % memory::GUESTS);
 }
 
 #[no_mangle]
@@ -278,7 +281,7 @@ pub extern "C" fn edd_collect(
 ) -> u32
     ensures { λ r. ⌜ effect (r ∷ now (ax .exit) ∷ now (bx .exit) ∷ now (cx .exit) ∷ now (dx .exit) ∷ now (ds .exit) ∷ now (si .exit) ∷ now (es .exit) ∷ now (carry .exit) ∷ []) (now (desk .exit) ∷ []) ≡ collectCall (now (desk .entry)) guest (now (ax .entry) ∷ now (bx .entry) ∷ now (cx .entry) ∷ now (dx .entry) ∷ now (ds .entry) ∷ now (si .entry) ∷ now (es .entry) ∷ now (carry .entry) ∷ []) ⌝ }
 {
-    let number = desk::house_number(image::acceptable(desk), true, guest < 8);
+    let number = desk::house_number(image::acceptable(desk), true, guest < GUESTS);
     if number != 0 {
         return number as u32;
     }

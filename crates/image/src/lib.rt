@@ -24,14 +24,19 @@ ghost use Rattle.int13.specs.Steps.{firstDrive, driveCount, isDrive, driveAt};
 ghost use Rattle.image.specs.Image.{rowSize, slotSize, slotAt, deskSize, each, flat, stageWords, rowWords, driveWords, image, registersAt, requestAt, readStage, readDrive, readDesk, accepted, laid, putStage, putPointer};
 ghost use Rattle.image.specs.Judged.{below, areRegisters, isRequest, isSlot, driveGood, drivesGood, restZero, firstIn, blocksIn, apart, aloneTo, drivesApart, follows, ascending, waitingGood, finishedGood, rowGood, rowsGood, tableGood};
 
+// Rows of a desk and slots of a table.
+const GUESTS: usize = memory::GUESTS;
+
+const MOST_DRIVES: usize = table::MOST_DRIVES;
+
 // Bytes of a row, of 23 words, and of a slot of the table, of 14; where the slots and the last words stand.
 const ROW: usize = 8 * 23;
 
 const SLOT: usize = 8 * 14;
 
-const SLOTS: usize = ROW * 8;
+const SLOTS: usize = ROW * GUESTS;
 
-const TAIL: usize = SLOTS + SLOT * 8;
+const TAIL: usize = SLOTS + SLOT * MOST_DRIVES;
 
 // The last words: the number of drives, the turn pointer, the lengths of the opening.
 const COUNT: usize = TAIL;
@@ -46,9 +51,9 @@ const STORE: usize = TAIL + 24;
 pub const SIZE: usize = TAIL + 32;
 
 // The BIOS number of the first drive; bytes of a block of the store.
-const FIRST_DRIVE: u8 = 128;
+const FIRST_DRIVE: u8 = int13::FIRST_DRIVE;
 
-const BLOCK_LENGTH: u64 = 512;
+const BLOCK_LENGTH: u64 = memory::BLOCK_LENGTH as u64;
 
 // ---- what bytes say. Every place is inside a block of the right size, which `acceptable` has tested.
 
@@ -174,12 +179,12 @@ pub fn next_of(b: &[u8]) -> Next
     ensures { λ r. ⌜ r ≡ firstWaiting (readDesk (now (b .entry)) .rows) guests (readDesk (now (b .entry)) .pointer) ⌝ }
 {
     let mut guest = words::get64(b, POINTER) as usize;
-    let mut left: usize = 8;
+    let mut left: usize = GUESTS;
     while 0 < left {
         if b[ROW * guest] == 1 {
             return Next::Guest(guest);
         }
-        guest = (guest + 1) % 8;
+        guest = (guest + 1) % GUESTS;
         left -= 1;
     }
     Next::Nobody
@@ -281,7 +286,7 @@ fn rest_zero(b: &[u8], n: usize) -> bool
     ensures { λ r. ⌜ r ≡ restZero mostDrives n (now (b .entry)) ⌝ }
 {
     let mut i = n;
-    while i < 8 {
+    while i < MOST_DRIVES {
         if !below(b, SLOTS + SLOT * i, 14, 1) {
             return false;
         }
@@ -429,7 +434,7 @@ fn rows_good(b: &[u8], m: u64) -> bool
     ensures { λ r. ⌜ r ≡ rowsGood guests (now (b .entry)) m ⌝ }
 {
     let mut g = 0;
-    while g < 8 {
+    while g < GUESTS {
         if !row_good(b, ROW * g, m) {
             return false;
         }
@@ -576,7 +581,7 @@ fn put_rows(out: &mut [u8], rows: [Row; 8])
     ensures { λ _. ⌜ now (out .exit) ≡ sets (now (out .entry)) 0 (flat (each rowWords rows)) ⌝ }
 {
     let mut k = 0;
-    while k < 8 {
+    while k < GUESTS {
         let row = rows[k];
         let stage = row.stage;
         let w = stage_words(stage);
@@ -590,7 +595,7 @@ fn put_drives(out: &mut [u8], drives: [Drive; 8])
     ensures { λ _. ⌜ now (out .exit) ≡ sets (now (out .entry)) (slotAt 0) (flat (each driveWords drives)) ⌝ }
 {
     let mut k = 0;
-    while k < 8 {
+    while k < MOST_DRIVES {
         let d = drives[k];
         let w = drive_words(d);
         put_words(out, SLOTS + SLOT * k, &w);

@@ -40,7 +40,7 @@ const HEADER_LENGTH: usize = 4;
 const MOST_RECORDS: usize = 9;
 
 // Drives: 0 to 8.
-const MOST_DRIVES: usize = 8;
+pub const MOST_DRIVES: usize = 8;
 
 // The drives in table order; the first `count` slots are in use.
 pub struct Table {

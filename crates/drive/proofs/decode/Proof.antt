@@ -3,48 +3,6 @@ use borrow.Author.Needs.{needs}
 use Rattle.drive.proofs.decode.Statement.{statement}
 use Rattle.drive.proofs.decode.Tie as tie
 
-get32-requires : tie.Need-get32-requires
-get32-requires c κs = search needs
-
-get32-requires-2 : tie.Need-get32-requires-2
-get32-requires-2 c κs = search needs
-
-get32-requires-3 : tie.Need-get32-requires-3
-get32-requires-3 c κs = search needs
-
-get64-requires : tie.Need-get64-requires
-get64-requires c κs = search needs
-
-get64-requires-2 : tie.Need-get64-requires-2
-get64-requires-2 c κs = search needs
-
-get16-requires : tie.Need-get16-requires
-get16-requires c κs = search needs
-
-get16-requires-2 : tie.Need-get16-requires-2
-get16-requires-2 c κs = search needs
-
-get16-requires-3 : tie.Need-get16-requires-3
-get16-requires-3 c κs = search needs
-
-shared-slice-read-t11 : tie.Need-shared-slice-read-t11
-shared-slice-read-t11 c = search needs
-
-shared-slice-read-t13 : tie.Need-shared-slice-read-t13
-shared-slice-read-t13 c = search needs
-
-load4-requires : tie.Need-load4-requires
-load4-requires c κs = search needs
-
-load8-requires : tie.Need-load8-requires
-load8-requires c κs = search needs
-
-load8-requires-2 : tie.Need-load8-requires-2
-load8-requires-2 c κs = search needs
-
-load8-requires-3 : tie.Need-load8-requires-3
-load8-requires-3 c κs = search needs
-
 returns : tie.Need-returns
 unfolding driveOf
 returns c =
@@ -56,18 +14,18 @@ pub decode-spec : {M : Type 1} → statement M
 decode-spec =
     tie.close
     (tie.spec
-    get32-requires
-    get32-requires-2
-    get32-requires-3
-    get64-requires
-    get64-requires-2
-    get16-requires
-    get16-requires-2
-    get16-requires-3
-    shared-slice-read-t11
-    shared-slice-read-t13
-    load4-requires
-    load8-requires
-    load8-requires-2
-    load8-requires-3
+    (search needs)
+    (search needs)
+    (search needs)
+    (search needs)
+    (search needs)
+    (search needs)
+    (search needs)
+    (search needs)
+    (search needs)
+    (search needs)
+    (search needs)
+    (search needs)
+    (search needs)
+    (search needs)
     returns)

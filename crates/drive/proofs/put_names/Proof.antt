@@ -8,27 +8,6 @@ use Rattle.drive.proofs.put_names.Tie as tie
 arrays : (c : tie.Start) → Arrays (c .args .d)
 arrays c = record { bus = search needs; interface = search needs; path = search needs; device = search needs }
 
-put-byte-requires : tie.Need-put-byte-requires
-put-byte-requires c κs = search needs
-
-put-byte-requires-2 : tie.Need-put-byte-requires-2
-put-byte-requires-2 c κs = search needs
-
-store4-requires : tie.Need-store4-requires
-store4-requires c κs = search needs
-
-store8-requires : tie.Need-store8-requires
-store8-requires c κs = search needs
-
-store8-requires-2 : tie.Need-store8-requires-2
-store8-requires-2 c κs = search needs
-
-store8-requires-3 : tie.Need-store8-requires-3
-store8-requires-3 c κs = search needs
-
-same-length : tie.Need-same-length
-same-length c = search needs
-
 returns : tie.Need-returns
 returns c =
     let s₆ = c .before .before in
@@ -44,11 +23,11 @@ pub put-names-spec : {M : Type 1} → statement M
 put-names-spec =
     tie.close
     (tie.spec
-    put-byte-requires
-    put-byte-requires-2
-    store4-requires
-    store8-requires
-    store8-requires-2
-    store8-requires-3
-    same-length
+    (search needs)
+    (search needs)
+    (search needs)
+    (search needs)
+    (search needs)
+    (search needs)
+    (search needs)
     returns)

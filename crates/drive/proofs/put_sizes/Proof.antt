@@ -3,24 +3,6 @@ use borrow.Author.Needs.{needs}
 use Rattle.drive.proofs.put_sizes.Statement.{statement}
 use Rattle.drive.proofs.put_sizes.Tie as tie
 
-store64-requires : tie.Need-store64-requires
-store64-requires c κs = search needs
-
-store64-requires-2 : tie.Need-store64-requires-2
-store64-requires-2 c κs = search needs
-
-store16-requires : tie.Need-store16-requires
-store16-requires c κs = search needs
-
-store16-requires-2 : tie.Need-store16-requires-2
-store16-requires-2 c κs = search needs
-
-store16-requires-3 : tie.Need-store16-requires-3
-store16-requires-3 c κs = search needs
-
-same-length : tie.Need-same-length
-same-length c = search needs
-
 returns : tie.Need-returns
 returns c =
     let s₅ = c .before .before in
@@ -34,10 +16,10 @@ pub put-sizes-spec : {M : Type 1} → statement M
 put-sizes-spec =
     tie.close
     (tie.spec
-    store64-requires
-    store64-requires-2
-    store16-requires
-    store16-requires-2
-    store16-requires-3
-    same-length
+    (search needs)
+    (search needs)
+    (search needs)
+    (search needs)
+    (search needs)
+    (search needs)
     returns)

@@ -14,27 +14,6 @@ use borrow.Author.Needs.{needs}
 use Rattle.exports.proofs.begun.Statement.{statement}
 use Rattle.exports.proofs.begun.Tie as tie
 
-window-length-requires : tie.Need-window-length-requires
-window-length-requires c κs = search needs
-
-span-of-requires : tie.Need-span-of-requires
-span-of-requires c κs = search needs
-
-sub-steps-at : tie.Need-sub-steps-at
-sub-steps-at c = search needs
-
-part-steps-at-start : tie.Need-part-steps-at-start
-part-steps-at-start c = search needs
-
-part-steps-at-end : tie.Need-part-steps-at-end
-part-steps-at-end c = search needs
-
-steps-at-requires : tie.Need-steps-at-requires
-steps-at-requires c κs = search needs
-
-same-length : tie.Need-same-length
-same-length c = search needs
-
 returns : tie.Need-returns
 returns c =
     let a = c .before .before .before .before .before .before .before .before .args in
@@ -53,11 +32,11 @@ pub begun-spec : {M : Type 1} → statement M
 begun-spec =
     tie.close
     (tie.spec
-    window-length-requires
-    span-of-requires
-    sub-steps-at
-    part-steps-at-start
-    part-steps-at-end
-    steps-at-requires
-    same-length
+    (search needs)
+    (search needs)
+    (search needs)
+    (search needs)
+    (search needs)
+    (search needs)
+    (search needs)
     returns)

@@ -53,30 +53,12 @@ sized c = block (bytes (c .before)) (passed c .acceptable) .size
 abbrev tested : tie.After-known-told → tie.Else1
 tested c = c .before .before .before .before .before
 
-acceptable-requires : tie.Need-acceptable-requires
-acceptable-requires c κs = search needs
-
-house-number-requires : tie.Need-house-number-requires
-house-number-requires c κs = search needs
-
-cast-result : tie.Need-cast-result
-cast-result c = search needs
-
-same-length : tie.Need-same-length
-same-length c = search needs
-
 returns : tie.Need-returns
 unfolding collectCall over collectNumbers
 returns c = rw (← refused c)
 
 stage-of-requires : tie.Need-stage-of-requires
 stage-of-requires c κs = (sized (c .before), below (c .before))
-
-enum-known-stage : tie.Need-enum-known-stage
-enum-known-stage c = search needs
-
-same-length-2 : tie.Need-same-length-2
-same-length-2 c = search needs
 
 returns-2 : tie.Need-returns-2
 unfolding collectCall over collectNumbers
@@ -88,12 +70,6 @@ returns-2 c =
 
 put-stage-requires : tie.Need-put-stage-requires
 put-stage-requires c κs = let t = tested (c .before) in (sized t, below t)
-
-hand-requires : tie.Need-hand-requires
-hand-requires c κs = search needs
-
-same-length-3 : tie.Need-same-length-3
-same-length-3 c = search needs
 
 returns-3 : tie.Need-returns-3
 unfolding collectCall over collectNumbers
@@ -111,16 +87,16 @@ pub edd-collect-spec : {M : Type 1} → statement M
 edd-collect-spec =
     tie.close
     (tie.spec
-    acceptable-requires
-    house-number-requires
-    cast-result
-    same-length
+    (search needs)
+    (search needs)
+    (search needs)
+    (search needs)
     returns
     stage-of-requires
-    enum-known-stage
-    same-length-2
+    (search needs)
+    (search needs)
     returns-2
     put-stage-requires
-    hand-requires
-    same-length-3
+    (search needs)
+    (search needs)
     returns-3)

@@ -80,27 +80,12 @@ made c o e =
 abbrev tested : tie.After-begun → tie.Else1
 tested c = c .before .before .before .before .before .before .before
 
-number-at-requires : tie.Need-number-at-requires
-number-at-requires c κs = search needs
-
-cast-result : tie.Need-cast-result
-cast-result c = search needs
-
-same-length : tie.Need-same-length
-same-length c = search needs
-
 returns : tie.Need-returns
 unfolding postCall postNumbers
 returns c = rw (← refused c)
 
 stage-of-requires : tie.Need-stage-of-requires
 stage-of-requires c κs = (sized (c .before), below (c .before))
-
-enum-told : tie.Need-enum-told
-enum-told c = search needs
-
-same-length-2 : tie.Need-same-length-2
-same-length-2 c = search needs
 
 returns-2 : tie.Need-returns-2
 unfolding postCall postNumbers
@@ -113,35 +98,14 @@ returns-2 c =
 begun-requires : tie.Need-begun-requires
 begun-requires c κs = sized (c .before .before .before .before .before .before)
 
-enum-known-outcome : tie.Need-enum-known-outcome
-enum-known-outcome c = search needs
-
-bit-requires : tie.Need-bit-requires
-bit-requires c κs = search needs
-
-enum-known-outcome-2 : tie.Need-enum-known-outcome-2
-enum-known-outcome-2 c = search needs
-
 put-stage-requires : tie.Need-put-stage-requires
 put-stage-requires c κs = let t = tested (c .before .before .before .before .before .before) in (sized t, below t)
-
-same-length-3 : tie.Need-same-length-3
-same-length-3 c = search needs
-
-same-length-4 : tie.Need-same-length-4
-same-length-4 c = search needs
 
 returns-3 : tie.Need-returns-3
 unfolding postCall postNumbers
 returns-3 c =
     let o = c .before .before .outcome in
     rw (← made (c .before .before .before .before .before .before) (Answered (o .given .0 .0)) (o .given .1), c .bit .ensures)
-
-same-length-5 : tie.Need-same-length-5
-same-length-5 c = search needs
-
-same-length-6 : tie.Need-same-length-6
-same-length-6 c = search needs
 
 returns-4 : tie.Need-returns-4
 unfolding postCall postNumbers
@@ -156,22 +120,22 @@ pub edd-post-spec : {M : Type 1} → statement M
 edd-post-spec =
     tie.close
     (tie.spec
-    number-at-requires
-    cast-result
-    same-length
+    (search needs)
+    (search needs)
+    (search needs)
     returns
     stage-of-requires
-    enum-told
-    same-length-2
+    (search needs)
+    (search needs)
     returns-2
     begun-requires
-    enum-known-outcome
-    bit-requires
-    enum-known-outcome-2
+    (search needs)
+    (search needs)
+    (search needs)
     put-stage-requires
-    same-length-3
-    same-length-4
+    (search needs)
+    (search needs)
     returns-3
-    same-length-5
-    same-length-6
+    (search needs)
+    (search needs)
     returns-4)

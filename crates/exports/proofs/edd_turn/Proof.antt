@@ -88,30 +88,12 @@ named c =
     let t = c .before .before in
     drive-read (bytes (house t)) (passed (tested (sought t)) .acceptable) (request t .job .drive) (c .drive-named .ensures) (facts t .job .drive)
 
-number-at-requires : tie.Need-number-at-requires
-number-at-requires c κs = search needs
-
-cast-result : tie.Need-cast-result
-cast-result c = search needs
-
-same-length : tie.Need-same-length
-same-length c = search needs
-
 returns : tie.Need-returns
 unfolding turnCall over turnNumbers
 returns c = rw (← refused c)
 
 next-of-requires : tie.Need-next-of-requires
 next-of-requires c κs = (sized (c .before), pointer-read (bytes (c .before .before)) (passed (c .before) .acceptable))
-
-enum-known-found : tie.Need-enum-known-found
-enum-known-found c = search needs
-
-enum-told : tie.Need-enum-told
-enum-told c = search needs
-
-same-length-2 : tie.Need-same-length-2
-same-length-2 c = search needs
 
 returns-2 : tie.Need-returns-2
 unfolding turnCall over turnNumbers
@@ -122,12 +104,6 @@ returns-2 c =
 
 stage-of-requires : tie.Need-stage-of-requires
 stage-of-requires c κs = (sized (tested (c .before)), below (c .before))
-
-enum-known-stage : tie.Need-enum-known-stage
-enum-known-stage c = search needs
-
-same-length-3 : tie.Need-same-length-3
-same-length-3 c = search needs
 
 returns-3 : tie.Need-returns-3
 unfolding turnCall over turnNumbers
@@ -141,9 +117,6 @@ returns-3 c =
 drive-named-requires : tie.Need-drive-named-requires
 drive-named-requires c κs = sized (tested (sought (c .before)))
 
-service-of-requires : tie.Need-service-of-requires
-service-of-requires c κs = search needs
-
 transfer-requires : tie.Need-transfer-requires
 transfer-requires c κs =
     let t = c .before .before .before .before .before in
@@ -155,15 +128,6 @@ transfer-requires c κs =
 
 put-served-requires : tie.Need-put-served-requires
 put-served-requires c κs = let w = sought (c .before .before .before .before .before .before .before .before .before .before .before) in (sized (tested w), below w)
-
-same-length-4 : tie.Need-same-length-4
-same-length-4 c = search needs
-
-same-length-5 : tie.Need-same-length-5
-same-length-5 c = search needs
-
-same-length-6 : tie.Need-same-length-6
-same-length-6 c = search needs
 
 returns-4 : tie.Need-returns-4
 unfolding turnCall over turnNumbers
@@ -183,24 +147,24 @@ pub edd-turn-spec : {M : Type 1} → statement M
 edd-turn-spec =
     tie.close
     (tie.spec
-    number-at-requires
-    cast-result
-    same-length
+    (search needs)
+    (search needs)
+    (search needs)
     returns
     next-of-requires
-    enum-known-found
-    enum-told
-    same-length-2
+    (search needs)
+    (search needs)
+    (search needs)
     returns-2
     stage-of-requires
-    enum-known-stage
-    same-length-3
+    (search needs)
+    (search needs)
     returns-3
     drive-named-requires
-    service-of-requires
+    (search needs)
     transfer-requires
     put-served-requires
-    same-length-4
-    same-length-5
-    same-length-6
+    (search needs)
+    (search needs)
+    (search needs)
     returns-4)

@@ -68,27 +68,12 @@ holds c = sym (stage-read (bytes (house c)) (passed (tested c) .acceptable) (gue
 facts : (c : tie.After-known-told) → Report (request c) (guest (house c)) (length (arena (house c)))
 facts c = let h = house c in report-facts (deskOf (bytes h)) (arena h) (store h) (guest h) (request c) (passed (tested c)) (holds c)
 
-number-at-requires : tie.Need-number-at-requires
-number-at-requires c κs = search needs
-
-cast-result : tie.Need-cast-result
-cast-result c = search needs
-
-same-length : tie.Need-same-length
-same-length c = search needs
-
 returns : tie.Need-returns
 unfolding withdrawCall over withdrawNumbers
 returns c = rw (← refused c)
 
 stage-of-requires : tie.Need-stage-of-requires
 stage-of-requires c κs = (sized (c .before), below (c .before))
-
-enum-known-stage : tie.Need-enum-known-stage
-enum-known-stage c = search needs
-
-same-length-2 : tie.Need-same-length-2
-same-length-2 c = search needs
 
 returns-2 : tie.Need-returns-2
 unfolding withdrawCall over withdrawNumbers
@@ -107,15 +92,6 @@ put-stage-requires c κs = let t = tested (c .before .before .before .before .be
 given-back-requires : tie.Need-given-back-requires
 given-back-requires c κs = facts (c .before .before .before .before .before .before .before .before) .moved
 
-hand-requires : tie.Need-hand-requires
-hand-requires c κs = search needs
-
-same-length-3 : tie.Need-same-length-3
-same-length-3 c = search needs
-
-same-length-4 : tie.Need-same-length-4
-same-length-4 c = search needs
-
 returns-3 : tie.Need-returns-3
 unfolding withdrawCall over withdrawNumbers
 returns-3 c =
@@ -132,18 +108,18 @@ pub edd-withdraw-spec : {M : Type 1} → statement M
 edd-withdraw-spec =
     tie.close
     (tie.spec
-    number-at-requires
-    cast-result
-    same-length
+    (search needs)
+    (search needs)
+    (search needs)
     returns
     stage-of-requires
-    enum-known-stage
-    same-length-2
+    (search needs)
+    (search needs)
     returns-2
     report-moved-requires
     put-stage-requires
     given-back-requires
-    hand-requires
-    same-length-3
-    same-length-4
+    (search needs)
+    (search needs)
+    (search needs)
     returns-3)

@@ -46,15 +46,6 @@ wrote c =
     let w = write-table (deskOf (bytes h)) (out h) p in
     (c .write-table .ensures .0 ∙ ap (λ (x : Table). writeAnswer x (length (out h))) t ∙ w .0, c .write-table .ensures .1 ∙ ap (λ (x : Table). writeOut x (out h)) t ∙ w .1)
 
-acceptable-requires : tie.Need-acceptable-requires
-acceptable-requires c κs = search needs
-
-house-number-requires : tie.Need-house-number-requires
-house-number-requires c κs = search needs
-
-cast-result : tie.Need-cast-result
-cast-result c = search needs
-
 returns : tie.Need-returns
 unfolding writeCall over writtenNumbers
 returns c =
@@ -64,29 +55,11 @@ returns c =
 table-of-requires : tie.Need-table-of-requires
 table-of-requires c κs = block (bytes (c .before)) (passed c .acceptable) .size
 
-write-table-requires : tie.Need-write-table-requires
-write-table-requires c κs = search needs
-
-enum-known-answer : tie.Need-enum-known-answer
-enum-known-answer c = search needs
-
-enum-known-answer-2 : tie.Need-enum-known-answer-2
-enum-known-answer-2 c = search needs
-
-cast-result-2 : tie.Need-cast-result-2
-cast-result-2 c = search needs
-
-same-length : tie.Need-same-length
-same-length c = search needs
-
 returns-2 : tie.Need-returns-2
 unfolding writeCall over writtenNumbers
 returns-2 c =
     let w = wrote (c .before .before .before .before .before) in
     rw (← w .0, c .before .answer .given .1, ← w .1)
-
-same-length-2 : tie.Need-same-length-2
-same-length-2 c = search needs
 
 returns-3 : tie.Need-returns-3
 unfolding writeCall over writtenNumbers
@@ -98,16 +71,16 @@ pub edd-write-spec : {M : Type 1} → statement M
 edd-write-spec =
     tie.close
     (tie.spec
-    acceptable-requires
-    house-number-requires
-    cast-result
+    (search needs)
+    (search needs)
+    (search needs)
     returns
     table-of-requires
-    write-table-requires
-    enum-known-answer
-    enum-known-answer-2
-    cast-result-2
-    same-length
+    (search needs)
+    (search needs)
+    (search needs)
+    (search needs)
+    (search needs)
     returns-2
-    same-length-2
+    (search needs)
     returns-3)

@@ -14,21 +14,12 @@ good : (c : tie.Else1) → accept (deskOf (now (c .before .before .before .args 
 unfolding accepted
 good c = sym (c .before .acceptable .ensures) ∙ not-false _ (c .if1 .left)
 
-acceptable-requires : tie.Need-acceptable-requires
-acceptable-requires c κs = search needs
-
-house-number-requires : tie.Need-house-number-requires
-house-number-requires c κs = search needs
-
 returns : tie.Need-returns
 unfolding accepted
 returns c = no-desk (now (c .before .before .before .before .args .desk)) _ _ (c .house-number .ensures) (sym (c .before .before .acceptable .ensures) ∙ not-true _ (c .before .if1 .taken))
 
 is-lent-requires : tie.Need-is-lent-requires
 is-lent-requires c κs = block (now (c .before .before .before .args .desk)) (good c) .size
-
-house-number-requires-2 : tie.Need-house-number-requires-2
-house-number-requires-2 c κs = search needs
 
 returns-2 : tie.Need-returns-2
 returns-2 c =
@@ -40,9 +31,9 @@ pub number-at-spec : {M : Type 1} → statement M
 number-at-spec =
     tie.close
     (tie.spec
-    acceptable-requires
-    house-number-requires
+    (search needs)
+    (search needs)
     returns
     is-lent-requires
-    house-number-requires-2
+    (search needs)
     returns-2)

@@ -12,24 +12,6 @@ use borrow.Author.Needs.{needs}
 use Rattle.exports.proofs.steps_at.Statement.{statement}
 use Rattle.exports.proofs.steps_at.Tie as tie
 
-dl-requires : tie.Need-dl-requires
-dl-requires c κs = search needs
-
-is-drive-requires : tie.Need-is-drive-requires
-is-drive-requires c κs = search needs
-
-count-of-requires : tie.Need-count-of-requires
-count-of-requires c κs = search needs
-
-drive-named-requires : tie.Need-drive-named-requires
-drive-named-requires c κs = search needs
-
-steps-requires : tie.Need-steps-requires
-steps-requires c κs = search needs
-
-same-length : tie.Need-same-length
-same-length c = search needs
-
 returns : tie.Need-returns
 returns c =
     let a = c .before .before .before .before .before .before .before .before .before .before .args in
@@ -43,10 +25,10 @@ pub steps-at-spec : {M : Type 1} → statement M
 steps-at-spec =
     tie.close
     (tie.spec
-    dl-requires
-    is-drive-requires
-    count-of-requires
-    drive-named-requires
-    steps-requires
-    same-length
+    (search needs)
+    (search needs)
+    (search needs)
+    (search needs)
+    (search needs)
+    (search needs)
     returns)

@@ -12,27 +12,15 @@ bytes c i = omega (arith, c .shared-slice-known .given i)
 returns : tie.Need-returns
 returns c = judged-size _ (bytes (c .before)) (c .if1 .taken)
 
-get64-requires : tie.Need-get64-requires
-get64-requires c κs = search needs
-
 returns-2 : tie.Need-returns-2
 returns-2 c =
     let s = c .before .before in
     judged-pointer _ (bytes (s .before)) (s .if1 .left) (c .before .get64 .ensures) (c .if2 .taken)
 
-table-good-requires : tie.Need-table-good-requires
-table-good-requires c κs = search needs
-
 returns-3 : tie.Need-returns-3
 returns-3 c =
     let s = c .before .before .before .before in
     judged-table _ (bytes (s .before)) (s .if1 .left) (c .before .table-good .ensures) (not-true _ (c .if3 .taken))
-
-get64-requires-2 : tie.Need-get64-requires-2
-get64-requires-2 c κs = search needs
-
-rows-good-requires : tie.Need-rows-good-requires
-rows-good-requires c κs = search needs
 
 returns-4 : tie.Need-returns-4
 returns-4 c =
@@ -46,10 +34,10 @@ acceptable-spec =
     tie.close
     (tie.spec
     returns
-    get64-requires
+    (search needs)
     returns-2
-    table-good-requires
+    (search needs)
     returns-3
-    get64-requires-2
-    rows-good-requires
+    (search needs)
+    (search needs)
     returns-4)

@@ -6,21 +6,6 @@ use borrow.Author.Needs.{needs}
 use Rattle.image.proofs.lay.Statement.{statement}
 use Rattle.image.proofs.lay.Tie as tie
 
-put-rows-requires : tie.Need-put-rows-requires
-put-rows-requires c κs = search needs
-
-put-drives-requires : tie.Need-put-drives-requires
-put-drives-requires c κs = search needs
-
-slice-aggregate-put-words : tie.Need-slice-aggregate-put-words
-slice-aggregate-put-words c = search needs
-
-put-words-requires : tie.Need-put-words-requires
-put-words-requires c κs = search needs
-
-same-length : tie.Need-same-length
-same-length c = search needs
-
 returns : tie.Need-returns
 returns c =
     let h = c .before .before .before .before .before .before .before .before .before .before .before .before .before .before .before .before .before in
@@ -33,9 +18,9 @@ pub lay-spec : {M : Type 1} → statement M
 lay-spec =
     tie.close
     (tie.spec
-    put-rows-requires
-    put-drives-requires
-    slice-aggregate-put-words
-    put-words-requires
-    same-length
+    (search needs)
+    (search needs)
+    (search needs)
+    (search needs)
+    (search needs)
     returns)

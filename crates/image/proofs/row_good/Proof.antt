@@ -4,28 +4,13 @@ use borrow.Author.Needs.{needs}
 use Rattle.image.proofs.row_good.Statement.{statement}
 use Rattle.image.proofs.row_good.Tie as tie
 
-get64-requires : tie.Need-get64-requires
-get64-requires c κs = search needs
-
-add-below : tie.Need-add-below
-add-below c = search needs
-
-below-requires : tie.Need-below-requires
-below-requires c κs = search needs
-
 returns : tie.Need-returns
 unfolding rowGood
 returns c = rw (← c .before .before .get64 .ensures, eq-eqb _ 0 (c .before .if1 .taken)) (c .below .ensures)
 
-waiting-good-requires : tie.Need-waiting-good-requires
-waiting-good-requires c κs = search needs
-
 returns-2 : tie.Need-returns-2
 unfolding rowGood
 returns-2 c = rw (← c .before .before .before .get64 .ensures, ne-eqb _ 0 (c .before .before .if1 .left), eq-eqb _ 1 (c .before .if2 .taken)) (c .waiting-good .ensures)
-
-finished-good-requires : tie.Need-finished-good-requires
-finished-good-requires c κs = search needs
 
 returns-3 : tie.Need-returns-3
 unfolding rowGood
@@ -39,12 +24,12 @@ pub row-good-spec : {M : Type 1} → statement M
 row-good-spec =
     tie.close
     (tie.spec
-    get64-requires
-    add-below
-    below-requires
+    (search needs)
+    (search needs)
+    (search needs)
     returns
-    waiting-good-requires
+    (search needs)
     returns-2
-    finished-good-requires
+    (search needs)
     returns-3
     returns-4)

@@ -4,24 +4,9 @@ use borrow.Author.Needs.{needs}
 use Rattle.image.proofs.stage_at.Statement.{statement}
 use Rattle.image.proofs.stage_at.Tie as tie
 
-shared-slice-read-number : tie.Need-shared-slice-read-number
-shared-slice-read-number c = search needs
-
-add-request-at : tie.Need-add-request-at
-add-request-at c = search needs
-
-request-at-requires : tie.Need-request-at-requires
-request-at-requires c κs = search needs
-
 returns : tie.Need-returns
 unfolding readStage
 returns c = rw (eq-eqb _ 1 (c .before .if1 .taken), c .request-at .ensures)
-
-add-registers-at : tie.Need-add-registers-at
-add-registers-at c = search needs
-
-registers-at-requires : tie.Need-registers-at-requires
-registers-at-requires c κs = search needs
 
 returns-2 : tie.Need-returns-2
 unfolding readStage
@@ -35,11 +20,11 @@ pub stage-at-spec : {M : Type 1} → statement M
 stage-at-spec =
     tie.close
     (tie.spec
-    shared-slice-read-number
-    add-request-at
-    request-at-requires
+    (search needs)
+    (search needs)
+    (search needs)
     returns
-    add-registers-at
-    registers-at-requires
+    (search needs)
+    (search needs)
     returns-2
     returns-3)

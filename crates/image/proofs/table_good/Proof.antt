@@ -4,31 +4,13 @@ use borrow.Author.Needs.{needs}
 use Rattle.image.proofs.table_good.Statement.{statement}
 use Rattle.image.proofs.table_good.Tie as tie
 
-get64-requires : tie.Need-get64-requires
-get64-requires c κs = search needs
-
 returns : tie.Need-returns
 returns c = table-many (c .before .before .before .args .b .now) (c .before .get64 .ensures) (c .if1 .taken)
-
-get64-requires-2 : tie.Need-get64-requires-2
-get64-requires-2 c κs = search needs
-
-drives-good-requires : tie.Need-drives-good-requires
-drives-good-requires c κs = search needs
 
 returns-2 : tie.Need-returns-2
 returns-2 c =
     table-bad (c .before .before .before .before .before .before .args .b .now) (c .before .before .before .before .get64 .ensures) (c .before .before .before .if1 .left)
     (c .before .before .get642 .ensures) (c .before .drives-good .ensures) (not-true _ (c .if2 .taken))
-
-rest-zero-requires : tie.Need-rest-zero-requires
-rest-zero-requires c κs = search needs
-
-drives-apart-requires : tie.Need-drives-apart-requires
-drives-apart-requires c κs = search needs
-
-and-requires : tie.Need-and-requires
-and-requires c κs = search needs
 
 returns-3 : tie.Need-returns-3
 returns-3 c =
@@ -40,12 +22,12 @@ pub table-good-spec : {M : Type 1} → statement M
 table-good-spec =
     tie.close
     (tie.spec
-    get64-requires
+    (search needs)
     returns
-    get64-requires-2
-    drives-good-requires
+    (search needs)
+    (search needs)
     returns-2
-    rest-zero-requires
-    drives-apart-requires
-    and-requires
+    (search needs)
+    (search needs)
+    (search needs)
     returns-3)

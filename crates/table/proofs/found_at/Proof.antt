@@ -14,20 +14,8 @@ use Rattle.table.proofs.found_at.Tie as tie
 header : (c : tie.After-h2) → headerAt (now (c .before .before .before .before .args .t)) (c .before .before .before .before .args .at) ≡ Whole (c .h2 .given .0 .0) (c .h2 .given .0 .1 .0)
 header c = sym (c .before .before .header-at .ensures) ∙ c .h2 .given .1
 
-enum-known-h : tie.Need-enum-known-h
-enum-known-h c = search needs
-
-enum-known-h-2 : tie.Need-enum-known-h-2
-enum-known-h-2 c = search needs
-
 add-next : tie.Need-add-next
 add-next c = let w = whole-at _ _ _ _ (header (c .before)) in omega arith
-
-sub-decode : tie.Need-sub-decode
-sub-decode c = search needs
-
-part-decode-start : tie.Need-part-decode-start
-part-decode-start c = search needs
 
 part-decode-end : tie.Need-part-decode-end
 part-decode-end c = let w = whole-at _ _ _ _ (header (c .before .before)) in omega arith
@@ -53,12 +41,12 @@ found-at-spec =
     tie.close
     (tie.spec
     (λ c κs. tt)
-    enum-known-h
+    (search needs)
     (λ c κs. tt)
-    enum-known-h-2
+    (search needs)
     add-next
-    sub-decode
-    part-decode-start
+    (search needs)
+    (search needs)
     part-decode-end
     decode-requires
     returns

@@ -8,15 +8,6 @@ use Rattle.table.proofs.header_at.Tie as tie
 returns : tie.Need-returns
 returns c = rw (header-is _ _ (c .before .bytes-left .ensures) refl refl refl refl, lt-ltb _ _ (c .if1 .taken))
 
-get16-requires : tie.Need-get16-requires
-get16-requires c κs = search needs
-
-add-get16 : tie.Need-add-get16
-add-get16 c = search needs
-
-get16-requires-2 : tie.Need-get16-requires-2
-get16-requires-2 c κs = search needs
-
 returns-2 : tie.Need-returns-2
 returns-2 c =
     let r = c .before .before in
@@ -28,9 +19,6 @@ returns-3 c =
     let r = c .before .before .before .before in
     let h = header-is _ _ (r .before .before .before .bytes-left .ensures) (r .before .get16 .ensures) (r .get162 .ensures) (c .before .before .before .is-kind .ensures) (c .before .length-ok .ensures) in
     rw (h, le-ltb _ _ (r .before .before .if1 .left), c .before .before .if2 .left, c .if3 .taken)
-
-cast-whole : tie.Need-cast-whole
-cast-whole c = search needs
 
 returns-4 : tie.Need-returns-4
 returns-4 c =
@@ -50,13 +38,13 @@ header-at-spec =
     (tie.spec
     (λ c κs. tt)
     returns
-    get16-requires
-    add-get16
-    get16-requires-2
+    (search needs)
+    (search needs)
+    (search needs)
     (λ c κs. tt)
     returns-2
     (λ c κs. tt)
     returns-3
-    cast-whole
+    (search needs)
     returns-4
     returns-5)

@@ -17,9 +17,6 @@ returns-3 : tie.Need-returns-3
 unfolding refusalAmong
 returns-3 c = rw (lt-leb _ _ (c .before .before .before .before .if1 .left), sym (c .before .before .before .fields-ok .ensures) ∙ not-false _ (c .before .before .if2 .left), sym (c .before .in-store .ensures) ∙ not-true _ (c .if3 .taken))
 
-overlaps-run-requires : tie.Need-overlaps-run-requires
-overlaps-run-requires c κs = search needs
-
 returns-4 : tie.Need-returns-4
 unfolding refusalAmong
 returns-4 c = rw (lt-leb _ _ (c .before .before .before .before .before .before .if1 .left), sym (c .before .before .before .before .before .fields-ok .ensures) ∙ not-false _ (c .before .before .before .before .if2 .left), sym (c .before .before .before .in-store .ensures) ∙ not-false _ (c .before .before .if3 .left), sym (c .before .overlaps-run .ensures) ∙ c .if4 .taken)
@@ -37,6 +34,6 @@ refusal-among-spec =
     returns-2
     (λ c κs. tt)
     returns-3
-    overlaps-run-requires
+    (search needs)
     returns-4
     returns-5)

@@ -13,12 +13,6 @@ use Rattle.table.proofs.step_at.Tie as tie
 header : (c : tie.After-h2) → headerAt (now (c .before .before .before .before .args .t)) (c .before .before .before .before .args .at) ≡ Whole (c .h2 .given .0 .0) (c .h2 .given .0 .1 .0)
 header c = sym (c .before .before .header-at .ensures) ∙ c .h2 .given .1
 
-enum-known-h : tie.Need-enum-known-h
-enum-known-h c = search needs
-
-enum-known-h-2 : tie.Need-enum-known-h-2
-enum-known-h-2 c = search needs
-
 end-step-requires : tie.Need-end-step-requires
 end-step-requires c κs = let w = whole-at _ _ _ _ (header (c .before .before)) in omega arith
 
@@ -27,12 +21,6 @@ returns c = c .end-step .ensures ∙ stepAt-end _ _ _ _ _ _ (header (c .before .
 
 add-next : tie.Need-add-next
 add-next c = let w = whole-at _ _ _ _ (header (c .before .before)) in omega arith
-
-sub-drive-step : tie.Need-sub-drive-step
-sub-drive-step c = search needs
-
-part-drive-step-start : tie.Need-part-drive-step-start
-part-drive-step-start c = search needs
 
 part-drive-step-end : tie.Need-part-drive-step-end
 part-drive-step-end c = let w = whole-at _ _ _ _ (header (c .before .before)) in omega arith
@@ -54,13 +42,13 @@ step-at-spec =
     tie.close
     (tie.spec
     (λ c κs. tt)
-    enum-known-h
-    enum-known-h-2
+    (search needs)
+    (search needs)
     end-step-requires
     returns
     add-next
-    sub-drive-step
-    part-drive-step-start
+    (search needs)
+    (search needs)
     part-drive-step-end
     drive-step-requires
     returns-2

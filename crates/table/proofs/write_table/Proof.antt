@@ -10,35 +10,11 @@ use Rattle.table.proofs.write_table.Tie as tie
 eight : (c : tie.Start) → length (c .args .b .drives) ≡ 8
 eight c = simp length-map at (c .good .0 .1 .1 .0 .1 .0 .1)
 
-records-length-requires : tie.Need-records-length-requires
-records-length-requires c κs = search needs
-
-cast-whole : tie.Need-cast-whole
-cast-whole c = search needs
-
-add-whole : tie.Need-add-whole
-add-whole c = search needs
-
 returns : tie.Need-returns
 returns c =
     let s = c .before .before .before .before in
     let w = write-short (s .args .b) (now (s .args .out)) _ _ (eight s) (c .before .before .held .ensures) (c .before .records-length .ensures .0) (c .if1 .taken) in
     (w .0, w .1, write-numbers _ _ (w .0))
-
-put-records-requires : tie.Need-put-records-requires
-put-records-requires c κs = search needs
-
-store16-requires : tie.Need-store16-requires
-store16-requires c κs = search needs
-
-add-store16 : tie.Need-add-store16
-add-store16 c = search needs
-
-store16-requires-2 : tie.Need-store16-requires-2
-store16-requires-2 c κs = search needs
-
-same-length : tie.Need-same-length
-same-length c = search needs
 
 returns-2 : tie.Need-returns-2
 returns-2 c =
@@ -54,13 +30,13 @@ write-table-spec =
     tie.close
     (tie.spec
     (λ c κs. tt)
-    records-length-requires
-    cast-whole
-    add-whole
+    (search needs)
+    (search needs)
+    (search needs)
     returns
-    put-records-requires
-    store16-requires
-    add-store16
-    store16-requires-2
-    same-length
+    (search needs)
+    (search needs)
+    (search needs)
+    (search needs)
+    (search needs)
     returns-2)
