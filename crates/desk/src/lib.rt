@@ -324,7 +324,11 @@ fn quota_of(q: Request) -> u64
         return 0;
     }
     let left = q.job.count - q.moved;
-    if left < TURN_BLOCKS { left } else { TURN_BLOCKS }
+    if left < TURN_BLOCKS {
+        left
+    } else {
+        TURN_BLOCKS
+    }
 }
 
 pub fn service_of(q: Request) -> Service
