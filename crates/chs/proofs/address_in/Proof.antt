@@ -1,9 +1,6 @@
 use borrow.Author.Needs.{needs}
 use Rattle.chs.proofs.address_in.Statement.{statement}
 use Rattle.chs.proofs.address_in.Tie as tie
-use Rattle.chs.proofs.address_in.Reads as reads
-use Rattle.chs.proofs.address_in.Lts as lts
-use Rattle.chs.proofs.unpack.Reads as unpack-reads
 
 returns : tie.Need-returns
 returns c = rw (c .before .before .unpack .ensures)

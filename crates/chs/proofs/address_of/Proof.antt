@@ -5,11 +5,6 @@ use Rattle.chs.proofs.ChsLaws.{addressOf-limits, addressOf-above, addre
 use borrow.Author.Needs.{needs}
 use Rattle.chs.proofs.address_of.Statement.{statement}
 use Rattle.chs.proofs.address_of.Tie as tie
-use Rattle.chs.proofs.address_of.Reads as reads
-use Rattle.chs.proofs.address_of.Lts as lts
-use Rattle.chs.proofs.in_limits.Reads as in-limits-reads
-use Rattle.chs.proofs.size_of.Reads as size-of-reads
-use Rattle.chs.proofs.split.Reads as split-reads
 
 returns : tie.Need-returns
 returns c =

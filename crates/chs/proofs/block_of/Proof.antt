@@ -5,11 +5,6 @@ use Rattle.chs.proofs.ChsLaws.{blockOf-limits, blockOf-invalid, blockOf
 use borrow.Author.Needs.{needs}
 use Rattle.chs.proofs.block_of.Statement.{statement}
 use Rattle.chs.proofs.block_of.Tie as tie
-use Rattle.chs.proofs.block_of.Reads as reads
-use Rattle.chs.proofs.block_of.Lts as lts
-use Rattle.chs.proofs.in_limits.Reads as in-limits-reads
-use Rattle.chs.proofs.is_valid.Reads as is-valid-reads
-use Rattle.chs.proofs.number.Reads as number-reads
 
 returns : tie.Need-returns
 returns c =

@@ -2,10 +2,6 @@ use Rattle.chs.specs.Chs.{inLimits}
 use borrow.Author.Needs.{needs}
 use Rattle.chs.proofs.in_limits.Statement.{statement}
 use Rattle.chs.proofs.in_limits.Tie as tie
-use Rattle.chs.proofs.in_limits.Reads as reads
-use Rattle.chs.proofs.in_limits.Lts as lts
-use Rattle.logic.proofs.and.Reads as and-reads
-use Rattle.logic.proofs.in_range.Reads as in-range-reads
 
 returns : tie.Need-returns
 unfolding inLimits

@@ -2,10 +2,6 @@ use Rattle.chs.specs.Chs.{isValid}
 use borrow.Author.Needs.{needs}
 use Rattle.chs.proofs.is_valid.Statement.{statement}
 use Rattle.chs.proofs.is_valid.Tie as tie
-use Rattle.chs.proofs.is_valid.Reads as reads
-use Rattle.chs.proofs.is_valid.Lts as lts
-use Rattle.logic.proofs.and.Reads as and-reads
-use Rattle.logic.proofs.in_range.Reads as in-range-reads
 
 returns : tie.Need-returns
 unfolding isValid

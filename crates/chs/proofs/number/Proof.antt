@@ -3,8 +3,6 @@ use Rattle.chs.proofs.ChsLaws.{isValid-true, tracks-high, track-below, 
 use borrow.Author.Needs.{needs}
 use Rattle.chs.proofs.number.Statement.{statement}
 use Rattle.chs.proofs.number.Tie as tie
-use Rattle.chs.proofs.number.Reads as reads
-use Rattle.chs.proofs.number.Lts as lts
 
 mul-result : tie.Need-mul-result
 mul-result c =

@@ -3,8 +3,6 @@ use Rattle.chs.proofs.ChsLaws.{tracks-high, size-high}
 use borrow.Author.Needs.{needs}
 use Rattle.chs.proofs.size_of.Statement.{statement}
 use Rattle.chs.proofs.size_of.Tie as tie
-use Rattle.chs.proofs.size_of.Reads as reads
-use Rattle.chs.proofs.size_of.Lts as lts
 
 mul-result : tie.Need-mul-result
 mul-result c = let s = c .before in omega (arith, tracks-high (s .args .g) (s .pre))

@@ -4,8 +4,6 @@ use Rattle.chs.proofs.ChsLaws.{inLimits-true}
 use borrow.Author.Needs.{needs}
 use Rattle.chs.proofs.split.Statement.{statement}
 use Rattle.chs.proofs.split.Tie as tie
-use Rattle.chs.proofs.split.Reads as reads
-use Rattle.chs.proofs.split.Lts as lts
 
 div-t3 : tie.Need-div-t3
 div-t3 c = let s = c .before in omega (arith, inLimits-true (s .args .g) (s .pre))

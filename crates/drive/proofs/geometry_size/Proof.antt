@@ -5,21 +5,12 @@ use borrow.Author.Needs.{needs}
 use Rattle.drive.proofs.geometry_size.Statement.{statement}
 use Rattle.drive.proofs.geometry_size.Tie as tie
 
-cast-result : tie.Need-cast-result
-cast-result c = search needs
-
-cast-result-2 : tie.Need-cast-result-2
-cast-result-2 c = search needs
-
 mul-result : tie.Need-mul-result
 mul-result c =
     let d = c .before .before .args .d in
     let x : d .c ≤ 65535 = search needs in
     let y : d .h ≤ 65535 = search needs in
     omega (arith, mul-le-mul {n₂ = 65535} {m₂ = 65535} x y)
-
-cast-result-3 : tie.Need-cast-result-3
-cast-result-3 c = search needs
 
 mul-result-2 : tie.Need-mul-result-2
 mul-result-2 c =
@@ -34,4 +25,4 @@ returns c = search needs
 
 pub geometry-size-spec : {M : Type 1} → statement M
 geometry-size-spec =
-    tie.close (tie.spec cast-result cast-result-2 mul-result cast-result-3 mul-result-2 returns)
+    tie.close (tie.spec (search needs) (search needs) mul-result (search needs) mul-result-2 returns)

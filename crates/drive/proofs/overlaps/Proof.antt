@@ -4,9 +4,6 @@ use borrow.Author.Needs.{needs}
 use Rattle.drive.proofs.overlaps.Statement.{statement}
 use Rattle.drive.proofs.overlaps.Tie as tie
 
-sub-result : tie.Need-sub-result
-sub-result c = search needs
-
 returns : tie.Need-returns
 unfolding overlap
 returns c = overlap-before _ _ _ _ (c .before .before .before .if1 .taken)
@@ -16,4 +13,4 @@ unfolding overlap
 returns-2 c = overlap-after _ _ _ _ (c .before .before .before .if1 .left)
 
 pub overlaps-spec : {M : Type 1} → statement M
-overlaps-spec = tie.close (tie.spec sub-result returns returns-2)
+overlaps-spec = tie.close (tie.spec (search needs) returns returns-2)

@@ -4,19 +4,13 @@ use borrow.Author.Needs.{needs}
 use Rattle.image.proofs.are_apart.Statement.{statement}
 use Rattle.image.proofs.are_apart.Tie as tie
 
-ends-by-requires : tie.Need-ends-by-requires
-ends-by-requires c κs = search needs
-
 returns : tie.Need-returns
 unfolding apart
 returns c = rw (le-leb _ _ (c .before .if1 .taken)) (c .ends-by .ensures)
-
-ends-by-requires-2 : tie.Need-ends-by-requires-2
-ends-by-requires-2 c κs = search needs
 
 returns-2 : tie.Need-returns-2
 unfolding apart
 returns-2 c = rw (lt-leb _ _ (c .before .if1 .left)) (c .ends-by2 .ensures)
 
 pub are-apart-spec : {M : Type 1} → statement M
-are-apart-spec = tie.close (tie.spec ends-by-requires returns ends-by-requires-2 returns-2)
+are-apart-spec = tie.close (tie.spec (search needs) returns (search needs) returns-2)

@@ -4,12 +4,6 @@ use borrow.Author.Needs.{needs}
 use Rattle.image.proofs.count_of.Statement.{statement}
 use Rattle.image.proofs.count_of.Tie as tie
 
-get64-requires : tie.Need-get64-requires
-get64-requires c κs = search needs
-
-cast-result : tie.Need-cast-result
-cast-result c = search needs
-
 returns : tie.Need-returns
 returns c = let h = count-of (c .before .before .before .args .b .now) in omega (arith, h)
 
@@ -17,4 +11,4 @@ returns-2 : tie.Need-returns-2
 returns-2 c = let h = count-of (c .before .before .before .args .b .now) in omega (arith, h)
 
 pub count-of-spec : {M : Type 1} → statement M
-count-of-spec = tie.close (tie.spec get64-requires cast-result returns returns-2)
+count-of-spec = tie.close (tie.spec (search needs) (search needs) returns returns-2)

@@ -11,14 +11,8 @@ use Rattle.image.proofs.drive_named.Tie as tie
 within : (c : tie.Then1) → let n = c .before .before .before .args .n in (firstDrive ≤ n) × (n < firstDrive + 8)
 within c = let s = c .before .before .before .args in slot-known (s .b .now) (s .n) (sym (c .before .is-drive .ensures) ∙ c .if1 .taken)
 
-is-drive-requires : tie.Need-is-drive-requires
-is-drive-requires c κs = search needs
-
 sub-drive-in : tie.Need-sub-drive-in
 sub-drive-in c = omega (arith, within c .0)
-
-cast-drive-in : tie.Need-cast-drive-in
-cast-drive-in c = search needs
 
 drive-in-requires : tie.Need-drive-in-requires
 drive-in-requires c κs = let h = within c in (search needs, omega (arith, h))
@@ -29,9 +23,6 @@ returns c =
     let h = within (c .before) in
     rw (sym (c .before .before .is-drive .ensures) ∙ c .before .if1 .taken) (c .drive-in .ensures ∙ sym (slot-of (s .b .now) (s .n - 128) (omega (arith, h))))
 
-drive-in-requires-2 : tie.Need-drive-in-requires-2
-drive-in-requires-2 c κs = search needs
-
 returns-2 : tie.Need-returns-2
 returns-2 c =
     let s = c .before .before .before .before .args in
@@ -40,4 +31,4 @@ returns-2 c =
 pub drive-named-spec : {M : Type 1} → statement M
 drive-named-spec =
     tie.close
-    (tie.spec is-drive-requires sub-drive-in cast-drive-in drive-in-requires returns drive-in-requires-2 returns-2)
+    (tie.spec (search needs) sub-drive-in (search needs) drive-in-requires returns (search needs) returns-2)

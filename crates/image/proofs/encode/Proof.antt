@@ -4,12 +4,6 @@ use borrow.Author.Needs.{needs}
 use Rattle.image.proofs.encode.Statement.{statement}
 use Rattle.image.proofs.encode.Tie as tie
 
-lay-requires : tie.Need-lay-requires
-lay-requires c κs = search needs
-
-same-length : tie.Need-same-length
-same-length c = search needs
-
 returns : tie.Need-returns
 unfolding laid
 returns c = rw (eq-eqb _ deskSize (c .before .before .before .before .if1 .taken), c .before .before .lay .ensures)
@@ -19,4 +13,4 @@ unfolding laid
 returns-2 c = rw (ne-eqb _ deskSize (c .if1 .left))
 
 pub encode-spec : {M : Type 1} → statement M
-encode-spec = tie.close (tie.spec lay-requires same-length returns returns-2)
+encode-spec = tie.close (tie.spec (search needs) (search needs) returns returns-2)

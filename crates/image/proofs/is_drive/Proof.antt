@@ -3,17 +3,8 @@ use borrow.Author.Needs.{needs}
 use Rattle.image.proofs.is_drive.Statement.{statement}
 use Rattle.image.proofs.is_drive.Tie as tie
 
-count-of-requires : tie.Need-count-of-requires
-count-of-requires c κs = search needs
-
-add-end : tie.Need-add-end
-add-end c = search needs
-
-and-requires : tie.Need-and-requires
-and-requires c κs = search needs
-
 returns : tie.Need-returns
 returns c = let s = c .before .before .before in known (s .args .b .now) (s .args .n) _ _ (c .before .count-of .ensures .0) (c .and .ensures)
 
 pub is-drive-spec : {M : Type 1} → statement M
-is-drive-spec = tie.close (tie.spec count-of-requires add-end and-requires returns)
+is-drive-spec = tie.close (tie.spec (search needs) (search needs) (search needs) returns)

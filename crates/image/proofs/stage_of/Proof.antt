@@ -4,16 +4,10 @@ use borrow.Author.Needs.{needs}
 use Rattle.image.proofs.stage_of.Statement.{statement}
 use Rattle.image.proofs.stage_of.Tie as tie
 
-mul-stage-at : tie.Need-mul-stage-at
-mul-stage-at c = search needs
-
-stage-at-requires : tie.Need-stage-at-requires
-stage-at-requires c κs = search needs
-
 returns : tie.Need-returns
 returns c =
     let s = c .before .before in
     c .stage-at .ensures ∙ sym (row-of (s .args .b .now) (s .args .guest) (s .pre .1))
 
 pub stage-of-spec : {M : Type 1} → statement M
-stage-of-spec = tie.close (tie.spec mul-stage-at stage-at-requires returns)
+stage-of-spec = tie.close (tie.spec (search needs) (search needs) returns)

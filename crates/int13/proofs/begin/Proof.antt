@@ -8,13 +8,6 @@ use Rattle.int13.proofs.Numbers.{begin-answered}
 use borrow.Author.Needs.{needs}
 use Rattle.int13.proofs.begin.Statement.{statement}
 use Rattle.int13.proofs.begin.Tie as tie
-use Rattle.int13.proofs.begin.Reads as reads
-use Rattle.int13.proofs.begin.Lts as lts
-use Rattle.int13.proofs.dl.Reads as dl-reads
-use Rattle.int13.proofs.drive_at.Reads as drive-at-reads
-use Rattle.int13.proofs.drive_count.Reads as drive-count-reads
-use Rattle.int13.proofs.is_drive.Reads as is-drive-reads
-use Rattle.int13.proofs.steps.Reads as steps-reads
 
 returns : tie.Need-returns
 returns c =

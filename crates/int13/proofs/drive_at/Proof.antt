@@ -5,8 +5,6 @@ use Rattle.int13.proofs.StepsLaws.{drive-in}
 use borrow.Author.Needs.{needs}
 use Rattle.int13.proofs.drive_at.Statement.{statement}
 use Rattle.int13.proofs.drive_at.Tie as tie
-use Rattle.int13.proofs.drive_at.Reads as reads
-use Rattle.int13.proofs.drive_at.Lts as lts
 
 array-copy-out-result : tie.Need-array-copy-out-result
 array-copy-out-result c =

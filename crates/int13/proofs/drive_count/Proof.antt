@@ -5,9 +5,6 @@ use Rattle.int13.proofs.StepsLaws.{count-most}
 use borrow.Author.Needs.{needs}
 use Rattle.int13.proofs.drive_count.Statement.{statement}
 use Rattle.int13.proofs.drive_count.Tie as tie
-use Rattle.int13.proofs.drive_count.Reads as reads
-use Rattle.int13.proofs.drive_count.Lts as lts
-use Rattle.table.proofs.drive_count.Reads as drive-count-reads
 
 cast-result : tie.Need-cast-result
 cast-result c =

@@ -3,9 +3,6 @@ use borrow.Author.Needs.{needs}
 use Rattle.int13.proofs.StepsLaws.{not-leb}
 use Rattle.int13.proofs.ends_past.Statement.{statement}
 use Rattle.int13.proofs.ends_past.Tie as tie
-use Rattle.int13.proofs.ends_past.Reads as reads
-use Rattle.int13.proofs.ends_past.Lts as lts
-use Rattle.logic.proofs.ends_by.Reads as ends-by-reads
 
 returns : tie.Need-returns
 returns c =

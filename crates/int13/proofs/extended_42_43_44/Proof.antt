@@ -7,13 +7,6 @@ use Rattle.int13.proofs.StepsLaws.{plan-clear}
 use borrow.Author.Needs.{needs}
 use Rattle.int13.proofs.extended_42_43_44.Statement.{statement}
 use Rattle.int13.proofs.extended_42_43_44.Tie as tie
-use Rattle.int13.proofs.extended_42_43_44.Reads as reads
-use Rattle.int13.proofs.extended_42_43_44.Lts as lts
-use Rattle.int13.proofs.packet_place.Reads as packet-place-reads
-use Rattle.int13.proofs.packet_plan.Reads as packet-plan-reads
-use Rattle.int13.proofs.refuse.Reads as refuse-reads
-use Rattle.int13.proofs.succeed.Reads as succeed-reads
-use Rattle.words.proofs.store16.Reads as store16-reads
 
 store16-requires : tie.Need-store16-requires
 store16-requires c κs =

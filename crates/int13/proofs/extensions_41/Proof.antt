@@ -3,11 +3,6 @@ use Rattle.int13.specs.Steps.{extensions}
 use borrow.Author.Needs.{needs}
 use Rattle.int13.proofs.extensions_41.Statement.{statement}
 use Rattle.int13.proofs.extensions_41.Tie as tie
-use Rattle.int13.proofs.extensions_41.Reads as reads
-use Rattle.int13.proofs.extensions_41.Lts as lts
-use Rattle.int13.proofs.extensions_given.Reads as extensions-given-reads
-use Rattle.int13.proofs.refuse.Reads as refuse-reads
-use Rattle.logic.proofs.and.Reads as and-reads
 
 returns : tie.Need-returns
 unfolding extensions

@@ -1,10 +1,6 @@
 use borrow.Author.Needs.{needs}
 use Rattle.int13.proofs.geometry_given.Statement.{statement}
 use Rattle.int13.proofs.geometry_given.Tie as tie
-use Rattle.int13.proofs.geometry_given.Reads as reads
-use Rattle.int13.proofs.geometry_given.Lts as lts
-use Rattle.chs.proofs.pack.Reads as pack-reads
-use Rattle.int13.proofs.less_one.Reads as less-one-reads
 
 returns : tie.Need-returns
 returns c = rw (c .before .pack .ensures, c .before .before .before .less-one .ensures, c .less-one2 .ensures)

@@ -2,10 +2,6 @@ use Rattle.int13.specs.Steps.{isDrive}
 use borrow.Author.Needs.{needs}
 use Rattle.int13.proofs.is_drive.Statement.{statement}
 use Rattle.int13.proofs.is_drive.Tie as tie
-use Rattle.int13.proofs.is_drive.Reads as reads
-use Rattle.int13.proofs.is_drive.Lts as lts
-use Rattle.int13.proofs.drive_count.Reads as drive-count-reads
-use Rattle.logic.proofs.and.Reads as and-reads
 
 returns : tie.Need-returns
 unfolding isDrive

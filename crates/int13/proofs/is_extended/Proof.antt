@@ -1,9 +1,6 @@
 use borrow.Author.Needs.{needs}
 use Rattle.int13.proofs.is_extended.Statement.{statement}
 use Rattle.int13.proofs.is_extended.Tie as tie
-use Rattle.int13.proofs.is_extended.Reads as reads
-use Rattle.int13.proofs.is_extended.Lts as lts
-use Rattle.logic.proofs.or.Reads as or-reads
 
 returns : tie.Need-returns
 returns c = rw (c .or2 .ensures, c .before .or .ensures)

@@ -1,11 +1,6 @@
 use borrow.Author.Needs.{needs}
 use Rattle.int13.proofs.packet_job.Statement.{statement}
 use Rattle.int13.proofs.packet_job.Tie as tie
-use Rattle.int13.proofs.packet_job.Reads as reads
-use Rattle.int13.proofs.packet_job.Lts as lts
-use Rattle.int13.proofs.dl.Reads as dl-reads
-use Rattle.int13.proofs.packet_place.Reads as packet-place-reads
-use Rattle.int13.proofs.posted.Reads as posted-reads
 
 returns : tie.Need-returns
 returns c = rw (c .before .before .before .before .posted .ensures, c .before .before .before .dl .ensures, c .packet-place .ensures)

@@ -7,16 +7,6 @@ use Rattle.int13.specs.Steps.{verifyOk, packetPlan}
 use borrow.Author.Needs.{needs}
 use Rattle.int13.proofs.packet_plan.Statement.{statement}
 use Rattle.int13.proofs.packet_plan.Tie as tie
-use Rattle.int13.proofs.packet_plan.Reads as reads
-use Rattle.int13.proofs.packet_plan.Lts as lts
-use Rattle.int13.proofs.al.Reads as al-reads
-use Rattle.int13.proofs.function_of.Reads as function-of-reads
-use Rattle.int13.proofs.is_write.Reads as is-write-reads
-use Rattle.int13.proofs.packet_place.Reads as packet-place-reads
-use Rattle.int13.proofs.packet_read.Reads as packet-read-reads
-use Rattle.int13.proofs.verify_ok.Reads as verify-ok-reads
-use Rattle.layout.proofs.read_packet.Reads as read-packet-reads
-use Rattle.logic.proofs.and.Reads as and-reads
 
 returns : tie.Need-returns
 unfolding packetPlan

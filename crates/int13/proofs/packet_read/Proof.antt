@@ -2,9 +2,6 @@ use borrow.Author.Tests.{lt-ltb, le-ltb}
 use borrow.Author.Needs.{needs}
 use Rattle.int13.proofs.packet_read.Statement.{statement}
 use Rattle.int13.proofs.packet_read.Tie as tie
-use Rattle.int13.proofs.packet_read.Reads as reads
-use Rattle.int13.proofs.packet_read.Lts as lts
-use Rattle.int13.proofs.packet_tests.Reads as packet-tests-reads
 
 returns : tie.Need-returns
 returns c = rw (c .before .before .before .read2 .given .1, lt-ltb _ _ (c .if1 .taken))

@@ -12,14 +12,6 @@ use Rattle.int13.specs.Steps.{mostBlocks, packetTests}
 use borrow.Author.Needs.{needs}
 use Rattle.int13.proofs.packet_tests.Statement.{statement}
 use Rattle.int13.proofs.packet_tests.Tie as tie
-use Rattle.int13.proofs.packet_tests.Reads as reads
-use Rattle.int13.proofs.packet_tests.Lts as lts
-use Rattle.drive.proofs.is_protected.Reads as is-protected-reads
-use Rattle.int13.proofs.ends_past.Reads as ends-past-reads
-use Rattle.int13.proofs.function_of.Reads as function-of-reads
-use Rattle.int13.proofs.is_write.Reads as is-write-reads
-use Rattle.int13.proofs.packet_job.Reads as packet-job-reads
-use Rattle.logic.proofs.and.Reads as and-reads
 
 -- what each passed test says
 

@@ -3,10 +3,6 @@ use Rattle.int13.specs.Steps.{parameters}
 use borrow.Author.Needs.{needs}
 use Rattle.int13.proofs.parameters_08.Statement.{statement}
 use Rattle.int13.proofs.parameters_08.Tie as tie
-use Rattle.int13.proofs.parameters_08.Reads as reads
-use Rattle.int13.proofs.parameters_08.Lts as lts
-use Rattle.int13.proofs.geometry_given.Reads as geometry-given-reads
-use Rattle.int13.proofs.refuse.Reads as refuse-reads
 
 returns : tie.Need-returns
 unfolding parameters

@@ -11,13 +11,6 @@ use Rattle.int13.proofs.StepsLaws.{lent-rest, put-rest}
 use borrow.Author.Needs.{needs}
 use Rattle.int13.proofs.result_48.Statement.{statement}
 use Rattle.int13.proofs.result_48.Tie as tie
-use Rattle.int13.proofs.result_48.Reads as reads
-use Rattle.int13.proofs.result_48.Lts as lts
-use Rattle.int13.proofs.packet_place.Reads as packet-place-reads
-use Rattle.int13.proofs.refuse.Reads as refuse-reads
-use Rattle.int13.proofs.result_given.Reads as result-given-reads
-use Rattle.layout.proofs.write_result.Reads as write-result-reads
-use Rattle.words.proofs.get16.Reads as get16-reads
 
 returns : tie.Need-returns
 unfolding result

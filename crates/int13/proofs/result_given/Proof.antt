@@ -1,10 +1,6 @@
 use borrow.Author.Needs.{needs}
 use Rattle.int13.proofs.result_given.Statement.{statement}
 use Rattle.int13.proofs.result_given.Tie as tie
-use Rattle.int13.proofs.result_given.Reads as reads
-use Rattle.int13.proofs.result_given.Lts as lts
-use Rattle.int13.proofs.refuse.Reads as refuse-reads
-use Rattle.int13.proofs.succeed.Reads as succeed-reads
 
 returns : tie.Need-returns
 returns c = rw (c .before .before .given .given .1, c .refuse .ensures)

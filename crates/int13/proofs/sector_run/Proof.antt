@@ -11,14 +11,6 @@ use Rattle.int13.specs.Steps.{sectorBuffer}
 use borrow.Author.Needs.{needs}
 use Rattle.int13.proofs.sector_run.Statement.{statement}
 use Rattle.int13.proofs.sector_run.Tie as tie
-use Rattle.int13.proofs.sector_run.Reads as reads
-use Rattle.int13.proofs.sector_run.Lts as lts
-use Rattle.drive.proofs.geometry_size.Reads as geometry-size-reads
-use Rattle.int13.proofs.al.Reads as al-reads
-use Rattle.int13.proofs.ends_past.Reads as ends-past-reads
-use Rattle.int13.proofs.refuse.Reads as refuse-reads
-use Rattle.int13.proofs.sector_buffer.Reads as sector-buffer-reads
-use Rattle.int13.proofs.sector_job.Reads as sector-job-reads
 
 returns : tie.Need-returns
 returns c =

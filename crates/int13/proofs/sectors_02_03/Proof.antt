@@ -9,18 +9,6 @@ use Rattle.int13.specs.Steps.{mostRun, sectorRun, sectors}
 use borrow.Author.Needs.{needs}
 use Rattle.int13.proofs.sectors_02_03.Statement.{statement}
 use Rattle.int13.proofs.sectors_02_03.Tie as tie
-use Rattle.int13.proofs.sectors_02_03.Reads as reads
-use Rattle.int13.proofs.sectors_02_03.Lts as lts
-use Rattle.chs.proofs.address_in.Reads as address-in-reads
-use Rattle.chs.proofs.block_of.Reads as block-of-reads
-use Rattle.drive.proofs.geometry_of.Reads as geometry-of-reads
-use Rattle.drive.proofs.is_protected.Reads as is-protected-reads
-use Rattle.int13.proofs.al.Reads as al-reads
-use Rattle.int13.proofs.function_of.Reads as function-of-reads
-use Rattle.int13.proofs.is_write.Reads as is-write-reads
-use Rattle.int13.proofs.refuse.Reads as refuse-reads
-use Rattle.int13.proofs.sector_run.Reads as sector-run-reads
-use Rattle.logic.proofs.and.Reads as and-reads
 
 -- what each passed test says
 

@@ -3,12 +3,6 @@ use Rattle.int13.specs.Steps.{seek}
 use borrow.Author.Needs.{needs}
 use Rattle.int13.proofs.seek_47.Statement.{statement}
 use Rattle.int13.proofs.seek_47.Tie as tie
-use Rattle.int13.proofs.seek_47.Reads as reads
-use Rattle.int13.proofs.seek_47.Lts as lts
-use Rattle.int13.proofs.packet_place.Reads as packet-place-reads
-use Rattle.int13.proofs.refuse.Reads as refuse-reads
-use Rattle.int13.proofs.seek_read.Reads as seek-read-reads
-use Rattle.layout.proofs.read_packet.Reads as read-packet-reads
 
 returns : tie.Need-returns
 unfolding seek

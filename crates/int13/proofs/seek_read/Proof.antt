@@ -2,10 +2,6 @@ use borrow.Author.Tests.{lt-ltb, le-ltb, le-leb, lt-leb}
 use borrow.Author.Needs.{needs}
 use Rattle.int13.proofs.seek_read.Statement.{statement}
 use Rattle.int13.proofs.seek_read.Tie as tie
-use Rattle.int13.proofs.seek_read.Reads as reads
-use Rattle.int13.proofs.seek_read.Lts as lts
-use Rattle.int13.proofs.refuse.Reads as refuse-reads
-use Rattle.int13.proofs.succeed.Reads as succeed-reads
 
 returns : tie.Need-returns
 returns c = rw (c .before .before .before .before .read2 .given .1, lt-ltb _ _ (c .before .if1 .taken), c .refuse2 .ensures)

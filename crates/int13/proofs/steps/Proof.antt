@@ -6,18 +6,6 @@ use Rattle.int13.proofs.Numbers.{steps-answered}
 use borrow.Author.Needs.{needs}
 use Rattle.int13.proofs.steps.Statement.{statement}
 use Rattle.int13.proofs.steps.Tie as tie
-use Rattle.int13.proofs.steps.Reads as reads
-use Rattle.int13.proofs.steps.Lts as lts
-use Rattle.int13.proofs.extended_42_43_44.Reads as extended-42-43-44-reads
-use Rattle.int13.proofs.extensions_41.Reads as extensions-41-reads
-use Rattle.int13.proofs.function_of.Reads as function-of-reads
-use Rattle.int13.proofs.is_extended.Reads as is-extended-reads
-use Rattle.int13.proofs.is_sectors.Reads as is-sectors-reads
-use Rattle.int13.proofs.parameters_08.Reads as parameters-08-reads
-use Rattle.int13.proofs.refuse.Reads as refuse-reads
-use Rattle.int13.proofs.result_48.Reads as result-48-reads
-use Rattle.int13.proofs.sectors_02_03.Reads as sectors-02-03-reads
-use Rattle.int13.proofs.seek_47.Reads as seek-47-reads
 
 returns : tie.Need-returns
 returns c =

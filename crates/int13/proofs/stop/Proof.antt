@@ -4,12 +4,6 @@ use Rattle.int13.specs.Answers.{ah, isSectors}
 use borrow.Author.Needs.{needs}
 use Rattle.int13.proofs.stop.Statement.{statement}
 use Rattle.int13.proofs.stop.Tie as tie
-use Rattle.int13.proofs.stop.Reads as reads
-use Rattle.int13.proofs.stop.Lts as lts
-use Rattle.int13.proofs.al.Reads as al-reads
-use Rattle.int13.proofs.answer.Reads as answer-reads
-use Rattle.int13.proofs.function_of.Reads as function-of-reads
-use Rattle.int13.proofs.is_sectors.Reads as is-sectors-reads
 
 returns : tie.Need-returns
 returns c =

@@ -3,11 +3,6 @@ use borrow.Author.Needs.{needs}
 use Rattle.layout.specs.Packet.{packetAt}
 use Rattle.layout.proofs.packet_at.Statement.{statement}
 use Rattle.layout.proofs.packet_at.Tie as tie
-use Rattle.layout.proofs.packet_at.Reads as reads
-use Rattle.layout.proofs.packet_at.Lts as lts
-use Rattle.layout.proofs.linear.Reads as linear-reads
-use Rattle.words.proofs.get16.Reads as get16-reads
-use Rattle.words.proofs.get64.Reads as get64-reads
 
 returns : tie.Need-returns
 unfolding packetAt

@@ -4,10 +4,6 @@ use Rattle.layout.proofs.ResultBufferLaws.{block-stores}
 use borrow.Author.Needs.{needs}
 use Rattle.layout.proofs.put_blocks.Statement.{statement}
 use Rattle.layout.proofs.put_blocks.Tie as tie
-use Rattle.layout.proofs.put_blocks.Reads as reads
-use Rattle.layout.proofs.put_blocks.Lts as lts
-use Rattle.words.proofs.store16.Reads as store16-reads
-use Rattle.words.proofs.store64.Reads as store64-reads
 
 returns : tie.Need-returns
 returns c =

@@ -4,11 +4,6 @@ use Rattle.layout.proofs.ResultBufferLaws.{geometry-stores}
 use borrow.Author.Needs.{needs}
 use Rattle.layout.proofs.put_geometry.Statement.{statement}
 use Rattle.layout.proofs.put_geometry.Tie as tie
-use Rattle.layout.proofs.put_geometry.Reads as reads
-use Rattle.layout.proofs.put_geometry.Lts as lts
-use Rattle.layout.proofs.flags_shown.Reads as flags-shown-reads
-use Rattle.words.proofs.store16.Reads as store16-reads
-use Rattle.words.proofs.store32.Reads as store32-reads
 
 returns : tie.Need-returns
 returns c =

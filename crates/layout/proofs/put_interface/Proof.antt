@@ -6,12 +6,6 @@ use Rattle.layout.proofs.ResultBufferLaws.{interface-stores}
 use borrow.Author.Needs.{needs}
 use Rattle.layout.proofs.put_interface.Statement.{statement}
 use Rattle.layout.proofs.put_interface.Tie as tie
-use Rattle.layout.proofs.put_interface.Reads as reads
-use Rattle.layout.proofs.put_interface.Lts as lts
-use Rattle.words.proofs.store16.Reads as store16-reads
-use Rattle.words.proofs.store32.Reads as store32-reads
-use Rattle.words.proofs.store4.Reads as store4-reads
-use Rattle.words.proofs.store8.Reads as store8-reads
 
 returns : tie.Need-returns
 returns c =

@@ -6,10 +6,6 @@ use Rattle.layout.proofs.ResultBufferLaws.{path-stores}
 use borrow.Author.Needs.{needs}
 use Rattle.layout.proofs.put_paths.Statement.{statement}
 use Rattle.layout.proofs.put_paths.Tie as tie
-use Rattle.layout.proofs.put_paths.Reads as reads
-use Rattle.layout.proofs.put_paths.Lts as lts
-use Rattle.words.proofs.put_byte.Reads as put-byte-reads
-use Rattle.words.proofs.store8.Reads as store8-reads
 
 returns : tie.Need-returns
 returns c =

@@ -6,10 +6,6 @@ use Rattle.layout.specs.Packet.{readPacket}
 use Rattle.layout.proofs.PacketLaws.{packet-answered}
 use Rattle.layout.proofs.read_packet.Statement.{statement}
 use Rattle.layout.proofs.read_packet.Tie as tie
-use Rattle.layout.proofs.read_packet.Reads as reads
-use Rattle.layout.proofs.read_packet.Lts as lts
-use Rattle.layout.proofs.packet_at.Reads as packet-at-reads
-use Rattle.logic.proofs.ends_by.Reads as ends-by-reads
 
 packet-at-requires : tie.Need-packet-at-requires
 packet-at-requires c κs = leb-true _ _ (sym (c .before .ends-by .ensures) ∙ c .if1 .taken)

@@ -6,14 +6,6 @@ use Rattle.layout.proofs.ResultBufferLaws.{whole-stores}
 use borrow.Author.Needs.{needs}
 use Rattle.layout.proofs.result_of.Statement.{statement}
 use Rattle.layout.proofs.result_of.Tie as tie
-use Rattle.layout.proofs.result_of.Reads as reads
-use Rattle.layout.proofs.result_of.Lts as lts
-use Rattle.layout.proofs.checksum_of.Reads as checksum-of-reads
-use Rattle.layout.proofs.put_blocks.Reads as put-blocks-reads
-use Rattle.layout.proofs.put_geometry.Reads as put-geometry-reads
-use Rattle.layout.proofs.put_interface.Reads as put-interface-reads
-use Rattle.layout.proofs.put_paths.Reads as put-paths-reads
-use Rattle.words.proofs.put_byte.Reads as put-byte-reads
 
 returns : tie.Need-returns
 returns c =

@@ -2,8 +2,6 @@ use borrow.Author.Tests.{lt-ltb, le-ltb}
 use Rattle.layout.specs.ResultBuffer.{returnedSize}
 use Rattle.layout.proofs.returned_size.Statement.{statement}
 use Rattle.layout.proofs.returned_size.Tie as tie
-use Rattle.layout.proofs.returned_size.Reads as reads
-use Rattle.layout.proofs.returned_size.Lts as lts
 
 returns : tie.Need-returns
 unfolding returnedSize

@@ -10,8 +10,6 @@ use Rattle.layout.specs.ResultBuffer.{sum}
 use Rattle.layout.proofs.ResultBufferLaws.{sum-more}
 use Rattle.layout.proofs.sum_of.Statement.{statement}
 use Rattle.layout.proofs.sum_of.Tie as tie
-use Rattle.layout.proofs.sum_of.Reads as reads
-use Rattle.layout.proofs.sum_of.Lts as lts
 
 abbrev Inv-loop : tie.InvT-loop
 Inv-loop s total₀ i₀ total i = (i ≤ length s) × ((total < 256) × (total ≡ sum (take i s) % 256))

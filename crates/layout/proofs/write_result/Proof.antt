@@ -9,11 +9,6 @@ use Rattle.layout.proofs.ResultBufferLaws.{returned-most, answer-small,
 use borrow.Author.Needs.{needs}
 use Rattle.layout.proofs.write_result.Statement.{statement}
 use Rattle.layout.proofs.write_result.Tie as tie
-use Rattle.layout.proofs.write_result.Reads as reads
-use Rattle.layout.proofs.write_result.Lts as lts
-use Rattle.layout.proofs.result_of.Reads as result-of-reads
-use Rattle.layout.proofs.returned_size.Reads as returned-size-reads
-use Rattle.words.proofs.store.Reads as store-reads
 
 returns : tie.Need-returns
 returns c = let a = c .before .before .args in answer-small (a .d) (a .p) (a .asked) (now (a .out)) (c .if1 .taken)

@@ -1,8 +1,6 @@
 use Rattle.logic.proofs.LogicLaws.{ends-past, ends-rest}
 use Rattle.logic.proofs.ends_by.Statement.{statement}
 use Rattle.logic.proofs.ends_by.Tie as tie
-use Rattle.logic.proofs.ends_by.Reads as reads
-use Rattle.logic.proofs.ends_by.Lts as lts
 
 returns : tie.Need-returns
 returns c = ends-past (c .before .args .place) (c .before .args .n) (c .before .args .end) (c .if1 .taken)

@@ -1,8 +1,6 @@
 use borrow.Author.Tests.{lt-leb, le-leb}
 use Rattle.logic.proofs.in_range.Statement.{statement}
 use Rattle.logic.proofs.in_range.Tie as tie
-use Rattle.logic.proofs.in_range.Reads as reads
-use Rattle.logic.proofs.in_range.Lts as lts
 
 returns : tie.Need-returns
 returns c = simp (lt-leb _ _ (c .if1 .taken))

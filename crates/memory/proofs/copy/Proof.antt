@@ -6,9 +6,6 @@ use Rattle.memory.specs.Blocks.{blockLength}
 use Rattle.memory.proofs.BlocksLaws.{blocks-splice}
 use Rattle.memory.proofs.copy.Statement.{statement}
 use Rattle.memory.proofs.copy.Tie as tie
-use Rattle.memory.proofs.copy.Reads as reads
-use Rattle.memory.proofs.copy.Lts as lts
-use Rattle.memory.proofs.lay.Reads as lay-reads
 
 returns : tie.Need-returns
 returns c =

@@ -9,10 +9,6 @@ use Rattle.memory.proofs.WindowLaws.{length-window, with-window-lent}
 use Rattle.memory.proofs.BlocksLaws.{blocks-length}
 use Rattle.memory.proofs.load.Statement.{statement}
 use Rattle.memory.proofs.load.Tie as tie
-use Rattle.memory.proofs.load.Reads as reads
-use Rattle.memory.proofs.load.Lts as lts
-use Rattle.memory.proofs.copy.Reads as copy-reads
-use Rattle.memory.proofs.span_of.Reads as span-of-reads
 
 returns : tie.Need-returns
 returns c =

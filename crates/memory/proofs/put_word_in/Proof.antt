@@ -9,10 +9,6 @@ use Rattle.memory.specs.Window.{spanLength, windowOf}
 use Rattle.memory.proofs.WindowLaws.{length-window, with-window-lent}
 use Rattle.memory.proofs.put_word_in.Statement.{statement}
 use Rattle.memory.proofs.put_word_in.Tie as tie
-use Rattle.memory.proofs.put_word_in.Reads as reads
-use Rattle.memory.proofs.put_word_in.Lts as lts
-use Rattle.memory.proofs.span_of.Reads as span-of-reads
-use Rattle.words.proofs.store16.Reads as store16-reads
 
 returns : tie.Need-returns
 returns c =

@@ -6,10 +6,6 @@ use lib.ListN.{length}
 use Rattle.memory.specs.Window.{spanLength}
 use Rattle.memory.proofs.save.Statement.{statement}
 use Rattle.memory.proofs.save.Tie as tie
-use Rattle.memory.proofs.save.Reads as reads
-use Rattle.memory.proofs.save.Lts as lts
-use Rattle.memory.proofs.copy.Reads as copy-reads
-use Rattle.memory.proofs.span_of.Reads as span-of-reads
 
 returns : tie.Need-returns
 returns c =

@@ -3,9 +3,6 @@ use borrow.Author.Needs.{needs}
 use Rattle.memory.proofs.WindowLaws.{window-fits, span-in, span-wide, span-stranger}
 use Rattle.memory.proofs.span_of.Statement.{statement}
 use Rattle.memory.proofs.span_of.Tie as tie
-use Rattle.memory.proofs.span_of.Reads as reads
-use Rattle.memory.proofs.span_of.Lts as lts
-use Rattle.memory.proofs.window_length.Reads as window-length-reads
 
 returns : tie.Need-returns
 returns c =

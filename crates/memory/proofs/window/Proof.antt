@@ -7,9 +7,6 @@ use lib.ListN.{length}
 use Rattle.memory.specs.Window.{spanLength}
 use Rattle.memory.proofs.window.Statement.{statement}
 use Rattle.memory.proofs.window.Tie as tie
-use Rattle.memory.proofs.window.Reads as reads
-use Rattle.memory.proofs.window.Lts as lts
-use Rattle.memory.proofs.span_of.Reads as span-of-reads
 
 returns : tie.Need-returns
 returns c =

@@ -7,9 +7,6 @@ use lib.ListN.{length}
 use Rattle.memory.specs.Window.{spanLength}
 use Rattle.memory.proofs.window_shared.Statement.{statement}
 use Rattle.memory.proofs.window_shared.Tie as tie
-use Rattle.memory.proofs.window_shared.Reads as reads
-use Rattle.memory.proofs.window_shared.Lts as lts
-use Rattle.memory.proofs.span_of.Reads as span-of-reads
 
 returns : tie.Need-returns
 returns c =

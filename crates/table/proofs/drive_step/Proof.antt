@@ -5,12 +5,6 @@ use borrow.Author.Needs.{needs}
 use Rattle.table.proofs.drive_step.Statement.{statement}
 use Rattle.table.proofs.drive_step.Tie as tie
 
-decode-requires : tie.Need-decode-requires
-decode-requires c κs = search needs
-
-add-t9 : tie.Need-add-t9
-add-t9 c = search needs
-
 push-requires : tie.Need-push-requires
 push-requires c κs =
     let a = c .before .before .before .before .args in
@@ -29,4 +23,4 @@ returns-2 c =
 
 pub drive-step-spec : {M : Type 1} → statement M
 drive-step-spec =
-    tie.close (tie.spec decode-requires (λ c κs. tt) add-t9 push-requires returns returns-2)
+    tie.close (tie.spec (search needs) (λ c κs. tt) (search needs) push-requires returns returns-2)

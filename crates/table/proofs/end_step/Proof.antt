@@ -4,12 +4,6 @@ use borrow.Author.Needs.{needs}
 use Rattle.table.proofs.end_step.Statement.{statement}
 use Rattle.table.proofs.end_step.Tie as tie
 
-cast-next : tie.Need-cast-next
-cast-next c = search needs
-
-add-next : tie.Need-add-next
-add-next c = search needs
-
 returns : tie.Need-returns
 returns c =
     let a = c .before .args in
@@ -21,4 +15,4 @@ returns-2 c =
     endStep-done (now (a .t)) (a .at) (a .b) (c .if1 .left)
 
 pub end-step-spec : {M : Type 1} → statement M
-end-step-spec = tie.close (tie.spec cast-next add-next returns returns-2)
+end-step-spec = tie.close (tie.spec (search needs) (search needs) returns returns-2)

@@ -8,13 +8,10 @@ returns : tie.Need-returns
 unfolding isSound
 returns c = rw (lt-leb (c .before .args .b .count) 8 (c .if1 .taken))
 
-sound-to-requires : tie.Need-sound-to-requires
-sound-to-requires c κs = search needs
-
 returns-2 : tie.Need-returns-2
 unfolding isSound
 returns-2 c = rw (le-leb (c .before .before .before .before .before .args .b .count) 8 (c .before .before .before .before .if1 .left), c .and .ensures, c .before .before .sound-to .ensures, c .before .blank-past .ensures)
 
 pub is-sound-spec : {M : Type 1} → statement M
 is-sound-spec =
-    tie.close (tie.spec returns sound-to-requires (λ c κs. tt) (λ c κs. tt) returns-2)
+    tie.close (tie.spec returns (search needs) (λ c κs. tt) (λ c κs. tt) returns-2)

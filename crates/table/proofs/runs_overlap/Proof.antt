@@ -4,9 +4,6 @@ use borrow.Author.Needs.{needs}
 use Rattle.table.proofs.runs_overlap.Statement.{statement}
 use Rattle.table.proofs.runs_overlap.Tie as tie
 
-sub-result : tie.Need-sub-result
-sub-result c = search needs
-
 returns : tie.Need-returns
 unfolding overlapRuns
 returns c = overlap-before _ _ _ _ (c .if1 .taken)
@@ -16,4 +13,4 @@ unfolding overlapRuns
 returns-2 c = overlap-after _ _ _ _ (c .if1 .left)
 
 pub runs-overlap-spec : {M : Type 1} → statement M
-runs-overlap-spec = tie.close (tie.spec sub-result returns returns-2)
+runs-overlap-spec = tie.close (tie.spec (search needs) returns returns-2)

@@ -4,8 +4,6 @@ use lib.ListN.{length}
 use borrow.Author.Needs.{needs}
 use Rattle.vectors.proofs.fill.Statement.{statement}
 use Rattle.vectors.proofs.fill.Tie as tie
-use Rattle.vectors.proofs.fill.Reads as reads
-use Rattle.vectors.proofs.fill.Lts as lts
 
 abbrev Inv-loop : tie.InvT-loop
 Inv-loop store₀ seed i₀ i-end store i = (i-end ≡ length store) × (length store ≡ length store₀)

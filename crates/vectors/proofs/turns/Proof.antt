@@ -4,9 +4,6 @@ use lib.ListN.{length}
 use borrow.Author.Needs.{needs}
 use Rattle.vectors.proofs.turns.Statement.{statement}
 use Rattle.vectors.proofs.turns.Tie as tie
-use Rattle.vectors.proofs.turns.Reads as reads
-use Rattle.vectors.proofs.turns.Lts as lts
-use Rattle.vectors.proofs.one_turn.Reads as one-turn-reads
 
 abbrev Inv-loop : tie.InvT-loop
 Inv-loop number arena₀ store₀ next₀ counter₀ arena store next counter = (length arena ≡ length arena₀) × (length store ≡ length store₀)

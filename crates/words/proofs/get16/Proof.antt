@@ -4,9 +4,6 @@ use Rattle.words.specs.Words.{le}
 use borrow.Author.Needs.{needs}
 use Rattle.words.proofs.get16.Statement.{statement}
 use Rattle.words.proofs.get16.Tie as tie
-use Rattle.words.proofs.get16.Reads as reads
-use Rattle.words.proofs.get16.Lts as lts
-use Rattle.words.proofs.wide16.Reads as wide16-reads
 
 returns : tie.Need-returns
 unfolding le

@@ -5,8 +5,6 @@ use denote.Ref.{now}
 use Rattle.words.proofs.WordsLaws.{part-list}
 use Rattle.words.proofs.load4.Statement.{statement}
 use Rattle.words.proofs.load4.Tie as tie
-use Rattle.words.proofs.load4.Reads as reads
-use Rattle.words.proofs.load4.Lts as lts
 
 returns : tie.Need-returns
 returns c =

@@ -5,8 +5,6 @@ use denote.Ref.{now}
 use Rattle.words.proofs.WordsLaws.{part-list}
 use Rattle.words.proofs.load8.Statement.{statement}
 use Rattle.words.proofs.load8.Tie as tie
-use Rattle.words.proofs.load8.Reads as reads
-use Rattle.words.proofs.load8.Lts as lts
 
 returns : tie.Need-returns
 returns c =

@@ -8,8 +8,6 @@ use denote.Ref.{now}
 use Rattle.words.proofs.WordsLaws.{sets-more}
 use Rattle.words.proofs.store.Statement.{statement}
 use Rattle.words.proofs.store.Tie as tie
-use Rattle.words.proofs.store.Reads as reads
-use Rattle.words.proofs.store.Lts as lts
 
 abbrev Inv-loop : tie.InvT-loop
 Inv-loop out₀ at a i₀ out i = (i ≤ length a) × (out ≡ sets out₀ at (take i a))

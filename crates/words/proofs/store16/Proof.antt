@@ -8,8 +8,6 @@ use Rattle.words.specs.Words.{leBytes}
 use borrow.Author.Needs.{needs}
 use Rattle.words.proofs.store16.Statement.{statement}
 use Rattle.words.proofs.store16.Tie as tie
-use Rattle.words.proofs.store16.Reads as reads
-use Rattle.words.proofs.store16.Lts as lts
 
 slice-write-out-2 : tie.Need-slice-write-out-2
 slice-write-out-2 c = simp length-set (omega arith)

@@ -4,9 +4,6 @@ use Rattle.words.proofs.WordsLaws.{sets-two}
 use borrow.Author.Needs.{needs}
 use Rattle.words.proofs.store32.Statement.{statement}
 use Rattle.words.proofs.store32.Tie as tie
-use Rattle.words.proofs.store32.Reads as reads
-use Rattle.words.proofs.store32.Lts as lts
-use Rattle.words.proofs.store16.Reads as store16-reads
 
 returns : tie.Need-returns
 returns c =

@@ -4,9 +4,6 @@ use Rattle.words.proofs.WordsLaws.{sets-two}
 use borrow.Author.Needs.{needs}
 use Rattle.words.proofs.store64.Statement.{statement}
 use Rattle.words.proofs.store64.Tie as tie
-use Rattle.words.proofs.store64.Reads as reads
-use Rattle.words.proofs.store64.Lts as lts
-use Rattle.words.proofs.store32.Reads as store32-reads
 
 returns : tie.Need-returns
 returns c =

@@ -2,10 +2,6 @@ use borrow.Author.Needs.{needs}
 use Prim.Native.Nat.{_≤_, _-_}
 use Rattle.vectors.proofs.sources.say_bytes.Statement.{statement}
 use Rattle.vectors.proofs.sources.say_bytes.Tie as tie
-use Rattle.vectors.proofs.sources.say_bytes.Reads as reads
-use Rattle.vectors.proofs.sources.say_bytes.Lts as lts
-use Rattle.vectors.proofs.end_line.Reads as end-line-reads
-use Rattle.vectors.proofs.say_byte.Reads as say-byte-reads
 
 abbrev Inv-loop : tie.InvT-loop
 Inv-loop out from to i₀ i = from ≤ i
