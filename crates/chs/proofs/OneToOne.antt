@@ -15,7 +15,7 @@ use Rattle.chs.specs.declared.Address.{Address}
 use Rattle.chs.specs.declared.ToBlock.the-variants.{Block, Refused as NoBlock}
 use Rattle.chs.specs.declared.ToAddress.the-variants.{At, Refused as NoAddress}
 use Rattle.chs.specs.Chs.{outside, unpack, isValid, number, size, split, inLimits, blockOf, addressOf, pack}
-use Rattle.chs.specs.Demand2.{Valid, OneToOne, Demand2}
+use Rattle.chs.specs.Demand2.{Valid, Demand2}
 use Rattle.chs.proofs.ChsLaws.{inLimits-true, isValid-true, limits-inLimits, valid-isValid, number-digits, sector-below, number-below, blockOf-limits, blockOf-invalid, blockOf-valid, addressOf-limits, addressOf-above, addressOf-below}
 
 -- ---- the arithmetic

@@ -3,11 +3,10 @@
 -- Assumes nothing.
 use mathlib.Core.Path.{_≡_, refl}
 use mathlib.Core.Bool.{true, false}
-use mathlib.Core.List.{List, [], _∷_, map}
+use mathlib.Core.List.{[], _∷_, map}
 use Prim.Native.Nat.{ℕ}
 use Rattle.chs.specs.declared.Geometry.{Geometry}
 use Rattle.chs.specs.declared.Address.{Address}
-use Rattle.chs.specs.declared.CylinderSector.{CylinderSector}
 use Rattle.chs.specs.Chs.{unpack, addressIn, isValid, inLimits, size, blockOf, addressOf, blockNumbers, addressNumbers, blockGiven, addressGiven, pack}
 
 abbrev chs : ℕ → ℕ → ℕ → Geometry

@@ -23,7 +23,6 @@ use Rattle.desk.specs.declared.Row.{Row}
 use Rattle.desk.specs.declared.Stage.{Stage}
 use Rattle.desk.specs.declared.Stage.the-variants.{Vacant, Waiting, Finished}
 use Rattle.desk.specs.declared.Desk.{Desk}
-use Rattle.desk.specs.declared.Opening.{Opening}
 use Rattle.desk.specs.declared.OpenAnswer.the-variants.{Opened, Refused as OpenRefused}
 use Rattle.desk.specs.declared.PostAnswer.the-variants.{Waits as PostWaits}
 use Rattle.desk.specs.declared.TurnAnswer.the-variants.{Served}

@@ -1,9 +1,9 @@
 -- Calls at small desks, by number: the order of the house numbers, both stages that refuse a post, what a collect leaves, and the pointer.
 -- Assumes nothing.
 use mathlib.Core.Path.{_≡_, refl}
-use mathlib.Core.Bool.{Bool, true, false}
+use mathlib.Core.Bool.{true, false}
 use mathlib.Core.List.{List, [], _∷_, _++_, map}
-use Prim.Native.Nat.{ℕ, zero, suc}
+use Prim.Native.Nat.{ℕ}
 use lib.ListN.{length, replicate, set, take}
 use Rattle.words.specs.Words.{leBytes}
 use Rattle.chs.specs.Chs.{inLimits, isValid, blockOf}
@@ -11,7 +11,6 @@ use Rattle.memory.specs.Window.{spanStart, spanLength}
 use Rattle.layout.specs.Packet.{readPacket}
 use Rattle.layout.specs.ResultBuffer.{returnedSize, parameterBytes, blockBytes, interfaceBytes, pathBytes, sum, wholeResult, resultBytes, resultAnswer}
 use Rattle.drive.specs.Drive.{driveOf, isBlank, blankNumbers, blankNames, same, busOk, interfaceOk, geometryFits, fieldsOk, inStore, overlap}
-use Rattle.table.specs.declared.Table.{Table}
 use Rattle.table.specs.Table.{emptyTable, headerOf, headerAt, overlapsAny, refusal, driveStep, endStep, stepOf, stepAt, readFrom, readTable, recordsOf, bytesOf, tableOf, writeAnswer, writeOut, writtenNumbers, writeNumbers, soundTo, blankTo, isSound}
 use Rattle.words.specs.Words.{le}
 use Rattle.int13.specs.declared.Registers.{Registers}
@@ -23,12 +22,11 @@ use Rattle.desk.specs.declared.Row.{Row}
 use Rattle.desk.specs.declared.Stage.{Stage}
 use Rattle.desk.specs.declared.Stage.the-variants.{Vacant, Waiting, Finished}
 use Rattle.desk.specs.declared.Desk.{Desk}
-use Rattle.desk.specs.declared.Next.{Next}
-use Rattle.desk.specs.declared.Next.the-variants.{Guest, Nobody}
+use Rattle.desk.specs.declared.Next.the-variants.{Guest}
 use Rattle.desk.specs.declared.PostAnswer.the-variants.{Waits as PostWaits}
 use Rattle.desk.specs.declared.TurnAnswer.the-variants.{Served}
 use Rattle.desk.specs.Parts.{vacantRow}
-use Rattle.desk.specs.Acceptable.{requestOk, rowsOk, accept}
+use Rattle.desk.specs.Acceptable.{rowsOk, accept}
 use Rattle.desk.specs.Calls.{openOf, writtenOf, writtenOut, postVacant, postRow, postOf, firstWaiting, turnOf, collectStage, collectOf, withdrawStage, withdrawOf}
 use Rattle.desk.specs.Numbers.{openNumbers, postNumbers, turnNumbers, collectNumbers, withdrawNumbers, writeGiven, postRowGiven, postGiven, turnRowGiven, turnGiven, collectRowGiven, collectGiven, withdrawRowGiven, withdrawGiven}
 

@@ -1,6 +1,6 @@
 -- Served alone, byte by byte: what a request that waits asks, from its registers and its packet, and the bytes that its moves lay down.
 -- Assumes nothing.
-use Prim.Native.Nat.{ℕ, _+_, _-_, _*_, _/_, _%_, _≤_, _<_}
+use Prim.Native.Nat.{ℕ, _+_, _-_, _*_, _/_, _≤_, _<_}
 use mathlib.Core.Path.{_≡_, refl, sym, ap, subst, _∙_}
 use mathlib.Core.Logic.{_⊎_, inl, inr, ⊎-elim}
 use mathlib.Core.Bool.{Bool, true, false, not}
@@ -10,7 +10,7 @@ use lib.ListN.{length, getD, drop, length-take}
 use lib.Seq.{getD-take, getD-drop}
 use lib.Dec.{leb, ltb, eqb}
 use borrow.Author.Tests.{ltb-false, eqb-true, eqb-false, not-false}
-use Rattle.logic.specs.Logic.{pick, both, either}
+use Rattle.logic.specs.Logic.{both, either}
 use Rattle.logic.proofs.LogicLaws.{either-true, pick-cases}
 use Rattle.words.specs.Words.{le, part}
 use Rattle.chs.specs.declared.ToBlock.{ToBlock}
@@ -19,7 +19,7 @@ use Rattle.chs.specs.Chs.{size, blockOf, addressIn}
 use Rattle.drive.specs.Drive.{geometryOf, isProtected}
 use Rattle.drive.proofs.DriveLaws.{geometry-inside}
 use Rattle.table.specs.declared.Table.{Table}
-use Rattle.table.specs.Table.{drivesOf, readTable}
+use Rattle.table.specs.Table.{readTable}
 use Rattle.table.proofs.Sound.{Obeys, Good, good-obeys, accepted-good}
 use Rattle.layout.specs.declared.Packet.{Packet}
 use Rattle.layout.specs.declared.PacketRead.{PacketRead}
@@ -38,7 +38,7 @@ use Rattle.int13.specs.declared.Plan.{Plan}
 use Rattle.int13.specs.Answers.{ah, al, dl, isSectors, isWrite, posted, succeed}
 use Rattle.int13.specs.Steps.{Checked, fed, isDrive, driveCount, driveNamed, packetPlace, verifyOk, packetTests, packetRead, packetPlan, packetJob, carryOut, extended, seekRead, seek, sectorBuffer, sectorJob, sectorRun, sectors, parameters, extensions, resultGiven, result, steps, begin}
 use Rattle.int13.specs.Alone.{Memory, Served, asked, namedFrom, storeBlock, moves, finish, alone}
-use Rattle.int13.specs.AloneBytes.{askedBuffer, ReadBytes, WrittenBytes, PostedWell, AloneBytes, AloneMoves}
+use Rattle.int13.specs.AloneBytes.{askedBuffer, ReadBytes, WrittenBytes, PostedWell, AloneMoves}
 use Rattle.int13.proofs.StepsLaws.{isDrive-true}
 
 -- ---- what a request that waits asks

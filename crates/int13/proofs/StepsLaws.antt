@@ -6,8 +6,8 @@ use mathlib.Core.List.{List, _++_, append-nil}
 use mathlib.Core.Logic.{⊎-elim}
 use Prim.Native.Nat.{ℕ, _+_, _-_, _%_, _≤_, _<_}
 use native.Mathlib.Omega.{arith}
-use lib.ListN.{length, getD, take, drop, length-append, length-take, length-drop, drop-of-length-le}
-use lib.Seq.{take-all, length-sets}
+use lib.ListN.{length, getD, take, drop, length-take, length-drop, drop-of-length-le}
+use lib.Seq.{take-all}
 use lib.Dec.{leb, ltb, eqb}
 use borrow.Author.Tests.{leb-true, leb-false, ltb-true, lt-ltb, le-ltb, eqb-true, ne-eqb}
 use Rattle.logic.specs.Logic.{pick, both, either}
@@ -19,10 +19,9 @@ use Rattle.layout.specs.declared.PacketRead.the-variants.{Whole, Refused as NoP
 use Rattle.layout.specs.Packet.{packetLength, packetAt, readPacket}
 use Rattle.int13.specs.declared.Registers.{Registers}
 use Rattle.int13.specs.declared.Outcome.the-variants.{Answered}
-use Rattle.int13.specs.declared.Plan.{Plan}
-use Rattle.int13.specs.declared.Plan.the-variants.{Refuse, Clear, Finish, Wait}
+use Rattle.int13.specs.declared.Plan.the-variants.{Refuse, Clear}
 use Rattle.int13.specs.Answers.{badParameter, ah, al, dl, isSectors, isWrite, refuse}
-use Rattle.int13.specs.Steps.{Checked, unchanged, fed, firstDrive, driveCount, isDrive, driveAt, driveIn, driveNamed, packetPlace, verifyOk, packetRead, packetPlan, carryOut, extended, seek, sectors, parameters, extensions, resultSteps, result, steps, begin}
+use Rattle.int13.specs.Steps.{unchanged, fed, firstDrive, driveCount, isDrive, driveAt, driveIn, driveNamed, packetPlace, verifyOk, packetRead, packetPlan, extended, seek, sectors, parameters, extensions, result, steps, begin}
 
 -- ---- drives
 

@@ -34,7 +34,7 @@ use Rattle.desk.specs.declared.OpenAnswer.the-variants.{Opened}
 use Rattle.desk.specs.declared.TurnAnswer.{TurnAnswer}
 use Rattle.desk.specs.declared.TurnAnswer.the-variants.{Served, Idle, Refused as TurnRefused}
 use Rattle.desk.specs.Parts.{windowSize, stageAt, withStage, withPointer}
-use Rattle.desk.specs.Calls.{Done, isLent, opened, openOf, firstWaiting, stageAfter, serve, serveStage, turnNext, turnOf}
+use Rattle.desk.specs.Calls.{Done, isLent, opened, openOf, firstWaiting, stageAfter, serveStage, turnNext, turnOf}
 use Rattle.desk.specs.Numbers.{turnNumbers}
 use Rattle.isolation.specs.Lists.{post, turn, Call, turned, Out, step, after}
 use Rattle.isolation.specs.Words.{opens, kindOf}

@@ -1,6 +1,6 @@
 -- Demand 2 of the 48h result: its bytes by offset.
 -- Assumes nothing.
-use mathlib.Core.Path.{_≡_, refl, sym, ap, subst, _∙_}
+use mathlib.Core.Path.{_≡_, refl, sym, ap, _∙_}
 use mathlib.Core.List.{List, [], _∷_, _++_, append-assoc}
 use mathlib.Core.Bool.{Bool, true, false}
 use Prim.Native.Nat.{ℕ, _+_, _%_, _^_, _≤_, _<_}
@@ -20,8 +20,8 @@ use Rattle.drive.proofs.DriveLaws.{Arrays}
 use Rattle.layout.specs.declared.Pointer.{Pointer}
 use Rattle.layout.specs.declared.ResultAnswer.the-variants.{Written, Refused}
 use Rattle.layout.specs.Packet.{badParameter}
-use Rattle.layout.specs.ResultBuffer.{leastSize, pointerSize, pathSize, returnedSize, parameterBytes, blockBytes, interfaceBytes, pathBytes, summedBytes, sum, checksum, wholeResult, resultBytes, resultAnswer, resultOut}
-use Rattle.layout.specs.Demand2.{Parameters, Pointing, Paths, Result, FitsPointer, Demand2}
+use Rattle.layout.specs.ResultBuffer.{leastSize, pointerSize, pathSize, returnedSize, parameterBytes, blockBytes, interfaceBytes, pathBytes, summedBytes, sum, checksum, wholeResult, resultBytes, resultAnswer}
+use Rattle.layout.specs.Demand2.{Parameters, Pointing, Paths, FitsPointer, Demand2}
 use Rattle.layout.proofs.ResultBufferLaws.{sum-checksum, length-summed, length-whole, length-result}
 
 -- ---- the runs, each before any bytes

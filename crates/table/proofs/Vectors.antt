@@ -11,7 +11,7 @@ use Rattle.chs.specs.Chs.{inLimits}
 use Rattle.drive.specs.declared.Drive.{Drive}
 use Rattle.drive.specs.Drive.{driveOf, recordOf, geometryBytes, sizeBytes, nameBytes, same, busOk, interfaceOk, geometryFits, fieldsOk, inStore, overlap, blankNumbers, blankNames, isBlank}
 use Rattle.table.specs.declared.Table.{Table}
-use Rattle.table.specs.Table.{headerOf, headerAt, overlapsAny, refusal, driveStep, endStep, stepOf, stepAt, zeroDrive, emptyTable, readFrom, readTable, recordsOf, bytesOf, tableOf, writeAnswer, writeOut, soundTo, blankTo, isSound, stepNumbers, answerNumbers, writtenNumbers, recordNumbers, numbersFrom, tableNumbers, writeNumbers, noDrive}
+use Rattle.table.specs.Table.{headerOf, headerAt, overlapsAny, refusal, driveStep, endStep, stepOf, stepAt, zeroDrive, emptyTable, readFrom, readTable, recordsOf, bytesOf, tableOf, writeAnswer, writeOut, soundTo, blankTo, isSound, stepNumbers, answerNumbers, writtenNumbers, recordNumbers, numbersFrom, tableNumbers, writeNumbers}
 
 -- the drive record of document 01's table, and the end record
 abbrev record₁ : List ℕ

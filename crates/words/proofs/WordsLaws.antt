@@ -1,7 +1,7 @@
 -- Laws of little-endian words and of runs of stores, over the width.
 -- Assumes nothing.
 use mathlib.Core.Path.{_≡_, refl, sym, ap, _∙_}
-use mathlib.Core.List.{List, [], _∷_, _++_, append-assoc, append-nil}
+use mathlib.Core.List.{List, [], _∷_, _++_, append-nil}
 use Prim.Native.Nat.{ℕ, zero, suc, _+_, _-_, _*_, _/_, _%_, _^_, _≤_, _<_}
 use native.Mathlib.Nat.{add-zero, add-suc, suc-add, zero-add, add-assoc, mul-add, mul-assoc, pow-suc, mul-zero, one-mul, mod-one, mul-le-mul-left, add-mul-div-left, add-mul-mod-self-left, div-eq-of-lt, mod-eq-of-lt, one-le-pow, mod-lt, div-one, div-div-eq-div-mul, pow-succ'}
 use native.Mathlib.Numerals.{one-add, add-one}
@@ -9,8 +9,8 @@ use native.Mathlib.Omega.{arith}
 use mathlib.Core.Bool.{Bool, true, false}
 use lib.Dec.{ltb}
 use borrow.Author.Tests.{ltb-true, ltb-false}
-use lib.ListN.{length, getD, set, take, drop, length-drop, length-take, drop-of-length-le, List·getD-append, List·getD-eq-default}
-use lib.Seq.{sets-eq, drop-append-add, drop-append-le, take-append-le, getD-append-add, take-all, take-suc, length-take-le, sets, drop-cons, ext-getD, getD-take, getD-drop}
+use lib.ListN.{length, getD, set, take, drop, length-drop, length-take, drop-of-length-le, List·getD-eq-default}
+use lib.Seq.{sets-eq, take-suc, length-take-le, sets, drop-cons, ext-getD, getD-take, getD-drop}
 use lib.Pow.{pow-add}
 use lib.Arith.{mod-mul, digits-div, digits-mod}
 use Rattle.words.specs.Words.{Bytes, le, leBytes, part}

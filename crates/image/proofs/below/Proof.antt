@@ -19,24 +19,6 @@ loop-holds : tie.Need-loop-holds Inv-loop μ-loop
 unfolding below
 loop-holds c = (search needs, refl)
 
-mul-get64 : tie.Need-mul-get64 Inv-loop μ-loop
-mul-get64 c = search needs
-
-add-get64 : tie.Need-add-get64 Inv-loop μ-loop
-add-get64 c = search needs
-
-get64-requires : tie.Need-get64-requires Inv-loop μ-loop
-get64-requires c κs = search needs
-
-and-requires : tie.Need-and-requires Inv-loop μ-loop
-and-requires c κs = search needs
-
-add-j : tie.Need-add-j Inv-loop μ-loop
-add-j c = search needs
-
-loop-less : tie.Need-loop-less Inv-loop μ-loop
-loop-less c = search needs
-
 loop-again : tie.Need-loop-again Inv-loop μ-loop
 unfolding below
 loop-again c =
@@ -60,11 +42,11 @@ below-spec =
     Inv-loop
     μ-loop
     loop-holds
-    mul-get64
-    add-get64
-    get64-requires
-    and-requires
-    add-j
-    loop-less
+    (search needs)
+    (search needs)
+    (search needs)
+    (search needs)
+    (search needs)
+    (search needs)
     loop-again
     returns)

@@ -14,27 +14,12 @@ Inv-loop b n good₀ i₀ good i = (i ≤ n) × (good ≡ drivesApart i b)
 abbrev μ-loop : tie.MeasureT-loop
 μ-loop b n good₀ i₀ good i = n - i
 
-is-ascending-requires : tie.Need-is-ascending-requires Inv-loop μ-loop
-is-ascending-requires c κs = search needs
-
 returns : tie.Need-returns Inv-loop μ-loop
 returns c = let s = c .before .before .before .args in sym (ascending-apart (s .b .now) (s .n) (sym (c .before .is-ascending .ensures) ∙ c .if1 .taken))
 
 loop-holds : tie.Need-loop-holds Inv-loop μ-loop
 unfolding drivesApart
 loop-holds c = (search needs, refl)
-
-is-alone-requires : tie.Need-is-alone-requires Inv-loop μ-loop
-is-alone-requires c κs = search needs
-
-and-requires : tie.Need-and-requires Inv-loop μ-loop
-and-requires c κs = search needs
-
-add-i : tie.Need-add-i Inv-loop μ-loop
-add-i c = search needs
-
-loop-less : tie.Need-loop-less Inv-loop μ-loop
-loop-less c = search needs
 
 loop-again : tie.Need-loop-again Inv-loop μ-loop
 unfolding drivesApart
@@ -55,12 +40,12 @@ drives-apart-spec =
     (tie.spec
     Inv-loop
     μ-loop
-    is-ascending-requires
+    (search needs)
     returns
     loop-holds
-    is-alone-requires
-    and-requires
-    add-i
-    loop-less
+    (search needs)
+    (search needs)
+    (search needs)
+    (search needs)
     loop-again
     returns-2)

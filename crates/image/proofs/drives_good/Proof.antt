@@ -20,27 +20,12 @@ loop-holds : tie.Need-loop-holds Inv-loop μ-loop
 unfolding drivesGood
 loop-holds c = (search needs, refl)
 
-mul-drive-good : tie.Need-mul-drive-good Inv-loop μ-loop
-mul-drive-good c = search needs
-
-add-drive-good : tie.Need-add-drive-good Inv-loop μ-loop
-add-drive-good c = search needs
-
-drive-good-requires : tie.Need-drive-good-requires Inv-loop μ-loop
-drive-good-requires c κs = search needs
-
 returns : tie.Need-returns Inv-loop μ-loop
 unfolding drivesGood
 returns c =
     let l = c .before .before .before in
     let a = l .before .before .args in
     all-fails (a .n) (l .loop .i) (λ i. driveGood (a .b .now) (a .store) (slotAt i)) (omega arith) (c .before .drive-good .ensures) (not-true _ (c .if1 .taken))
-
-add-i : tie.Need-add-i Inv-loop μ-loop
-add-i c = search needs
-
-loop-less : tie.Need-loop-less Inv-loop μ-loop
-loop-less c = search needs
 
 loop-again : tie.Need-loop-again Inv-loop μ-loop
 unfolding drivesGood
@@ -62,11 +47,11 @@ drives-good-spec =
     Inv-loop
     μ-loop
     loop-holds
-    mul-drive-good
-    add-drive-good
-    drive-good-requires
+    (search needs)
+    (search needs)
+    (search needs)
     returns
-    add-i
-    loop-less
+    (search needs)
+    (search needs)
     loop-again
     returns-2)

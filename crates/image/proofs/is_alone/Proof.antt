@@ -14,32 +14,8 @@ Inv-loop b i first blocks good₀ j₀ good j = (j ≤ i) × (good ≡ allBelow 
 abbrev μ-loop : tie.MeasureT-loop
 μ-loop b i first blocks good₀ j₀ good j = i - j
 
-first-in-requires : tie.Need-first-in-requires Inv-loop μ-loop
-first-in-requires c κs = search needs
-
-blocks-in-requires : tie.Need-blocks-in-requires Inv-loop μ-loop
-blocks-in-requires c κs = search needs
-
 loop-holds : tie.Need-loop-holds Inv-loop μ-loop
 loop-holds c = (search needs, refl)
-
-first-in-requires-2 : tie.Need-first-in-requires-2 Inv-loop μ-loop
-first-in-requires-2 c κs = search needs
-
-blocks-in-requires-2 : tie.Need-blocks-in-requires-2 Inv-loop μ-loop
-blocks-in-requires-2 c κs = search needs
-
-are-apart-requires : tie.Need-are-apart-requires Inv-loop μ-loop
-are-apart-requires c κs = search needs
-
-and-requires : tie.Need-and-requires Inv-loop μ-loop
-and-requires c κs = search needs
-
-add-j : tie.Need-add-j Inv-loop μ-loop
-add-j c = search needs
-
-loop-less : tie.Need-loop-less Inv-loop μ-loop
-loop-less c = search needs
 
 loop-again : tie.Need-loop-again Inv-loop μ-loop
 loop-again c =
@@ -65,14 +41,14 @@ is-alone-spec =
     (tie.spec
     Inv-loop
     μ-loop
-    first-in-requires
-    blocks-in-requires
+    (search needs)
+    (search needs)
     loop-holds
-    first-in-requires-2
-    blocks-in-requires-2
-    are-apart-requires
-    and-requires
-    add-j
-    loop-less
+    (search needs)
+    (search needs)
+    (search needs)
+    (search needs)
+    (search needs)
+    (search needs)
     loop-again
     returns)

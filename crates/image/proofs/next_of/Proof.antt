@@ -16,18 +16,9 @@ Inv-loop b guest₀ left₀ guest left = (guest < 8) × (firstWaiting (readDesk 
 abbrev μ-loop : tie.MeasureT-loop
 μ-loop b guest₀ left₀ guest left = left
 
-get64-requires : tie.Need-get64-requires Inv-loop μ-loop
-get64-requires c κs = search needs
-
 loop-holds : tie.Need-loop-holds Inv-loop μ-loop
 unfolding readDesk
 loop-holds c = (omega (arith, c .get64 .ensures, c .before .before .pre .1), refl)
-
-mul-if1 : tie.Need-mul-if1 Inv-loop μ-loop
-mul-if1 c = omega arith
-
-shared-slice-read-if1 : tie.Need-shared-slice-read-if1 Inv-loop μ-loop
-shared-slice-read-if1 c = omega arith
 
 returns : tie.Need-returns Inv-loop μ-loop
 unfolding readDesk
@@ -37,15 +28,6 @@ returns c =
     seek-here (readDesk b .rows) (l .loop .left) (l .loop .guest) (c .before .before .loop-test .taken) (waiting-of b (l .loop .guest) (l .loop .inv .0) ∙ eq-eqb _ 1 (c .if1 .taken))
     ∙ l .loop .inv .1
     ∙ ap (λ (p : ℕ). firstWaiting (readDesk b .rows) 8 p) (l .before .get64 .ensures)
-
-add-guest : tie.Need-add-guest Inv-loop μ-loop
-add-guest c = omega arith
-
-sub-left : tie.Need-sub-left Inv-loop μ-loop
-sub-left c = omega arith
-
-loop-less : tie.Need-loop-less Inv-loop μ-loop
-loop-less c = omega arith
 
 loop-again : tie.Need-loop-again Inv-loop μ-loop
 loop-again c =
@@ -71,13 +53,13 @@ next-of-spec =
     (tie.spec
     Inv-loop
     μ-loop
-    get64-requires
+    (search needs)
     loop-holds
-    mul-if1
-    shared-slice-read-if1
+    (λ c. omega arith)
+    (λ c. omega arith)
     returns
-    add-guest
-    sub-left
-    loop-less
+    (λ c. omega arith)
+    (λ c. omega arith)
+    (λ c. omega arith)
     loop-again
     returns-2)

@@ -20,33 +20,6 @@ loop-holds : tie.Need-loop-holds Inv-loop μ-loop
 unfolding each
 loop-holds c = (search needs, search needs, refl)
 
-mul-d : tie.Need-mul-d Inv-loop μ-loop
-mul-d c = search needs
-
-array-copy-out-d : tie.Need-array-copy-out-d Inv-loop μ-loop
-array-copy-out-d c = search needs
-
-drive-words-requires : tie.Need-drive-words-requires Inv-loop μ-loop
-drive-words-requires c κs = search needs
-
-mul-put-words : tie.Need-mul-put-words Inv-loop μ-loop
-mul-put-words c = search needs
-
-add-put-words : tie.Need-add-put-words Inv-loop μ-loop
-add-put-words c = search needs
-
-slice-aggregate-put-words : tie.Need-slice-aggregate-put-words Inv-loop μ-loop
-slice-aggregate-put-words c = search needs
-
-put-words-requires : tie.Need-put-words-requires Inv-loop μ-loop
-put-words-requires c κs = search needs
-
-add-k : tie.Need-add-k Inv-loop μ-loop
-add-k c = search needs
-
-loop-less : tie.Need-loop-less Inv-loop μ-loop
-loop-less c = search needs
-
 loop-again : tie.Need-loop-again Inv-loop μ-loop
 loop-again c =
     let h = c .before .before .before .before .before .before .before .before in
@@ -58,9 +31,6 @@ loop-again c =
       e ∙ rw (h .loop .inv .2, c .before .before .before .before .before .drive-words .ensures)
           (part-more driveWords 14 length-drive (now (a .out)) (slotAt 0) (slotAt (h .loop .k)) (a .t2) (h .loop .k) _ (omega arith) (omega arith)),
     )
-
-same-length : tie.Need-same-length Inv-loop μ-loop
-same-length c = search needs
 
 returns : tie.Need-returns Inv-loop μ-loop
 returns c =
@@ -76,15 +46,15 @@ put-drives-spec =
     Inv-loop
     μ-loop
     loop-holds
-    mul-d
-    array-copy-out-d
-    drive-words-requires
-    mul-put-words
-    add-put-words
-    slice-aggregate-put-words
-    put-words-requires
-    add-k
-    loop-less
+    (search needs)
+    (search needs)
+    (search needs)
+    (search needs)
+    (search needs)
+    (search needs)
+    (search needs)
+    (search needs)
+    (search needs)
     loop-again
-    same-length
+    (search needs)
     returns)

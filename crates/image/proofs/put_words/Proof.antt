@@ -20,29 +20,11 @@ loop-holds : tie.Need-loop-holds Inv-loop μ-loop
 unfolding each
 loop-holds c = (search needs, refl)
 
-mul-store64 : tie.Need-mul-store64 Inv-loop μ-loop
-mul-store64 c = search needs
-
-add-store64 : tie.Need-add-store64 Inv-loop μ-loop
-add-store64 c = search needs
-
-mul-store64-2 : tie.Need-mul-store64-2 Inv-loop μ-loop
-mul-store64-2 c = search needs
-
-shared-slice-read-store64 : tie.Need-shared-slice-read-store64 Inv-loop μ-loop
-shared-slice-read-store64 c = search needs
-
 store64-requires : tie.Need-store64-requires Inv-loop μ-loop
 store64-requires c κs =
     let h = c .before .before .before in
     let a = h .before .before .before .args in
     omega (arith, ap length (h .loop .inv .1) ∙ length-sets (now (a .out)) (a .at) (flat (take (h .loop .j) (now (a .w)))))
-
-add-j : tie.Need-add-j Inv-loop μ-loop
-add-j c = search needs
-
-loop-less : tie.Need-loop-less Inv-loop μ-loop
-loop-less c = search needs
 
 loop-again : tie.Need-loop-again Inv-loop μ-loop
 loop-again c =
@@ -69,13 +51,13 @@ put-words-spec =
     Inv-loop
     μ-loop
     loop-holds
-    mul-store64
-    add-store64
-    mul-store64-2
-    shared-slice-read-store64
+    (search needs)
+    (search needs)
+    (search needs)
+    (search needs)
     store64-requires
-    add-j
-    loop-less
+    (search needs)
+    (search needs)
     loop-again
     same-length
     returns)

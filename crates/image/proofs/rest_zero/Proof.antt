@@ -18,26 +18,11 @@ abbrev μ-loop : tie.MeasureT-loop
 loop-holds : tie.Need-loop-holds Inv-loop μ-loop
 loop-holds c = (search needs, search needs, rest-none (c .before .args .n) (c .before .args .b .now))
 
-mul-below : tie.Need-mul-below Inv-loop μ-loop
-mul-below c = search needs
-
-add-below : tie.Need-add-below Inv-loop μ-loop
-add-below c = search needs
-
-below-requires : tie.Need-below-requires Inv-loop μ-loop
-below-requires c κs = search needs
-
 returns : tie.Need-returns Inv-loop μ-loop
 returns c =
     let l = c .before .before .before in
     let a = l .before .before .args in
     rest-bad (a .n) (a .b .now) (l .loop .i) (l .loop .inv .0) (omega arith) (c .before .below .ensures) (not-true _ (c .if1 .taken))
-
-add-i : tie.Need-add-i Inv-loop μ-loop
-add-i c = search needs
-
-loop-less : tie.Need-loop-less Inv-loop μ-loop
-loop-less c = search needs
 
 loop-again : tie.Need-loop-again Inv-loop μ-loop
 loop-again c =
@@ -58,11 +43,11 @@ rest-zero-spec =
     Inv-loop
     μ-loop
     loop-holds
-    mul-below
-    add-below
-    below-requires
+    (search needs)
+    (search needs)
+    (search needs)
     returns
-    add-i
-    loop-less
+    (search needs)
+    (search needs)
     loop-again
     returns-2)

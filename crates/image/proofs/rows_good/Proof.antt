@@ -20,24 +20,12 @@ loop-holds : tie.Need-loop-holds Inv-loop μ-loop
 unfolding rowsGood
 loop-holds c = (search needs, refl)
 
-mul-row-good : tie.Need-mul-row-good Inv-loop μ-loop
-mul-row-good c = search needs
-
-row-good-requires : tie.Need-row-good-requires Inv-loop μ-loop
-row-good-requires c κs = search needs
-
 returns : tie.Need-returns Inv-loop μ-loop
 unfolding rowsGood
 returns c =
     let l = c .before .before .before in
     let a = l .before .before .args in
     all-fails 8 (l .loop .g) (λ g. rowGood (a .b .now) (a .m) (rowAt g)) (omega arith) (c .before .row-good .ensures) (not-true _ (c .if1 .taken))
-
-add-g : tie.Need-add-g Inv-loop μ-loop
-add-g c = search needs
-
-loop-less : tie.Need-loop-less Inv-loop μ-loop
-loop-less c = search needs
 
 loop-again : tie.Need-loop-again Inv-loop μ-loop
 unfolding rowsGood
@@ -59,10 +47,10 @@ rows-good-spec =
     Inv-loop
     μ-loop
     loop-holds
-    mul-row-good
-    row-good-requires
+    (search needs)
+    (search needs)
     returns
-    add-g
-    loop-less
+    (search needs)
+    (search needs)
     loop-again
     returns-2)

@@ -1,8 +1,8 @@
-use mathlib.Core.Path.{_≡_, sym, ap, _∙_}
+use mathlib.Core.Path.{_≡_, ap, _∙_}
 use mathlib.Core.Bool.{true}
 use denote.Ref.{now}
 use Rattle.int13.specs.Answers.{dl}
-use Rattle.int13.specs.Steps.{Checked, isDrive, driveNamed, fed, steps, begin}
+use Rattle.int13.specs.Steps.{Checked, isDrive, driveNamed, steps}
 use Rattle.int13.proofs.StepsLaws.{begin-steps}
 use Rattle.int13.proofs.Numbers.{begin-answered}
 use borrow.Author.Needs.{needs}

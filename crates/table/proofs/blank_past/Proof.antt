@@ -18,18 +18,6 @@ loop-holds : tie.Need-loop-holds Inv-loop μ-loop
 unfolding blankTo
 loop-holds c = (search needs, refl)
 
-mul-d : tie.Need-mul-d Inv-loop μ-loop
-mul-d c = search needs
-
-array-copy-out-d : tie.Need-array-copy-out-d Inv-loop μ-loop
-array-copy-out-d c = search needs
-
-add-i : tie.Need-add-i Inv-loop μ-loop
-add-i c = search needs
-
-loop-less : tie.Need-loop-less Inv-loop μ-loop
-loop-less c = search needs
-
 loop-again : tie.Need-loop-again Inv-loop μ-loop
 unfolding blankTo
 loop-again c =
@@ -50,12 +38,12 @@ blank-past-spec =
     Inv-loop
     μ-loop
     loop-holds
-    mul-d
-    array-copy-out-d
+    (search needs)
+    (search needs)
     (λ c κs. tt)
     (λ c κs. tt)
     (λ c κs. tt)
-    add-i
-    loop-less
+    (search needs)
+    (search needs)
     loop-again
     returns)

@@ -19,24 +19,6 @@ loop-holds : tie.Need-loop-holds Inv-loop μ-loop
 unfolding overlapsRun
 loop-holds c = (search needs, refl)
 
-mul-runs-overlap : tie.Need-mul-runs-overlap Inv-loop μ-loop
-mul-runs-overlap c = search needs
-
-element-copy-out-runs-overlap : tie.Need-element-copy-out-runs-overlap Inv-loop μ-loop
-element-copy-out-runs-overlap c = search needs
-
-mul-runs-overlap-2 : tie.Need-mul-runs-overlap-2 Inv-loop μ-loop
-mul-runs-overlap-2 c = search needs
-
-element-copy-out-runs-overlap-2 : tie.Need-element-copy-out-runs-overlap-2 Inv-loop μ-loop
-element-copy-out-runs-overlap-2 c = search needs
-
-add-i : tie.Need-add-i Inv-loop μ-loop
-add-i c = search needs
-
-loop-less : tie.Need-loop-less Inv-loop μ-loop
-loop-less c = search needs
-
 loop-again : tie.Need-loop-again Inv-loop μ-loop
 unfolding overlapsRun
 loop-again c =
@@ -59,13 +41,13 @@ overlaps-run-spec =
     Inv-loop
     μ-loop
     loop-holds
-    mul-runs-overlap
-    element-copy-out-runs-overlap
-    mul-runs-overlap-2
-    element-copy-out-runs-overlap-2
+    (search needs)
+    (search needs)
+    (search needs)
+    (search needs)
     (λ c κs. tt)
     (λ c κs. tt)
-    add-i
-    loop-less
+    (search needs)
+    (search needs)
     loop-again
     returns)

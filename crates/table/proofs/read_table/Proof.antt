@@ -15,9 +15,6 @@ abbrev μ-loop : tie.MeasureT-loop
 loop-holds : tie.Need-loop-holds Inv-loop μ-loop
 loop-holds c = stands-first _ _ _ _ (c .empty-table .ensures) refl refl
 
-enum-known-s : tie.Need-enum-known-s Inv-loop μ-loop
-enum-known-s c = search needs
-
 returns : tie.Need-returns Inv-loop μ-loop
 returns c =
     let f = c .before .before .before .before .before .before .before .before in
@@ -48,25 +45,13 @@ mul-sizes c = omega (arith, slot c)
 array-write-sizes : tie.Need-array-write-sizes Inv-loop μ-loop
 array-write-sizes c = omega (arith, slot c, c .before .before .before .before .before .before .before .before .before .before .loop .inv .eight .2)
 
-sub-left : tie.Need-sub-left Inv-loop μ-loop
-sub-left c = search needs
-
-loop-less : tie.Need-loop-less Inv-loop μ-loop
-loop-less c = search needs
-
 loop-again : tie.Need-loop-again Inv-loop μ-loop
 loop-again c =
     let f = c .before .before .before .before .before .before .before .before in
     stands-more (f .before .before .loop .inv) (f .before .loop-test .taken) (f .found-at .ensures) _ (c .before .before .before .before .before .s .given .1) (c .before .refusal-among .ensures) (c .if1 .left)
 
-enum-told : tie.Need-enum-told Inv-loop μ-loop
-enum-told c = search needs
-
 returns-2 : tie.Need-returns-2 Inv-loop μ-loop
 returns-2 c = let f = c .before .before .before in reads-done (f .before .before .loop .inv) (f .before .loop-test .taken) (f .found-at .ensures) (c .enum-told .given .1)
-
-enum-known-s-2 : tie.Need-enum-known-s-2 Inv-loop μ-loop
-enum-known-s-2 c = search needs
 
 returns-3 : tie.Need-returns-3 Inv-loop μ-loop
 returns-3 c = let f = c .before .before .before .before in reads-refused (f .before .before .loop .inv) (f .before .loop-test .taken) (f .found-at .ensures) _ _ (c .before .s2 .given .1)
@@ -83,7 +68,7 @@ read-table-spec =
     (λ c κs. tt)
     loop-holds
     (λ c κs. tt)
-    enum-known-s
+    (search needs)
     (λ c κs. tt)
     returns
     mul-d
@@ -93,11 +78,11 @@ read-table-spec =
     array-write-firsts
     mul-sizes
     array-write-sizes
-    sub-left
-    loop-less
+    (search needs)
+    (search needs)
     loop-again
-    enum-told
+    (search needs)
     returns-2
-    enum-known-s-2
+    (search needs)
     returns-3
     returns-4)

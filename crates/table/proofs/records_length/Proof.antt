@@ -18,21 +18,6 @@ loop-holds : tie.Need-loop-holds Inv-loop μ-loop
 unfolding recordsOf
 loop-holds c = (search needs, refl, refl)
 
-mul-d : tie.Need-mul-d Inv-loop μ-loop
-mul-d c = search needs
-
-element-copy-out-d : tie.Need-element-copy-out-d Inv-loop μ-loop
-element-copy-out-d c = search needs
-
-add-total : tie.Need-add-total Inv-loop μ-loop
-add-total c = omega arith
-
-add-i : tie.Need-add-i Inv-loop μ-loop
-add-i c = search needs
-
-loop-less : tie.Need-loop-less Inv-loop μ-loop
-loop-less c = search needs
-
 loop-again : tie.Need-loop-again Inv-loop μ-loop
 loop-again c =
     let h = c .before .before .before in
@@ -52,11 +37,11 @@ records-length-spec =
     Inv-loop
     μ-loop
     loop-holds
-    mul-d
-    element-copy-out-d
+    (search needs)
+    (search needs)
     (λ c κs. tt)
-    add-total
-    add-i
-    loop-less
+    (λ c. omega arith)
+    (search needs)
+    (search needs)
     loop-again
     returns)

@@ -24,39 +24,15 @@ loop-holds : tie.Need-loop-holds Inv-loop2 μ-loop2 Inv-loop μ-loop
 unfolding soundTo
 loop-holds c = (search needs, refl)
 
-mul-d : tie.Need-mul-d Inv-loop2 μ-loop2 Inv-loop μ-loop
-mul-d c = search needs
-
-array-copy-out-d : tie.Need-array-copy-out-d Inv-loop2 μ-loop2 Inv-loop μ-loop
-array-copy-out-d c = search needs
-
 loop2-holds : tie.Need-loop2-holds Inv-loop2 μ-loop2 Inv-loop μ-loop
 unfolding overlapsAny
 loop2-holds c = search needs
-
-mul-e : tie.Need-mul-e Inv-loop2 μ-loop2 Inv-loop μ-loop
-mul-e c = search needs
-
-array-copy-out-e : tie.Need-array-copy-out-e Inv-loop2 μ-loop2 Inv-loop μ-loop
-array-copy-out-e c = search needs
-
-add-j : tie.Need-add-j Inv-loop2 μ-loop2 Inv-loop μ-loop
-add-j c = search needs
-
-loop2-less : tie.Need-loop2-less Inv-loop2 μ-loop2 Inv-loop μ-loop
-loop2-less c = search needs
 
 loop2-again : tie.Need-loop2-again Inv-loop2 μ-loop2 Inv-loop μ-loop
 unfolding overlapsAny
 loop2-again c =
     let h = c .before .before .before .before in
     (search needs, some-more (h .loop2 .j) _ (h .loop2 .inv .1) (c .or .ensures) (c .before .overlaps .ensures))
-
-add-i : tie.Need-add-i Inv-loop2 μ-loop2 Inv-loop μ-loop
-add-i c = search needs
-
-loop-less : tie.Need-loop-less Inv-loop2 μ-loop2 Inv-loop μ-loop
-loop-less c = search needs
 
 loop-again : tie.Need-loop-again Inv-loop2 μ-loop2 Inv-loop μ-loop
 unfolding soundTo
@@ -85,20 +61,20 @@ sound-to-spec =
     Inv-loop
     μ-loop
     loop-holds
-    mul-d
-    array-copy-out-d
+    (search needs)
+    (search needs)
     loop2-holds
-    mul-e
-    array-copy-out-e
+    (search needs)
+    (search needs)
     (λ c κs. tt)
     (λ c κs. tt)
-    add-j
-    loop2-less
+    (search needs)
+    (search needs)
     loop2-again
     (λ c κs. tt)
     (λ c κs. tt)
     (λ c κs. tt)
-    add-i
-    loop-less
+    (search needs)
+    (search needs)
     loop-again
     returns)

@@ -1,4 +1,3 @@
-use native.Mathlib.Omega.{arith}
 use denote.Ref.{now}
 use Rattle.words.proofs.WordsLaws.{sets-two}
 use borrow.Author.Needs.{needs}
