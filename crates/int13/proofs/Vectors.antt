@@ -770,6 +770,12 @@ apart-vectors =
       own-words = refl;
     }
 
+-- functions that there are not, on a drive and with an address and a packet that would do: 04h, 07h, 15h, 40h, 45h, 46h and 49h
+pub no-functions : map (λ (ax : ℕ). outcomeNumbers (begin (fed apart) (own ax 5 0x0242 0x0181) (one57 1 2999) .outcome)) (0x0401 ∷ 0x0701 ∷ 0x1501 ∷ 0x4001 ∷ 0x4501 ∷ 0x4601 ∷ 0x4901 ∷ [])
+    ≡ replicate 7 (0 ∷ kept19 0x0101 5 0x0242 0x0181 1)
+unfolding le leBytes inLimits isValid blockOf readPacket packetAt isDrive verifyOk packetTests packetPlan seek sectors parameters extensions result steps begin outcomeNumbers
+no-functions = refl
+
 -- each of eight drives at its place, and a number below 80h
 pub places-of-eight : map (λ (n : ℕ). driveIn eight n .first) (0x80 ∷ 0x84 ∷ 0x87 ∷ 0x0F ∷ []) ≡ 0 ∷ 8192 ∷ 14336 ∷ 14336 ∷ []
 places-of-eight = refl
