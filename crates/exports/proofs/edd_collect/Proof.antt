@@ -13,6 +13,7 @@ use Rattle.desk.specs.declared.Stage.{Stage}
 use Rattle.desk.specs.declared.Stage.the-variants.{Vacant}
 use Rattle.desk.specs.Parts.{stageAt}
 use Rattle.desk.specs.Acceptable.{accept}
+use Rattle.desk.specs.declared.CollectAnswer.the-variants.{Refused as CollectRefused}
 use Rattle.desk.specs.Calls.{houseNumber, done, collectStage, collectOf}
 use Rattle.desk.specs.Numbers.{collectNumbers}
 use Rattle.desk.proofs.CallsLaws.{house-tests, house-refused, Passed, house-passed, collect-other, collect-finished}

@@ -17,6 +17,7 @@ use Rattle.int13.specs.declared.Outcome.{Outcome}
 use Rattle.int13.specs.declared.Outcome.the-variants.{Answered, Waits as OutcomeWaits}
 use Rattle.int13.specs.Steps.{Checked, fed, begin}
 use Rattle.desk.specs.declared.Desk.{Desk}
+use Rattle.desk.specs.declared.PostAnswer.the-variants.{Refused as PostRefused}
 use Rattle.desk.specs.Parts.{ownWindow, withOwn}
 use Rattle.desk.specs.Calls.{isLent, done, postChecked, postRow, postOf}
 use Rattle.desk.specs.Numbers.{postNumbers}

@@ -13,6 +13,7 @@ use Rattle.desk.specs.declared.Stage.{Stage}
 use Rattle.desk.specs.declared.Stage.the-variants.{Vacant, Waiting}
 use Rattle.desk.specs.Parts.{stageAt}
 use Rattle.desk.specs.Acceptable.{accept}
+use Rattle.desk.specs.declared.WithdrawAnswer.the-variants.{Refused as WithdrawRefused}
 use Rattle.desk.specs.Calls.{isLent, done, withdrawStage, withdrawOf}
 use Rattle.desk.specs.Numbers.{withdrawNumbers}
 use Rattle.desk.proofs.CallsLaws.{house-refused, Passed, house-passed, withdraw-other, withdraw-waiting, Report, report-facts}

@@ -5,6 +5,7 @@ use Prim.Native.Nat.{ℕ}
 use lib.ListN.{length}
 use denote.Ref.{now}
 use Rattle.table.specs.declared.Table.{Table}
+use Rattle.table.specs.declared.Written.the-variants.{Refused as WriteRefused}
 use Rattle.table.specs.Table.{writeAnswer, writeOut, writtenNumbers}
 use Rattle.desk.specs.Acceptable.{accept}
 use Rattle.desk.specs.Calls.{houseNumber, writtenOf, writtenOut}

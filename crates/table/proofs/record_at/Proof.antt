@@ -48,10 +48,13 @@ use Rattle.table.proofs.Cursor as K
 use Rattle.table.proofs.Cursor.Laws as K′
 use Rattle.table.proofs.Reader.new as new
 use Rattle.table.proofs.Reader.new.Symbol as new-def
+use Rattle.table.proofs.Reader.new.Symbol.{name as #table·Reader·new}
 use Rattle.table.proofs.Reader.new.Met as new-thm
 use Rattle.table.proofs.Reader.step as step
 use Rattle.table.proofs.Reader.step.Symbol as step-def
+use Rattle.table.proofs.Reader.step.Symbol.{name as #table·Reader·step}
 use Rattle.table.proofs.Reader.step.Met as step-thm
+use Rattle.table.proofs.record_at.Key.{name as #table·record-at}
 use Rattle.table.proofs.record_at as record-at
 use Rattle.table.proofs.record_at.Statement as stated
 use Rattle.table.proofs.record_at.Code as code

@@ -4,6 +4,7 @@ use Prim.Native.Nat.{ℕ, _<_}
 use lib.Dec.{ltb}
 use borrow.Author.Tests.{ltb-true}
 use Rattle.desk.specs.declared.Desk.{Desk}
+use Rattle.desk.specs.declared.CollectAnswer.the-variants.{Refused as CollectRefused}
 use Rattle.desk.specs.Parts.{stageAt}
 use Rattle.desk.specs.Acceptable.{accept}
 use Rattle.desk.specs.Calls.{houseNumber, done, collectStage, collectOf}

@@ -6,6 +6,7 @@ use borrow.Author.Tests.{ltb-true}
 use denote.Ref.{now}
 use Rattle.int13.specs.declared.Registers.{Registers}
 use Rattle.desk.specs.declared.Desk.{Desk}
+use Rattle.desk.specs.declared.PostAnswer.the-variants.{Refused as PostRefused}
 use Rattle.desk.specs.Parts.{stageAt}
 use Rattle.desk.specs.Acceptable.{accept}
 use Rattle.desk.specs.Calls.{isLent, done, postRow, postOf}

@@ -9,6 +9,7 @@ use Rattle.desk.specs.declared.Request.{Request}
 use Rattle.desk.specs.declared.Stage.the-variants.{Waiting}
 use Rattle.desk.specs.declared.Desk.{Desk}
 use Rattle.desk.specs.declared.Next.the-variants.{Guest}
+use Rattle.desk.specs.declared.TurnAnswer.the-variants.{Refused as TurnRefused}
 use Rattle.desk.specs.Parts.{stageAt}
 use Rattle.desk.specs.Acceptable.{accept}
 use Rattle.desk.specs.Calls.{isLent, done, firstWaiting, Transferred, turnNext, turnOf}

@@ -40,6 +40,7 @@ use Rattle.table.proofs.Reader.Laws as T′
 use Rattle.table.specs.declared.Cursor.{Cursor}
 use Rattle.table.proofs.Cursor as K
 use Rattle.table.proofs.Cursor.Laws as K′
+use Rattle.table.proofs.Reader.new.Key.{name as #table·Reader·new}
 use Rattle.table.proofs.Reader.new as new
 use Rattle.table.proofs.Reader.new.Statement as stated
 use Rattle.table.proofs.Reader.new.Code as code
