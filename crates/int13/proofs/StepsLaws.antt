@@ -16,11 +16,11 @@ use Rattle.drive.specs.declared.Drive.{Drive}
 use Rattle.table.specs.declared.Table.{Table}
 use Rattle.table.specs.Table.{noDrive}
 use Rattle.layout.specs.declared.PacketRead.the-variants.{Whole, Refused as NoPacket}
-use Rattle.layout.specs.Packet.{packetLength, packetAt, readPacket}
+use Rattle.layout.specs.Packet.{badParameter, packetLength, packetAt, readPacket}
 use Rattle.int13.specs.declared.Registers.{Registers}
 use Rattle.int13.specs.declared.Outcome.the-variants.{Answered}
 use Rattle.int13.specs.declared.Plan.the-variants.{Refuse, Clear}
-use Rattle.int13.specs.Answers.{badParameter, ah, al, dl, isSectors, isWrite, refuse}
+use Rattle.int13.specs.Answers.{ah, al, dl, isSectors, isWrite, refuse}
 use Rattle.int13.specs.Steps.{unchanged, fed, firstDrive, driveCount, isDrive, driveAt, driveIn, driveNamed, packetPlace, verifyOk, packetRead, packetPlan, extended, seek, sectors, parameters, extensions, result, steps, begin}
 
 -- ---- drives

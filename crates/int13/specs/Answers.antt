@@ -10,11 +10,7 @@ use Rattle.int13.specs.declared.Job.{Job}
 use Rattle.int13.specs.declared.Outcome.{Outcome}
 use Rattle.int13.specs.declared.Outcome.the-variants.{Answered, Waits}
 
--- ---- "Numbers given back", the codes in AH; 04h is chs's `outside`
-
--- 01h: unknown function or drive; bad parameter as listed
-abbrev pub badParameter : ℕ
-badParameter = 0x01
+-- ---- "Numbers given back", the codes in AH; 01h is layout's `badParameter`, 04h chs's `outside`
 
 -- 03h: write to a protected drive
 abbrev pub writeProtected : ℕ

@@ -21,7 +21,7 @@ use Rattle.layout.specs.declared.PacketRead.{PacketRead}
 use Rattle.layout.specs.declared.PacketRead.the-variants.{Whole, Refused as NoPacket}
 use Rattle.layout.specs.declared.ResultAnswer.{ResultAnswer}
 use Rattle.layout.specs.declared.ResultAnswer.the-variants.{Written, Refused as NoResult}
-use Rattle.layout.specs.Packet.{linear, packetLength, readPacket}
+use Rattle.layout.specs.Packet.{linear, badParameter, packetLength, readPacket}
 use Rattle.layout.specs.ResultBuffer.{noPointer, resultAnswer, resultOut}
 use Rattle.memory.specs.Blocks.{blockLength}
 use Rattle.int13.specs.declared.Registers.{Registers}
@@ -30,7 +30,7 @@ use Rattle.int13.specs.declared.Outcome.{Outcome}
 use Rattle.int13.specs.declared.Outcome.the-variants.{Answered, Waits}
 use Rattle.int13.specs.declared.Plan.{Plan}
 use Rattle.int13.specs.declared.Plan.the-variants.{Refuse, Clear, Finish, Wait}
-use Rattle.int13.specs.Answers.{badParameter, writeProtected, noParameters, badBuffer, ah, al, dl, isWrite, answer, succeed, refuse, posted}
+use Rattle.int13.specs.Answers.{writeProtected, noParameters, badBuffer, ah, al, dl, isWrite, answer, succeed, refuse, posted}
 
 -- ---- "Steps of each function", what they are fed and what they make of a call
 

@@ -19,7 +19,7 @@ use Rattle.layout.specs.declared.PacketRead.{PacketRead}
 use Rattle.layout.specs.declared.PacketRead.the-variants.{Whole, Refused as NoPacket}
 use Rattle.layout.specs.declared.ResultAnswer.{ResultAnswer}
 use Rattle.layout.specs.declared.ResultAnswer.the-variants.{Written, Refused as NoResult}
-use Rattle.layout.specs.Packet.{readPacket}
+use Rattle.layout.specs.Packet.{badParameter, readPacket}
 use Rattle.layout.specs.ResultBuffer.{resultAnswer}
 use Rattle.memory.specs.Blocks.{blockLength}
 use Rattle.int13.specs.declared.Registers.{Registers}
@@ -27,7 +27,7 @@ use Rattle.int13.specs.declared.Outcome.{Outcome}
 use Rattle.int13.specs.declared.Outcome.the-variants.{Answered}
 use Rattle.int13.specs.declared.Plan.{Plan}
 use Rattle.int13.specs.declared.Plan.the-variants.{Refuse, Clear, Finish, Wait}
-use Rattle.int13.specs.Answers.{badParameter, badBuffer, writeProtected, ah, al, dl, isWrite, refuse, posted}
+use Rattle.int13.specs.Answers.{badBuffer, writeProtected, ah, al, dl, isWrite, refuse, posted}
 use Rattle.int13.specs.Steps.{Checked, unchanged, fed, isDrive, driveCount, driveNamed, packetPlace, verifyOk, mostRun, packetTests, packetRead, packetPlan, carryOut, extended, seekRead, seek, sectorRun, sectors, parameters, extensions, resultGiven, resultSteps, result, steps, begin}
 use Rattle.int13.specs.Alone.{finish, alone}
 use Rattle.isolation.specs.Exported.{CarryUnread}

@@ -18,7 +18,7 @@ linear segment offset = 16 * segment + offset
 
 -- ---- "Numbers given back"
 
--- AH 01h: bad parameter as listed
+-- AH 01h: unknown function or drive; bad parameter as listed
 abbrev pub badParameter : ℕ
 badParameter = 0x01
 
