@@ -114,3 +114,14 @@ unpack-pack cylinder sector c s =
     let whole : cylinder % 256 + 256 * (cylinder / 256 % 4) ≡ cylinder = omega arith in
     let rest : sector % 64 ≡ sector = omega arith in
     λ i. record { cylinder = ((λ j. f .0 j + 256 * f .1 .0 j) ∙ whole) i; sector = (f .1 .1 ∙ rest) i }
+
+-- what the cylinder has, its low 8 bits and the two above
+cylinder-fields : (low high : ℕ) → low < 256 → high < 4 → ((low + 256 * high) % 256 ≡ low) × ((low + 256 * high) / 256 % 4 ≡ high)
+cylinder-fields low high l h = (omega arith, omega arith)
+
+pub pack-unpack : (cx : ℕ) → cx < 65536 → pack (unpack cx .cylinder) (unpack cx .sector) ≡ cx
+pack-unpack cx h =
+    let f = cylinder-fields (cx / 256) (cx % 256 / 64) (omega arith) (omega arith) in
+    let twice : cx % 64 % 64 ≡ cx % 64 = omega arith in
+    let whole : 256 * (cx / 256) + (64 * (cx % 256 / 64) + cx % 64) ≡ cx = omega arith in
+    (λ i. 256 * f .0 i + (64 * f .1 i + twice i)) ∙ whole
