@@ -2,6 +2,8 @@
 -- Assumes nothing.
 use mathlib.Core.Path.{_≡_, refl, sym, _∙_}
 use mathlib.Core.Bool.{Bool, true, false, not}
+use mathlib.Core.List.{List, map}
+use lib.ListN.{length, length-map}
 use Prim.Native.Nat.{ℕ, zero, suc, _+_, _-_, _≤_, _<_}
 use mathlib.Core.Logic.{_⊎_, inl, inr, ⊎-elim}
 use lib.Dec.{leb, ltb}
@@ -197,3 +199,7 @@ all-split n c f l =
     (λ e.
     let p = both-true (allBelow c f) (allBelow n past) e in
     all-intro n f (λ i h. ⊎-elim (λ x. all-at c i f (p .0) x) (λ x. let z = le-ltb i c x in rw z at (all-at n i past (p .1) h)) (lt-or-le i c)))
+
+-- the length of a list by that of what it is mapped to, which is how the types say it of an array of structs: `search (needs, length-mapped)`
+pub length-mapped : (X Y : Type 0) (f : X → Y) (l : List X) (n : ℕ) → length (map f l) ≡ n → length l ≡ n
+length-mapped X Y f l n p = simp length-map at p

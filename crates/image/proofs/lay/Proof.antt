@@ -1,6 +1,7 @@
 use Rattle.image.proofs.Fill.{laid-out}
 use denote.Ref.{now}
-use lib.ListN.{length, length-map}
+use lib.ListN.{length}
+use Rattle.logic.proofs.LogicLaws.{length-mapped}
 use mathlib.Core.Path.{_≡_, _∙_}
 use borrow.Author.Needs.{needs}
 use Rattle.image.proofs.lay.Statement.{statement}
@@ -10,8 +11,8 @@ returns : tie.Need-returns
 returns c =
     let h = c .before .before .before .before .before .before .before .before .before .before .before .before .before .before .before .before .before in
     let a = h .args in
-    let r : length (a .d .rows) ≡ 8 = simp length-map at (h .good .0 .1 .1 .0 .1 .0 .1) in
-    let t : length (a .d .table .drives) ≡ 8 = simp length-map at (h .good .0 .1 .1 .1 .1 .0 .1 .1 .0 .1 .0 .1) in
+    let r : length (a .d .rows) ≡ 8 = search (needs, length-mapped) in
+    let t : length (a .d .table .drives) ≡ 8 = search (needs, length-mapped) in
     c .before .before .put-words .ensures ∙ rw (c .before .before .before .before .before .before .before .put-drives .ensures, c .before .before .before .before .before .before .before .before .before .before .before .put-rows .ensures) (laid-out (now (a .out)) (a .d) (h .pre) r t)
 
 pub lay-spec : {M : Type 1} → statement M

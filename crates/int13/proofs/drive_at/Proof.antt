@@ -1,6 +1,7 @@
 use mathlib.Core.Path.{_≡_, refl}
 use native.Mathlib.Omega.{arith}
-use lib.ListN.{length, length-map}
+use lib.ListN.{length}
+use Rattle.logic.proofs.LogicLaws.{length-mapped}
 use Rattle.int13.proofs.StepsLaws.{drive-in}
 use borrow.Author.Needs.{needs}
 use Rattle.int13.proofs.drive_at.Statement.{statement}
@@ -8,12 +9,12 @@ use Rattle.int13.proofs.drive_at.Tie as tie
 
 array-copy-out-result : tie.Need-array-copy-out-result
 array-copy-out-result c =
-    let l : length (c .before .args .b .drives) ≡ 8 = simp length-map at (c .before .good .0 .1 .1 .0 .1 .0 .1) in
+    let l : length (c .before .args .b .drives) ≡ 8 = search (needs, length-mapped) in
     omega arith
 
 returns : tie.Need-returns
 returns c =
-    let l : length (c .before .before .args .b .drives) ≡ 8 = simp length-map at (c .before .before .good .0 .1 .1 .0 .1 .0 .1) in
+    let l : length (c .before .before .args .b .drives) ≡ 8 = search (needs, length-mapped) in
     let same = drive-in (c .before .before .args .b) (c .before .before .args .n) l in
     (refl, same)
 

@@ -1,6 +1,7 @@
 use mathlib.Core.Path.{_≡_}
 use native.Mathlib.Omega.{arith}
-use lib.ListN.{length, length-map}
+use lib.ListN.{length}
+use Rattle.logic.proofs.LogicLaws.{length-mapped}
 use Rattle.int13.proofs.StepsLaws.{count-most}
 use borrow.Author.Needs.{needs}
 use Rattle.int13.proofs.drive_count.Statement.{statement}
@@ -9,13 +10,13 @@ use Rattle.int13.proofs.drive_count.Tie as tie
 cast-result : tie.Need-cast-result
 cast-result c =
     let b = c .before .args .b in
-    let l : length (b .drives) ≡ 8 = simp length-map at (c .before .good .0 .1 .1 .0 .1 .0 .1) in
+    let l : length (b .drives) ≡ 8 = search (needs, length-mapped) in
     omega (arith, count-most b l)
 
 returns : tie.Need-returns
 returns c =
     let b = c .before .args .b in
-    let l : length (b .drives) ≡ 8 = simp length-map at (c .before .good .0 .1 .1 .0 .1 .0 .1) in
+    let l : length (b .drives) ≡ 8 = search (needs, length-mapped) in
     (c .drive-count .ensures, omega (arith, count-most b l))
 
 pub drive-count-spec : {M : Type 1} → statement M

@@ -1,7 +1,5 @@
 use native.Mathlib.Omega.{arith}
-use Prim.Native.Nat.{ℕ}
 use denote.Ref.{now}
-use borrow.Author.Needs.{length-unmapped}
 use Rattle.layout.proofs.ResultBufferLaws.{interface-stores}
 use borrow.Author.Needs.{needs}
 use Rattle.layout.proofs.put_interface.Statement.{statement}
@@ -11,8 +9,7 @@ returns : tie.Need-returns
 returns c =
     let b = c .before .before .before .before .before .before .before .before .before .before .before .before .before .before .before .before .before .before .before in
     let a = b .args in
-    let g = b .good .0 in
-    interface-stores (now (a .out)) (a .d) (length-unmapped ℕ (a .d .bus) 4 (g .1 .1 .1 .1 .1 .1 .1 .1 .1 .1 .1 .1 .0 .1 .0 .1))
+    interface-stores (now (a .out)) (a .d) (search needs)
     (c .before .before .before .before .before .before .before .before .before .before .before .before .before .before .store16 .ensures) (c .before .before .before .before .before .before .before .before .before .before .store32 .ensures) (c .before .before .before .before .before .before .store4 .ensures) (c .before .before .store8 .ensures)
 
 pub put-interface-spec : {M : Type 1} → statement M

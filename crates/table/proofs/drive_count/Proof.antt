@@ -1,12 +1,14 @@
 use mathlib.Core.Path.{_≡_, sym, _∙_}
-use lib.ListN.{length, length-map}
+use lib.ListN.{length}
+use Rattle.logic.proofs.LogicLaws.{length-mapped}
 use Rattle.table.proofs.TableLaws.{length-drives}
+use borrow.Author.Needs.{needs}
 use Rattle.table.proofs.drive_count.Statement.{statement}
 use Rattle.table.proofs.drive_count.Tie as tie
 
 returns : tie.Need-returns
 returns c =
-    let l : length (c .before .args .b .drives) ≡ 8 = simp length-map at (c .before .good .0 .1 .1 .0 .1 .0 .1) in
+    let l : length (c .before .args .b .drives) ≡ 8 = search (needs, length-mapped) in
     c .held .ensures ∙ sym (length-drives _ l)
 
 pub drive-count-spec : {M : Type 1} → statement M

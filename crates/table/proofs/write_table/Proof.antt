@@ -1,6 +1,7 @@
 use denote.Ref.{now}
 use mathlib.Core.Path.{_≡_}
-use lib.ListN.{length, length-map}
+use lib.ListN.{length}
+use Rattle.logic.proofs.LogicLaws.{length-mapped}
 use Rattle.table.proofs.TableLaws.{write-short, write-done, write-numbers}
 use borrow.Author.Needs.{needs}
 use Rattle.table.proofs.write_table.Statement.{statement}
@@ -8,7 +9,7 @@ use Rattle.table.proofs.write_table.Tie as tie
 
 -- what the types say
 eight : (c : tie.Start) → length (c .args .b .drives) ≡ 8
-eight c = simp length-map at (c .good .0 .1 .1 .0 .1 .0 .1)
+eight c = search (needs, length-mapped)
 
 returns : tie.Need-returns
 returns c =
