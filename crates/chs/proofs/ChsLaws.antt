@@ -121,20 +121,20 @@ address-answered g n e = (e, ap addressNumbers e ∙ by-test (both (inLimits g) 
     by-test false = refl
 
 -- no two answers have the same numbers
-pub blockNumbers-injective : (x y : ToBlock) → blockNumbers x ≡ blockNumbers y → x ≡ y
+pub block-apart : (x y : ToBlock) → blockNumbers x ≡ blockNumbers y → x ≡ y
 unfolding blockNumbers
-blockNumbers-injective (Block m) (Block n) e = cc
-blockNumbers-injective (Block m) (NoBlock d) e = impossible (cc)
-blockNumbers-injective (NoBlock c) (Block n) e = impossible (cc)
-blockNumbers-injective (NoBlock c) (NoBlock d) e = cc
+block-apart (Block m) (Block n) e = cc
+block-apart (Block m) (NoBlock d) e = impossible (cc)
+block-apart (NoBlock c) (Block n) e = impossible (cc)
+block-apart (NoBlock c) (NoBlock d) e = cc
 
-pub addressNumbers-injective : (x y : ToAddress) → addressNumbers x ≡ addressNumbers y → x ≡ y
+pub address-apart : (x y : ToAddress) → addressNumbers x ≡ addressNumbers y → x ≡ y
 unfolding addressNumbers
-addressNumbers-injective (At a) (At b) e =
+address-apart (At a) (At b) e =
     let c : a .cylinder ≡ b .cylinder = cc in
     let h : a .head ≡ b .head = cc in
     let s : a .sector ≡ b .sector = cc in
     λ i. At (record { cylinder = c i; head = h i; sector = s i })
-addressNumbers-injective (At a) (NoAddress d) e = impossible (cc)
-addressNumbers-injective (NoAddress c) (At b) e = impossible (cc)
-addressNumbers-injective (NoAddress c) (NoAddress d) e = cc
+address-apart (At a) (NoAddress d) e = impossible (cc)
+address-apart (NoAddress c) (At b) e = impossible (cc)
+address-apart (NoAddress c) (NoAddress d) e = cc

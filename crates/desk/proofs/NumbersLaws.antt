@@ -12,7 +12,7 @@ use Rattle.memory.specs.Window.{windowOf}
 use Rattle.table.specs.declared.Answer.{Answer}
 use Rattle.table.specs.declared.Answer.the-variants.{Accepted, Refused as TableRefused}
 use Rattle.table.specs.declared.Written.{Written}
-use Rattle.table.specs.declared.Written.the-variants.{Bytes, Refused as WriteRefused}
+use Rattle.table.specs.declared.Written.the-variants.{Refused as WriteRefused}
 use Rattle.table.specs.Table.{readTable, answerNumbers, writtenNumbers, writeAnswer}
 use Rattle.table.proofs.TableLaws.{reads-is, write-numbers}
 use Rattle.int13.specs.declared.Registers.{Registers}
@@ -157,13 +157,6 @@ open-apart Opened Opened e = refl
 open-apart Opened (OpenRefused n p) e = impossible (cc)
 open-apart (OpenRefused m p) Opened e = impossible (cc)
 open-apart (OpenRefused m p) (OpenRefused n q) e = cc
-
-pub written-apart : (x y : Written) → writtenNumbers x ≡ writtenNumbers y → x ≡ y
-unfolding writtenNumbers
-written-apart (Bytes m) (Bytes n) e = cc
-written-apart (Bytes m) (WriteRefused n) e = impossible (cc)
-written-apart (WriteRefused m) (Bytes n) e = impossible (cc)
-written-apart (WriteRefused m) (WriteRefused n) e = cc
 
 -- the house number of a refusal, 0 of any other answer
 abbrev pub postHouse : PostAnswer → ℕ

@@ -25,14 +25,14 @@ packet-answered window at e = (e, ap packetNumbers e ∙ by-test (leb (at + pack
     by-test false = refl
 
 -- no two answers have the same numbers
-pub packetNumbers-injective : (x y : PacketRead) → packetNumbers x ≡ packetNumbers y → x ≡ y
+pub packet-apart : (x y : PacketRead) → packetNumbers x ≡ packetNumbers y → x ≡ y
 unfolding packetNumbers
-packetNumbers-injective (Whole p) (Whole q) e =
+packet-apart (Whole p) (Whole q) e =
     let size : p .size ≡ q .size = cc in
     let count : p .count ≡ q .count = cc in
     let buffer : p .buffer ≡ q .buffer = cc in
     let start : p .start ≡ q .start = cc in
     λ i. Whole (record { size = size i; count = count i; buffer = buffer i; start = start i })
-packetNumbers-injective (Whole p) (Refused d) e = impossible (cc)
-packetNumbers-injective (Refused c) (Whole q) e = impossible (cc)
-packetNumbers-injective (Refused c) (Refused d) e = cc
+packet-apart (Whole p) (Refused d) e = impossible (cc)
+packet-apart (Refused c) (Whole q) e = impossible (cc)
+packet-apart (Refused c) (Refused d) e = cc

@@ -181,12 +181,12 @@ module _ (d : Drive) (p : Pointer) (asked : ℕ) (out : List ℕ) where
       answered (rw (t, u, en)) (rw (t, u, ← en) (eo ∙ w))
 
 -- no two answers have the same numbers
-pub resultNumbers-injective : (x y : ResultAnswer) → resultNumbers x ≡ resultNumbers y → x ≡ y
+pub result-apart : (x y : ResultAnswer) → resultNumbers x ≡ resultNumbers y → x ≡ y
 unfolding resultNumbers
-resultNumbers-injective (Written m) (Written n) e = cc
-resultNumbers-injective (Written m) (Refused d) e = impossible (cc)
-resultNumbers-injective (Refused c) (Written n) e = impossible (cc)
-resultNumbers-injective (Refused c) (Refused d) e = cc
+result-apart (Written m) (Written n) e = cc
+result-apart (Written m) (Refused d) e = impossible (cc)
+result-apart (Refused c) (Written n) e = impossible (cc)
+result-apart (Refused c) (Refused d) e = cc
 
 -- as many bytes after the answer as before it
 pub length-out : (d : Drive) (p : Pointer) (asked : ℕ) (out : List ℕ) → Arrays d → length (resultOut d p asked out) ≡ length out

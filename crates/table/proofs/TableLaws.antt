@@ -25,6 +25,7 @@ use Rattle.table.specs.declared.Step.{Step}
 use Rattle.table.specs.declared.Step.the-variants.{Next, Done, Refused}
 use Rattle.table.specs.declared.Stepped.{Stepped}
 use Rattle.table.specs.declared.Cursor.{Cursor}
+use Rattle.table.specs.declared.Answer.{Answer}
 use Rattle.table.specs.declared.Answer.the-variants.{Accepted, Refused as AnswerRefused}
 use Rattle.table.specs.declared.Reading.{Reading}
 use Rattle.table.specs.declared.Written.{Written}
@@ -209,6 +210,33 @@ whole-numbers t at b store kind size true true z p q r = rw (p, q)
 whole-numbers t at b store kind size true false z p q r = rw (p, q)
 whole-numbers t at b store kind size false f true p q r = rw (p, r)
 whole-numbers t at b store kind size false f false p q r = rw (p, r)
+
+-- no two answers have the same numbers
+pub step-apart : (x y : Step) → stepNumbers x ≡ stepNumbers y → x ≡ y
+unfolding stepNumbers
+step-apart (Next p) (Next q) e = cc
+step-apart (Next p) Done e = impossible (cc)
+step-apart (Next p) (Refused n q) e = impossible (cc)
+step-apart Done (Next q) e = impossible (cc)
+step-apart Done Done e = refl
+step-apart Done (Refused n q) e = impossible (cc)
+step-apart (Refused m p) (Next q) e = impossible (cc)
+step-apart (Refused m p) Done e = impossible (cc)
+step-apart (Refused m p) (Refused n q) e = cc
+
+pub answer-apart : (x y : Answer) → answerNumbers x ≡ answerNumbers y → x ≡ y
+unfolding answerNumbers
+answer-apart Accepted Accepted e = refl
+answer-apart Accepted (AnswerRefused n q) e = impossible (cc)
+answer-apart (AnswerRefused m p) Accepted e = impossible (cc)
+answer-apart (AnswerRefused m p) (AnswerRefused n q) e = cc
+
+pub written-apart : (x y : Written) → writtenNumbers x ≡ writtenNumbers y → x ≡ y
+unfolding writtenNumbers
+written-apart (Bytes m) (Bytes n) e = cc
+written-apart (Bytes m) (WriteRefused n) e = impossible (cc)
+written-apart (WriteRefused m) (Bytes n) e = impossible (cc)
+written-apart (WriteRefused m) (WriteRefused n) e = cc
 
 pub step-numbers : (t : List ℕ) (at : ℕ) (b : Table) (store : ℕ) → stepNumbers (stepAt t at b store .step) ≡ recordNumbers t at b store
 unfolding stepAt headerAt headerOf recordNumbers stepNumbers stepOf
