@@ -1,28 +1,31 @@
 -- Document 01, "Calls the host makes": which desks are accepted; any other is 25.
 -- Assumes nothing.
 use mathlib.Core.Path.{_≡_}
-use Prim.Native.Nat.{ℕ, zero, suc, _+_, _*_, _%_, _^_, _≤_, _<_}
+use Prim.Native.Nat.{ℕ, zero, suc, _+_, _*_, _/_, _%_, _^_, _≤_, _<_}
 use mathlib.Core.Bool.{Bool, true, false, not}
 use mathlib.Core.List.{List}
 use lib.Dec.{leb, ltb, eqb}
-use Rattle.logic.specs.Logic.{pick, both, either}
+use Rattle.logic.specs.Logic.{pick, both, either, allBelow}
 use Rattle.chs.specs.Chs.{size}
 use Rattle.drive.specs.declared.Drive.{Drive}
 use Rattle.drive.specs.Drive.{geometryOf, isProtected}
 use Rattle.table.specs.declared.Table.{Table}
 use Rattle.table.specs.Table.{isSound}
 use Rattle.layout.specs.Packet.{packetLength}
+use Rattle.layout.specs.ParameterTable.{parameterSize}
 use Rattle.memory.specs.Window.{guests, windowLength}
 use Rattle.memory.specs.Blocks.{blockLength}
 use Rattle.int13.specs.declared.Job.{Job}
+use Rattle.int13.specs.declared.Placement.{Placement}
 use Rattle.int13.specs.Answers.{ah, isSectors, isWrite}
+use Rattle.int13.specs.Placement.{tableCount}
 use Rattle.int13.specs.Steps.{isDrive, driveAt, mostBlocks, mostRun}
 use Rattle.desk.specs.declared.Request.{Request}
 use Rattle.desk.specs.declared.Stage.{Stage}
 use Rattle.desk.specs.declared.Stage.the-variants.{Vacant, Waiting, Finished}
 use Rattle.desk.specs.declared.Row.{Row}
 use Rattle.desk.specs.declared.Desk.{Desk}
-use Rattle.desk.specs.Parts.{windowSize, storeBlocks, stageIn}
+use Rattle.desk.specs.Parts.{windowSize, storeBlocks, stageIn, placementAt}
 
 -- the blocks that a turn moves at most
 abbrev pub turnBlocks : ℕ
@@ -77,9 +80,34 @@ unfoldable pub rowsOk : ℕ → List Row → Table → ℕ → Bool
 rowsOk zero rows b M = true
 rowsOk (suc n) rows b M = both (stageOk b M (stageIn rows n)) (rowsOk n rows b M)
 
--- a table that obeys the rules, a pointer below 8, and every waiting row as above
+-- ---- document 02, 2026-01: a good place for parameter tables
+
+-- the segments of a guest's memory: 0 to FFFFh
+abbrev pub segments : ℕ
+segments = 0x10000
+
+-- n tables from an address on, in windows of M bytes: a multiple of 16; the tables end inside the window, with none the address does; and the
+-- segment of the last is at most FFFFh, with none there is none to test
+unfoldable pub placeOk : ℕ → ℕ → ℕ → Bool
+placeOk n M address =
+    both (eqb (address % 16) 0) (both (leb (address + parameterSize * n) M) (either (eqb n 0) (leb (address / 16 + n) segments)))
+
+-- a guest with placement has a good place; one without has 0 for it
+abbrev pub placementOk : ℕ → ℕ → Placement → Bool
+placementOk n M p = pick (p .placed) (placeOk n M (p .address)) (eqb (p .address) 0)
+
+-- the placements of the first k guests, for n tables in windows of M bytes
+unfoldable pub placementsOk : ℕ → ℕ → ℕ → Desk → Bool
+placementsOk k n M d = allBelow k (λ g. placementOk n M (placementAt d g))
+
+-- ---- "It is accepted exactly when it is the image of a desk" of which all this holds
+
+-- a table that obeys the rules, a pointer below 8, every waiting row as above, and good places
 unfoldable pub accept : Desk → Bool
-accept d = both (isSound (d .table) (storeBlocks d)) (both (ltb (d .pointer) guests) (rowsOk guests (d .rows) (d .table) (windowSize d)))
+accept d =
+    both (isSound (d .table) (storeBlocks d))
+    (both (ltb (d .pointer) guests)
+    (both (rowsOk guests (d .rows) (d .table) (windowSize d)) (placementsOk guests (tableCount (d .table)) (windowSize d) d)))
 
 -- what acceptance says of the row that a turn serves, for k blocks of it, its drive's first store block, an arena of a bytes and a store of s
 pub record InRange (first : ℕ) (q : Request) (k g a s : ℕ) : Type 0 where

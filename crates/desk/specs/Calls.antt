@@ -6,6 +6,7 @@ use mathlib.Core.Bool.{Bool, true, false, not}
 use mathlib.Core.List.{List, [], _∷_}
 use lib.ListN.{length, replicate}
 use lib.Dec.{leb, ltb, eqb}
+use lib.Seq.{sets}
 use Rattle.logic.specs.Logic.{pick, both}
 use Rattle.memory.specs.Window.{guests, windowOf, withWindow}
 use Rattle.memory.specs.Blocks.{blockLength, blocks}
@@ -21,6 +22,7 @@ use Rattle.int13.specs.declared.Job.{Job}
 use Rattle.int13.specs.declared.Outcome.{Outcome}
 use Rattle.int13.specs.declared.Outcome.the-variants.{Answered, Waits}
 use Rattle.int13.specs.Answers.{ah, isSectors, succeed, withdraw}
+use Rattle.int13.specs.Placement.{tablesOf, tableCount}
 use Rattle.int13.specs.Steps.{Checked, withCount, fed, begin}
 use Rattle.int13.specs.Alone.{Memory, storeBlock, moves}
 use Rattle.desk.specs.declared.Request.{Request}
@@ -42,8 +44,10 @@ use Rattle.desk.specs.declared.CollectAnswer.{CollectAnswer}
 use Rattle.desk.specs.declared.CollectAnswer.the-variants.{Given as CollectGiven, Refused as CollectRefused}
 use Rattle.desk.specs.declared.WithdrawAnswer.{WithdrawAnswer}
 use Rattle.desk.specs.declared.WithdrawAnswer.the-variants.{Given as WithdrawGiven, Refused as WithdrawRefused}
-use Rattle.desk.specs.Parts.{windowSize, ownWindow, withOwn, vacantRow, stageIn, stageAt, withStage, isWaiting, next, withPointer}
-use Rattle.desk.specs.Acceptable.{turnBlocks, accept}
+use Rattle.desk.specs.declared.PlaceAnswer.{PlaceAnswer}
+use Rattle.desk.specs.declared.PlaceAnswer.the-variants.{Placed, Refused as PlaceRefused}
+use Rattle.desk.specs.Parts.{windowSize, ownWindow, withOwn, vacantRow, stageIn, stageAt, withStage, isWaiting, next, withPointer, placementAt, withPlacement}
+use Rattle.desk.specs.Acceptable.{turnBlocks, placeOk, accept}
 
 -- ---- "Numbers given back": the house numbers, and the tests that come before the row's in every call
 
@@ -59,7 +63,7 @@ otherLength = 24
 abbrev pub noGuest : ℕ
 noGuest = 20
 
--- house number 21: post to a row that is not vacant
+-- house number 21: post to a row that is not vacant; placing for a row that waits
 abbrev pub notVacant : ℕ
 notVacant = 21
 
@@ -70,6 +74,10 @@ notFinished = 22
 -- house number 23: withdraw, row not waiting
 abbrev pub notWaiting : ℕ
 notWaiting = 23
+
+-- house number 26: a bad place for parameter tables (document 02, 2026-01)
+abbrev pub badPlace : ℕ
+badPlace = 26
 
 -- 25, then 24, then 20: the first test that fails is the answer. A call that is lent no arena and store, or names no guest, passes that test
 abbrev pub houseTests : {A : Type 0} → Bool → Bool → Bool → (ℕ → A) → A → A
@@ -100,13 +108,22 @@ done d x arena store = record { desk = d; answer = x; arena = arena; store = sto
 
 -- ---- open
 
--- all rows start vacant, the pointer at 0
+-- all rows start vacant, the pointer at 0, no guest with placement
 abbrev pub opened : Table → ℕ → ℕ → Desk
-opened b arena store = record { rows = replicate guests vacantRow; pointer = 0; table = b; arena = arena; store = store }
+opened b arena store =
+    record {
+      rows = replicate guests vacantRow;
+      pointer = 0;
+      table = b;
+      arena = arena;
+      store = store;
+      placed = replicate guests false;
+      addresses = replicate guests 0;
+    }
 
 -- no desk to go on with: its pointer is no guest's, so that every call at it is 25
 abbrev pub closed : ℕ → ℕ → Desk
-closed arena store = record { rows = replicate guests vacantRow; pointer = guests; table = emptyTable; arena = arena; store = store }
+closed arena store = withPointer (opened emptyTable arena store) guests
 
 -- a table that is accepted gives an opened desk; a refused one gives a desk that is of no use
 abbrev pub openDesk : Answer → Table → ℕ → ℕ → Desk
@@ -144,10 +161,12 @@ postChecked d g arena store (Answered r) w = record { desk = d; answer = PostAns
 postChecked d g arena store (Waits j) w =
     record { desk = withStage d g (Waiting (record { job = j; moved = 0 })); answer = PostWaits; arena = withWindow arena g (windowSize d) w; store = store }
 
--- a post to a vacant row goes through the steps, on the table and the guest's own window
+-- a post to a vacant row goes through the steps, on the table, the guest's placement and its own window
 abbrev pub postVacant : Desk → ℕ → Registers → List ℕ → List ℕ → Done PostAnswer
 postVacant d g r arena store =
-    postChecked d g arena store (begin (fed (d .table)) r (windowOf arena g (windowSize d)) .outcome) (begin (fed (d .table)) r (windowOf arena g (windowSize d)) .window)
+    postChecked d g arena store
+    (begin (fed (d .table) (placementAt d g)) r (windowOf arena g (windowSize d)) .outcome)
+    (begin (fed (d .table) (placementAt d g)) r (windowOf arena g (windowSize d)) .window)
 
 -- 21 for a row that is not vacant, whatever the function
 abbrev pub postRow : Desk → ℕ → Registers → List ℕ → List ℕ → Stage → Done PostAnswer
@@ -277,3 +296,33 @@ unfoldable pub withdrawOf : Desk → ℕ → List ℕ → List ℕ → Done With
 withdrawOf d g arena store =
     houseTests (accept d) (isLent d arena store) (ltb g guests) (λ n. done d (WithdrawRefused n) arena store)
     (withdrawStage d g (stageAt d g) arena store)
+
+-- ---- place (document 02, 2026-01)
+
+-- all tables laid in a window from an address on
+abbrev pub tablesIn : Table → ℕ → List ℕ → List ℕ
+tablesIn b address w = sets w address (tablesOf b)
+
+-- 26 for a bad place; else all tables stand in the guest's window, in place of any placement before, whose bytes stay
+abbrev pub placeTables : Desk → ℕ → ℕ → List ℕ → List ℕ → Done PlaceAnswer
+placeTables d g address arena store =
+    pick (placeOk (tableCount (d .table)) (windowSize d) address)
+    (record {
+      desk = withPlacement d g address;
+      answer = Placed;
+      arena = withWindow arena g (windowSize d) (tablesIn (d .table) address (windowOf arena g (windowSize d)));
+      store = store;
+    })
+    (done d (PlaceRefused badPlace) arena store)
+
+-- "A waiting row refuses placement": 21, before the place is looked at; a finished row does not
+abbrev pub placeStage : Desk → ℕ → ℕ → Stage → List ℕ → List ℕ → Done PlaceAnswer
+placeStage d g address Vacant arena store = placeTables d g address arena store
+placeStage d g address (Waiting q) arena store = done d (PlaceRefused notVacant) arena store
+placeStage d g address (Finished r) arena store = placeTables d g address arena store
+
+-- place: 25, 24, 20, then the row, then the place
+unfoldable pub placeOf : Desk → ℕ → ℕ → List ℕ → List ℕ → Done PlaceAnswer
+placeOf d g address arena store =
+    houseTests (accept d) (isLent d arena store) (ltb g guests) (λ n. done d (PlaceRefused n) arena store)
+    (placeStage d g address (stageAt d g) arena store)

@@ -4,10 +4,11 @@
 use Prim.Native.Nat.{ℕ, _+_, _-_, _*_, _/_, _%_, min}
 use mathlib.Core.Bool.{Bool, true, false, not}
 use mathlib.Core.List.{List, [], _∷_}
-use lib.Dec.{ltb, eqb}
-use Rattle.logic.specs.Logic.{pick}
+use lib.ListN.{getD}
+use lib.Dec.{leb, ltb, eqb}
+use Rattle.logic.specs.Logic.{pick, both, either}
 use Rattle.memory.specs.Window.{windowOf}
-use Rattle.table.specs.Table.{tableNumbers, writeNumbers}
+use Rattle.table.specs.Table.{parametersTo, tableNumbers, writeNumbers}
 use Rattle.int13.specs.declared.Registers.{Registers}
 use Rattle.int13.specs.Answers.{ah, al, isSectors, nothingYet, registerNumbers}
 use Rattle.int13.specs.Numbers.{beginGiven}
@@ -27,6 +28,8 @@ use Rattle.desk.specs.declared.CollectAnswer.{CollectAnswer}
 use Rattle.desk.specs.declared.CollectAnswer.the-variants.{Given as CollectGiven, Refused as CollectRefused}
 use Rattle.desk.specs.declared.WithdrawAnswer.{WithdrawAnswer}
 use Rattle.desk.specs.declared.WithdrawAnswer.the-variants.{Given as WithdrawGiven, Refused as WithdrawRefused}
+use Rattle.desk.specs.declared.PlaceAnswer.{PlaceAnswer}
+use Rattle.desk.specs.declared.PlaceAnswer.the-variants.{Placed, Refused as PlaceRefused}
 use Rattle.desk.specs.Parts.{stageAt}
 use Rattle.desk.specs.Acceptable.{accept}
 use Rattle.desk.specs.Calls.{isLent, firstWaiting}
@@ -60,6 +63,11 @@ unfoldable pub withdrawNumbers : WithdrawAnswer → List ℕ
 withdrawNumbers (WithdrawGiven r) = 0 ∷ registerNumbers r
 withdrawNumbers (WithdrawRefused n) = n ∷ []
 
+-- place as numbers: 0, or the house number
+unfoldable pub placeNumbers : PlaceAnswer → List ℕ
+placeNumbers Placed = 0 ∷ []
+placeNumbers (PlaceRefused n) = n ∷ []
+
 -- ---- "Calls the host makes", the numbers that each call gives, in the paper's order and as they are printed there
 
 -- 25 for a desk block that is not acceptable, 24 for other lengths than the opening's, 20 for guest 8 or more; then the call's own
@@ -81,7 +89,7 @@ postStepsGiven (n ∷ values) = pick (eqb n 256) (256 ∷ []) (n ∷ values)
 
 -- a vacant row goes through the steps, in the guest's own window of floor(arena / 8) bytes; any other is 21
 abbrev pub postRowGiven : Desk → ℕ → Registers → List ℕ → Stage → List ℕ
-postRowGiven d g r arena Vacant = postStepsGiven (beginGiven (d .table) r (windowOf arena g (d .arena / 8)))
+postRowGiven d g r arena Vacant = postStepsGiven (beginGiven (d .table) (getD (d .placed) g false) r (windowOf arena g (d .arena / 8)))
 postRowGiven d g r arena (Waiting q) = 21 ∷ []
 postRowGiven d g r arena (Finished x) = 21 ∷ []
 
@@ -127,3 +135,19 @@ withdrawRowGiven (Finished r) = 23 ∷ []
 -- withdraw: 25, 24, 20, then the row
 unfoldable pub withdrawGiven : Desk → ℕ → List ℕ → List ℕ → List ℕ
 withdrawGiven d g arena store = houseFirst (accept d) (isLent d arena store) (ltb g 8) (withdrawRowGiven (stageAt d g))
+
+-- 26 where the address is no multiple of 16, its n tables of 16 bytes end past a window of M bytes (with none, the address is past it), or the
+-- segment of the last is above FFFFh; else 0
+abbrev pub placeTestsGiven : ℕ → ℕ → ℕ → List ℕ
+placeTestsGiven n M address =
+    pick (both (eqb (address % 16) 0) (both (leb (address + 16 * n) M) (either (eqb n 0) (leb (address / 16 + n) 0x10000)))) (0 ∷ []) (26 ∷ [])
+
+-- 21 for a row that waits; then the place
+abbrev pub placeRowGiven : Desk → ℕ → Stage → List ℕ
+placeRowGiven d address Vacant = placeTestsGiven (parametersTo 8 (d .table)) (d .arena / 8) address
+placeRowGiven d address (Waiting q) = 21 ∷ []
+placeRowGiven d address (Finished r) = placeTestsGiven (parametersTo 8 (d .table)) (d .arena / 8) address
+
+-- place: 25, 24, 20, then the row, then the place
+unfoldable pub placeGiven : Desk → ℕ → ℕ → List ℕ → List ℕ → List ℕ
+placeGiven d g address arena store = houseFirst (accept d) (isLent d arena store) (ltb g 8) (placeRowGiven d address (stageAt d g))

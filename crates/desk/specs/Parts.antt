@@ -1,4 +1,4 @@
--- Document 01, "Parts of the desk": rows, windows, the turn pointer.
+-- Document 01, "Parts of the desk": rows, windows, the turn pointer; document 02, 2026-01: placements.
 -- Assumes nothing.
 use Prim.Native.Nat.{ℕ, _+_, _/_, _%_}
 use mathlib.Core.Bool.{Bool, true, false}
@@ -7,6 +7,7 @@ use lib.ListN.{length, getD, set}
 use Rattle.memory.specs.Window.{guests, windowLength, windowOf, withWindow}
 use Rattle.memory.specs.Blocks.{blockLength}
 use Rattle.table.specs.declared.Table.{Table}
+use Rattle.int13.specs.declared.Placement.{Placement}
 use Rattle.desk.specs.declared.Request.{Request}
 use Rattle.desk.specs.declared.Stage.{Stage}
 use Rattle.desk.specs.declared.Stage.the-variants.{Vacant, Waiting, Finished}
@@ -45,7 +46,16 @@ stageAt d g = stageIn (d .rows) g
 
 -- the desk with another stage in guest g's row
 abbrev pub withStage : Desk → ℕ → Stage → Desk
-withStage d g s = record { rows = set (d .rows) g (record { stage = s }); pointer = d .pointer; table = d .table; arena = d .arena; store = d .store }
+withStage d g s =
+    record {
+      rows = set (d .rows) g (record { stage = s });
+      pointer = d .pointer;
+      table = d .table;
+      arena = d .arena;
+      store = d .store;
+      placed = d .placed;
+      addresses = d .addresses;
+    }
 
 -- the row waits with its request
 abbrev pub isWaiting : Stage → Bool
@@ -61,4 +71,24 @@ next g = (g + 1) % guests
 
 -- the desk with another turn pointer
 abbrev pub withPointer : Desk → ℕ → Desk
-withPointer d p = record { rows = d .rows; pointer = p; table = d .table; arena = d .arena; store = d .store }
+withPointer d p =
+    record { rows = d .rows; pointer = p; table = d .table; arena = d .arena; store = d .store; placed = d .placed; addresses = d .addresses }
+
+-- ---- document 02, 2026-01: where each guest's parameter tables are placed
+
+-- guest g's placement; past the guests there is none
+abbrev pub placementAt : Desk → ℕ → Placement
+placementAt d g = record { placed = getD (d .placed) g false; address = getD (d .addresses) g 0 }
+
+-- the desk with guest g's tables placed from an address on
+abbrev pub withPlacement : Desk → ℕ → ℕ → Desk
+withPlacement d g address =
+    record {
+      rows = d .rows;
+      pointer = d .pointer;
+      table = d .table;
+      arena = d .arena;
+      store = d .store;
+      placed = set (d .placed) g true;
+      addresses = set (d .addresses) g address;
+    }

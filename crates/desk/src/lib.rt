@@ -3,6 +3,7 @@
 use drive::Drive;
 use int13::Job;
 use int13::Outcome;
+use int13::Placement;
 use int13::Registers;
 use table::Answer;
 use table::Table;
@@ -15,18 +16,19 @@ ghost use lib.ListN.{length};
 ghost use Rattle.logic.specs.Logic.{pick, both};
 ghost use Rattle.chs.specs.Chs.{size};
 ghost use Rattle.drive.specs.Drive.{geometryOf};
-ghost use Rattle.desk.specs.Parts.{ownWindow, withOwn, stageIn, withStage, isWaiting, next, withPointer};
-ghost use Rattle.desk.specs.Acceptable.{packetOk, movedOk, jobRules, requestOk, stageOk, rowsOk, accept, InRange};
+ghost use Rattle.desk.specs.Parts.{ownWindow, withOwn, stageIn, withStage, isWaiting, next, withPointer, placementAt, withPlacement};
+ghost use Rattle.desk.specs.Acceptable.{packetOk, movedOk, jobRules, requestOk, stageOk, rowsOk, placeOk, placementOk, placementsOk, accept, InRange};
 ghost use mathlib.Core.List.{List, []};
 ghost use Rattle.table.specs.Table.{writtenNumbers};
 ghost use Rattle.layout.specs.Packet.{packetLength};
 ghost use Rattle.memory.specs.Window.{guests, windowLength, spanLength};
 ghost use Rattle.memory.specs.Blocks.{blockLength};
 ghost use Rattle.int13.specs.Answers.{ah, withdraw};
+ghost use Rattle.int13.specs.Placement.{tableCount};
 ghost use Rattle.int13.specs.Steps.{mostBlocks, mostRun, fed, begin};
 ghost use Rattle.desk.specs.declared.TurnAnswer.the-variants.{Served};
-ghost use Rattle.desk.specs.Calls.{houseNumber, done, opened, openOf, writtenOf, writtenOut, postChecked, postOf, firstWaiting, quota, serviceOf, Copied, Transferred, turnOf, collectOf, withdrawnWindow, withdrawOf};
-ghost use Rattle.desk.specs.Numbers.{openNumbers, postNumbers, turnNumbers, collectNumbers, withdrawNumbers, openGiven, writeGiven, postGiven, turnGiven, collectGiven, withdrawGiven};
+ghost use Rattle.desk.specs.Calls.{houseNumber, done, opened, openOf, writtenOf, writtenOut, postChecked, postOf, firstWaiting, quota, serviceOf, Copied, Transferred, turnOf, collectOf, withdrawnWindow, withdrawOf, tablesIn, placeOf};
+ghost use Rattle.desk.specs.Numbers.{openNumbers, postNumbers, turnNumbers, collectNumbers, withdrawNumbers, placeNumbers, openGiven, writeGiven, postGiven, turnGiven, collectGiven, withdrawGiven, placeGiven};
 
 // A request with the number of blocks that have moved.
 pub struct Request {
@@ -45,13 +47,16 @@ pub struct Row {
     pub stage: Stage,
 }
 
-// One row for each guest, the turn pointer, the drives, and the lengths of arena and store that it was opened with.
+// One row for each guest, the turn pointer, the drives, the lengths of arena and store that it was opened with, and for each guest whether its
+// parameter tables are placed in its window, and from which address on.
 pub struct Desk {
     pub rows: [Row; 8],
     pub pointer: usize,
     pub table: Table,
     pub arena: u64,
     pub store: u64,
+    pub placed: [bool; 8],
+    pub addresses: [u64; 8],
 }
 
 // What a turn does to a request: the blocks that it moves, and the stage of the row after it.
@@ -114,6 +119,16 @@ pub struct Withdrawn {
     pub answer: WithdrawAnswer,
 }
 
+pub enum PlaceAnswer {
+    Placed,
+    Refused(u8),
+}
+
+pub struct Placing {
+    pub desk: Desk,
+    pub answer: PlaceAnswer,
+}
+
 // The first waiting guest, if there is one.
 pub enum Next {
     Guest(usize),
@@ -133,12 +148,17 @@ const OTHER_LENGTH: u8 = 24;
 
 pub const NOT_ACCEPTABLE: u8 = 25;
 
+pub const BAD_PLACE: u8 = 26;
+
 // Blocks that a turn moves at most, bytes of a block, bytes of a packet.
 const TURN_BLOCKS: u64 = 16;
 
 const BLOCK_LENGTH: u64 = memory::BLOCK_LENGTH as u64;
 
 const PACKET_LENGTH: u64 = layout::PACKET_LENGTH;
+
+// Bytes of a parameter table.
+const PARAMETER_SIZE: u64 = layout::PARAMETER_SIZE as u64;
 
 // Blocks of a request at most: of 02h and 03h, and of 42h and 43h.
 const MOST_RUN: u64 = int13::MOST_RUN as u64;
@@ -259,15 +279,68 @@ fn rows_ok(rows: [Row; 8], b: Table, m: u64) -> bool
     good
 }
 
+// ---- places for parameter tables
+
+// The segments of a guest's memory.
+const SEGMENTS: u64 = 0x10000;
+
+// Whether so many tables may stand from an address on, in windows of m bytes.
+pub fn place_ok(tables: u8, m: u64, address: u64) -> bool
+    ensures { λ r. ⌜ r ≡ placeOk tables m address ⌝ }
+{
+    let n = tables as u64;
+    let inside = logic::ends_by(address, PARAMETER_SIZE * n, m);
+    let segment = logic::or(n == 0, address / 16 + n <= SEGMENTS);
+    logic::and(address % 16 == 0, logic::and(inside, segment))
+}
+
+// A good place, or 0 where nothing is placed.
+pub fn placement_ok(tables: u8, m: u64, p: Placement) -> bool
+    ensures { λ r. ⌜ r ≡ placementOk tables m p ⌝ }
+{
+    if p.placed {
+        return place_ok(tables, m, p.address);
+    }
+    p.address == 0
+}
+
 impl Desk {
-    // A table that obeys the rules, a pointer below 8, and every waiting row in range; any other desk is 25.
+    // A guest's placement.
+    fn placement(self, guest: usize) -> Placement
+        requires { ⌜ guest < guests ⌝ }
+        ensures { λ p. ⌜ p ≡ placementAt self guest ⌝ }
+    {
+        let placed = self.placed;
+        let addresses = self.addresses;
+        Placement {
+            placed: placed[guest],
+            address: addresses[guest],
+        }
+    }
+
+    fn placements_ok(self) -> bool
+        ensures { λ r. ⌜ r ≡ placementsOk guests (tableCount (self .table)) (windowLength (self .arena)) self ⌝ }
+    {
+        let b = self.table;
+        let tables = int13::table_count(b);
+        let m = self.arena / 8;
+        let mut good = true;
+        let mut g: usize = 0;
+        while g < GUESTS {
+            good = logic::and(placement_ok(tables, m, self.placement(g)), good);
+            g += 1;
+        }
+        good
+    }
+
+    // A table that obeys the rules, a pointer below 8, every waiting row in range, and good places; any other desk is 25.
     pub fn accept(self) -> bool
         ensures { λ r. ⌜ r ≡ accept self ⌝ }
     {
         let rows = self.rows;
         let b = self.table;
         let sound = table::is_sound(b, self.store / BLOCK_LENGTH);
-        let good = rows_ok(rows, b, self.arena / 8);
+        let good = logic::and(rows_ok(rows, b, self.arena / 8), self.placements_ok());
         logic::and(sound, logic::and(self.pointer < GUESTS, good))
     }
 }
@@ -435,9 +508,22 @@ pub fn given_back(q: Request) -> Registers
     int13::withdraw(q.moved as u8, registers)
 }
 
+// ---- what placing writes
+
+// All tables of a drive table, laid in the guest's window from an address on. `place_ok` has found that they lie there.
+pub fn lay_tables(b: Table, guest: usize, address: u64, arena: &mut [u8])
+    requires { ⌜ (guest < guests) × (placeOk (tableCount b) (windowLength (length (now arena))) address ≡ true) ⌝ }
+    ensures { λ _. ⌜ now (arena .exit) ≡ withOwn (now (arena .entry)) guest (tablesIn b address (ownWindow (now (arena .entry)) guest)) ⌝ }
+{
+    let m = memory::window_length(arena.len());
+    let bytes = int13::tables_of(b);
+    let n = layout::PARAMETER_SIZE * int13::table_count(b) as usize;
+    memory::put_bytes_in(arena, guest, m, address as usize, &bytes[..n]);
+}
+
 // ---- the desk by value
 
-// A desk with all rows vacant.
+// A desk with all rows vacant, and nothing placed.
 fn vacant(pointer: usize, b: Table, arena: u64, store: u64) -> Desk
     ensures { λ d. ⌜ d ≡ withPointer (opened b arena store) pointer ⌝ }
 {
@@ -450,18 +536,26 @@ fn vacant(pointer: usize, b: Table, arena: u64, store: u64) -> Desk
         table: b,
         arena,
         store,
+        placed: [false; 8],
+        addresses: [0u64; 8],
     }
 }
 
 // A call begun in the guest's own window.
-fn begin_own(b: Table, registers: Registers, guest: usize, arena: &mut [u8]) -> Outcome
-    ensures { λ o. ⌜ (o ≡ begin (fed b) registers (ownWindow (now (arena .entry)) guest) .outcome) × (now (arena .exit) ≡ withOwn (now (arena .entry)) guest (begin (fed b) registers (ownWindow (now (arena .entry)) guest) .window)) ⌝ }
+fn begin_own(
+    b: Table,
+    placement: Placement,
+    registers: Registers,
+    guest: usize,
+    arena: &mut [u8],
+) -> Outcome
+    ensures { λ o. ⌜ (o ≡ begin (fed b placement) registers (ownWindow (now (arena .entry)) guest) .outcome) × (now (arena .exit) ≡ withOwn (now (arena .entry)) guest (begin (fed b placement) registers (ownWindow (now (arena .entry)) guest) .window)) ⌝ }
 {
     let m = memory::window_length(arena.len());
     let span = memory::span_of(arena.len(), guest, m);
     let start = span.start;
     let end = span.end;
-    int13::begin(b, registers, &mut arena[start..end])
+    int13::begin(b, placement, registers, &mut arena[start..end])
 }
 
 impl Desk {
@@ -556,7 +650,7 @@ impl Desk {
             };
         };
         let b = self.table;
-        let outcome = begin_own(b, registers, guest, arena);
+        let outcome = begin_own(b, self.placement(guest), registers, guest, arena);
         self.posted(guest, outcome)
     }
 
@@ -665,6 +759,50 @@ impl Desk {
         Withdrawn {
             desk: self.with_stage(guest, Stage::Vacant),
             answer: WithdrawAnswer::Given(given_back(q)),
+        }
+    }
+
+    // The desk with a guest's tables placed from an address on.
+    fn with_placement(self, guest: usize, address: u64) -> Desk
+        requires { ⌜ guest < guests ⌝ }
+        ensures { λ d. ⌜ d ≡ withPlacement self guest address ⌝ }
+    {
+        let mut next = self;
+        next.placed[guest] = true;
+        next.addresses[guest] = address;
+        next
+    }
+
+    // Places the parameter tables of all drives in a guest's window, from an address on.
+    pub fn place(self, guest: usize, address: u64, arena: &mut [u8], store: &[u8]) -> Placing
+        ensures { λ r. ⌜ (done (r .desk) (r .answer) (now (arena .exit)) (now (store .entry)) ≡ placeOf self guest address (now (arena .entry)) (now (store .entry))) × (placeNumbers (r .answer) ≡ placeGiven self guest address (now (arena .entry)) (now (store .entry))) ⌝ }
+    {
+        let number = self.house(arena.len(), store.len(), guest < GUESTS);
+        if number != 0 {
+            return Placing {
+                desk: self,
+                answer: PlaceAnswer::Refused(number),
+            };
+        }
+        let rows = self.rows;
+        let stage = stage_in(rows, guest);
+        if waits(stage) {
+            return Placing {
+                desk: self,
+                answer: PlaceAnswer::Refused(NOT_VACANT),
+            };
+        }
+        let b = self.table;
+        if !place_ok(int13::table_count(b), self.arena / 8, address) {
+            return Placing {
+                desk: self,
+                answer: PlaceAnswer::Refused(BAD_PLACE),
+            };
+        }
+        lay_tables(b, guest, address, arena);
+        Placing {
+            desk: self.with_placement(guest, address),
+            answer: PlaceAnswer::Placed,
         }
     }
 }

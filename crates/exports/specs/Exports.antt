@@ -26,15 +26,17 @@ use Rattle.desk.specs.declared.CollectAnswer.{CollectAnswer}
 use Rattle.desk.specs.declared.CollectAnswer.the-variants.{Given as CollectGiven, Refused as CollectRefused}
 use Rattle.desk.specs.declared.WithdrawAnswer.{WithdrawAnswer}
 use Rattle.desk.specs.declared.WithdrawAnswer.the-variants.{Given as WithdrawGiven, Refused as WithdrawRefused}
-use Rattle.desk.specs.Calls.{Done, notAcceptable, openOf, writtenOf, writtenOut, postOf, turnOf, collectOf, withdrawOf}
-use Rattle.desk.specs.Numbers.{openNumbers, postNumbers, turnNumbers, collectNumbers, withdrawNumbers}
+use Rattle.desk.specs.declared.PlaceAnswer.{PlaceAnswer}
+use Rattle.desk.specs.declared.PlaceAnswer.the-variants.{Placed, Refused as PlaceRefused}
+use Rattle.desk.specs.Calls.{Done, notAcceptable, openOf, writtenOf, writtenOut, postOf, turnOf, collectOf, withdrawOf, placeOf}
+use Rattle.desk.specs.Numbers.{openNumbers, postNumbers, turnNumbers, collectNumbers, withdrawNumbers, placeNumbers}
 use Rattle.image.specs.Image.{deskSize, deskOf, laid}
 
 -- ---- the version, ours and in no paper: a block is for the library of its version, since a change request may give it another form
 
--- 1 is the base; each change request adds 1
+-- 1 is the base; each change request adds 1: 2 has 2026-01
 abbrev pub version : ℕ
-version = 1
+version = 2
 
 -- what a call leaves: the number that it returns and the values behind its pointers, in the order of its parameters; and the bytes of each
 -- slice that was lent for change, in that order
@@ -145,6 +147,21 @@ withdrawEffect b o stood = effect (over (withdrawNumbers (o .answer)) (0 ∷ sto
 -- withdraw at the desk of the block
 unfoldable pub withdrawCall : List ℕ → List ℕ → List ℕ → ℕ → List ℕ → Effect
 withdrawCall b arena store guest stood = withdrawEffect b (withdrawOf (deskOf b) guest arena store) stood
+
+-- ---- place (document 02, 2026-01)
+
+-- the block after a placement: only one that was done changes it
+abbrev pub placeBlock : List ℕ → Done PlaceAnswer → PlaceAnswer → List ℕ
+placeBlock b o Placed = laid b (o .desk)
+placeBlock b o (PlaceRefused n) = b
+
+-- a placement leaves its number, the block and the arena
+abbrev pub placeEffect : List ℕ → Done PlaceAnswer → Effect
+placeEffect b o = effect (placeNumbers (o .answer)) (placeBlock b o (o .answer) ∷ o .arena ∷ [])
+
+-- place at the desk of the block
+unfoldable pub placeCall : List ℕ → List ℕ → List ℕ → ℕ → ℕ → Effect
+placeCall b arena store guest address = placeEffect b (placeOf (deskOf b) guest address arena store)
 
 -- ---- the window of a guest in an arena of that length, and CHS addresses
 

@@ -21,12 +21,12 @@ ghost use lib.ListN.{length};
 ghost use Rattle.logic.specs.Logic.{pick, both};
 ghost use Rattle.memory.specs.Window.{guests};
 ghost use Rattle.int13.specs.Steps.{fed, begin};
-ghost use Rattle.desk.specs.Parts.{ownWindow, withOwn, next};
+ghost use Rattle.desk.specs.Parts.{ownWindow, withOwn, next, placementAt};
 ghost use Rattle.desk.specs.Acceptable.{accept};
 ghost use Rattle.desk.specs.Calls.{houseNumber};
 ghost use Rattle.int13.specs.Answers.{registerNumbers};
 ghost use Rattle.image.specs.Image.{deskSize, readDesk, deskOf, putStage, putPointer};
-ghost use Rattle.exports.specs.Exports.{version, effect, openCall, writeCall, postCall, turnCall, collectCall, withdrawCall, windowCall, blockCall, addressCall};
+ghost use Rattle.exports.specs.Exports.{version, effect, openCall, writeCall, postCall, turnCall, collectCall, withdrawCall, placeCall, windowCall, blockCall, addressCall};
 
 // There is nothing to hand out yet.
 const NOTHING_YET: u32 = 256;
@@ -41,8 +41,10 @@ const NOT_FINISHED: u32 = desk::NOT_FINISHED as u32;
 
 const NOT_WAITING: u32 = desk::NOT_WAITING as u32;
 
+const BAD_PLACE: u32 = desk::BAD_PLACE as u32;
+
 // The version of the interface and of the block's form: 1 is the base, and each change request adds 1.
-const VERSION: u32 = 1;
+const VERSION: u32 = 2;
 
 // Guests are 0 to 7.
 const GUESTS: u64 = memory::GUESTS as u64;
@@ -118,27 +120,28 @@ fn number_at(desk: &[u8], arena: usize, store: usize, guest: u64) -> u8
 }
 
 // The steps of a post over the one drive that DL names.
-fn steps_at(desk: &[u8], r: Registers, window: &mut [u8]) -> Outcome
-    requires { ⌜ length (now desk) ≡ deskSize ⌝ }
-    ensures { λ o. ⌜ (o ≡ begin (fed (readDesk (now (desk .entry)) .table)) r (now (window .entry)) .outcome) × (now (window .exit) ≡ begin (fed (readDesk (now (desk .entry)) .table)) r (now (window .entry)) .window) ⌝ }
+fn steps_at(desk: &[u8], guest: usize, r: Registers, window: &mut [u8]) -> Outcome
+    requires { ⌜ (length (now desk) ≡ deskSize) × (guest < guests) ⌝ }
+    ensures { λ o. ⌜ (o ≡ begin (fed (readDesk (now (desk .entry)) .table) (placementAt (readDesk (now (desk .entry))) guest)) r (now (window .entry)) .outcome) × (now (window .exit) ≡ begin (fed (readDesk (now (desk .entry)) .table) (placementAt (readDesk (now (desk .entry))) guest)) r (now (window .entry)) .window) ⌝ }
 {
     let n = int13::dl(r);
     let known = image::is_drive(desk, n);
     let count = image::count_of(desk);
     let d = image::drive_named(desk, n);
-    int13::steps(known, count, d, r, window)
+    let shown = image::shown_of(desk, guest, n);
+    int13::steps(known, count, d, shown, r, window)
 }
 
 // The same in the guest's window of the arena.
 fn begun(desk: &[u8], guest: usize, r: Registers, arena: &mut [u8]) -> Outcome
-    requires { ⌜ length (now desk) ≡ deskSize ⌝ }
-    ensures { λ o. ⌜ (o ≡ begin (fed (readDesk (now (desk .entry)) .table)) r (ownWindow (now (arena .entry)) guest) .outcome) × (now (arena .exit) ≡ withOwn (now (arena .entry)) guest (begin (fed (readDesk (now (desk .entry)) .table)) r (ownWindow (now (arena .entry)) guest) .window)) ⌝ }
+    requires { ⌜ (length (now desk) ≡ deskSize) × (guest < guests) ⌝ }
+    ensures { λ o. ⌜ (o ≡ begin (fed (readDesk (now (desk .entry)) .table) (placementAt (readDesk (now (desk .entry))) guest)) r (ownWindow (now (arena .entry)) guest) .outcome) × (now (arena .exit) ≡ withOwn (now (arena .entry)) guest (begin (fed (readDesk (now (desk .entry)) .table) (placementAt (readDesk (now (desk .entry))) guest)) r (ownWindow (now (arena .entry)) guest) .window)) ⌝ }
 {
     let m = memory::window_length(arena.len());
     let span = memory::span_of(arena.len(), guest, m);
     let start = span.start;
     let end = span.end;
-    steps_at(desk, r, &mut arena[start..end])
+    steps_at(desk, guest, r, &mut arena[start..end])
 }
 
 fn bit(carry: bool) -> u16
@@ -325,6 +328,33 @@ pub extern "C" fn edd_withdraw(
     image::put_stage(desk, g, Stage::Vacant);
     let given = desk::given_back(q);
     hand(given, ax, bx, cx, dx, ds, si, es, carry);
+    0
+}
+
+#[no_mangle]
+pub extern "C" fn edd_place(
+    desk: &mut [u8],
+    arena: &mut [u8],
+    store: &[u8],
+    guest: u64,
+    address: u64,
+) -> u32
+    ensures { λ r. ⌜ effect (r ∷ []) (now (desk .exit) ∷ now (arena .exit) ∷ []) ≡ placeCall (now (desk .entry)) (now (arena .entry)) (now (store .entry)) guest address ⌝ }
+{
+    let number = number_at(desk, arena.len(), store.len(), guest);
+    if number != 0 {
+        return number as u32;
+    }
+    let g = guest as usize;
+    if image::is_waiting(desk, g) {
+        return NOT_VACANT;
+    }
+    let m = memory::window_length(arena.len()) as u64;
+    if !desk::place_ok(image::table_count(desk), m, address) {
+        return BAD_PLACE;
+    }
+    desk::lay_tables(image::table_of(desk), g, address, arena);
+    image::put_placement(desk, g, address);
     0
 }
 

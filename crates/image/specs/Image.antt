@@ -78,9 +78,22 @@ slotsWords drives = each driveWords drives
 abbrev pub tailWords : Desk → List ℕ
 tailWords d = d .table .count ∷ d .pointer ∷ d .arena ∷ d .store ∷ []
 
+-- marks, a word each: 1 where it holds, else 0
+abbrev pub marksWords : List Bool → List ℕ
+marksWords marks = each (λ x. pick x 1 0 ∷ []) marks
+
+-- the section of the placements (document 02, 2026-01): which guests' tables are placed, and the addresses
+abbrev pub placesWords : Desk → List ℕ
+placesWords d = marksWords (d .placed) ++ d .addresses
+
+-- the section of the drives' parameters (document 02, 2026-01): which slots have a record, and the fourteen bytes of each, one slot's behind the
+-- other's, eight bytes a word in their order
+abbrev pub parametersWords : Table → List ℕ
+parametersWords b = marksWords (b .present) ++ listed (λ j. le 8 (b .parameters) (8 * j)) 0 14
+
 -- the sections one after the other; one that is added later goes behind them, so that none of these moves
 unfoldable pub deskWords : Desk → List ℕ
-deskWords d = rowsWords (d .rows) ++ (slotsWords (d .table .drives) ++ tailWords d)
+deskWords d = rowsWords (d .rows) ++ (slotsWords (d .table .drives) ++ (tailWords d ++ (placesWords d ++ parametersWords (d .table))))
 
 -- the image of a desk
 unfoldable pub image : Desk → List ℕ
@@ -108,9 +121,25 @@ slotAt i = rowAt 8 + slotSize * i
 abbrev pub tailAt : ℕ → ℕ
 tailAt j = slotAt 8 + 8 * j
 
--- the whole block, 2400 bytes
+-- guest g's mark of placement, behind them
+abbrev pub markAt : ℕ → ℕ
+markAt g = tailAt 4 + 8 * g
+
+-- and the address, behind the eight marks
+abbrev pub addressAt : ℕ → ℕ
+addressAt g = markAt 8 + 8 * g
+
+-- the mark of slot i's parameters, behind the eight addresses
+abbrev pub presentAt : ℕ → ℕ
+presentAt i = addressAt 8 + 8 * i
+
+-- slot i's fourteen bytes, behind the eight marks
+abbrev pub bytesAt : ℕ → ℕ
+bytesAt i = presentAt 8 + 14 * i
+
+-- the whole block, 2704 bytes
 abbrev pub deskSize : ℕ
-deskSize = tailAt 4
+deskSize = bytesAt 8
 
 -- the number of drives
 abbrev pub countAt : ℕ
@@ -201,13 +230,30 @@ readRows b = listed (λ g. readRow b (rowAt g)) 0 8
 abbrev pub readSlots : List ℕ → List Drive
 readSlots b = listed (λ i. readDrive b (slotAt i)) 0 8
 
--- the table: its slots, and the number of drives among the last words
+-- eight marks, a word each, from a place on; any word but 1 says no
+abbrev pub readMarks : List ℕ → ℕ → List Bool
+readMarks b at = listed (λ i. eqb (getD b (at + 8 * i) 0) 1) 0 8
+
+-- the eight addresses
+abbrev pub readAddresses : List ℕ → List ℕ
+readAddresses b = listed (λ g. le 8 b (addressAt g)) 0 8
+
+-- the table: its slots, the number of drives among the last words, and the drives' parameters
 abbrev pub blockTable : List ℕ → Table
-blockTable b = record { drives = readSlots b; count = le 8 b countAt }
+blockTable b = record { drives = readSlots b; count = le 8 b countAt; present = readMarks b (presentAt 0); parameters = part 112 b (bytesAt 0) }
 
 -- the desk that the sections say
 unfoldable pub readDesk : List ℕ → Desk
-readDesk b = record { rows = readRows b; pointer = le 8 b pointerAt; table = blockTable b; arena = le 8 b arenaAt; store = le 8 b storeAt }
+readDesk b =
+    record {
+      rows = readRows b;
+      pointer = le 8 b pointerAt;
+      table = blockTable b;
+      arena = le 8 b arenaAt;
+      store = le 8 b storeAt;
+      placed = readMarks b (markAt 0);
+      addresses = readAddresses b;
+    }
 
 -- ---- "Calls the host makes", the desk block: which blocks are accepted
 
@@ -236,6 +282,10 @@ putStage b g s = sets b (rowAt g) (flat (stageWords s))
 -- the pointer's word
 unfoldable pub putPointer : List ℕ → ℕ → List ℕ
 putPointer b pointer = sets b pointerAt (leBytes 8 pointer)
+
+-- a guest's mark of placement, and its address
+unfoldable pub putPlacement : List ℕ → ℕ → ℕ → List ℕ
+putPlacement b g address = sets (sets b (markAt g) (leBytes 8 1)) (addressAt g) (leBytes 8 address)
 
 -- ---- "Calls the host makes", the desk block: each number of a desk fits its width, each array has its length, as the types say
 
@@ -275,13 +325,16 @@ pub record FitsDrive (d : Drive) : Type 0 where
   pub path : Bytes (d .path)
   pub device : Bytes (d .device)
 
--- eight slots, and a number of drives
+-- eight slots, a number of drives, a mark of parameters for each slot, and fourteen bytes for each
 pub record FitsTable (b : Table) : Type 0 where
   pub eight : length (b .drives) ≡ 8
   pub each : (i : ℕ) → i < 8 → FitsDrive (getD (b .drives) i noDrive)
   pub count : b .count < 256 ^ 8
+  pub present : length (b .present) ≡ 8
+  pub parameters : length (b .parameters) ≡ 112
+  pub bytes : Bytes (b .parameters)
 
--- eight rows, and the other numbers
+-- eight rows, the other numbers, and a mark and an address for each guest
 pub record FitsDesk (d : Desk) : Type 0 where
   pub eight : length (d .rows) ≡ 8
   pub each : (g : ℕ) → g < 8 → FitsStage (stageAt d g)
@@ -289,6 +342,9 @@ pub record FitsDesk (d : Desk) : Type 0 where
   pub pointer : d .pointer < 256 ^ 8
   pub arena : d .arena < 256 ^ 8
   pub store : d .store < 256 ^ 8
+  pub placed : length (d .placed) ≡ 8
+  pub addresses : length (d .addresses) ≡ 8
+  pub address : (g : ℕ) → getD (d .addresses) g 0 < 256 ^ 8
 
 -- ---- "Calls the host makes", the desk block: the two ways round, of which one is about every block and the other about every desk
 

@@ -4,17 +4,19 @@
 use Prim.Native.Nat.{ℕ, zero, suc, _+_, _-_, _*_, _/_, _^_}
 use mathlib.Core.Bool.{Bool, true, false}
 use mathlib.Core.List.{List}
-use lib.ListN.{length}
+use lib.ListN.{length, getD}
 use lib.Dec.{leb, ltb, eqb}
 use Rattle.logic.specs.Logic.{pick, both, either, allBelow}
 use Rattle.words.specs.Words.{le}
 use Rattle.drive.specs.Drive.{fieldsOk, inStore}
 use Rattle.memory.specs.Window.{guests, windowLength}
 use Rattle.memory.specs.Blocks.{blockLength}
+use Rattle.attached.specs.Parameters.{givenLength}
 use Rattle.table.specs.Table.{mostDrives}
+use Rattle.int13.specs.declared.Placement.{Placement}
 use Rattle.desk.specs.declared.Stage.the-variants.{Waiting}
-use Rattle.desk.specs.Acceptable.{stageOk}
-use Rattle.image.specs.Image.{rowAt, slotAt, deskSize, countAt, pointerAt, arenaAt, storeAt, requestPlace, finishedPlace, requestAt, readDrive, readDesk}
+use Rattle.desk.specs.Acceptable.{stageOk, placementOk}
+use Rattle.image.specs.Image.{rowAt, slotAt, deskSize, countAt, pointerAt, arenaAt, storeAt, markAt, addressAt, presentAt, bytesAt, requestPlace, finishedPlace, requestAt, readDrive, readDesk}
 
 -- ---- "Calls the host makes", the desk block: words within the width of their fields
 
@@ -101,6 +103,39 @@ rowGood b M i =
 unfoldable pub rowsGood : ℕ → List ℕ → ℕ → Bool
 rowsGood n b M = allBelow n (λ g. rowGood b M (rowAt g))
 
+-- ---- document 02, 2026-01: parameters and placements in a block
+
+-- slot i has a record of parameters
+abbrev pub presentIn : List ℕ → ℕ → Bool
+presentIn b i = eqb (le 8 b (presentAt i)) 1
+
+-- n bytes from a place are zero
+unfoldable pub zeroBytes : ℕ → List ℕ → ℕ → Bool
+zeroBytes n b at = allBelow n (λ j. eqb (getD b (at + j) 0) 0)
+
+-- only slots with a drive have parameters, and a slot without has zeros for them
+unfoldable pub parametersGood : ℕ → ℕ → List ℕ → Bool
+parametersGood n count b = allBelow n (λ i. pick (presentIn b i) (ltb i count) (zeroBytes givenLength b (bytesAt i)))
+
+-- how many of the first n slots have parameters
+unfoldable pub presentTo : ℕ → List ℕ → ℕ
+presentTo zero b = 0
+presentTo (suc n) b = presentTo n b + pick (presentIn b n) 1 0
+
+-- guest g's placement
+abbrev pub placementIn : List ℕ → ℕ → Placement
+placementIn b g = record { placed = eqb (le 8 b (markAt g)) 1; address = le 8 b (addressAt g) }
+
+-- the first n guests have good places for so many tables
+unfoldable pub placesGood : ℕ → ℕ → List ℕ → ℕ → Bool
+placesGood n tables b M = allBelow n (λ g. placementOk tables M (placementIn b g))
+
+-- the marks are 0 or 1, and what they mark is good
+unfoldable pub moreGood : List ℕ → ℕ → Bool
+moreGood b M =
+    both (both (below guests 2 b (markAt 0)) (below mostDrives 2 b (presentAt 0)))
+    (both (parametersGood mostDrives (le 8 b countAt) b) (placesGood guests (presentTo mostDrives b) b M))
+
 -- ---- "Calls the host makes", the desk block: which are accepted
 
 -- at most eight drives that obey the rules, zeros past them, no two with a common block
@@ -111,10 +146,10 @@ tableGood b =
     (both (restZero mostDrives (le 8 b countAt) b)
     (drivesApart (le 8 b countAt) b)))
 
--- a block of the size whose table, pointer and rows are good
+-- a block of the size whose table, pointer and rows are good, and the parameters and placements behind them
 unfoldable pub judged : List ℕ → Bool
 judged b =
     both (eqb (length b) deskSize)
     (both (tableGood b)
     (both (ltb (le 8 b pointerAt) guests)
-    (rowsGood guests b (windowLength (le 8 b arenaAt)))))
+    (both (rowsGood guests b (windowLength (le 8 b arenaAt))) (moreGood b (windowLength (le 8 b arenaAt))))))

@@ -7,22 +7,27 @@ use desk::Row;
 use desk::Stage;
 use drive::Drive;
 use int13::Job;
+use int13::Placement;
 use int13::Registers;
+use int13::Shown;
 use table::Table;
 ghost use mathlib.Core.Path.{_≡_};
 ghost use Prim.Native.Nat.{_+_, _*_, _≤_, _<_};
-ghost use lib.ListN.{length};
+ghost use lib.ListN.{length, getD};
+ghost use mathlib.Core.List.{_++_};
 ghost use lib.Seq.{sets};
 ghost use lib.Dec.{eqb};
 ghost use Rattle.logic.specs.Logic.{pick, both};
-ghost use Rattle.table.specs.Table.{mostDrives};
+ghost use Rattle.words.specs.Words.{part};
+ghost use Rattle.table.specs.Table.{mostDrives, parametersTo};
 ghost use Rattle.desk.specs.declared.Stage.the-variants.{Waiting, Finished};
-ghost use Rattle.desk.specs.Parts.{stageAt};
+ghost use Rattle.desk.specs.Parts.{stageAt, isWaiting, placementAt};
 ghost use Rattle.desk.specs.Calls.{firstWaiting};
 ghost use Rattle.memory.specs.Window.{guests};
-ghost use Rattle.int13.specs.Steps.{firstDrive, driveCount, isDrive, driveAt};
-ghost use Rattle.image.specs.Image.{rowSize, slotSize, slotAt, deskSize, each, flat, stageWords, rowWords, driveWords, image, registersAt, requestAt, readStage, readDrive, readDesk, accepted, laid, putStage, putPointer};
-ghost use Rattle.image.specs.Judged.{below, areRegisters, isRequest, isSlot, driveGood, drivesGood, restZero, firstIn, blocksIn, apart, aloneTo, drivesApart, follows, ascending, waitingGood, finishedGood, rowGood, rowsGood, tableGood};
+ghost use Rattle.int13.specs.Placement.{tableCount};
+ghost use Rattle.int13.specs.Steps.{firstDrive, driveCount, isDrive, driveAt, shownOf};
+ghost use Rattle.image.specs.Image.{rowSize, slotSize, slotAt, deskSize, each, flat, stageWords, rowWords, driveWords, image, registersAt, requestAt, readStage, readDrive, readMarks, readDesk, accepted, laid, putStage, putPointer, markAt, presentAt, bytesAt, marksWords, placesWords, parametersWords, putPlacement};
+ghost use Rattle.image.specs.Judged.{below, areRegisters, isRequest, isSlot, driveGood, drivesGood, restZero, firstIn, blocksIn, apart, aloneTo, drivesApart, follows, ascending, waitingGood, finishedGood, rowGood, rowsGood, tableGood, zeroBytes, parametersGood, presentTo, placesGood, moreGood};
 
 // Rows of a desk and slots of a table.
 const GUESTS: usize = memory::GUESTS;
@@ -47,8 +52,20 @@ const ARENA: usize = TAIL + 16;
 
 const STORE: usize = TAIL + 24;
 
+// Behind them, eight words each: the guests' marks of placement, their addresses, the slots' marks of parameters; then the slots' bytes.
+const MARKS: usize = TAIL + 32;
+
+const ADDRESSES: usize = MARKS + 8 * GUESTS;
+
+const PRESENT: usize = ADDRESSES + 8 * GUESTS;
+
+const BYTES: usize = PRESENT + 8 * MOST_DRIVES;
+
+// Bytes of the parameters of all slots.
+const GIVEN: usize = attached::GIVEN_LENGTH * MOST_DRIVES;
+
 // Bytes of a block.
-pub const SIZE: usize = TAIL + 32;
+pub const SIZE: usize = BYTES + GIVEN;
 
 // The BIOS number of the first drive; bytes of a block of the store.
 const FIRST_DRIVE: u8 = int13::FIRST_DRIVE;
@@ -134,6 +151,43 @@ fn drive_in(b: &[u8], i: usize) -> Drive
     drive_at(b, SLOTS + SLOT * i)
 }
 
+// Whether the mark at a place says yes.
+fn mark_at(b: &[u8], at: usize) -> bool
+    requires { ⌜ at + 8 ≤ length (now b) ⌝ }
+    ensures { λ r. ⌜ r ≡ eqb (getD (now (b .entry)) at 0) 1 ⌝ }
+{
+    b[at] == 1
+}
+
+// Which slots have parameters.
+fn present_of(b: &[u8]) -> [bool; 8]
+    requires { ⌜ length (now b) ≡ deskSize ⌝ }
+    ensures { λ r. ⌜ r ≡ readMarks (now (b .entry)) (presentAt 0) ⌝ }
+{
+    [
+        mark_at(b, PRESENT),
+        mark_at(b, PRESENT + 8),
+        mark_at(b, PRESENT + 16),
+        mark_at(b, PRESENT + 24),
+        mark_at(b, PRESENT + 32),
+        mark_at(b, PRESENT + 40),
+        mark_at(b, PRESENT + 48),
+        mark_at(b, PRESENT + 56),
+    ]
+}
+
+// The bytes of all slots.
+fn parameters_of(b: &[u8]) -> [u8; 112]
+    requires { ⌜ length (now b) ≡ deskSize ⌝ }
+    ensures { λ r. ⌜ r ≡ part 112 (now (b .entry)) (bytesAt 0) ⌝ }
+{
+    let from = BYTES;
+    let end = SIZE;
+    let mut p = [0u8; 112];
+    words::store(&mut p, 0, &b[from..end]);
+    p
+}
+
 pub fn table_of(b: &[u8]) -> Table
     requires { ⌜ length (now b) ≡ deskSize ⌝ }
     ensures { λ r. ⌜ r ≡ readDesk (now (b .entry)) .table ⌝ }
@@ -151,6 +205,8 @@ pub fn table_of(b: &[u8]) -> Table
     Table {
         drives,
         count: words::get64(b, COUNT) as usize,
+        present: present_of(b),
+        parameters: parameters_of(b),
     }
 }
 
@@ -171,6 +227,14 @@ pub fn stage_of(b: &[u8], guest: usize) -> Stage
     ensures { λ r. ⌜ r ≡ stageAt (readDesk (now (b .entry))) guest ⌝ }
 {
     stage_at(b, ROW * guest)
+}
+
+// Whether a guest's row waits, by the number of its stage.
+pub fn is_waiting(b: &[u8], guest: usize) -> bool
+    requires { ⌜ (length (now b) ≡ deskSize) × (guest < guests) ⌝ }
+    ensures { λ r. ⌜ r ≡ isWaiting (stageAt (readDesk (now (b .entry))) guest) ⌝ }
+{
+    b[ROW * guest] == 1
 }
 
 // The first waiting row at or after the pointer, by the numbers of the stages.
@@ -217,6 +281,61 @@ pub fn drive_named(b: &[u8], n: u8) -> Drive
         return drive_in(b, (n - FIRST_DRIVE) as usize);
     }
     drive_in(b, 0)
+}
+
+// A guest's placement.
+fn placement_of(b: &[u8], guest: usize) -> Placement
+    requires { ⌜ (length (now b) ≡ deskSize) × (guest < guests) ⌝ }
+    ensures { λ p. ⌜ p ≡ placementAt (readDesk (now (b .entry))) guest ⌝ }
+{
+    Placement {
+        placed: mark_at(b, MARKS + 8 * guest),
+        address: words::get64(b, ADDRESSES + 8 * guest),
+    }
+}
+
+// How many of the first n slots have parameters. Its callers ask for at most eight.
+fn tables_before(b: &[u8], n: usize) -> u8
+    requires { ⌜ (length (now b) ≡ deskSize) × (n ≤ mostDrives) ⌝ }
+    ensures { λ r. ⌜ (r ≡ parametersTo n (readDesk (now (b .entry)) .table)) × (r ≤ n) ⌝ }
+{
+    let mut count = 0u8;
+    let mut i = 0;
+    while i < n {
+        if mark_at(b, PRESENT + 8 * i) {
+            count += 1;
+        }
+        i += 1;
+    }
+    count
+}
+
+// How many parameter tables there are.
+pub fn table_count(b: &[u8]) -> u8
+    requires { ⌜ length (now b) ≡ deskSize ⌝ }
+    ensures { λ r. ⌜ r ≡ tableCount (readDesk (now (b .entry)) .table) ⌝ }
+{
+    tables_before(b, MOST_DRIVES)
+}
+
+// What a guest is shown of the drive of a BIOS number.
+pub fn shown_of(b: &[u8], guest: usize, n: u8) -> Shown
+    requires { ⌜ (length (now b) ≡ deskSize) × (guest < guests) ⌝ }
+    ensures { λ s. ⌜ s ≡ shownOf (readDesk (now (b .entry)) .table) (placementAt (readDesk (now (b .entry))) guest) n ⌝ }
+{
+    let none = Shown {
+        table: false,
+        segment: 0,
+    };
+    let p = placement_of(b, guest);
+    if !logic::and(p.placed, is_drive(b, n)) {
+        return none;
+    }
+    let i = (n - FIRST_DRIVE) as usize;
+    if !mark_at(b, PRESENT + 8 * i) {
+        return none;
+    }
+    int13::shown_at(p.address, tables_before(b, i))
 }
 
 // ---- a block judged on its words: no desk is made of it, and every width is a test of a word
@@ -443,6 +562,88 @@ fn rows_good(b: &[u8], m: u64) -> bool
     true
 }
 
+// n bytes from a place are zero.
+fn zero_bytes(b: &[u8], at: usize, n: usize) -> bool
+    requires { ⌜ at + n ≤ length (now b) ⌝ }
+    ensures { λ r. ⌜ r ≡ zeroBytes n (now (b .entry)) at ⌝ }
+{
+    let mut zero = true;
+    let mut j = 0;
+    while j < n {
+        zero = logic::and(b[at + j] == 0, zero);
+        j += 1;
+    }
+    zero
+}
+
+fn parameters_good(b: &[u8], count: usize) -> bool
+    requires { ⌜ length (now b) ≡ deskSize ⌝ }
+    ensures { λ r. ⌜ r ≡ parametersGood mostDrives count (now (b .entry)) ⌝ }
+{
+    let mut i = 0;
+    while i < MOST_DRIVES {
+        if words::get64(b, PRESENT + 8 * i) == 1 {
+            if count <= i {
+                return false;
+            }
+        } else {
+            if !zero_bytes(b, BYTES + attached::GIVEN_LENGTH * i, attached::GIVEN_LENGTH) {
+                return false;
+            }
+        }
+        i += 1;
+    }
+    true
+}
+
+fn present_to(b: &[u8]) -> u8
+    requires { ⌜ length (now b) ≡ deskSize ⌝ }
+    ensures { λ r. ⌜ r ≡ presentTo mostDrives (now (b .entry)) ⌝ }
+{
+    let mut count = 0u8;
+    let mut i = 0;
+    while i < MOST_DRIVES {
+        if words::get64(b, PRESENT + 8 * i) == 1 {
+            count += 1;
+        }
+        i += 1;
+    }
+    count
+}
+
+fn places_good(b: &[u8], tables: u8, m: u64) -> bool
+    requires { ⌜ length (now b) ≡ deskSize ⌝ }
+    ensures { λ r. ⌜ r ≡ placesGood guests tables (now (b .entry)) m ⌝ }
+{
+    let mut good = true;
+    let mut g = 0;
+    while g < GUESTS {
+        let p = Placement {
+            placed: words::get64(b, MARKS + 8 * g) == 1,
+            address: words::get64(b, ADDRESSES + 8 * g),
+        };
+        good = logic::and(desk::placement_ok(tables, m, p), good);
+        g += 1;
+    }
+    good
+}
+
+// What stands behind the last words. Most blocks have zeros there.
+fn more_good(b: &[u8], m: u64) -> bool
+    requires { ⌜ length (now b) ≡ deskSize ⌝ }
+    ensures { λ r. ⌜ r ≡ moreGood (now (b .entry)) m ⌝ }
+{
+    if below(b, MARKS, 38, 1) {
+        return true;
+    }
+    let marks = logic::and(below(b, MARKS, GUESTS, 2), below(b, PRESENT, MOST_DRIVES, 2));
+    if !marks {
+        return false;
+    }
+    let parameters = parameters_good(b, words::get64(b, COUNT) as usize);
+    logic::and(parameters, places_good(b, present_to(b), m))
+}
+
 // Whether a block is the image of an acceptable desk.
 pub fn acceptable(b: &[u8]) -> bool
     ensures { λ r. ⌜ r ≡ accepted (now (b .entry)) ⌝ }
@@ -456,7 +657,11 @@ pub fn acceptable(b: &[u8]) -> bool
     if !table_good(b) {
         return false;
     }
-    rows_good(b, words::get64(b, ARENA) / 8)
+    let m = words::get64(b, ARENA) / 8;
+    if !rows_good(b, m) {
+        return false;
+    }
+    more_good(b, m)
 }
 
 // ---- the words of a desk, laid out
@@ -620,6 +825,49 @@ pub fn put_pointer(b: &mut [u8], pointer: usize)
     words::store64(b, POINTER, pointer as u64);
 }
 
+// A guest's tables are placed from an address on: only its mark and its address are written.
+pub fn put_placement(b: &mut [u8], guest: usize, address: u64)
+    requires { ⌜ (length (now b) ≡ deskSize) × (guest < guests) ⌝ }
+    ensures { λ _. ⌜ now (b .exit) ≡ putPlacement (now (b .entry)) guest address ⌝ }
+{
+    words::store64(b, MARKS + 8 * guest, 1);
+    words::store64(b, ADDRESSES + 8 * guest, address);
+}
+
+// Lays eight marks out, a word each.
+fn put_marks(out: &mut [u8], at: usize, marks: [bool; 8])
+    requires { ⌜ at + 64 ≤ length (now out) ⌝ }
+    ensures { λ _. ⌜ now (out .exit) ≡ sets (now (out .entry)) at (flat (marksWords marks)) ⌝ }
+{
+    let w = [
+        bit(marks[0]),
+        bit(marks[1]),
+        bit(marks[2]),
+        bit(marks[3]),
+        bit(marks[4]),
+        bit(marks[5]),
+        bit(marks[6]),
+        bit(marks[7]),
+    ];
+    put_words(out, at, &w);
+}
+
+// The sections behind the last words.
+fn put_more(d: Desk, out: &mut [u8])
+    requires { ⌜ length (now out) ≡ deskSize ⌝ }
+    ensures { λ _. ⌜ now (out .exit) ≡ sets (now (out .entry)) (markAt 0) (flat (placesWords d ++ parametersWords (d .table))) ⌝ }
+{
+    let b = d.table;
+    let placed = d.placed;
+    let addresses = d.addresses;
+    let present = b.present;
+    let parameters = b.parameters;
+    put_marks(out, MARKS, placed);
+    put_words(out, ADDRESSES, &addresses);
+    put_marks(out, PRESENT, present);
+    words::store(out, BYTES, &parameters);
+}
+
 // Lays a desk out in a block of its size.
 fn lay(d: Desk, out: &mut [u8])
     requires { ⌜ length (now out) ≡ deskSize ⌝ }
@@ -632,6 +880,7 @@ fn lay(d: Desk, out: &mut [u8])
     put_drives(out, drives);
     let tail = [b.count as u64, d.pointer as u64, d.arena, d.store];
     put_words(out, TAIL, &tail);
+    put_more(d, out);
 }
 
 // Lays a desk out in a block; a block of another size stays.

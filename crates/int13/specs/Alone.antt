@@ -74,6 +74,7 @@ finish b (Waits j) w m = record { registers = succeed (j .registers); memory = m
 abbrev pub servedBy : Feeds Table → Registers → Memory → Served
 servedBy f r m = finish (f .table) (begin f r (m .window) .outcome) (begin f r (m .window) .window) m
 
--- fed the opening's table bytes, the post's registers, and the guest's window and the store as the post found them
+-- fed the opening's table bytes, the guest's placement at the post, the post's registers, and the guest's window and the store as the post found
+-- them
 unfoldable pub alone : Feeds (List ℕ) → Registers → Memory → Served
-alone f r m = servedBy (fed (readTable (f .table) (length (m .store) / blockLength) .table)) r m
+alone f r m = servedBy (fed (readTable (f .table) (length (m .store) / blockLength) .table) (f .placement)) r m

@@ -14,6 +14,7 @@ use Rattle.table.specs.declared.Answer.the-variants.{Accepted}
 use Rattle.table.specs.Table.{readTable}
 use Rattle.int13.specs.declared.Registers.{Registers}
 use Rattle.int13.specs.declared.Job.{Job}
+use Rattle.int13.specs.declared.Placement.{Placement}
 use Rattle.int13.specs.declared.Outcome.the-variants.{Waits}
 use Rattle.int13.specs.Answers.{ah, isSectors}
 use Rattle.int13.specs.Steps.{fed, begin}
@@ -64,10 +65,10 @@ pub record AloneBytes (b : Table) (r : Registers) (m : Memory) (s : Served) : Ty
   pub reads : (ah r ≡ 0x02) ⊎ (ah r ≡ 0x42) → ReadBytes (asked r (m .window)) (namedFrom b r (m .window)) (askedBuffer r (m .window)) m (s .memory)
   pub writes : (ah r ≡ 0x03) ⊎ (ah r ≡ 0x43) → WrittenBytes (asked r (m .window)) (namedFrom b r (m .window)) (askedBuffer r (m .window)) m (s .memory)
 
--- for every table that an opening accepts, registers, window and store: where the steps let the call wait, served alone moves those bytes
+-- for every table that an opening accepts, placement, registers, window and store: where the steps let the call wait, served alone moves those bytes
 abbrev pub AloneMoves : Type 0
 AloneMoves =
-    (t : List ℕ) (r : Registers) (m : Memory) (j : Job)
+    (t : List ℕ) (p : Placement) (r : Registers) (m : Memory) (j : Job)
     → readTable t (length (m .store) / 512) .answer ≡ Accepted
-    → begin (fed (readTable t (length (m .store) / 512) .table)) r (m .window) .outcome ≡ Waits j
-    → AloneBytes (readTable t (length (m .store) / 512) .table) r m (alone (fed t) r m)
+    → begin (fed (readTable t (length (m .store) / 512) .table) p) r (m .window) .outcome ≡ Waits j
+    → AloneBytes (readTable t (length (m .store) / 512) .table) r m (alone (fed t p) r m)

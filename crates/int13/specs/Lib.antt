@@ -1,4 +1,5 @@
 pub mod Answers
+pub mod Placement
 pub mod Steps
 pub mod Numbers
 pub mod Alone

@@ -63,10 +63,12 @@ parametersGiven known count d r =
 
 -- ---- "Steps of each function", 41h
 
--- drive known and BX = 55AAh: AX = 3000h, BX = AA55h, CX = 0001h, carry clear; else 01h
-unfoldable pub checkGiven : Bool → Registers → List ℕ
-checkGiven known r =
-    pick (both known (eqb (r .bx) 0x55AA)) (0 ∷ 0x3000 ∷ 0xAA55 ∷ 0x0001 ∷ r .dx ∷ r .ds ∷ r .si ∷ r .es ∷ 0 ∷ []) (refusedNumbers 0x01 r)
+-- drive known and BX = 55AAh: AX = 3000h, BX = AA55h, CX = 0001h, carry clear; else 01h. CX = 0005h where the guest finds a table of the drive
+unfoldable pub checkGiven : Bool → Bool → Registers → List ℕ
+checkGiven known table r =
+    pick (both known (eqb (r .bx) 0x55AA))
+    (0 ∷ 0x3000 ∷ 0xAA55 ∷ pick table 0x0005 0x0001 ∷ r .dx ∷ r .ds ∷ r .si ∷ r .es ∷ 0 ∷ [])
+    (refusedNumbers 0x01 r)
 
 -- ---- "Steps of each function", 42h, 43h, 44h
 
@@ -123,16 +125,19 @@ bufferGiven known d r w =
 -- ---- "Steps of each function", every function by AH
 
 -- a function that is not named is 01h
-unfoldable pub stepsGiven : Bool → ℕ → Drive → Registers → List ℕ → List ℕ
-stepsGiven known count d r w =
+unfoldable pub stepsGiven : Bool → ℕ → Drive → Bool → Registers → List ℕ → List ℕ
+stepsGiven known count d table r w =
     pick (either (eqb (ah r) 0x02) (eqb (ah r) 0x03)) (sectorsGiven known d r (length w))
     (pick (eqb (ah r) 0x08) (parametersGiven known count d r)
-    (pick (eqb (ah r) 0x41) (checkGiven known r)
+    (pick (eqb (ah r) 0x41) (checkGiven known table r)
     (pick (either (eqb (ah r) 0x42) (either (eqb (ah r) 0x43) (eqb (ah r) 0x44))) (extendedGiven known d r w)
     (pick (eqb (ah r) 0x47) (seekGiven known d r w)
     (pick (eqb (ah r) 0x48) (bufferGiven known d r w)
     (refusedNumbers 0x01 r))))))
 
--- at a table: over the drive that DL names
-unfoldable pub beginGiven : Table → Registers → List ℕ → List ℕ
-beginGiven b r w = stepsGiven (isDrive b (r .dx % 256)) (driveCount b) (driveAt b (r .dx % 256)) r w
+-- at a table, for a guest with placement or without: over the drive that DL names. The guest finds a table of a drive that has a record of
+-- parameters
+unfoldable pub beginGiven : Table → Bool → Registers → List ℕ → List ℕ
+beginGiven b placed r w =
+    stepsGiven (isDrive b (r .dx % 256)) (driveCount b) (driveAt b (r .dx % 256))
+    (both (isDrive b (r .dx % 256)) (both placed (getD (b .present) (r .dx % 256 - 0x80) false))) r w

@@ -1,5 +1,6 @@
 -- Document 01, "Steps of each function": the tests of each function in the paper's order, over the one drive that DL names. M is the length
--- of the guest's window; `known`: whether the table has the drive; d: that drive, any one where it is not known.
+-- of the guest's window; `known`: whether the table has the drive; d: that drive, any one where it is not known; s: what the guest is shown of
+-- the drive's parameter table (document 02, 2026-01).
 -- Assumes nothing.
 use Prim.Native.Nat.{ℕ, _+_, _-_, _*_, _/_, _%_}
 use mathlib.Core.Bool.{Bool, true, false, not}
@@ -22,26 +23,30 @@ use Rattle.layout.specs.declared.PacketRead.the-variants.{Whole, Refused as NoP
 use Rattle.layout.specs.declared.ResultAnswer.{ResultAnswer}
 use Rattle.layout.specs.declared.ResultAnswer.the-variants.{Written, Refused as NoResult}
 use Rattle.layout.specs.Packet.{linear, badParameter, packetLength, readPacket}
-use Rattle.layout.specs.ResultBuffer.{noPointer, resultAnswer, resultOut}
+use Rattle.layout.specs.ResultBuffer.{resultAnswer, resultOut}
 use Rattle.memory.specs.Blocks.{blockLength}
 use Rattle.int13.specs.declared.Registers.{Registers}
 use Rattle.int13.specs.declared.Job.{Job}
+use Rattle.int13.specs.declared.Placement.{Placement}
+use Rattle.int13.specs.declared.Shown.{Shown}
 use Rattle.int13.specs.declared.Outcome.{Outcome}
 use Rattle.int13.specs.declared.Outcome.the-variants.{Answered, Waits}
 use Rattle.int13.specs.declared.Plan.{Plan}
 use Rattle.int13.specs.declared.Plan.the-variants.{Refuse, Clear, Finish, Wait}
+use Rattle.int13.specs.Placement.{notShown, shownIn, pointerOf}
 use Rattle.int13.specs.Answers.{writeProtected, noParameters, badBuffer, ah, al, dl, isWrite, answer, succeed, refuse, posted}
 
 -- ---- "Steps of each function", what they are fed and what they make of a call
 
 -- What a call is fed beside its registers and its guest's memory: the drive table, T its form (the opening's bytes, or the table read from
--- them). A feed that a later paper adds is a field more.
+-- them), and the guest's placement at the post (document 02, 2026-01). A feed that a later paper adds is a field more.
 pub record Feeds (T : Type 0) : Type 0 where
   pub table : T
+  pub placement : Placement
 
--- fed that table
-abbrev pub fed : {T : Type 0} → T → Feeds T
-fed t = record { table = t }
+-- fed that table and that placement
+abbrev pub fed : {T : Type 0} → T → Placement → Feeds T
+fed t p = record { table = t; placement = p }
 
 -- what the steps make of a call: answered at once or waiting, and the guest's window afterwards
 pub record Checked : Type 0 where
@@ -77,6 +82,10 @@ driveIn b n = getD (b .drives) (n % mostDrives) noDrive
 -- the drive that DL names
 abbrev pub driveNamed : Table → Registers → Drive
 driveNamed b r = driveAt b (dl r)
+
+-- what a guest with that placement is shown of the drive of a number; of a number that is no drive's, nothing
+unfoldable pub shownOf : Table → Placement → ℕ → Shown
+shownOf b p n = pick (isDrive b n) (shownIn b p (n - firstDrive)) notShown
 
 -- ---- "Steps of each function", 42h, 43h, 44h
 
@@ -193,13 +202,13 @@ parameters known count d r = pick known (Answered (geometryGiven d count r)) (An
 
 -- ---- "Steps of each function", 41h
 
--- AX = 3000h, BX = AA55h, CX = 0001h
-abbrev pub extensionsGiven : Registers → Registers
-extensionsGiven r = record { ax = 0x3000; bx = 0xAA55; cx = 0x0001; dx = r .dx; ds = r .ds; si = r .si; es = r .es; carry = false }
+-- AX = 3000h, BX = AA55h, CX = 0001h, with bit 2 too where the guest finds the drive's parameter table (document 02, 2026-01)
+abbrev pub extensionsGiven : Shown → Registers → Registers
+extensionsGiven s r = record { ax = 0x3000; bx = 0xAA55; cx = pick (s .table) 0x0005 0x0001; dx = r .dx; ds = r .ds; si = r .si; es = r .es; carry = false }
 
 -- 41h: drive known and BX = 55AAh, else 01h
-unfoldable pub extensions : Bool → Registers → Outcome
-extensions known r = pick (both known (eqb (r .bx) 0x55AA)) (Answered (extensionsGiven r)) (Answered (refuse badParameter r))
+unfoldable pub extensions : Bool → Shown → Registers → Outcome
+extensions known s r = pick (both known (eqb (r .bx) 0x55AA)) (Answered (extensionsGiven s r)) (Answered (refuse badParameter r))
 
 -- ---- "Steps of each function", 48h
 
@@ -209,33 +218,34 @@ resultGiven (NoResult code) r = Answered (refuse code r)
 resultGiven (Written n) r = Answered (succeed r)
 
 -- the word at a place is the buffer's size; the result goes there, and what stands before and behind it stays
-abbrev pub resultSteps : Drive → Registers → List ℕ → ℕ → Checked
-resultSteps d r w place =
+abbrev pub resultSteps : Drive → Shown → Registers → List ℕ → ℕ → Checked
+resultSteps d s r w place =
     record {
       outcome = resultGiven (resultAnswer d (le 2 w place) (length (drop place w))) r;
-      window = take place w ++ resultOut d noPointer (le 2 w place) (drop place w);
+      window = take place w ++ resultOut d (pointerOf s) (le 2 w place) (drop place w);
     }
 
 -- 48h: drive; the word at DS:SI inside the window; then the result
-unfoldable pub result : Bool → Drive → Registers → List ℕ → Checked
-result known d r w =
+unfoldable pub result : Bool → Drive → Shown → Registers → List ℕ → Checked
+result known d s r w =
     pick (not known) (unchanged w (Answered (refuse badParameter r)))
     (pick (ltb (length w) (packetPlace r + 2)) (unchanged w (Answered (refuse badParameter r)))
-    (resultSteps d r w (packetPlace r)))
+    (resultSteps d s r w (packetPlace r)))
 
 -- ---- "Steps of each function", every function by AH
 
--- the steps of a call over one drive: whether DL names it, of how many, and which it is; an unknown function is 01h
-unfoldable pub steps : Bool → ℕ → Drive → Registers → List ℕ → Checked
-steps known count d r w =
+-- the steps of a call over one drive: whether DL names it, of how many, which it is, and what the guest is shown of its parameter table; an
+-- unknown function is 01h
+unfoldable pub steps : Bool → ℕ → Drive → Shown → Registers → List ℕ → Checked
+steps known count d s r w =
     pick (either (eqb (ah r) 0x02) (eqb (ah r) 0x03)) (unchanged w (sectors known d r (length w)))
     (pick (eqb (ah r) 0x08) (unchanged w (parameters known count d r))
-    (pick (eqb (ah r) 0x41) (unchanged w (extensions known r))
+    (pick (eqb (ah r) 0x41) (unchanged w (extensions known s r))
     (pick (either (eqb (ah r) 0x42) (either (eqb (ah r) 0x43) (eqb (ah r) 0x44))) (extended known d r w)
     (pick (eqb (ah r) 0x47) (unchanged w (seek known d r w))
-    (pick (eqb (ah r) 0x48) (result known d r w)
+    (pick (eqb (ah r) 0x48) (result known d s r w)
     (unchanged w (Answered (refuse badParameter r))))))))
 
 -- a call begun, with all that it is fed: answered at once with what that writes, or made a request that waits
 unfoldable pub begin : Feeds Table → Registers → List ℕ → Checked
-begin f r w = steps (isDrive (f .table) (dl r)) (driveCount (f .table)) (driveNamed (f .table) r) r w
+begin f r w = steps (isDrive (f .table) (dl r)) (driveCount (f .table)) (driveNamed (f .table) r) (shownOf (f .table) (f .placement) (dl r)) r w

@@ -1,5 +1,6 @@
 // INT 13h: registers, requests, and the steps of each function, over one drive and one guest's window. A step function is told whether
-// DL names a drive (`known`) and is handed that drive; where it is not known `d` is any drive, and is not looked at.
+// DL names a drive (`known`) and is handed that drive; where it is not known `d` is any drive, and is not looked at. Where the guest can see
+// the drive's parameter table it is told what the guest is shown of it (`shown`).
 use chs::ToBlock;
 use drive::Drive;
 use layout::Packet;
@@ -9,12 +10,16 @@ use layout::ResultAnswer;
 use table::Table;
 ghost use mathlib.Core.Path.{_≡_};
 ghost use mathlib.Core.Bool.{true};
-ghost use Prim.Native.Nat.{_+_, _-_, _≤_};
+ghost use Prim.Native.Nat.{_+_, _-_, _*_, _/_, _%_, _≤_, _<_};
+ghost use lib.ListN.{length, replicate};
+ghost use lib.Seq.{sets};
 ghost use lib.Dec.{ltb, eqb};
-ghost use Rattle.logic.specs.Logic.{either};
+ghost use Rattle.logic.specs.Logic.{pick, either};
+ghost use Rattle.table.specs.Table.{parametersTo};
 ghost use Rattle.chs.specs.declared.ToBlock.the-variants.{Block};
 ghost use Rattle.int13.specs.Answers.{ah, al, dl, isSectors, isWrite, answer, succeed, stop, refuse, withdraw, posted, outcomeNumbers};
-ghost use Rattle.int13.specs.Steps.{driveCount, isDrive, driveAt, driveIn, fed, packetPlace, verifyOk, packetJob, packetTests, packetRead, packetPlan, extended, seekRead, seek, sectorBuffer, sectorJob, sectorRun, sectors, geometryGiven, parameters, extensionsGiven, extensions, resultGiven, result, steps, begin};
+ghost use Rattle.int13.specs.Placement.{tablesOf, tableCount, pointerOf};
+ghost use Rattle.int13.specs.Steps.{driveCount, isDrive, driveAt, driveIn, shownOf, fed, packetPlace, verifyOk, packetJob, packetTests, packetRead, packetPlan, extended, seekRead, seek, sectorBuffer, sectorJob, sectorRun, sectors, geometryGiven, parameters, extensionsGiven, extensions, resultGiven, result, steps, begin};
 ghost use Rattle.int13.specs.Numbers.{stepsGiven, beginGiven};
 
 // The registers of a call.
@@ -41,6 +46,18 @@ pub struct Job {
     // places in the guest's window; packet is 0 for 02h and 03h, which have none
     pub buffer: u64,
     pub packet: u64,
+}
+
+// Where a guest's device parameter tables stand in its window, if the host has placed them: address 0 is a place. Without placement it is 0.
+pub struct Placement {
+    pub placed: bool,
+    pub address: u64,
+}
+
+// What a guest is shown of a drive: whether it finds a parameter table of it in its window, and the segment of that table, else 0.
+pub struct Shown {
+    pub table: bool,
+    pub segment: u16,
 }
 
 // A call is answered at once, or it waits.
@@ -220,6 +237,86 @@ pub fn drive_at(b: Table, n: u8) -> Drive
     drives[place]
 }
 
+// ---- the device parameter tables in a guest's window
+
+// Bytes of a table.
+const PARAMETER_SIZE: usize = layout::PARAMETER_SIZE;
+
+const NOT_SHOWN: Shown = Shown {
+    table: false,
+    segment: 0,
+};
+
+// How many of the first n slots have a table. Its callers ask for at most eight.
+fn tables_before(b: Table, n: usize) -> u8
+    requires { ⌜ n ≤ 8 ⌝ }
+    ensures { λ r. ⌜ (r ≡ parametersTo n b) × (r ≤ n) ⌝ }
+{
+    let present = b.present;
+    let mut count = 0u8;
+    let mut i = 0;
+    while i < n {
+        if present[i] {
+            count += 1;
+        }
+        i += 1;
+    }
+    count
+}
+
+// How many tables there are.
+pub fn table_count(b: Table) -> u8
+    ensures { λ r. ⌜ (r ≡ tableCount b) × (r ≤ 8) ⌝ }
+{
+    tables_before(b, 8)
+}
+
+// What a guest whose tables stand from an address on is shown of a drive that has so many of them before it.
+pub fn shown_at(address: u64, before: u8) -> Shown
+    ensures { λ s. ⌜ s ≡ record { table = true; segment = (address + 16 * before) / 16 % 65536 } ⌝ }
+{
+    Shown {
+        table: true,
+        segment: ((address / 16 + before as u64) % 65536) as u16,
+    }
+}
+
+// What a guest with that placement is shown of the drive of a number.
+pub fn shown_of(b: Table, placement: Placement, n: u8) -> Shown
+    ensures { λ s. ⌜ s ≡ shownOf b placement n ⌝ }
+{
+    if !is_drive(b, n) {
+        return NOT_SHOWN;
+    }
+    let i = (n - FIRST_DRIVE) as usize;
+    let present = b.present;
+    if logic::and(placement.placed, present[i]) {
+        return shown_at(placement.address, tables_before(b, i));
+    }
+    NOT_SHOWN
+}
+
+// All tables, one after another in drive order, and zeros behind them.
+pub fn tables_of(b: Table) -> [u8; 128]
+    ensures { λ r. ⌜ (r ≡ sets (replicate 128 0) 0 (tablesOf b)) × (length (tablesOf b) ≡ 16 * tableCount b) ⌝ }
+{
+    let present = b.present;
+    let mut out = [0u8; 128];
+    let mut at: usize = 0;
+    let mut i = 0;
+    while i < 8 {
+        if present[i] {
+            let r = layout::parameter_table(table::parameters_at(b, i));
+            words::store(&mut out, at, &r);
+            at += PARAMETER_SIZE;
+        }
+        i += 1;
+    }
+    out
+}
+
+// ---- ranges
+
 // start + count is above the end, a sum that does not wrap: a guest's start may be any 64-bit number.
 fn ends_past(end: u64, start: u64, count: u64) -> bool
     ensures { λ r. ⌜ r ≡ ltb end (start + count) ⌝ }
@@ -334,18 +431,26 @@ const ASKED: u16 = 0x55AA;
 
 const PRESENT: u16 = 0xAA55;
 
-// AH = 30h, AL = 0; CX bit 0: the device access functions.
+// AH = 30h, AL = 0; CX bit 0: the device access functions; bit 2 with it: the parameter table is there.
 const VERSION: u16 = 0x3000;
 
 const ACCESS: u16 = 0x0001;
 
-fn extensions_given(r: Registers) -> Registers
-    ensures { λ a. ⌜ a ≡ extensionsGiven r ⌝ }
+const ACCESS_AND_TABLE: u16 = 0x0005;
+
+fn support(table: bool) -> u16
+    ensures { λ n. ⌜ n ≡ pick table 0x0005 0x0001 ⌝ }
+{
+    if table { ACCESS_AND_TABLE } else { ACCESS }
+}
+
+fn extensions_given(shown: Shown, r: Registers) -> Registers
+    ensures { λ a. ⌜ a ≡ extensionsGiven shown r ⌝ }
 {
     Registers {
         ax: VERSION,
         bx: PRESENT,
-        cx: ACCESS,
+        cx: support(shown.table),
         dx: r.dx,
         ds: r.ds,
         si: r.si,
@@ -354,11 +459,11 @@ fn extensions_given(r: Registers) -> Registers
     }
 }
 
-fn extensions_41(known: bool, r: Registers) -> Outcome
-    ensures { λ o. ⌜ o ≡ extensions known r ⌝ }
+fn extensions_41(known: bool, shown: Shown, r: Registers) -> Outcome
+    ensures { λ o. ⌜ o ≡ extensions known shown r ⌝ }
 {
     if logic::and(known, r.bx == ASKED) {
-        return Outcome::Answered(extensions_given(r));
+        return Outcome::Answered(extensions_given(shown, r));
     }
     Outcome::Answered(refuse(BAD_PARAMETER, r))
 }
@@ -512,8 +617,24 @@ fn result_given(given: ResultAnswer, r: Registers) -> Outcome
 // FFFFh, twice: no pointer.
 const NO_POINTER: u16 = 0xFFFF;
 
-fn result_48(known: bool, d: Drive, r: Registers, window: &mut [u8]) -> Outcome
-    ensures { λ o. ⌜ (o ≡ result known d r (now (window .entry)) .outcome) × (now (window .exit) ≡ result known d r (now (window .entry)) .window) ⌝ }
+// The pointer of a result: offset 0 and the table's segment, or none.
+fn pointer_of(shown: Shown) -> Pointer
+    ensures { λ p. ⌜ p ≡ pointerOf shown ⌝ }
+{
+    if shown.table {
+        return Pointer {
+            offset: 0,
+            segment: shown.segment,
+        };
+    }
+    Pointer {
+        offset: NO_POINTER,
+        segment: NO_POINTER,
+    }
+}
+
+fn result_48(known: bool, d: Drive, shown: Shown, r: Registers, window: &mut [u8]) -> Outcome
+    ensures { λ o. ⌜ (o ≡ result known d shown r (now (window .entry)) .outcome) × (now (window .exit) ≡ result known d shown r (now (window .entry)) .window) ⌝ }
 {
     if !known {
         return Outcome::Answered(refuse(BAD_PARAMETER, r));
@@ -523,11 +644,7 @@ fn result_48(known: bool, d: Drive, r: Registers, window: &mut [u8]) -> Outcome
         return Outcome::Answered(refuse(BAD_PARAMETER, r));
     }
     let asked = words::get16(window, place);
-    let none = Pointer {
-        offset: NO_POINTER,
-        segment: NO_POINTER,
-    };
-    let given = layout::write_result(d, none, asked, &mut window[place..]);
+    let given = layout::write_result(d, pointer_of(shown), asked, &mut window[place..]);
     result_given(given, r)
 }
 
@@ -543,10 +660,18 @@ fn is_extended(f: u8) -> bool
 }
 
 // What a call comes to, for any drive, registers and window: answered at once, or it waits. `known`: whether DL names a drive of the
-// table; `count`: how many drives there are; `d`: the drive that DL names, any one where there is none. The window is written by 48h and
-// by a refused 42h, 43h or 44h only. A function that is not named here is refused with 01h.
-pub fn steps(known: bool, count: u8, d: Drive, r: Registers, window: &mut [u8]) -> Outcome
-    ensures { λ o. ⌜ (o ≡ steps known count d r (now (window .entry)) .outcome) × (now (window .exit) ≡ steps known count d r (now (window .entry)) .window) × (outcomeNumbers o ≡ stepsGiven known count d r (now (window .entry))) ⌝ }
+// table; `count`: how many drives there are; `d`: the drive that DL names, any one where there is none; `shown`: what the guest is shown of
+// its parameter table. The window is written by 48h and by a refused 42h, 43h or 44h only. A function that is not named here is refused
+// with 01h.
+pub fn steps(
+    known: bool,
+    count: u8,
+    d: Drive,
+    shown: Shown,
+    r: Registers,
+    window: &mut [u8],
+) -> Outcome
+    ensures { λ o. ⌜ (o ≡ steps known count d shown r (now (window .entry)) .outcome) × (now (window .exit) ≡ steps known count d shown r (now (window .entry)) .window) × (outcomeNumbers o ≡ stepsGiven known count d (shown .table) r (now (window .entry))) ⌝ }
 {
     let f = function_of(r);
     if is_sectors(f) {
@@ -556,7 +681,7 @@ pub fn steps(known: bool, count: u8, d: Drive, r: Registers, window: &mut [u8]) 
         return parameters_08(known, count, d, r);
     }
     if f == CHECK_EXTENSIONS {
-        return extensions_41(known, r);
+        return extensions_41(known, shown, r);
     }
     if is_extended(f) {
         return extended_42_43_44(known, d, r, window);
@@ -565,18 +690,19 @@ pub fn steps(known: bool, count: u8, d: Drive, r: Registers, window: &mut [u8]) 
         return seek_47(known, d, r, window);
     }
     if f == GET_RESULT {
-        return result_48(known, d, r, window);
+        return result_48(known, d, shown, r, window);
     }
     Outcome::Answered(refuse(BAD_PARAMETER, r))
 }
 
-// A call begun at a whole table: the steps over the drive that DL names, with what they write.
-pub fn begin(b: Table, r: Registers, window: &mut [u8]) -> Outcome
-    ensures { λ o. ⌜ (o ≡ begin (fed b) r (now (window .entry)) .outcome) × (now (window .exit) ≡ begin (fed b) r (now (window .entry)) .window) × (outcomeNumbers o ≡ beginGiven b r (now (window .entry))) ⌝ }
+// A call begun at a whole table, by a guest with that placement: the steps over the drive that DL names, with what they write.
+pub fn begin(b: Table, placement: Placement, r: Registers, window: &mut [u8]) -> Outcome
+    ensures { λ o. ⌜ (o ≡ begin (fed b placement) r (now (window .entry)) .outcome) × (now (window .exit) ≡ begin (fed b placement) r (now (window .entry)) .window) × (outcomeNumbers o ≡ beginGiven b (placement .placed) r (now (window .entry))) ⌝ }
 {
     let n = dl(r);
     let known = is_drive(b, n);
     let count = drive_count(b);
     let d = drive_at(b, n);
-    steps(known, count, d, r, window)
+    let shown = shown_of(b, placement, n);
+    steps(known, count, d, shown, r, window)
 }

@@ -20,7 +20,7 @@ use Rattle.desk.specs.Parts.{stageAt}
 use Rattle.desk.specs.Acceptable.{accept}
 use Rattle.desk.specs.Calls.{notAcceptable, openOf}
 use Rattle.isolation.specs.Lists.{post, turn, collect, Call, posted, collected, Out, step, Event, run, after}
-use Rattle.isolation.specs.Words.{refused, kindOf, houseNumber, NoneOpens, turns, serviceIn, services, collects, Accepted, Waits, Finishes, Withdraws, turnsEach, turnsFor, Named, Unwritten, Left}
+use Rattle.isolation.specs.Words.{refused, kindOf, houseNumber, NoneOpens, turns, serviceIn, services, collects, Accepted, Waits, Finishes, Withdraws, turnsEach, turnsFor, Named, Unwritten, Left, placementIn}
 
 -- ---- "The words of demand 3", the calls of a list after those of a prefix
 
@@ -69,9 +69,9 @@ module _ {d₀ : Desk} {calls : List Call} (q : Taken d₀ calls) where
   abbrev pub firstOf : ℕ → ℕ
   firstOf m = firstBy (d₀ .table) m (q .call) (q .guest) (q .registers)
 
-  -- the same request served alone when accepted, fed the opening's table bytes
+  -- the same request served alone when accepted, fed the opening's table bytes and its guest's placement at the post
   abbrev pub aloneOf : List ℕ → ℕ → Served
-  aloneOf t m = alone (fed t) (q .registers) (foundBy m (q .call) (q .guest))
+  aloneOf t m = alone (fed t (placementIn (q .guest) (run d₀ (q .before)))) (q .registers) (foundBy m (q .call) (q .guest))
 
 -- ---- demand 3, what it compares
 
@@ -142,7 +142,7 @@ pub record Claim (t : List ℕ) (d₀ : Desk) (m : ℕ) (calls : List Call) : Ty
   pub atOnce : (pre rest : List Call) (c : Call) (g : ℕ) (r x : Registers) → calls ≡ pre ++ c ∷ rest
       → c .op ≡ post g r
       → outAfter d₀ pre c .answer ≡ posted g (Answered x)
-      → SameAtOnce m g (outAfter d₀ pre c) x (alone (fed t) r (foundBy m c g))
+      → SameAtOnce m g (outAfter d₀ pre c) x (alone (fed t (placementIn g (run d₀ pre))) r (foundBy m c g))
   -- every call gets an acceptable desk and leaves one: none is answered 25
   pub acceptable : (pre rest : List Call) → calls ≡ pre ++ rest → accept (after d₀ pre) ≡ true
   pub never25 : (pre rest : List Call) (c : Call) → calls ≡ pre ++ c ∷ rest

@@ -16,9 +16,10 @@ use Rattle.desk.specs.declared.PostAnswer.the-variants.{Refused as PostRefused}
 use Rattle.desk.specs.declared.TurnAnswer.the-variants.{Refused as TurnRefused}
 use Rattle.desk.specs.declared.CollectAnswer.the-variants.{Refused as CollectRefused}
 use Rattle.desk.specs.declared.WithdrawAnswer.the-variants.{Refused as WithdrawRefused}
+use Rattle.desk.specs.declared.PlaceAnswer.the-variants.{Refused as PlaceRefused}
 use Rattle.desk.specs.Calls.{notAcceptable, openOf}
 use Rattle.image.specs.Image.{image, deskSize, deskOf, accepted, laid, FitsRegisters}
-use Rattle.isolation.specs.Lists.{Op, openTable, post, turn, collect, withdraw, write, Call, Answer, opening, posted, turned, collected, withdrawn, written, Out, stepOf, Event, run}
+use Rattle.isolation.specs.Lists.{Op, openTable, post, turn, collect, withdraw, write, place, Call, Answer, opening, posted, turned, collected, withdrawn, written, placed, Out, stepOf, Event, run}
 use Rattle.isolation.specs.Words.{Kind, opens, kindOf, houseNumber, deskIn}
 use Rattle.isolation.specs.Demand.{Claim}
 
@@ -32,6 +33,7 @@ FitsOp turn = Unit
 FitsOp (collect g) = Unit
 FitsOp (withdraw g) = Unit
 FitsOp (write out) = Unit
+FitsOp (place g address) = address < 256 ^ 8
 
 -- and of each call of a list
 abbrev pub FitsCalls : List Call → Type 0
@@ -63,6 +65,7 @@ answer25 turn = turned (TurnRefused notAcceptable)
 answer25 (collect g) = collected g (CollectRefused notAcceptable)
 answer25 (withdraw g) = withdrawn g (WithdrawRefused notAcceptable)
 answer25 (write out) = written (WriteRefused notAcceptable) out
+answer25 (place g address) = placed g address (PlaceRefused notAcceptable)
 
 -- the number of a refusal, else 0; a refused opening's is a table's number, or 25
 abbrev pub numberOf : Answer → ℕ
@@ -73,6 +76,7 @@ numberOf (turned x) = houseNumber (turned x)
 numberOf (collected g x) = houseNumber (collected g x)
 numberOf (withdrawn g x) = houseNumber (withdrawn g x)
 numberOf (written x out) = houseNumber (written x out)
+numberOf (placed g address x) = houseNumber (placed g address x)
 
 -- a call that is answered 25 leaves everything
 abbrev pub left25 : List ℕ → Op → List ℕ → List ℕ → OutBlock
@@ -87,6 +91,7 @@ stepBlockOf b turn arena store = outBlock b (stepOf (deskOf b) turn arena store)
 stepBlockOf b (collect g) arena store = outBlock b (stepOf (deskOf b) (collect g) arena store)
 stepBlockOf b (withdraw g) arena store = outBlock b (stepOf (deskOf b) (withdraw g) arena store)
 stepBlockOf b (write out) arena store = outBlock b (stepOf (deskOf b) (write out) arena store)
+stepBlockOf b (place g address) arena store = outBlock b (stepOf (deskOf b) (place g address) arena store)
 
 -- what a call leaves at a block
 unfoldable pub stepBlock : List ℕ → Call → OutBlock

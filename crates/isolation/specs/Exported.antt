@@ -7,14 +7,15 @@ use mathlib.Core.List.{List, [], _∷_}
 use lib.ListN.{length}
 use Rattle.table.specs.Table.{writtenNumbers}
 use Rattle.int13.specs.declared.Registers.{Registers}
+use Rattle.int13.specs.declared.Placement.{Placement}
 use Rattle.int13.specs.Answers.{posted as postedRegisters}
 use Rattle.int13.specs.Steps.{fed}
 use Rattle.int13.specs.Alone.{Memory, alone}
 use Rattle.desk.specs.Calls.{notAcceptable}
-use Rattle.desk.specs.Numbers.{openNumbers, postNumbers, turnNumbers, collectNumbers, withdrawNumbers}
+use Rattle.desk.specs.Numbers.{openNumbers, postNumbers, turnNumbers, collectNumbers, withdrawNumbers, placeNumbers}
 use Rattle.image.specs.Image.{deskSize}
-use Rattle.exports.specs.Exports.{effect, over, openCall, writeCall, given, changed, postCall, turnCall, collectCall, withdrawCall}
-use Rattle.isolation.specs.Lists.{Op, openTable, post, turn, collect, withdraw, write, Call, Answer, opening, posted, turned, collected, withdrawn, written}
+use Rattle.exports.specs.Exports.{effect, over, openCall, writeCall, given, changed, postCall, turnCall, collectCall, withdrawCall, placeCall}
+use Rattle.isolation.specs.Lists.{Op, openTable, post, turn, collect, withdraw, write, place, Call, Answer, opening, posted, turned, collected, withdrawn, written, placed}
 use Rattle.isolation.specs.DeskBlocks.{OutBlock, stepBlock}
 
 -- ---- "Calls the host makes", the calls for C
@@ -27,6 +28,7 @@ numbersOf (turned x) = turnNumbers x
 numbersOf (collected g x) = collectNumbers x
 numbersOf (withdrawn g x) = withdrawNumbers x
 numbersOf (written x out) = writtenNumbers x
+numbersOf (placed g address x) = placeNumbers x
 
 -- the buffer after a table write
 abbrev pub bufferOf : Answer → List ℕ
@@ -36,13 +38,14 @@ bufferOf (turned x) = []
 bufferOf (collected g x) = []
 bufferOf (withdrawn g x) = []
 bufferOf (written x out) = out
+bufferOf (placed g address x) = []
 
 -- ---- "The words of demand 3", served alone, and the exported post
 
 -- The exported post hands on the guest's registers with carry clear; served alone is fed them as posted. It does not look at the posted carry,
 -- so that both speak of the same request.
 abbrev pub CarryUnread : Type 0
-CarryUnread = (t : List ℕ) (r : Registers) (m : Memory) → alone (fed t) r m ≡ alone (fed t) (postedRegisters r) m
+CarryUnread = (t : List ℕ) (p : Placement) (r : Registers) (m : Memory) → alone (fed t p) r m ≡ alone (fed t p) (postedRegisters r) m
 
 -- at a block, with an arena and a store
 module _ (b arena store : List ℕ) where
@@ -67,9 +70,12 @@ module _ (b arena store : List ℕ) where
     pub collectAt : (g : ℕ) (stood : List ℕ) → collectCall b g stood ≡ effect (over (numbersOf (does (collect g) .answer)) (0 ∷ stood)) (does (collect g) .block ∷ [])
     pub withdrawAt : (g : ℕ) (stood : List ℕ)
         → withdrawCall b arena store g stood ≡ effect (over (numbersOf (does (withdraw g) .answer)) (0 ∷ stood)) (does (withdraw g) .block ∷ does (withdraw g) .arena ∷ [])
+    pub placeAt : (g address : ℕ)
+        → placeCall b arena store g address ≡ effect (numbersOf (does (place g address) .answer)) (does (place g address) .block ∷ does (place g address) .arena ∷ [])
     -- what a call was lent for reading, or was not lent, the step leaves
     pub openLeaves : (t : List ℕ) (a s : ℕ) → (does (openTable t a s) .arena ≡ arena) × (does (openTable t a s) .store ≡ store)
     pub writeLeaves : (out : List ℕ) → (does (write out) .block ≡ b) × (does (write out) .arena ≡ arena) × (does (write out) .store ≡ store)
     pub postLeaves : (g : ℕ) (r : Registers) → does (post g r) .store ≡ store
     pub collectLeaves : (g : ℕ) → (does (collect g) .arena ≡ arena) × (does (collect g) .store ≡ store)
     pub withdrawLeaves : (g : ℕ) → does (withdraw g) .store ≡ store
+    pub placeLeaves : (g address : ℕ) → does (place g address) .store ≡ store

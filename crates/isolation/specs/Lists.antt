@@ -12,12 +12,13 @@ use Rattle.desk.specs.declared.PostAnswer.{PostAnswer}
 use Rattle.desk.specs.declared.TurnAnswer.{TurnAnswer}
 use Rattle.desk.specs.declared.CollectAnswer.{CollectAnswer}
 use Rattle.desk.specs.declared.WithdrawAnswer.{WithdrawAnswer}
-use Rattle.desk.specs.Calls.{Done, openOf, writtenOf, writtenOut, postOf, turnOf, collectOf, withdrawOf}
+use Rattle.desk.specs.declared.PlaceAnswer.{PlaceAnswer}
+use Rattle.desk.specs.Calls.{Done, openOf, writtenOf, writtenOut, postOf, turnOf, collectOf, withdrawOf, placeOf}
 
 -- ---- "The words of demand 3", one call of the list
 
--- "posts, turns, collects, withdrawals, table writes, refused openings [...] with any arguments": an opening takes table bytes, arena length
--- and store length; a table write its buffer
+-- "Posts, turns, collects, withdrawals, table writes, refused openings and any call at the desk that a change request adds [...], with any
+-- arguments": an opening takes table bytes, arena length and store length; a table write its buffer; placing (2026-01) a guest and an address
 pub data Op : Type 0 where
   openTable : List ℕ → ℕ → ℕ → Op
   post : ℕ → Registers → Op
@@ -25,6 +26,7 @@ pub data Op : Type 0 where
   collect : ℕ → Op
   withdraw : ℕ → Op
   write : List ℕ → Op
+  place : ℕ → ℕ → Op
 
 -- a call, with the arena and the store as it finds them: anybody may have written them since the call before. Calls that are lent neither
 -- leave them
@@ -33,7 +35,7 @@ pub record Call : Type 0 where
   pub arena : List ℕ
   pub store : List ℕ
 
--- what was asked of which guest, and its answer; a table write's with the buffer afterwards
+-- what was asked of which guest, and its answer; a table write's with the buffer afterwards, a placement's with its address
 pub data Answer : Type 0 where
   opening : OpenAnswer → Answer
   posted : ℕ → PostAnswer → Answer
@@ -41,6 +43,7 @@ pub data Answer : Type 0 where
   collected : ℕ → CollectAnswer → Answer
   withdrawn : ℕ → WithdrawAnswer → Answer
   written : Written → List ℕ → Answer
+  placed : ℕ → ℕ → PlaceAnswer → Answer
 
 -- what a call leaves
 pub record Out : Type 0 where
@@ -67,6 +70,7 @@ stepOf d turn arena store = outOf turned (turnOf d arena store)
 stepOf d (collect g) arena store = outOf (collected g) (collectOf d g arena store)
 stepOf d (withdraw g) arena store = outOf (withdrawn g) (withdrawOf d g arena store)
 stepOf d (write out) arena store = record { desk = d; answer = written (writtenOf d (length out)) (writtenOut d out); arena = arena; store = store }
+stepOf d (place g address) arena store = outOf (placed g address) (placeOf d g address arena store)
 
 -- what a call leaves at a desk
 unfoldable pub step : Desk → Call → Out

@@ -6,6 +6,7 @@ use mathlib.Core.Bool.{true}
 use mathlib.Core.List.{List}
 use Rattle.memory.specs.Window.{guests}
 use Rattle.table.specs.declared.Table.{Table}
+use Rattle.int13.specs.declared.Placement.{Placement}
 use Rattle.int13.specs.declared.Registers.{Registers}
 use Rattle.int13.specs.declared.Outcome.{Outcome}
 use Rattle.int13.specs.declared.Outcome.the-variants.{Answered, Waits}
@@ -41,7 +42,7 @@ pub record Serves (x : TurnAnswer) : Type 0 where
 
 -- of every answer at once, every finish and every withdrawal, and of every turn
 pub record Single : Type 0 where
-  pub posted : (b : Table) (r : Registers) (w : List ℕ) → KeepsSegments r (begin (fed b) r w .outcome)
+  pub posted : (b : Table) (p : Placement) (r : Registers) (w : List ℕ) → KeepsSegments r (begin (fed b p) r w .outcome)
   pub finished : (r : Registers) → SameSegments r (succeed r)
   pub withdrawn : (n : ℕ) (r : Registers) → SameSegments r (withdraw n r)
   -- idle cannot occur while a request waits: a turn that is not refused then serves one

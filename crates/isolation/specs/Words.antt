@@ -11,6 +11,8 @@ use Rattle.table.specs.declared.Table.{Table}
 use Rattle.table.specs.declared.Written.the-variants.{Bytes, Refused as WriteRefused}
 use Rattle.int13.specs.declared.Registers.{Registers}
 use Rattle.int13.specs.Answers.{ah, isWrite}
+use Rattle.int13.specs.declared.Placement.{Placement}
+use Rattle.int13.specs.Placement.{noPlacement, placedAt}
 use Rattle.int13.specs.Alone.{storeBlock}
 use Rattle.desk.specs.declared.Request.{Request}
 use Rattle.desk.specs.declared.Stage.the-variants.{Waiting}
@@ -20,9 +22,10 @@ use Rattle.desk.specs.declared.PostAnswer.the-variants.{Answered as PostAnswere
 use Rattle.desk.specs.declared.TurnAnswer.the-variants.{Served, Idle, Refused as TurnRefused}
 use Rattle.desk.specs.declared.CollectAnswer.the-variants.{Given as CollectGiven, Refused as CollectRefused}
 use Rattle.desk.specs.declared.WithdrawAnswer.the-variants.{Given as WithdrawGiven, Refused as WithdrawRefused}
+use Rattle.desk.specs.declared.PlaceAnswer.the-variants.{Placed, Refused as PlaceRefused}
 use Rattle.desk.specs.Parts.{stageAt}
 use Rattle.desk.specs.Acceptable.{turnBlocks as partLength}
-use Rattle.isolation.specs.Lists.{post, Call, Answer, opening, posted, turned, collected, withdrawn, written, step, Event, run, after}
+use Rattle.isolation.specs.Lists.{post, Call, Answer, opening, posted, turned, collected, withdrawn, written, placed, step, Event, run, after}
 
 -- ---- "The words of demand 3", the answers; each later word is a clause for each of these
 
@@ -44,6 +47,8 @@ pub data Kind : Type 0 where
   hands : ℕ → Registers → Kind
   -- a withdrawal of a guest
   withdraws : ℕ → Kind
+  -- a guest's tables placed from an address on
+  places : ℕ → ℕ → Kind
 
 -- a house number or a table's number is a refusal; the others by what was asked
 abbrev pub kindOf : Answer → Kind
@@ -61,6 +66,8 @@ kindOf (withdrawn g (WithdrawGiven r)) = withdraws g
 kindOf (withdrawn g (WithdrawRefused n)) = refused
 kindOf (written (Bytes n) out) = plain
 kindOf (written (WriteRefused n) out) = refused
+kindOf (placed g address Placed) = places g address
+kindOf (placed g address (PlaceRefused n)) = refused
 
 -- of one call of the list
 abbrev pub kindIn : Event → Kind
@@ -81,6 +88,8 @@ houseNumber (withdrawn g (WithdrawGiven r)) = 0
 houseNumber (withdrawn g (WithdrawRefused n)) = n
 houseNumber (written (Bytes n) out) = 0
 houseNumber (written (WriteRefused n) out) = n
+houseNumber (placed g address Placed) = 0
+houseNumber (placed g address (PlaceRefused n)) = n
 
 -- "The list begins at an opening that passed, and the next one that passes ends it": each opening in the list is refused
 abbrev pub NoneOpens : List Event → Type 0
@@ -114,7 +123,8 @@ abbrev pub line : ℕ → ℕ → ℕ → ℕ → ℕ → ℕ → ℕ → Marks
 line turn touch service moved withdrawal collect desk =
     record { turn = turn; touch = touch; service = service; moved = moved; withdrawal = withdrawal; collect = collect; desk = desk }
 
--- a line for each kind of answer, in that order, for guest g. "A turn serves it by answering that guest", whatever the number
+-- a line for each kind of answer, in that order, for guest g. "A turn serves it by answering that guest", whatever the number. A placement is no
+-- post, turn or withdrawal
 abbrev pub marks : ℕ → Kind → Marks
 marks g refused = line 0 0 0 0 0 0 0
 marks g plain = line 0 0 0 0 0 0 0
@@ -125,6 +135,7 @@ marks g (serves h k) = line 1 1 (ifSame h g 1) (ifSame h g k) 0 0 1
 marks g idles = line 1 1 0 0 0 0 0
 marks g (hands h r) = line 0 0 0 0 0 (ifSame h g 1) 1
 marks g (withdraws h) = line 0 1 0 0 (ifSame h g 1) 0 1
+marks g (places h address) = line 0 0 0 0 0 0 1
 
 -- turns not refused, of whatever guest: 8 is none
 abbrev pub turnIn : Kind → ℕ
@@ -173,6 +184,30 @@ withdrawals g = total (withdrawalIn g)
 -- how many collects of g were not refused
 abbrev pub collects : ℕ → List Event → ℕ
 collects g = total (collectIn g)
+
+-- ---- document 02, 2026-01: a guest's placement, told from the calls and not from the desk
+
+-- after an answer, where it was p before
+abbrev pub placedBy : ℕ → Kind → Placement → Placement
+placedBy g refused p = p
+placedBy g plain p = p
+placedBy g opens p = noPlacement
+placedBy g (answers h) p = p
+placedBy g (accepts h) p = p
+placedBy g (serves h k) p = p
+placedBy g idles p = p
+placedBy g (hands h r) p = p
+placedBy g (withdraws h) p = p
+placedBy g (places h address) p = pick (eqb h g) (placedAt address) p
+
+-- after the answers of a list
+abbrev pub placementAfter : ℕ → Placement → List Event → Placement
+placementAfter g p [] = p
+placementAfter g p (e ∷ es) = placementAfter g (placedBy g (kindIn e) p) es
+
+-- "until opened or placed anew": the last placement of g that was not refused in a list that begins at an opening, if there is one
+abbrev pub placementIn : ℕ → List Event → Placement
+placementIn g es = placementAfter g noPlacement es
 
 -- ---- "The words of demand 3", a request, by the calls since its acceptance
 

@@ -1,3 +1,4 @@
 pub mod Packet
 pub mod ResultBuffer
+pub mod ParameterTable
 pub mod Demand2

@@ -37,7 +37,7 @@ returnedSize asked = pick (ltb asked pointerSize) leastSize (pick (ltb asked pat
 abbrev pub flagsShown : Drive → ℕ
 flagsShown d = d .flags
 
--- the pointer of every result today: FFFFh:FFFFh, which is no pointer
+-- FFFFh:FFFFh, which is no pointer: of a drive without a parameter table, and for a guest without placement
 abbrev pub noPointer : Pointer
 noPointer = record { offset = 0xFFFF; segment = 0xFFFF }
 

@@ -1,11 +1,12 @@
-// The two layouts that guests see in their memory: the device address packet, which the desk reads, and the result buffer of 48h,
-// which it writes.
+// The layouts that guests see in their memory: the device address packet, which the desk reads, and the result buffer of 48h and the device
+// parameter table that it may point at, which the desk writes.
 use drive::Drive;
 ghost use mathlib.Core.Path.{_≡_};
 ghost use Prim.Native.Nat.{_+_, _%_, _≤_};
 ghost use lib.ListN.{length};
 ghost use lib.Seq.{sets};
 ghost use Rattle.layout.specs.Packet.{linear, packetLength, packetAt, readPacket, packetNumbers, packetGiven};
+ghost use Rattle.layout.specs.ParameterTable.{driveFlags, parameterTable};
 ghost use Rattle.layout.specs.ResultBuffer.{pathSize, returnedSize, flagsShown, parameterBytes, blockBytes, interfaceBytes, pathBytes, sum, checksum, wholeResult, resultAnswer, resultOut, resultNumbers, sizeGiven};
 
 // AH 01h.
@@ -207,4 +208,33 @@ pub fn write_result(d: Drive, p: Pointer, asked: u16, out: &mut [u8]) -> ResultA
     let r = result_of(d, p, n);
     words::store(out, 0, &r[..size]);
     ResultAnswer::Written(n)
+}
+
+// ---- the device parameter table
+
+// Bytes of the table, with the checksum last.
+pub const PARAMETER_SIZE: usize = 16;
+
+// Extension revision 1.1.
+const REVISION: u8 = 0x11;
+
+// Bits 7 and 5 set, the others as given.
+fn drive_flags(x: u8) -> u8
+    ensures { λ r. ⌜ r ≡ driveFlags x ⌝ }
+{
+    x % 32 + 32 + x / 64 % 2 * 64 + 128
+}
+
+// All sixteen bytes, of the fourteen that a drive's record gives.
+pub fn parameter_table(p: [u8; 14]) -> [u8; 16]
+    ensures { λ r. ⌜ r ≡ parameterTable p ⌝ }
+{
+    let mut r = [0u8; 16];
+    words::store(&mut r, 0, &p);
+    words::put_byte(&mut r, 4, drive_flags(p[4]));
+    words::put_byte(&mut r, 14, REVISION);
+    let end = 15;
+    let byte = checksum_of(&r[..end]);
+    words::put_byte(&mut r, 15, byte);
+    r
 }

@@ -129,6 +129,17 @@ pub fn save(arena: &[u8], guest: usize, m: usize, at: usize, store: &mut [u8], t
     copy(store, to, &arena[start..end], at, k);
 }
 
+// Bytes laid at a place of the guest's window, as its parameter tables. The desk has tested that they lie in the window (26).
+pub fn put_bytes_in(arena: &mut [u8], guest: usize, m: usize, at: usize, bytes: &[u8])
+    requires { ⌜ at + length (now bytes) ≤ spanLength (length (now arena)) guest m ⌝ }
+    ensures { λ _. ⌜ now (arena .exit) ≡ withWindow (now (arena .entry)) guest m (sets (windowOf (now (arena .entry)) guest m) at (now (bytes .entry))) ⌝ }
+{
+    let s = span_of(arena.len(), guest, m);
+    let start = s.start;
+    let end = s.end;
+    words::store(&mut arena[start..end], at, bytes);
+}
+
 // A word laid at a place of the guest's window, as the packet's count. The desk has tested that the packet lies in the window (01h).
 pub fn put_word_in(arena: &mut [u8], guest: usize, m: usize, at: usize, x: u16)
     requires { ⌜ at + 2 ≤ spanLength (length (now arena)) guest m ⌝ }

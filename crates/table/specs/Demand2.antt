@@ -1,21 +1,25 @@
 -- Demand 2 for the drive table: the two ways round between a table and its bytes. `proofs/Demand2.antt` proves it.
 -- Assumes nothing.
-use Prim.Native.Nat.{ℕ, _<_}
+use Prim.Native.Nat.{ℕ, _*_, _<_}
 use mathlib.Core.Path.{_≡_}
 use mathlib.Core.Bool.{true}
 use mathlib.Core.List.{List}
 use lib.ListN.{length, getD}
 use Rattle.words.specs.Words.{Bytes}
 use Rattle.drive.specs.Drive.{Fits}
+use Rattle.attached.specs.Parameters.{givenLength}
 use Rattle.table.specs.declared.Table.{Table}
 use Rattle.table.specs.declared.Answer.the-variants.{Accepted}
 use Rattle.table.specs.Table.{mostDrives, noDrive, reading, readTable, tableOf, isSound}
 
 -- ---- "The drive table", read and written
 
--- what the types say of a table: eight slots, and in those in use each number fits its word and each array has its length
+-- what the types say of a table: eight slots, in those in use each number fits its word and each array has its length; and as many marks of
+-- parameters, and fourteen bytes for each
 pub record Widths (b : Table) : Type 0 where
   pub eight : length (b .drives) ≡ mostDrives
+  pub marks : length (b .present) ≡ mostDrives
+  pub bytes : length (b .parameters) ≡ givenLength * mostDrives
   pub each : (i : ℕ) → i < b .count → Fits (getD (b .drives) i noDrive)
 
 -- for every store

@@ -1,15 +1,18 @@
--- Document 01, "The drive table": little-endian records, read record by record in the paper's order of checks, and written back.
+-- Document 01, "The drive table", and document 02, 2026-01: little-endian records, read record by record in the paper's order of checks, and
+-- written back.
 -- Assumes nothing.
-use Prim.Native.Nat.{ℕ, zero, suc, _+_, _-_}
+use Prim.Native.Nat.{ℕ, zero, suc, _+_, _-_, _*_}
 use mathlib.Core.Path.{_≡_}
-use mathlib.Core.Bool.{Bool, not}
+use mathlib.Core.Bool.{Bool, true, false, not}
 use mathlib.Core.List.{List, [], _∷_, _++_}
 use lib.ListN.{length, getD, set, take, drop, replicate}
 use lib.Dec.{leb, ltb, eqb}
+use lib.Seq.{sets}
 use Rattle.logic.specs.Logic.{pick, both, either, allBelow, someBelow}
 use Rattle.words.specs.Words.{le, leBytes, part}
 use Rattle.drive.specs.declared.Drive.{Drive}
 use Rattle.drive.specs.Drive.{driveKind, driveLength, driveOf, recordOf, fieldsOk, inStore, overlap, isBlank}
+use Rattle.attached.specs.Parameters.{parametersKind, parametersLength, givenLength, numberIn, parametersIn, parametersRecord}
 use Rattle.table.specs.declared.Table.{Table}
 use Rattle.table.specs.declared.Header.{Header}
 use Rattle.table.specs.declared.Header.the-variants.{Whole, Bad}
@@ -17,7 +20,6 @@ use Rattle.table.specs.declared.Step.{Step}
 use Rattle.table.specs.declared.Step.the-variants.{Next, Done, Refused}
 use Rattle.table.specs.declared.Stepped.{Stepped}
 use Rattle.table.specs.declared.Cursor.{Cursor}
-use Rattle.table.specs.declared.Found.{Found}
 use Rattle.table.specs.declared.Answer.{Answer}
 use Rattle.table.specs.declared.Answer.the-variants.{Accepted, Refused as AnswerRefused}
 use Rattle.table.specs.declared.Reading.{Reading}
@@ -54,6 +56,10 @@ pastStore = 6
 abbrev pub overlapping : ℕ
 overlapping = 7
 
+-- 9 a record of kind 4 names any but the last drive read, or repeats one (document 02, 2026-01)
+abbrev pub notLast : ℕ
+notLast = 9
+
 -- 8 a byte follows the end record
 abbrev pub byteFollows : ℕ
 byteFollows = 8
@@ -72,13 +78,15 @@ endKind = 0
 abbrev pub endLength : ℕ
 endLength = 4
 
--- the kinds that there are: 0 and 1
+-- the kinds that there are: 0, 1 and 4
 abbrev pub isKind : ℕ → Bool
-isKind kind = either (eqb kind endKind) (eqb kind driveKind)
+isKind kind = either (eqb kind endKind) (either (eqb kind driveKind) (eqb kind parametersKind))
 
--- the length for the kind: 4 for kind 0, 68 for kind 1
+-- the length for the kind: 4 for kind 0, 68 for kind 1, 20 for kind 4
 abbrev pub lengthOk : ℕ → ℕ → Bool
-lengthOk kind size = either (both (eqb kind endKind) (eqb size endLength)) (both (eqb kind driveKind) (eqb size driveLength))
+lengthOk kind size =
+    either (both (eqb kind endKind) (eqb size endLength))
+    (either (both (eqb kind driveKind) (eqb size driveLength)) (both (eqb kind parametersKind) (eqb size parametersLength)))
 
 -- the length word and the kind
 abbrev pub headerLength : ℕ
@@ -120,13 +128,32 @@ refusalBy n overlaps d store =
     (pick overlaps overlapping
     0)))
 
--- the refusal of a drive after those of a table
-unfoldable pub refusal : Table → Drive → ℕ → ℕ
-refusal b d store = refusalBy (b .count) (overlapsAny (b .count) (b .drives) d) d store
+-- the refusal of a drive after the first n of a list
+unfoldable pub refusal : ℕ → List Drive → Drive → ℕ → ℕ
+refusal n l d store = refusalBy n (overlapsAny n l d) d store
 
 -- the drives so far with one more
 abbrev pub more : Table → Drive → Table
-more b d = record { drives = set (b .drives) (b .count) d; count = b .count + 1 }
+more b d = record { drives = set (b .drives) (b .count) d; count = b .count + 1; present = b .present; parameters = b .parameters }
+
+-- ---- "2026-01", a drive's parameters among the drives before them: check 9
+
+-- slot i has a record of parameters
+abbrev pub hasParameters : Table → ℕ → Bool
+hasParameters b i = getD (b .present) i false
+
+-- and its bytes, as the record has them
+abbrev pub parametersAt : Table → ℕ → List ℕ
+parametersAt b i = part givenLength (b .parameters) (givenLength * i)
+
+-- 9 unless the record names the last drive read, and that one has none yet; or 0 where it is taken. With no drive read there is no last one
+unfoldable pub parametersRefusal : Table → ℕ → ℕ
+parametersRefusal b i = pick (both (ltb i mostDrives) (both (eqb (i + 1) (b .count)) (not (hasParameters b i)))) 0 notLast
+
+-- the drives so far with parameters for the one in slot i
+abbrev pub withParameters : Table → ℕ → List ℕ → Table
+withParameters b i p =
+    record { drives = b .drives; count = b .count; present = set (b .present) i true; parameters = sets (b .parameters) (givenLength * i) p }
 
 -- ---- "The drive table", one step of the reader; a refusal names the record's start
 
@@ -134,22 +161,27 @@ more b d = record { drives = set (b .drives) (b .count) d; count = b .count + 1 
 abbrev pub stepped : Step → Table → Stepped
 stepped s b = record { step = s; table = b }
 
--- a drive with its refusal, or 0: refused at its record's start, or taken, and on behind its record
-unfoldable pub driveStep : ℕ → Drive → Table → ℕ → Stepped
-driveStep n d b at = pick (eqb n 0) (stepped (Next (at + driveLength)) (more b d)) (stepped (Refused n at) b)
+-- the refusal of a whole record that is not the end record, by its kind and its bytes; or 0 where it is taken
+unfoldable pub recordRefusal : ℕ → List ℕ → Table → ℕ → ℕ
+recordRefusal kind r b store = pick (eqb kind driveKind) (refusal (b .count) (b .drives) (driveOf r) store) (parametersRefusal b (numberIn r))
+
+-- the drives after it, where it is taken
+unfoldable pub withRecord : ℕ → List ℕ → Table → Table
+withRecord kind r b = pick (eqb kind driveKind) (more b (driveOf r)) (withParameters b (numberIn r) (parametersIn r))
+
+-- refused at its start, or taken, and on behind it
+unfoldable pub recordStep : ℕ → ℕ → List ℕ → Table → ℕ → ℕ → Stepped
+recordStep kind size r b at store =
+    pick (eqb (recordRefusal kind r b store) 0) (stepped (Next (at + size)) (withRecord kind r b)) (stepped (Refused (recordRefusal kind r b store) at) b)
 
 -- after the end record, 8 if a byte follows, at that byte
 unfoldable pub endStep : List ℕ → ℕ → Table → Stepped
 endStep t at b = pick (ltb (at + endLength) (length t)) (stepped (Refused byteFollows (at + endLength)) b) (stepped Done b)
 
--- the step over the bytes of a drive's record, which begins at a place
-abbrev pub driveRecord : List ℕ → Table → ℕ → ℕ → Stepped
-driveRecord r b at store = driveStep (refusal b (driveOf r) store) (driveOf r) b at
-
 -- by the header: its refusal at the record's start, or the step of the record's kind over exactly its bytes
 unfoldable pub stepOf : Header → List ℕ → ℕ → Table → ℕ → Stepped
 stepOf (Bad n) t at b store = stepped (Refused n at) b
-stepOf (Whole kind size) t at b store = pick (eqb kind endKind) (endStep t at b) (driveRecord (part size t at) b at store)
+stepOf (Whole kind size) t at b store = pick (eqb kind endKind) (endStep t at b) (recordStep kind size (part size t at) b at store)
 
 -- the record at a place, among the drives before it
 unfoldable pub stepAt : List ℕ → ℕ → Table → ℕ → Stepped
@@ -177,7 +209,8 @@ zeroDrive = record { cylinders = 0; heads = 0; sectors = 0; blocks = 0; first = 
 
 -- the table with no drive
 abbrev pub emptyTable : Table
-emptyTable = record { drives = replicate mostDrives zeroDrive; count = 0 }
+emptyTable =
+    record { drives = replicate mostDrives zeroDrive; count = 0; present = replicate mostDrives false; parameters = replicate (givenLength * mostDrives) 0 }
 
 -- before the first record
 abbrev pub begun : Cursor
@@ -198,30 +231,15 @@ unfoldable pub readFrom : ℕ → List ℕ → ℕ → ℕ → Table → Reading
 readFrom zero t store at b = reading (AnswerRefused ninthDrive at) b
 readFrom (suc k) t store at b = goOn (stepAt t at b store .step) (stepAt t at b store .table) (readFrom k t store)
 
--- enough records: eight drives, and the end record or the ninth drive, which is refused
+-- enough records: eight drives with a record of parameters each, and the end record or one more, which is refused
 abbrev pub mostRecords : ℕ
-mostRecords = 9
+mostRecords = 17
 
 -- the drives of a table's bytes, or the refusal with its place and the drives before it
 unfoldable pub readTable : List ℕ → ℕ → Reading
 readTable t store = readFrom mostRecords t store 0 emptyTable
 
--- ---- "The drive table", a record as it is found, and a drive among the runs of blocks of those before it
-
--- a record that ends the reading holds no drive
-abbrev pub foundEnd : Step → Found
-foundEnd s = record { step = s; drive = zeroDrive }
-
--- by the header: its refusal, the end of the table or the byte that follows it, or the next place and the drive
-unfoldable pub foundOf : Header → List ℕ → ℕ → Found
-foundOf (Bad n) t at = foundEnd (Refused n at)
-foundOf (Whole kind size) t at =
-    pick (eqb kind endKind) (foundEnd (pick (ltb (at + size) (length t)) (Refused byteFollows (at + size)) Done))
-    (record { step = Next (at + size); drive = driveOf (part size t at) })
-
--- the record at a place
-unfoldable pub foundAt : List ℕ → ℕ → Found
-foundAt t at = foundOf (headerAt t at) t at
+-- ---- "The drive table", a drive among the runs of blocks of those before it
 
 -- two runs of blocks share one, as two drives do
 unfoldable pub overlapRuns : ℕ → ℕ → ℕ → ℕ → Bool
@@ -241,9 +259,9 @@ refusalAmong n firsts sizes d store = refusalBy n (overlapsRun n firsts sizes d)
 abbrev pub endRecord : List ℕ
 endRecord = leBytes 2 endLength ++ leBytes 2 endKind
 
--- the records of a slot: its drive's
+-- the records of a slot: its drive's, then that of its parameters, where it has one, with the slot's number and the bytes as they were read
 abbrev pub slotRecords : Table → ℕ → List ℕ
-slotRecords b i = recordOf (getD (b .drives) i noDrive)
+slotRecords b i = recordOf (getD (b .drives) i noDrive) ++ pick (hasParameters b i) (parametersRecord i (parametersAt b i)) []
 
 -- the records of the first n slots
 unfoldable pub recordsOf : ℕ → Table → List ℕ
@@ -272,7 +290,7 @@ writeOut b out = pick (ltb (length out) (length (tableOf b))) out (tableOf b ++ 
 
 -- ---- "The drive table", the answers as numbers: 0 and the values, or the refusal's number and its place; no two answers have the same
 
--- 0, a drive's kind and the next place; 0 alone at the end; or the number and the place
+-- 0, 1 for a record that was taken, and the next place; 0 alone at the end; or the number and the place
 unfoldable pub stepNumbers : Step → List ℕ
 stepNumbers (Next at) = 0 ∷ 1 ∷ at ∷ []
 stepNumbers Done = 0 ∷ []
@@ -288,11 +306,17 @@ unfoldable pub writtenNumbers : Written → List ℕ
 writtenNumbers (Bytes n) = 0 ∷ n ∷ []
 writtenNumbers (WriteRefused n) = n ∷ []
 
--- the numbers of a whole record of a kind and a length: the end record's, or a drive's with its refusal
+-- the numbers of a refusal of a record at a place, or of one that is taken, and on behind its bytes
+abbrev pub takenNumbers : ℕ → ℕ → ℕ → List ℕ
+takenNumbers n at size = pick (eqb n 0) (0 ∷ 1 ∷ (at + size) ∷ []) (n ∷ at ∷ [])
+
+-- the numbers of a whole record of a kind: the end record's, a drive's of 68 bytes with its refusal, or those of a drive's parameters, of 20 bytes,
+-- which are 9 unless word 4 names the last drive read and that one has none yet
 abbrev pub wholeNumbers : List ℕ → ℕ → Table → ℕ → ℕ → ℕ → List ℕ
 wholeNumbers t at b store kind size =
     pick (eqb kind 0) (pick (ltb (at + 4) (length t)) (8 ∷ (at + 4) ∷ []) (0 ∷ []))
-    (pick (eqb (refusal b (driveOf (part size t at)) store) 0) (0 ∷ 1 ∷ (at + 68) ∷ []) (refusal b (driveOf (part size t at)) store ∷ at ∷ []))
+    (pick (eqb kind 1) (takenNumbers (refusal (b .count) (b .drives) (driveOf (part size t at)) store) at 68)
+    (takenNumbers (pick (both (ltb (le 2 t (at + 4)) 8) (both (eqb (le 2 t (at + 4) + 1) (b .count)) (not (getD (b .present) (le 2 t (at + 4)) false)))) 0 9) at 20))
 
 -- the numbers of a record at a place, straight from its length word, its kind and its bytes: the checks in the paper's order
 unfoldable pub recordNumbers : List ℕ → ℕ → Table → ℕ → List ℕ
@@ -337,13 +361,9 @@ pub record Reads (t : List ℕ) (store : ℕ) (r : Reading) : Type 0 where
 
 -- ---- "The drive table", a table that obeys the rules, as a desk holds it
 
--- the table of the first n drives
-abbrev pub firstDrives : List Drive → ℕ → Table
-firstDrives l n = record { drives = l; count = n }
-
 -- the drive in slot i is taken after those before it
 abbrev pub takenAt : List Drive → ℕ → ℕ → Bool
-takenAt l store i = eqb (refusal (firstDrives l i) (getD l i noDrive) store) 0
+takenAt l store i = eqb (refusal i l (getD l i noDrive) store) 0
 
 -- each of the first n drives is taken after those before it
 unfoldable pub soundTo : ℕ → List Drive → ℕ → Bool
@@ -357,6 +377,23 @@ blankAt l count i = either (ltb i count) (isBlank (getD l i noDrive))
 unfoldable pub blankTo : ℕ → List Drive → ℕ → Bool
 blankTo n l count = allBelow n (blankAt l count)
 
--- at most eight drives, each of which the reader would take, and blank slots past them
+-- slot i has parameters only if it has a drive, and zeros for them if it has none
+abbrev pub attachedAt : Table → ℕ → Bool
+attachedAt b i = pick (hasParameters b i) (ltb i (b .count)) (allBelow givenLength (λ j. eqb (getD (b .parameters) (givenLength * i + j) 0) 0))
+
+-- of the first n slots
+unfoldable pub attachedTo : ℕ → Table → Bool
+attachedTo n b = allBelow n (attachedAt b)
+
+-- at most eight drives, each of which the reader would take, blank slots past them, and parameters of drives only
 unfoldable pub isSound : Table → ℕ → Bool
-isSound b store = both (leb (b .count) mostDrives) (both (soundTo (b .count) (b .drives) store) (blankTo mostDrives (b .drives) (b .count)))
+isSound b store =
+    both (leb (b .count) mostDrives)
+    (both (soundTo (b .count) (b .drives) store) (both (blankTo mostDrives (b .drives) (b .count)) (attachedTo mostDrives b)))
+
+-- ---- "2026-01", how many records of parameters there are
+
+-- in the first n slots
+unfoldable pub parametersTo : ℕ → Table → ℕ
+parametersTo zero b = 0
+parametersTo (suc n) b = parametersTo n b + pick (hasParameters b n) 1 0

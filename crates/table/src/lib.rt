@@ -2,11 +2,13 @@
 use drive::Drive;
 ghost use mathlib.Core.Path.{_≡_};
 ghost use Prim.Native.Nat.{_+_, _-_, _*_, _^_, _≤_, _<_, min};
-ghost use lib.ListN.{length};
+ghost use lib.ListN.{length, getD};
+ghost use lib.Dec.{eqb};
 ghost use lib.Seq.{sets};
-ghost use Rattle.drive.specs.Drive.{fieldsOk, inStore};
-ghost use Rattle.logic.specs.Logic.{both};
-ghost use Rattle.table.specs.Table.{isKind, lengthOk, headerAt, overlapsAny, refusal, more, endStep, driveRecord, stepAt, placeAfter, Advances, begun, zeroDrive, emptyTable, Reads, recordsOf, drivesOf, tableOf, writeAnswer, writeOut, writtenNumbers, writeNumbers, soundTo, blankTo, isSound, foundEnd, foundAt, overlapRuns, overlapsRun, refusalAmong};
+ghost use Rattle.drive.specs.Drive.{driveKind, fieldsOk, inStore};
+ghost use Rattle.logic.specs.Logic.{pick, both, allBelow};
+ghost use Rattle.attached.specs.Parameters.{parametersKind};
+ghost use Rattle.table.specs.Table.{isKind, lengthOk, headerAt, overlapsAny, refusal, more, parametersAt, parametersRefusal, withParameters, endStep, recordStep, stepAt, placeAfter, Advances, begun, zeroDrive, emptyTable, Reads, slotRecords, recordsOf, drivesOf, tableOf, writeAnswer, writeOut, writtenNumbers, writeNumbers, soundTo, blankTo, attachedTo, isSound, overlapRuns, overlapsRun, refusalAmong};
 
 // Document 01's refusals of a table, in the order of the checks.
 const CUT_OFF: u8 = 1;
@@ -23,6 +25,9 @@ const PAST_STORE: u8 = 6;
 
 const OVERLAPPING: u8 = 7;
 
+// Of a record of kind 4 that does not name the last drive read, or repeats one (document 02, 2026-01).
+const NOT_LAST: u8 = 9;
+
 const BYTE_FOLLOWS: u8 = 8;
 
 // House number of a write to a buffer shorter than the table.
@@ -36,16 +41,19 @@ const END_LENGTH: u16 = 4;
 // The length word and the kind.
 const HEADER_LENGTH: usize = 4;
 
-// Enough records: eight drives, and the end record or the ninth drive, which is refused.
-const MOST_RECORDS: usize = 9;
+// Enough records: eight drives with a record of parameters each, and the end record or one more, which is refused.
+const MOST_RECORDS: usize = 17;
 
 // Drives: 0 to 8.
 pub const MOST_DRIVES: usize = 8;
 
-// The drives in table order; the first `count` slots are in use.
+// The drives in table order; the first `count` slots are in use. Where a slot has a record of parameters, `present` says so, and its fourteen
+// bytes stand from 14 times the slot's number on, as the record has them; else they are zero.
 pub struct Table {
     pub drives: [Drive; 8],
     pub count: usize,
+    pub present: [bool; 8],
+    pub parameters: [u8; 112],
 }
 
 // What the first four bytes of a record and the bytes left say: a whole record of a kind and a length, or its refusal.
@@ -102,7 +110,11 @@ fn bytes_left(n: usize, at: usize) -> usize
 fn is_kind(kind: u16) -> bool
     ensures { λ r. ⌜ r ≡ isKind kind ⌝ }
 {
-    logic::or(kind == END_KIND, kind == drive::DRIVE_KIND)
+    let drive = logic::or(
+        kind == drive::DRIVE_KIND,
+        kind == attached::PARAMETERS_KIND,
+    );
+    logic::or(kind == END_KIND, drive)
 }
 
 // The length for the kind.
@@ -111,7 +123,11 @@ fn length_ok(kind: u16, size: u16) -> bool
 {
     let end = logic::and(kind == END_KIND, size == END_LENGTH);
     let drive = logic::and(kind == drive::DRIVE_KIND, size == drive::DRIVE_LENGTH);
-    logic::or(end, drive)
+    let parameters = logic::and(
+        kind == attached::PARAMETERS_KIND,
+        size == attached::PARAMETERS_LENGTH,
+    );
+    logic::or(end, logic::or(drive, parameters))
 }
 
 fn header_at(t: &[u8], at: usize) -> Header
@@ -184,7 +200,7 @@ fn refusal_among(d: Drive, store: u64, firsts: &[u64; 8], sizes: &[u64; 8], n: u
 
 // The refusal of a drive after those of a table, or 0.
 fn refusal_of(b: Table, d: Drive, store: u64) -> u8
-    ensures { λ r. ⌜ r ≡ refusal b d store ⌝ }
+    ensures { λ r. ⌜ r ≡ refusal (b .count) (b .drives) d store ⌝ }
 {
     let drives = b.drives;
     let mut firsts = [0u64; 8];
@@ -211,6 +227,49 @@ fn push(b: Table, d: Drive) -> Table
     next
 }
 
+// ---- a drive's parameters
+
+// The refusal of a record of parameters for the drive of that number, or 0.
+fn parameters_refusal(b: Table, number: u16) -> u8
+    ensures { λ r. ⌜ r ≡ parametersRefusal b number ⌝ }
+{
+    let i = number as usize;
+    if MOST_DRIVES <= i {
+        return NOT_LAST;
+    }
+    let present = b.present;
+    if logic::and(i + 1 == b.count, !present[i]) {
+        return 0;
+    }
+    NOT_LAST
+}
+
+// The drives so far with parameters for a slot, which `parameters_refusal` has not refused.
+fn with_parameters(b: Table, i: usize, p: [u8; 14]) -> Table
+    requires { ⌜ i < 8 ⌝ }
+    ensures { λ r. ⌜ r ≡ withParameters b i p ⌝ }
+{
+    let mut next = b;
+    let mut bytes = b.parameters;
+    words::store(&mut bytes, attached::GIVEN_LENGTH * i, &p);
+    next.present[i] = true;
+    next.parameters = bytes;
+    next
+}
+
+// The fourteen bytes of a slot, one of the eight.
+pub fn parameters_at(b: Table, i: usize) -> [u8; 14]
+    requires { ⌜ i < 8 ⌝ }
+    ensures { λ p. ⌜ p ≡ parametersAt b i ⌝ }
+{
+    let bytes = b.parameters;
+    let from = attached::GIVEN_LENGTH * i;
+    let end = from + attached::GIVEN_LENGTH;
+    let mut p = [0u8; 14];
+    words::store(&mut p, 0, &bytes[from..end]);
+    p
+}
+
 // ---- the cursor
 
 // The end record at a place; `step_at` has seen its four bytes.
@@ -234,7 +293,7 @@ fn end_step(t: &[u8], at: usize, b: Table) -> Stepped
 // The bytes of a drive's record, which begins at a place; `step_at` has seen that they are there and hands on no others.
 fn drive_step(r: &[u8], at: usize, b: Table, store: u64) -> Stepped
     requires { ⌜ (length (now r) ≡ 68) × (at + 68 < 2 ^ 64) ⌝ }
-    ensures { λ q. ⌜ q ≡ driveRecord (now (r .entry)) b at store ⌝ }
+    ensures { λ q. ⌜ q ≡ recordStep driveKind 68 (now (r .entry)) b at store ⌝ }
 {
     let d = drive::decode(r);
     let n = refusal_of(b, d, store);
@@ -242,6 +301,25 @@ fn drive_step(r: &[u8], at: usize, b: Table, store: u64) -> Stepped
         return Stepped {
             step: Step::Next(at + r.len()),
             table: push(b, d),
+        };
+    }
+    Stepped {
+        step: Step::Refused(n, at),
+        table: b,
+    }
+}
+
+// The bytes of a record of parameters, likewise.
+fn parameters_step(r: &[u8], at: usize, b: Table, store: u64) -> Stepped
+    requires { ⌜ (length (now r) ≡ 20) × (at + 20 < 2 ^ 64) ⌝ }
+    ensures { λ q. ⌜ q ≡ recordStep parametersKind 20 (now (r .entry)) b at store ⌝ }
+{
+    let number = attached::number_in(r);
+    let n = parameters_refusal(b, number);
+    if n == 0 {
+        return Stepped {
+            step: Step::Next(at + r.len()),
+            table: with_parameters(b, number as usize, attached::parameters_in(r)),
         };
     }
     Stepped {
@@ -265,7 +343,10 @@ fn step_at(t: &[u8], at: usize, b: Table, store: u64) -> Stepped
                 return end_step(t, at, b);
             }
             let next = at + size;
-            drive_step(&t[at..next], at, b, store)
+            if kind == drive::DRIVE_KIND {
+                return drive_step(&t[at..next], at, b, store);
+            }
+            parameters_step(&t[at..next], at, b, store)
         }
     }
 }
@@ -363,6 +444,8 @@ pub fn empty_table() -> Table
     Table {
         drives: [d; 8],
         count: 0,
+        present: [false; 8],
+        parameters: [0u8; 112],
     }
 }
 
@@ -377,70 +460,19 @@ pub fn start() -> Cursor
     }
 }
 
-// What stands at a place, before it is tested among the drives so far: what ends the reading, or the next place and a drive.
-pub struct Found {
-    pub step: Step,
-    pub drive: Drive,
-}
-
-fn ended(step: Step) -> Found
-    ensures { λ r. ⌜ r ≡ foundEnd step ⌝ }
-{
-    Found {
-        step,
-        drive: zero_drive(),
-    }
-}
-
-fn found_at(t: &[u8], at: usize) -> Found
-    ensures { λ r. ⌜ r ≡ foundAt (now (t .entry)) at ⌝ }
-{
-    let h = header_at(t, at);
-    match h {
-        Header::Bad(n) => ended(Step::Refused(n, at)),
-        Header::Whole(kind, size) => {
-            let next = at + size;
-            if kind != END_KIND {
-                return Found {
-                    step: Step::Next(next),
-                    drive: drive::decode(&t[at..next]),
-                };
-            }
-            if next < t.len() {
-                return ended(Step::Refused(BYTE_FOLLOWS, next));
-            }
-            ended(Step::Done)
-        }
-    }
-}
-
-// All drives of a table, for a store of that many blocks. The runs of the drives so far stand beside them.
+// All drives of a table, for a store of that many blocks.
 pub fn read_table(t: &[u8], store: u64) -> Reading
     ensures { λ r. ⌜ Reads (now (t .entry)) store r ⌝ }
 {
     let mut at = 0;
     let mut b = empty_table();
-    let mut firsts = [0u64; 8];
-    let mut sizes = [0u64; 8];
     let mut left: usize = MOST_RECORDS;
     while 0 < left {
-        let f = found_at(t, at);
-        let s = f.step;
-        let d = f.drive;
+        let r = step_at(t, at, b, store);
+        let s = r.step;
+        b = r.table;
         match s {
             Step::Next(next) => {
-                let n = b.count;
-                let number = refusal_among(d, store, &firsts, &sizes, n);
-                if number != 0 {
-                    return Reading {
-                        answer: Answer::Refused(number, at),
-                        table: b,
-                    };
-                }
-                b.drives[n] = d;
-                b.count = n + 1;
-                firsts[n] = d.first;
-                sizes[n] = d.blocks;
                 at = next;
                 left -= 1;
             }
@@ -480,30 +512,47 @@ fn held(count: usize) -> usize
 // The length of the records of the first n slots. `write_table` asks for at most eight.
 fn records_length(b: Table, n: usize) -> usize
     requires { ⌜ n ≤ 8 ⌝ }
-    ensures { λ r. ⌜ (r ≡ length (recordsOf n b)) × (r ≡ 68 * n) ⌝ }
+    ensures { λ r. ⌜ (r ≡ length (recordsOf n b)) × (r ≤ 88 * n) ⌝ }
 {
     let mut total: usize = 0;
     let mut i = 0;
     while i < n {
         let d = b.drives[i];
         total += drive::record_length(d);
+        if b.present[i] {
+            total += attached::PARAMETERS_LENGTH as usize;
+        }
         i += 1;
     }
     total
 }
 
+// The records of one slot, laid from a place on; the place behind them.
+fn put_slot(b: Table, i: usize, out: &mut [u8], at: usize) -> usize
+    requires { ⌜ (i < 8) × (at + length (slotRecords b i) ≤ length (now out)) ⌝ }
+    ensures { λ r. ⌜ (now (out .exit) ≡ sets (now (out .entry)) at (slotRecords b i)) × (r ≡ at + length (slotRecords b i)) ⌝ }
+{
+    let d = b.drives[i];
+    let r = drive::encode(d);
+    words::store(out, at, &r);
+    let behind = at + drive::record_length(d);
+    if !b.present[i] {
+        return behind;
+    }
+    let p = attached::encode(i as u16, parameters_at(b, i));
+    words::store(out, behind, &p);
+    behind + attached::PARAMETERS_LENGTH as usize
+}
+
 // The records of the first n slots, laid at the start of a buffer that `write_table` has found long enough.
 fn put_records(b: Table, n: usize, out: &mut [u8])
-    requires { ⌜ (n ≤ 8) × (68 * n + 4 ≤ length (now out)) ⌝ }
+    requires { ⌜ (n ≤ 8) × (length (recordsOf n b) ≤ length (now out)) ⌝ }
     ensures { λ _. ⌜ now (out .exit) ≡ sets (now (out .entry)) 0 (recordsOf n b) ⌝ }
 {
     let mut at: usize = 0;
     let mut i = 0;
     while i < n {
-        let d = b.drives[i];
-        let r = drive::encode(d);
-        words::store(out, at, &r);
-        at += drive::record_length(d);
+        at = put_slot(b, i, out, at);
         i += 1;
     }
 }
@@ -563,6 +612,26 @@ fn sound_to(n: usize, drives: [Drive; 8], store: u64) -> bool
     sound
 }
 
+// Fourteen bytes from a place are zero. `attached_to` asks for those of a slot.
+fn zeros_at(bytes: &[u8; 112], at: usize) -> bool
+    requires { ⌜ at + 14 ≤ 112 ⌝ }
+    ensures { λ r. ⌜ r ≡ allBelow 14 (λ j. eqb (getD (now (bytes .entry)) (at + j) 0) 0) ⌝ }
+{
+    let mut zero = true;
+    let mut j = 0;
+    while j < attached::GIVEN_LENGTH {
+        zero = logic::and(bytes[at + j] == 0, zero);
+        j += 1;
+    }
+    zero
+}
+
+fn slot_ok(present: bool, drive: bool, zero: bool) -> bool
+    ensures { λ r. ⌜ r ≡ pick present drive zero ⌝ }
+{
+    if present { drive } else { zero }
+}
+
 // Slots past the count are blank.
 fn blank_past(b: Table) -> bool
     ensures { λ r. ⌜ r ≡ blankTo 8 (b .drives) (b .count) ⌝ }
@@ -579,7 +648,24 @@ fn blank_past(b: Table) -> bool
     blank
 }
 
-// At most eight drives, each of which the reader would take after those before it, and blank slots past them.
+// Slots without parameters have zeros for them, and only slots with a drive have any.
+fn attached_to(b: Table) -> bool
+    ensures { λ r. ⌜ r ≡ attachedTo 8 b ⌝ }
+{
+    let present = b.present;
+    let bytes = b.parameters;
+    let count = b.count;
+    let mut good = true;
+    let mut i = 0;
+    while i < MOST_DRIVES {
+        let zero = zeros_at(&bytes, attached::GIVEN_LENGTH * i);
+        good = logic::and(slot_ok(present[i], i < count, zero), good);
+        i += 1;
+    }
+    good
+}
+
+// At most eight drives, each of which the reader would take after those before it, blank slots past them, and parameters of drives only.
 pub fn is_sound(b: Table, store: u64) -> bool
     ensures { λ r. ⌜ r ≡ isSound b store ⌝ }
 {
@@ -588,5 +674,6 @@ pub fn is_sound(b: Table, store: u64) -> bool
         return false;
     }
     let drives = b.drives;
-    logic::and(sound_to(n, drives, store), blank_past(b))
+    let blank = logic::and(blank_past(b), attached_to(b));
+    logic::and(sound_to(n, drives, store), blank)
 }
