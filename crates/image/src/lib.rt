@@ -587,7 +587,11 @@ fn parameters_good(b: &[u8], count: usize) -> bool
                 return false;
             }
         } else {
-            if !zero_bytes(b, BYTES + attached::GIVEN_LENGTH * i, attached::GIVEN_LENGTH) {
+            if !zero_bytes(
+                b,
+                BYTES + attached::GIVEN_LENGTH * i,
+                attached::GIVEN_LENGTH,
+            ) {
                 return false;
             }
         }
@@ -636,7 +640,10 @@ fn more_good(b: &[u8], m: u64) -> bool
     if below(b, MARKS, 38, 1) {
         return true;
     }
-    let marks = logic::and(below(b, MARKS, GUESTS, 2), below(b, PRESENT, MOST_DRIVES, 2));
+    let marks = logic::and(
+        below(b, MARKS, GUESTS, 2),
+        below(b, PRESENT, MOST_DRIVES, 2),
+    );
     if !marks {
         return false;
     }

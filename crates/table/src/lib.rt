@@ -110,10 +110,7 @@ fn bytes_left(n: usize, at: usize) -> usize
 fn is_kind(kind: u16) -> bool
     ensures { λ r. ⌜ r ≡ isKind kind ⌝ }
 {
-    let drive = logic::or(
-        kind == drive::DRIVE_KIND,
-        kind == attached::PARAMETERS_KIND,
-    );
+    let drive = logic::or(kind == drive::DRIVE_KIND, kind == attached::PARAMETERS_KIND);
     logic::or(kind == END_KIND, drive)
 }
 
