@@ -352,7 +352,7 @@ pub unsafe extern "C" fn edd_place(
     }
     let answer = model::place(desk, arena, store, guest, address);
     #[cfg(fault = "flags_raw")]
-    if let (0, Some(slot)) = (answer, (0..8).find(|slot| words::get(desk, 316 + slot) == 1)) {
+    if let Some(slot) = (0..8).find(|slot| answer == 0 && words::get(desk, 316 + slot) == 1) {
         // of the first table; its sum is still zero
         let at = guest as usize * (arena.len() / 8) + address as usize;
         let raw = desk[8 * 324 + 14 * slot + 4];
