@@ -203,8 +203,8 @@ pub fn place(desk: &mut [u8], arena: &mut [u8], store: &[u8], guest: u64, addres
         if !parameters::may_lie(&read.drives, address, window.len() as u64) {
             return Err(BAD_PLACE);
         }
-        for (i, table) in parameters::tables_of(&read.drives).iter().enumerate() {
-            window[address as usize + parameters::TABLE_SIZE * i..][..parameters::TABLE_SIZE].copy_from_slice(table);
+        for (i, table) in parameters::tables_of(&read.drives).enumerate() {
+            window[address as usize + parameters::TABLE_SIZE * i..][..parameters::TABLE_SIZE].copy_from_slice(&table);
         }
         block::put_placement(desk, row, Some(address));
         Ok(DONE)

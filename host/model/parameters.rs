@@ -24,8 +24,8 @@ pub fn table_of(parameters: &Parameters) -> [u8; TABLE_SIZE] {
 }
 
 /// "one after another in drive order": a drive without a record has no table, and takes no room.
-pub fn tables_of(drives: &Drives) -> Vec<[u8; TABLE_SIZE]> {
-    drives.parameters[..drives.count].iter().flatten().map(table_of).collect()
+pub fn tables_of(drives: &Drives) -> impl Iterator<Item = [u8; TABLE_SIZE]> + '_ {
+    drives.parameters[..drives.count].iter().flatten().map(table_of)
 }
 
 /// Not "a place misaligned, tables ending past the window (with none, the address past it) or a table's segment above FFFFh".
