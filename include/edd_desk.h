@@ -270,8 +270,9 @@ EDD_NODISCARD uint32_t edd_write(const uint8_t *desk, size_t desk_len, uint8_t *
  * 256             the request waits: give turns, then collect. No register is written, nor is carry.
  * 25, 24, 20, 21  refused, tested in this order. Nothing is written.
  *
- * 41h answers CX 0001h, and 48h lays FFFFh:FFFFh at offset 26 of its result. For a drive with a record of kind 4, and a
- * guest for which edd_place was done since the opening, they answer CX 0005h and a pointer to the drive's parameter table.
+ * 41h answers CX 0001h, and 48h has FFFFh:FFFFh at offset 26 of a result of 30 bytes or more. For a drive with a record of
+ * kind 4, and a guest for which edd_place was done since the opening, these are CX 0005h and a pointer to the drive's
+ * parameter table.
  *
  * The packet is read here and never again, so from now on the guest may overwrite it. Its place is remembered: a
  * withdrawal writes the count word there. The guest leaves the buffer alone until the request has ended.
