@@ -2,3 +2,8 @@ pub mod TableLaws
 pub mod Runs
 pub mod Slots
 pub mod Sound
+pub mod Enough
+pub mod Needed
+pub mod WriteRead
+pub mod ReadWrite
+pub mod Demand2

@@ -160,6 +160,10 @@ parameters-room b i h = by-tests (ltb i 8) (eqb (i + 1) (b .count)) (hasParamete
     by-tests true true true p q r e = absurd (omega arith)
     by-tests true true false p q r e = (ltb-true i 8 p, eqb-true (i + 1) (b .count) q, r)
 
+pub parameters-taken : (b : Table) (i : ℕ) → i < 8 → i + 1 ≡ b .count → hasParameters b i ≡ false → parametersRefusal b i ≡ 0
+unfolding parametersRefusal
+parameters-taken b i h e m = rw (lt-ltb i 8 h, eq-eqb (i + 1) (b .count) e, m)
+
 -- the refusal from what the code tested
 pub parameters-far : (b : Table) (i : ℕ) → 8 ≤ i → 9 ≡ parametersRefusal b i
 unfolding parametersRefusal
@@ -235,6 +239,19 @@ pub stepAt-parameters : (t : List ℕ) (at k n : ℕ) (b : Table) (store : ℕ) 
 stepAt-parameters t at k n b store h e f =
     let l = lengthOk-parameters k n (whole-at t at k n h .right) e f in
     (λ i. recordStep (sym (l .0) i) (sym (l .1) i) (part n t at) b at store) ∙ stepAt-record t at k n b store h e
+
+-- a whole record that is taken, by what it says
+pub drive-taken : (t : List ℕ) (at : ℕ) (b : Table) (store : ℕ) (d : Drive) → headerAt t at ≡ Whole 1 68 → driveOf (part 68 t at) ≡ d → refusal (b .count) (b .drives) d store ≡ 0
+    → stepped (Next (at + 68)) (more b d) ≡ stepAt t at b store
+drive-taken t at b store d h e z =
+    let l = length-whole t at 1 68 h in
+    rw l at (drive-next (part 68 t at) at b store l (sym e) refl z refl) ∙ stepAt-drive t at 1 68 b store h refl
+
+pub attach-taken : (t : List ℕ) (at : ℕ) (b : Table) (store i : ℕ) (p : List ℕ) → headerAt t at ≡ Whole 4 20 → numberIn (part 20 t at) ≡ i → parametersIn (part 20 t at) ≡ p
+    → parametersRefusal b i ≡ 0 → stepped (Next (at + 20)) (withParameters b i p) ≡ stepAt t at b store
+attach-taken t at b store i p h e q z =
+    let l = length-whole t at 4 20 h in
+    rw l at (parameters-next (part 20 t at) at b store l (sym e) (sym q) refl z refl) ∙ stepAt-parameters t at 4 20 b store h (λ x. omega arith) (λ x. omega arith)
 
 -- what the step of a record that is not the end record can be
 record-cases : (P : Stepped → Type 0) (kind size : ℕ) (r : List ℕ) (b : Table) (at store : ℕ) → P (stepped (Refused (recordRefusal kind r b store) at) b)
