@@ -1,9 +1,10 @@
 pub mod TableLaws
-pub mod Runs
 pub mod Slots
-pub mod Sound
 pub mod Enough
-pub mod Needed
 pub mod WriteRead
+pub mod Sound
 pub mod ReadWrite
+pub mod Needed
+pub mod Vectors
 pub mod Demand2
+pub mod Runs

@@ -257,9 +257,10 @@ module _ (b : Table) (store : ℕ) (w : Widths b) (r : Rules b store) (t : List 
       let whole : length (parametersRecord i p) ≡ 20 = length-parametersRecord i p given in
       let here : part 20 t at ≡ parametersRecord i p = ap (take 20) e ∙ take-at (parametersRecord i p) rest 20 whole in
       let h : headerAt t at ≡ Whole 4 20 = written-header t at 4 20 (parametersRecord i p) rest e whole (says .length-word) (says .kind) refl refl (omega arith) in
-      let z = parameters-taken (more (upTo b i) d) i k refl (marks-past i i b (omega arith) k) in
-      (attach-taken t at (more (upTo b i) d) store i p h (ap numberIn here ∙ says .number) (ap parametersIn here ∙ says .bytes) z,
-      sym (drop-drop 20 at t) ∙ ap (drop 20) e ∙ drop-at (parametersRecord i p) rest 20 whole)
+      let z = parameters-taken (more (upTo b i) d) i k refl (marks-past i i b (omega arith) k) in (
+        attach-taken t at (more (upTo b i) d) store i p h (ap numberIn here ∙ says .number) (ap parametersIn here ∙ says .bytes) z,
+        sym (drop-drop 20 at t) ∙ ap (drop 20) e ∙ drop-at (parametersRecord i p) rest 20 whole,
+      )
 
   -- so the slot is read in one step or two, where what follows it is read
   slot-read : (R : Reading) (m k : ℕ) (rest : List ℕ) → ((k at : ℕ) → m < k → drop at t ≡ rest → readFrom k t store at (upTo b (suc i)) ≡ R) → m < k

@@ -24,9 +24,11 @@ loop-holds c = (search needs, refl)
 loop-again : tie.Need-loop-again Inv-loop μ-loop
 loop-again c =
     let h = c .before .before .before .before .before in
-    let b = h .before .before .before .args .b in
-    (search needs, all-more (h .loop .i) (attachedAt b) (h .loop .inv .1) (c .and .ensures)
-    (c .before .slot-ok .ensures ∙ ap (pick (getD (b .present) (h .loop .i) false) (ltb (h .loop .i) (b .count))) (c .before .before .zeros-at .ensures)))
+    let b = h .before .before .before .args .b in (
+      search needs,
+      all-more (h .loop .i) (attachedAt b) (h .loop .inv .1) (c .and .ensures)
+          (c .before .slot-ok .ensures ∙ ap (pick (getD (b .present) (h .loop .i) false) (ltb (h .loop .i) (b .count))) (c .before .before .zeros-at .ensures)),
+    )
 
 returns : tie.Need-returns Inv-loop μ-loop
 unfolding attachedTo
