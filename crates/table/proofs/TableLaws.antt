@@ -165,13 +165,15 @@ unfolding parametersRefusal
 parameters-taken b i h e m = rw (lt-ltb i 8 h, eq-eqb (i + 1) (b .count) e, m)
 
 -- the refusal from what the code tested
-pub parameters-far : (b : Table) (i : ℕ) → 8 ≤ i → 9 ≡ parametersRefusal b i
+parameters-is : {a : Bool} (b : Table) (i : ℕ) → a ≡ both (ltb i 8) (both (eqb (i + 1) (b .count)) (not (hasParameters b i))) → pick a 0 9 ≡ parametersRefusal b i
 unfolding parametersRefusal
-parameters-far b i h = rw (le-ltb i 8 h)
+parameters-is b i e = rw e
 
-pub parameters-near : {a : Bool} (b : Table) (i : ℕ) → i < 8 → a ≡ both (eqb (i + 1) (b .count)) (not (hasParameters b i)) → pick a 0 9 ≡ parametersRefusal b i
-unfolding parametersRefusal
-parameters-near b i h e = rw (lt-ltb i 8 h, e)
+pub parameters-none : {a : Bool} (b : Table) (i : ℕ) → a ≡ both (ltb i 8) (both (eqb (i + 1) (b .count)) (not (hasParameters b i))) → a ≡ true → 0 ≡ parametersRefusal b i
+parameters-none b i e z = rw z at (parameters-is b i e)
+
+pub parameters-nine : {a : Bool} (b : Table) (i : ℕ) → a ≡ both (ltb i 8) (both (eqb (i + 1) (b .count)) (not (hasParameters b i))) → a ≡ false → 9 ≡ parametersRefusal b i
+parameters-nine b i e z = rw z at (parameters-is b i e)
 
 -- ---- a step, by cases
 
