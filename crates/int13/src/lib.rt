@@ -252,11 +252,10 @@ fn tables_before(b: Table, n: usize) -> u8
     requires { ⌜ n ≤ 8 ⌝ }
     ensures { λ r. ⌜ (r ≡ parametersTo n b) × (r ≤ n) ⌝ }
 {
-    let present = b.present;
     let mut count = 0u8;
     let mut i = 0;
     while i < n {
-        if present[i] {
+        if b.present[i] {
             count += 1;
         }
         i += 1;
@@ -300,12 +299,11 @@ pub fn shown_of(b: Table, placement: Placement, n: u8) -> Shown
 pub fn tables_of(b: Table) -> [u8; 128]
     ensures { λ r. ⌜ (r ≡ sets (replicate 128 0) 0 (tablesOf b)) × (length (tablesOf b) ≡ 16 * tableCount b) ⌝ }
 {
-    let present = b.present;
     let mut out = [0u8; 128];
     let mut at: usize = 0;
     let mut i = 0;
     while i < 8 {
-        if present[i] {
+        if b.present[i] {
             let r = layout::parameter_table(table::parameters_at(b, i));
             words::store(&mut out, at, &r);
             at += PARAMETER_SIZE;
