@@ -5,7 +5,7 @@ ghost use Prim.Native.Nat.{_+_, _-_, _*_, _^_, _≤_, _<_, min};
 ghost use lib.ListN.{length, getD};
 ghost use lib.Dec.{eqb};
 ghost use lib.Seq.{sets};
-ghost use Rattle.drive.specs.Drive.{driveKind, fieldsOk, inStore};
+ghost use Rattle.drive.specs.Drive.{driveKind, recordOf, fieldsOk, inStore};
 ghost use Rattle.logic.specs.Logic.{pick, both, allBelow};
 ghost use Rattle.attached.specs.Parameters.{parametersKind};
 ghost use Rattle.table.specs.Table.{isKind, lengthOk, headerAt, overlapsAny, refusal, more, parametersAt, parametersRefusal, withParameters, endStep, recordStep, stepAt, placeAfter, Advances, begun, zeroDrive, emptyTable, Reads, slotRecords, recordsOf, drivesOf, tableOf, writeAnswer, writeOut, writtenNumbers, writeNumbers, soundTo, blankTo, attachedTo, isSound, overlapRuns, overlapsRun, refusalAmong};
@@ -506,6 +506,17 @@ fn held(count: usize) -> usize
     }
 }
 
+// The length of the records of a slot, by its drive and whether it has parameters.
+fn slot_length(d: Drive, present: bool) -> usize
+    ensures { λ r. ⌜ (r ≡ length (recordOf d) + pick present 20 0) × (r ≤ 88) ⌝ }
+{
+    let n = drive::record_length(d);
+    if present {
+        return n + attached::PARAMETERS_LENGTH as usize;
+    }
+    n
+}
+
 // The length of the records of the first n slots. `write_table` asks for at most eight.
 fn records_length(b: Table, n: usize) -> usize
     requires { ⌜ n ≤ 8 ⌝ }
@@ -515,10 +526,8 @@ fn records_length(b: Table, n: usize) -> usize
     let mut i = 0;
     while i < n {
         let d = b.drives[i];
-        total += drive::record_length(d);
-        if b.present[i] {
-            total += attached::PARAMETERS_LENGTH as usize;
-        }
+        let present = b.present[i];
+        total += slot_length(d, present);
         i += 1;
     }
     total
