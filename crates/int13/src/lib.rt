@@ -287,12 +287,14 @@ pub fn shown_of(b: Table, placement: Placement, n: u8) -> Shown
     if !is_drive(b, n) {
         return NOT_SHOWN;
     }
-    let i = (n - FIRST_DRIVE) as usize;
+    let slot = n - FIRST_DRIVE;
+    let i = slot as usize;
     let present = b.present;
-    if logic::and(placement.placed, present[i]) {
-        return shown_at(placement.address, tables_before(b, i));
+    if !logic::and(placement.placed, present[i]) {
+        return NOT_SHOWN;
     }
-    NOT_SHOWN
+    let before = tables_before(b, i);
+    shown_at(placement.address, before)
 }
 
 // All tables, one after another in drive order, and zeros behind them.

@@ -27,22 +27,22 @@ returns : tie.Need-returns
 unfolding shownOf
 returns c = rw (sym (c .before .is-drive .ensures) ∙ not-true _ (c .if1 .taken))
 
-sub-i : tie.Need-sub-i
-sub-i c = slot c .0
+sub-slot : tie.Need-sub-slot
+sub-slot c = slot c .0
 
 array-read-and : tie.Need-array-read-and
 array-read-and c = slot (c .before) .1
 
+returns-2 : tie.Need-returns-2
+unfolding shownOf
+returns-2 c = rw (known (c .before .before .before), sym (c .before .and .ensures) ∙ not-true _ (c .if2 .taken))
+
 tables-before-requires : tie.Need-tables-before-requires
 tables-before-requires c κs = omega (arith, slot (c .before .before .before) .1)
 
-returns-2 : tie.Need-returns-2
-unfolding shownOf
-returns-2 c = rw (known (c .before .before .before .before .before), sym (c .before .before .before .and .ensures) ∙ c .before .before .if2 .taken, c .shown-at .ensures, c .before .tables-before .ensures .0)
-
 returns-3 : tie.Need-returns-3
 unfolding shownOf
-returns-3 c = rw (known (c .before .before .before), sym (c .before .and .ensures) ∙ c .if2 .left)
+returns-3 c = rw (known (c .before .before .before .before .before), sym (c .before .before .before .and .ensures) ∙ not-false _ (c .before .before .if2 .left), c .shown-at .ensures, c .before .tables-before .ensures .0)
 
 pub shown-of-spec : {M : Type 1} → statement M
 shown-of-spec =
@@ -50,11 +50,11 @@ shown-of-spec =
     (tie.spec
     (search needs)
     returns
-    sub-i
+    sub-slot
     (search needs)
     array-read-and
     (search needs)
+    returns-2
     tables-before-requires
     (search needs)
-    returns-2
     returns-3)
