@@ -6,3 +6,4 @@ pub mod Transfers
 pub mod Places
 pub mod Vectors
 pub mod AcceptVectors
+pub mod PlaceVectors
