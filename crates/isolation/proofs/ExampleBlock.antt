@@ -22,7 +22,7 @@ use Rattle.isolation.proofs.Example.{read, story, z₀}
 
 bytes-table : Bytes tableBytes
 unfolding le leBytes
-bytes-table = bytes-leBytes 140 (le 140 tableBytes 0)
+bytes-table = bytes-leBytes 180 (le 180 tableBytes 0)
 
 abbrev zeros : List ℕ
 zeros = replicate deskSize 0
