@@ -170,9 +170,12 @@ module _ (packet : ℕ → List ℕ) (whole : (g : ℕ) → length (packet g) �
   unfolding arenaOf
   length-arena = length-filled guests
 
-  pub held-arena : (g : ℕ) → g < guests → packetAt (windowOf arenaOf g M) 24 ≡ packetAt (windowWith (packet g)) 24
+  pub window-arena : (g : ℕ) → g < guests → windowOf arenaOf g M ≡ windowWith (packet g)
   unfolding arenaOf
-  held-arena g b = ap (λ (w : List ℕ). packetAt w 24) (window-filled guests g (omega arith) b)
+  window-arena g b = window-filled guests g (omega arith) b
+
+  pub held-arena : (g : ℕ) → g < guests → packetAt (windowOf arenaOf g M) 24 ≡ packetAt (windowWith (packet g)) 24
+  held-arena g b = ap (λ (w : List ℕ). packetAt w 24) (window-arena g b)
 
 pub sevens : List ℕ
 sevens = replicate storeLength 7

@@ -2,7 +2,7 @@
 -- between. Every condition of `equal`, `handed` and `atOnce` is met.
 -- Assumes nothing.
 use Prim.Native.Nat.{ℕ, _<_}
-use mathlib.Core.Path.{_≡_, refl, sym, ap, subst, _∙_}
+use mathlib.Core.Path.{_≡_, refl, sym, ap, subst₂, _∙_}
 use mathlib.Core.Bool.{true, false}
 use mathlib.Core.List.{List, [], _∷_, _++_}
 use native.Mathlib.Omega.{arith}
@@ -29,7 +29,7 @@ use Rattle.desk.specs.declared.Desk.{Desk}
 use Rattle.desk.specs.declared.CollectAnswer.the-variants.{Given as CollectGiven}
 use Rattle.desk.specs.Calls.{firstWaiting, stageAfter}
 use Rattle.isolation.specs.Lists.{collected, Out, step, run, after}
-use Rattle.isolation.specs.Words.{refused, hands, kindOf, Finishes, collects}
+use Rattle.isolation.specs.Words.{refused, hands, kindOf, Finishes, collects, placementIn}
 use Rattle.isolation.specs.Demand.{foundBy, firstBy, Same, SameAtOnce, Claim}
 use Rattle.isolation.proofs.Equal.{request}
 use Rattle.isolation.proofs.Trace.{Place, place, Line, waiting, answering, serving, idling, unlent, withdrawing, collecting, misopening, leaves, callOf, outAt, placeAfter, callsOf, All, _also_, Sized, window-lent, step-line, sized-line, sized, followed, arrives, all-split, Story, middle, posting, meanwhile, finishing, calls, split, at-middle, since-at, closed, taken, finishes, equal}
@@ -185,7 +185,7 @@ module _ (a s : List ℕ) (la : length a ≡ arenaLength) (ls : length s ≡ sto
 
   pub handed : step (after (step d₀ (posting story) .desk) (meanwhile story ++ finishing story ∷ callsOf p₁₀ more)) (callOf (placeAfter p₁₀ more) collect₂) .answer
       ≡ collected 2 (CollectGiven (alone (fed tableBytes noPlacement) saved (foundBy M (posting story) 2) .registers))
-  unfolding after taken
+  unfolding after run taken
   handed = claim .handed (taken story z₀) (meanwhile story) (callsOf p₁₀ more) [] (finishing story) (callOf (placeAfter p₁₀ more) collect₂) refl ends no-collect refl
       (λ x. let z : hands 2 (succeed (postedRegisters saved)) ≡ refused = sym (ap (λ (o : Out). kindOf (o .answer)) given) ∙ x in impossible cc)
 
@@ -207,7 +207,8 @@ module _ (a s : List ℕ) (la : length a ≡ arenaLength) (ls : length s ≡ sto
 
   pub at-once : SameAtOnce M 6 (outAt p₆ refusing) (refuse writeProtected spoiled) (alone (fed tableBytes noPlacement) spoiled (foundBy M (callOf p₆ refusing) 6))
   at-once =
-      subst (λ (o : Out). SameAtOnce M 6 o (refuse writeProtected spoiled) (alone (fed tableBytes noPlacement) spoiled (foundBy M (callOf p₆ refusing) 6))) refused-then
+      subst₂ (λ (o : Out) (x : Placement). SameAtOnce M 6 o (refuse writeProtected spoiled) (alone (fed tableBytes x) spoiled (foundBy M (callOf p₆ refusing) 6))) refused-then
+      (ap (placementIn 6) (followed six p₀ z₀ (front .0)))
       (claim .atOnce (callsOf p₀ six) (callsOf (leaves p₆ refusing) (waiting 5 wrote writeJob ∷ serving 5 writing (Finished (succeed wrote)) ∷ last ∷ later))
       (callOf p₆ refusing) 6 spoiled (refuse writeProtected spoiled) refl refl (ap (λ (o : Out). o .answer) refused-then))
 

@@ -167,8 +167,7 @@ module _ (t : List ℕ) (arena store : ℕ) (calls : List Call) (passed : openOf
             (at-once t (placementIn g (run d₀ pre)) (after d₀ pre) c g r x (outAfter d₀ pre c) (record { table = a .table; placement = a .placement g }) op p (view (after d₀ pre) (a .inv) c (a .here)));
         placing = λ pre rest c g address h e op.
             let a = at pre rest c e in
-            let s = place-spares (after d₀ pre) c (step (after d₀ pre) c) g address h op (view (after d₀ pre) (a .inv) c (a .here)) in
-            (
+            let s = place-spares (after d₀ pre) c (step (after d₀ pre) c) g address h op (view (after d₀ pre) (a .inv) c (a .here)) in (
               s .row,
               (λ y. subst (λ (k : ℕ). windowOf (step (after d₀ pre) c .arena) h k ≡ windowOf (c .arena) h k) (a .size) (s .other y)),
               (λ y. subst (λ (k : ℕ). windowOf (step (after d₀ pre) c .arena) h k ≡ windowOf (c .arena) h k) (a .size) (s .waiting y)),
