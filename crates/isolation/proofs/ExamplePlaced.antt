@@ -101,10 +101,10 @@ module _ (a s : List ℕ) (la : length a ≡ arenaLength) (ls : length s ≡ sto
   abbrev pub p₀ : Place
   p₀ = place d₀ a s
 
-  z₀ : Sized p₀
+  pub z₀ : Sized p₀
   z₀ = record { inv = inv₀; arena = la; store = ls }
 
-  aheads : All p₀ ahead
+  pub aheads : All p₀ ahead
   unfolding placeOk parametersTo
   aheads = (refl, refl, refl) also (refl, refl, refl) also (refl, refl, refl) also tt
 
