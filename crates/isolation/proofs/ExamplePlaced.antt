@@ -27,7 +27,7 @@ use Rattle.int13.specs.Alone.{alone}
 use Rattle.desk.specs.declared.Request.{Request}
 use Rattle.desk.specs.declared.Stage.the-variants.{Waiting, Finished}
 use Rattle.desk.specs.declared.Desk.{Desk}
-use Rattle.desk.specs.Parts.{stageAt}
+use Rattle.desk.specs.Parts.{stageAt, isWaiting}
 use Rattle.desk.specs.Acceptable.{placeOk}
 use Rattle.desk.specs.Calls.{firstWaiting, stageAfter, tablesIn}
 use Rattle.isolation.specs.Lists.{Out, step, run, after}
@@ -118,9 +118,12 @@ module _ (a s : List ℕ) (la : length a ≡ arenaLength) (ls : length s ≡ sto
   untouched : (x w : List ℕ) → length w ≡ length (windowOf x 2 M) → windowOf (withWindow x 2 M w) 6 M ≡ windowOf x 6 M
   untouched x w l = window-with-other x 2 6 M w (λ e. omega arith) (l ∙ length-window x 2 M)
 
+  abbrev a₁ : List ℕ
+  a₁ = leaves p₀ (placing 2 32) .arena
+
   same-window : windowOf (p₁ .arena) 6 M ≡ windowOf a 6 M
   same-window =
-      untouched (leaves p₀ (placing 2 32) .arena) (tablesIn table 48 (windowOf (leaves p₀ (placing 2 32) .arena) 2 M)) (tables-size table 48 (windowOf (leaves p₀ (placing 2 32) .arena) 2 M))
+      untouched a₁ (tablesIn table 48 (windowOf a₁ 2 M)) (tables-size table 48 (windowOf a₁ 2 M))
       ∙ untouched a (tablesIn table 32 (windowOf a 2 M)) (tables-size table 32 (windowOf a 2 M))
 
   laid : windowOf (leaves p₁ (placing 6 8928) .arena) 6 M ≡ tablesIn table 8928 (windowOf (p₁ .arena) 6 M)
@@ -169,58 +172,72 @@ module _ (a s : List ℕ) (la : length a ≡ arenaLength) (ls : length s ≡ sto
 
   -- ---- guest 6 is answered at once as served alone is, which is fed its placement
 
-  abbrev front : List Line
-  front = waiting 2 saved saveJob ∷ serving 2 (saving 0) (Waiting (saving 16)) ∷ barred 2 64 ∷ []
-
-  abbrev moves₆ : Line
-  moves₆ = placing 6 8928
-
   abbrev asks₆ : Line
   asks₆ = answering 6 points (succeed points) shown
 
   abbrev rest : List Line
   rest = answering 6 extends extended (λ w. w) ∷ misplacing 6 8944 ∷ last ∷ []
 
-  cut : All p₁ (front ++ moves₆ ∷ []) × All (placeAfter p₁ (front ++ moves₆ ∷ [])) (asks₆ ∷ rest)
-  cut = all-split (front ++ moves₆ ∷ []) (asks₆ ∷ rest) p₁ lines
+  abbrev front : List Line
+  front = waiting 2 saved saveJob ∷ serving 2 (saving 0) (Waiting (saving 16)) ∷ []
 
-  abbrev eight : List Line
-  eight = ahead ++ (front ++ moves₆ ∷ [])
+  abbrev both : List Line
+  both = barred 2 64 ∷ placing 6 8928 ∷ []
 
-  eights : All p₀ eight
-  eights = aheads .0 also aheads .1 .0 also aheads .1 .1 .0 also cut .0
+  cut : All p₁ (front ++ both) × All (placeAfter p₁ (front ++ both)) (asks₆ ∷ rest)
+  cut = all-split (front ++ both) (asks₆ ∷ rest) p₁ lines
 
-  abbrev pub p₈ : Place
-  p₈ = placeAfter p₀ eight
-
-  asked-then : step (after d₀ (callsOf p₀ eight)) (callOf p₈ asks₆) ≡ outAt p₈ asks₆
-  asked-then = ap (λ (d : Desk). step d (callOf p₈ asks₆)) (arrives eight p₀ z₀ eights) ∙ step-line p₈ (sized eight p₀ z₀ eights) asks₆ (cut .1 .0)
-
-  pub at-once : SameAtOnce M 6 (outAt p₈ asks₆) (succeed points) (alone (fed tableBytes (placedAt 8928)) points (foundBy M (callOf p₈ asks₆) 6))
-  at-once =
-      subst₂ (λ (o : Out) (x : Placement). SameAtOnce M 6 o (succeed points) (alone (fed tableBytes x) points (foundBy M (callOf p₈ asks₆) 6))) asked-then
-      (ap (placementIn 6) (followed eight p₀ z₀ eights))
-      (claim .atOnce (callsOf p₀ eight) (callsOf (leaves p₈ asks₆) rest) (callOf p₈ asks₆) 6 points (succeed points) refl refl (ap (λ (o : Out). o .answer) asked-then))
-
-  -- ---- its placement changes neither guest 2's row nor its window, nor does guest 2's own, which is refused
+  -- after the calls ahead and these
+  so-far : (ls : List Line) → All p₁ ls → All p₀ (ahead ++ ls)
+  so-far ls h = aheads .0 also aheads .1 .0 also aheads .1 .1 .0 also h
 
   abbrev seven : List Line
-  seven = ahead ++ front
-
-  sevens₇ : All p₀ seven
-  sevens₇ = aheads .0 also aheads .1 .0 also aheads .1 .1 .0 also all-split front (moves₆ ∷ []) p₁ (cut .0) .0
+  seven = ahead ++ (front ++ both)
 
   abbrev pub p₇ : Place
   p₇ = placeAfter p₀ seven
 
-  waits₇ : stageAt (after d₀ (callsOf p₀ seven)) 2 ≡ Waiting (saving 16)
-  waits₇ = ap (λ (d : Desk). stageAt d 2) (arrives seven p₀ z₀ sevens₇)
+  asked-then : step (after d₀ (callsOf p₀ seven)) (callOf p₇ asks₆) ≡ outAt p₇ asks₆
+  asked-then =
+      ap (λ (d : Desk). step d (callOf p₇ asks₆)) (arrives seven p₀ z₀ (so-far (front ++ both) (cut .0)))
+      ∙ step-line p₇ (sized seven p₀ z₀ (so-far (front ++ both) (cut .0))) asks₆ (cut .1 .0)
 
-  pub other-placed : (stageAt (step (after d₀ (callsOf p₀ seven)) (callOf p₇ moves₆) .desk) 2 ≡ Waiting (saving 16))
-      × (windowOf (step (after d₀ (callsOf p₀ seven)) (callOf p₇ moves₆) .arena) 2 M ≡ windowOf (p₇ .arena) 2 M)
-  other-placed =
-      let c = claim .placing (callsOf p₀ seven) (callsOf (leaves p₇ moves₆) (asks₆ ∷ rest)) (callOf p₇ moves₆) 6 8928 2 refl refl in
-      (c .0 ∙ waits₇, c .1 (λ e. omega arith))
+  pub at-once : SameAtOnce M 6 (outAt p₇ asks₆) (succeed points) (alone (fed tableBytes (placedAt 8928)) points (foundBy M (callOf p₇ asks₆) 6))
+  at-once =
+      subst₂ (λ (o : Out) (x : Placement). SameAtOnce M 6 o (succeed points) (alone (fed tableBytes x) points (foundBy M (callOf p₇ asks₆) 6))) asked-then
+      (ap (placementIn 6) (followed seven p₀ z₀ (so-far (front ++ both) (cut .0))))
+      (claim .atOnce (callsOf p₀ seven) (callsOf (leaves p₇ asks₆) rest) (callOf p₇ asks₆) 6 points (succeed points) refl refl (ap (λ (o : Out). o .answer) asked-then))
+
+  -- ---- guest 2 waits: its own placement, which is refused, leaves its row and its window, and so does guest 6's
+
+  abbrev five : List Line
+  five = ahead ++ front
+
+  abbrev pub p₅ : Place
+  p₅ = placeAfter p₀ five
+
+  waits₅ : stageAt (after d₀ (callsOf p₀ five)) 2 ≡ Waiting (saving 16)
+  waits₅ = ap (λ (d : Desk). stageAt d 2) (arrives five p₀ z₀ (so-far front (all-split front both p₁ (cut .0) .0)))
+
+  abbrev six : List Line
+  six = ahead ++ (front ++ barred 2 64 ∷ [])
+
+  waits₆ : stageAt (after d₀ (callsOf p₀ six)) 2 ≡ Waiting (saving 16)
+  waits₆ =
+      ap (λ (d : Desk). stageAt d 2) (arrives six p₀ z₀ (so-far (front ++ barred 2 64 ∷ []) (all-split (front ++ barred 2 64 ∷ []) (placing 6 8928 ∷ []) p₁ (cut .0) .0)))
+
+  abbrev KeepsTwo : Out → Type 0
+  KeepsTwo o = (stageAt (o .desk) 2 ≡ Waiting (saving 16)) × (windowOf (o .arena) 2 M ≡ windowOf (p₅ .arena) 2 M)
+
+  pub own-placing : KeepsTwo (step (after d₀ (callsOf p₀ five)) (callOf p₅ (barred 2 64)))
+  own-placing =
+      let c = claim .placing (callsOf p₀ five) (callsOf p₅ (placing 6 8928 ∷ asks₆ ∷ rest)) (callOf p₅ (barred 2 64)) 2 64 2 refl refl in
+      (c .0 ∙ waits₅, c .2 (ap isWaiting waits₅))
+
+  pub other-placing : KeepsTwo (step (after d₀ (callsOf p₀ six)) (callOf p₅ (placing 6 8928)))
+  other-placing =
+      let c = claim .placing (callsOf p₀ six) (callsOf p₇ (asks₆ ∷ rest)) (callOf p₅ (placing 6 8928)) 6 8928 2 refl refl in
+      (c .0 ∙ waits₆, c .1 (λ e. omega arith))
 
 -- ---- such an arena, and a store: a word 30 at 24 of each window
 
