@@ -2,8 +2,8 @@
 -- waits its own placement is refused and another guest's is not, whose 48h then gives a pointer. Every condition of `equal`, `atOnce` and `placing`
 -- is met.
 -- Assumes nothing.
-use Prim.Native.Nat.{ℕ, zero, suc, _+_, _≤_, _<_}
-use mathlib.Core.Path.{_≡_, refl, sym, ap, subst₂, _∙_}
+use Prim.Native.Nat.{ℕ, suc, _+_, _<_}
+use mathlib.Core.Path.{_≡_, refl, ap, subst₂, _∙_}
 use mathlib.Core.Bool.{true, false}
 use mathlib.Core.List.{List, [], _∷_, _++_}
 use native.Mathlib.Omega.{arith}
@@ -14,7 +14,7 @@ use Rattle.words.proofs.WordsLaws.{le-ext}
 use Rattle.chs.specs.Chs.{inLimits, isValid, blockOf}
 use Rattle.layout.specs.declared.Pointer.{Pointer}
 use Rattle.layout.specs.ResultBuffer.{returnedSize, resultAnswer, resultOut}
-use Rattle.memory.specs.Window.{guests, windowOf, withWindow}
+use Rattle.memory.specs.Window.{windowOf, withWindow}
 use Rattle.memory.proofs.WindowLaws.{length-window, length-with-window, window-with-same, window-with-other}
 use Rattle.table.specs.Table.{parametersTo}
 use Rattle.int13.specs.declared.Registers.{Registers}
@@ -22,7 +22,7 @@ use Rattle.int13.specs.declared.Placement.{Placement}
 use Rattle.int13.specs.declared.Outcome.the-variants.{Answered}
 use Rattle.int13.specs.Answers.{succeed, posted as postedRegisters}
 use Rattle.int13.specs.Placement.{placedAt, tablesOf}
-use Rattle.int13.specs.Steps.{Checked, unchanged, isDrive, shownOf, extensions, resultGiven, result, fed, steps, begin}
+use Rattle.int13.specs.Steps.{unchanged, isDrive, shownOf, extensions, result, fed, steps, begin}
 use Rattle.int13.specs.Alone.{alone}
 use Rattle.desk.specs.declared.Request.{Request}
 use Rattle.desk.specs.declared.Stage.the-variants.{Waiting, Finished}
@@ -30,7 +30,7 @@ use Rattle.desk.specs.declared.Desk.{Desk}
 use Rattle.desk.specs.Parts.{stageAt, isWaiting}
 use Rattle.desk.specs.Acceptable.{placeOk}
 use Rattle.desk.specs.Calls.{firstWaiting, stageAfter, tablesIn}
-use Rattle.isolation.specs.Lists.{Out, step, run, after}
+use Rattle.isolation.specs.Lists.{Out, step, after}
 use Rattle.isolation.specs.Words.{placementIn}
 use Rattle.isolation.specs.Demand.{foundBy, firstBy, Same, SameAtOnce, Claim}
 use Rattle.isolation.proofs.Equal.{request}

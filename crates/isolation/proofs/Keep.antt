@@ -9,7 +9,7 @@ use native.Mathlib.Omega.{arith}
 use native.Mathlib.Decide.{ℕ-discrete}
 use borrow.Author.Tests.{ltb-true, lt-ltb, eq-eqb, ne-eqb}
 use lib.Dec.{ltb, eqb}
-use lib.ListN.{length, getD, length-set, List·getD-eq-default}
+use lib.ListN.{length, length-set, List·getD-eq-default}
 use lib.Seq.{getD-set-same, getD-set-other, length-sets}
 use Rattle.words.specs.Words.{leBytes}
 use Rattle.memory.specs.Window.{guests, windowOf, spanLength}
