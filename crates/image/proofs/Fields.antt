@@ -1,23 +1,30 @@
 -- What stands at a place of a block, as a field of the desk that the block says.
 -- Assumes nothing.
-use Prim.Native.Nat.{ℕ, zero, suc, _+_, _≤_, _<_, min}
+use Prim.Native.Nat.{ℕ, zero, suc, _+_, _-_, _*_, _/_, _%_, _≤_, _<_, min}
 use native.Mathlib.Nat.{add-zero, zero-add}
+use native.Mathlib.Numerals.{add-one}
 use native.Mathlib.Omega.{arith}
 use mathlib.Core.Path.{_≡_, refl, sym, _∙_, ap}
 use mathlib.Core.Bool.{Bool, true, false}
-use mathlib.Core.List.{List}
-use lib.ListN.{length, getD, length-take}
-use lib.Seq.{ext-getD}
+use mathlib.Core.List.{List, [], _∷_}
+use lib.ListN.{length, drop, getD, length-take}
+use lib.Seq.{ext-getD, getD-take, getD-drop}
 use lib.Dec.{leb, ltb, eqb}
 use Rattle.logic.specs.Logic.{pick, both}
+use Rattle.logic.proofs.LogicLaws.{impossible, both-true, all-ext}
 use Rattle.words.specs.Words.{le}
-use Rattle.table.specs.Table.{noDrive}
-use Rattle.int13.specs.Steps.{firstDrive, driveCount, isDrive}
+use Rattle.table.specs.declared.Table.{Table}
+use Rattle.table.specs.Table.{noDrive, hasParameters, attachedAt, parametersTo}
+use Rattle.int13.specs.declared.Placement.{Placement}
+use Rattle.int13.specs.declared.Shown.{Shown}
+use Rattle.int13.specs.Placement.{notShown}
+use Rattle.int13.specs.Steps.{firstDrive, driveCount, isDrive, shownOf}
 use Rattle.int13.proofs.StepsLaws.{isDrive-true}
 use Rattle.desk.specs.declared.Stage.the-variants.{Vacant, Waiting, Finished}
 use Rattle.desk.specs.declared.Row.{Row}
-use Rattle.desk.specs.Parts.{vacantRow, stageIn, stageAt, isWaiting}
-use Rattle.image.specs.Image.{listed, rowAt, slotAt, countAt, requestPlace, finishedPlace, registersAt, requestAt, readStage, readRow, readDrive, readDesk}
+use Rattle.desk.specs.Parts.{vacantRow, stageIn, stageAt, isWaiting, placementAt}
+use Rattle.image.specs.Image.{each, listed, marksWords, rowAt, slotAt, markAt, addressAt, presentAt, bytesAt, countAt, requestPlace, finishedPlace, registersAt, requestAt, readStage, readRow, readDrive, readMarks, readAddresses, readDesk}
+use Rattle.image.specs.Judged.{zeroBytes}
 
 pub listed-at : {A : Type 0} (f : ℕ → A) (i n k : ℕ) (e : A) → k < n → getD (listed f i n) k e ≡ f (i + k)
 listed-at f i zero k e h = absurd (omega arith)
@@ -26,7 +33,7 @@ listed-at f i (suc n) (suc k) e h =
     let z : suc i + k ≡ i + suc k = omega arith in
     listed-at f (suc i) n k e (omega arith) ∙ ap f z
 
-length-listed : {A : Type 0} (f : ℕ → A) (i n : ℕ) → length (listed f i n) ≡ n
+pub length-listed : {A : Type 0} (f : ℕ → A) (i n : ℕ) → length (listed f i n) ≡ n
 length-listed f i zero = refl
 length-listed f i (suc n) = ap suc (length-listed f (suc i) n)
 
@@ -37,6 +44,21 @@ listed-is f l n e m h =
     let r : k < n = omega (arith, length-listed f 0 n) in
     listed-at f 0 n k e r ∙ ap f (zero-add k) ∙ h k r)
 
+-- one word for each mark
+mark-words : (marks : List Bool) (k : ℕ) → k < length marks → getD (marksWords marks) k 0 ≡ pick (getD marks k false) 1 0
+unfolding each
+mark-words [] k h = absurd (omega arith)
+mark-words (x ∷ marks) zero h = refl
+mark-words (x ∷ marks) (suc k) h = mark-words marks k (omega arith)
+
+pub length-marks : (marks : List Bool) → length (marksWords marks) ≡ length marks
+unfolding each
+length-marks [] = refl
+length-marks (x ∷ marks) = ap suc (length-marks marks)
+
+pub marks-listed : (marks : List Bool) (n : ℕ) → length marks ≡ n → listed (λ k. pick (getD marks k false) 1 0) 0 n ≡ marksWords marks
+marks-listed marks n e = listed-is (λ k. pick (getD marks k false) 1 0) (marksWords marks) n 0 (length-marks marks ∙ e) (λ k l. sym (mark-words marks k (omega arith)))
+
 -- a guest's row
 pub row-of : (b : List ℕ) (g : ℕ) → g < 8 → stageAt (readDesk b) g ≡ readStage b (rowAt g)
 unfolding readDesk
@@ -46,6 +68,75 @@ row-of b g h = ap (λ (r : Row). r .stage) (listed-at (λ k. readRow b (rowAt k)
 pub slot-of : (b : List ℕ) (i : ℕ) → i < 8 → getD (readDesk b .table .drives) i noDrive ≡ readDrive b (slotAt i)
 unfolding readDesk
 slot-of b i h = listed-at (λ k. readDrive b (slotAt k)) 0 8 i noDrive h ∙ ap (λ (k : ℕ). readDrive b (slotAt k)) (zero-add i)
+
+-- a mark
+mark-of : (b : List ℕ) (at k : ℕ) → k < 8 → getD (readMarks b at) k false ≡ eqb (getD b (at + 8 * k) 0) 1
+mark-of b at k h =
+    listed-at (λ i. eqb (getD b (at + 8 * i) 0) 1) 0 8 k false h ∙ ap (λ (i : ℕ). eqb (getD b (at + 8 * i) 0) 1) (zero-add k)
+
+-- a guest's address
+pub address-of : (b : List ℕ) (g : ℕ) → g < 8 → getD (readAddresses b) g 0 ≡ le 8 b (addressAt g)
+address-of b g h = listed-at (λ k. le 8 b (addressAt k)) 0 8 g 0 h ∙ ap (λ (k : ℕ). le 8 b (addressAt k)) (zero-add g)
+
+-- a guest's placement
+pub placement-at : {p : Placement} (b : List ℕ) (g : ℕ) → g < 8 → p .placed ≡ eqb (getD b (markAt g) 0) 1 → p .address ≡ le 8 b (addressAt g) → p ≡ placementAt (readDesk b) g
+unfolding readDesk
+placement-at b g h e f =
+    let m = e ∙ sym (mark-of b (markAt 0) g h) in
+    let a = f ∙ sym (address-of b g h) in
+    λ i. record { placed = m i; address = a i }
+
+-- a slot has parameters by its mark
+pub present-of : (b : List ℕ) (i : ℕ) → i < 8 → hasParameters (readDesk b .table) i ≡ eqb (getD b (presentAt i) 0) 1
+unfolding readDesk
+present-of b i h = mark-of b (presentAt 0) i h
+
+-- and its bytes stand at their place
+byte-of : (b : List ℕ) (i j : ℕ) → i < 8 → j < 14 → getD (readDesk b .table .parameters) (14 * i + j) 0 ≡ getD b (bytesAt i + j) 0
+unfolding readDesk
+byte-of b i j h l =
+    let z : bytesAt 0 + (14 * i + j) ≡ bytesAt i + j = omega arith in
+    getD-take 112 (drop (bytesAt 0) b) (14 * i + j) 0 (omega arith) ∙ getD-drop (bytesAt 0) b (14 * i + j) 0 ∙ ap (λ (k : ℕ). getD b k 0) z
+
+pub attached-of : (b : List ℕ) (i : ℕ) → i < 8
+    → attachedAt (readDesk b .table) i ≡ pick (eqb (getD b (presentAt i) 0) 1) (ltb i (le 8 b countAt)) (zeroBytes 14 b (bytesAt i))
+unfolding readDesk zeroBytes
+attached-of b i h =
+    rw (present-of b i h)
+    (ap (λ (t : Bool). pick (eqb (getD b (presentAt i) 0) 1) (ltb i (le 8 b countAt)) t)
+    (all-ext 14 _ (λ j. eqb (getD b (bytesAt i + j) 0) 0) (λ j l. ap (λ (x : ℕ). eqb x 0) (byte-of b i j h l))))
+
+-- one slot more
+pub count-more : {r : ℕ} (b : List ℕ) (n : ℕ) → n < 8 → r ≡ parametersTo n (readDesk b .table) + pick (eqb (getD b (presentAt n) 0) 1) 1 0 → r ≡ parametersTo (n + 1) (readDesk b .table)
+unfolding parametersTo
+count-more b n h e = rw (add-one, present-of b n h) e
+
+-- what a guest is shown: nothing without a placement, of a number that is no drive's, or of a drive without parameters; else a segment
+module _ (b : Table) (n : ℕ) {p q : Placement} {k r : Bool} (e : p ≡ q) (a : k ≡ isDrive b n) (c : r ≡ both (p .placed) k) where
+  pub shown-none : r ≡ false → notShown ≡ shownOf b q n
+  unfolding shownOf
+  shown-none z = go (p .placed) k refl a (sym c ∙ z) ∙ ap (λ (x : Placement). shownOf b x n) e
+    where
+      go : (x y : Bool) → p .placed ≡ x → y ≡ isDrive b n → both x y ≡ false → notShown ≡ shownOf b p n
+      go true true i j f = impossible (cc)
+      go false true i j f = rw (← j, i)
+      go x false i j f = rw (← j)
+
+  module _ (z : r ≡ true) {m : Bool} (h : m ≡ hasParameters b (n - firstDrive)) where
+    pub shown-bare : m ≡ false → notShown ≡ shownOf b q n
+    unfolding shownOf
+    shown-bare f =
+        let w = both-true (p .placed) k (sym c ∙ z) in
+        let none : notShown ≡ shownOf b p n = rw (sym a ∙ w .1, w .0, sym h ∙ f) in
+        none ∙ ap (λ (x : Placement). shownOf b x n) e
+
+    pub shown-table : {s : Shown} {before : ℕ} → m ≡ true → before ≡ parametersTo (n - firstDrive) b
+        → s ≡ record { table = true; segment = (p .address + 16 * before) / 16 % 65536 } → s ≡ shownOf b q n
+    unfolding shownOf
+    shown-table {s} f t d =
+        let w = both-true (p .placed) k (sym c ∙ z) in
+        let shown : s ≡ shownOf b p n = rw (sym a ∙ w .1, w .0, sym h ∙ f, ← t) d in
+        shown ∙ ap (λ (x : Placement). shownOf b x n) e
 
 -- a row waits by its number
 waiting-number : (b : List ℕ) (i : ℕ) → isWaiting (readStage b i) ≡ eqb (getD b i 0) 1

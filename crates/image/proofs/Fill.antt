@@ -1,21 +1,23 @@
 -- Lists that are put together from their members' parts, and a block that is filled with them from the left.
 -- Assumes nothing.
-use Prim.Native.Nat.{ℕ, suc, _+_, _*_, _≤_, _<_}
+use Prim.Native.Nat.{ℕ, zero, suc, _+_, _*_, _≤_, _<_}
 use native.Mathlib.Nat.{mul-zero}
 use native.Mathlib.Numerals.{add-one}
 use native.Mathlib.Omega.{arith}
 use mathlib.Core.Path.{_≡_, refl, sym, _∙_, ap, subst}
 use mathlib.Core.List.{List, [], _∷_, _++_, append-assoc, append-nil}
-use lib.ListN.{length, take, getD, length-append}
-use lib.Seq.{sets, take-suc, length-take-le}
-use Rattle.words.specs.Words.{leBytes}
-use Rattle.words.proofs.WordsLaws.{length-leBytes, sets-append, sets-whole}
+use lib.ListN.{length, take, drop, getD, length-append, take-append-drop, drop-of-length-le}
+use lib.Seq.{sets, take-suc, drop-drop, length-take-le}
+use Rattle.words.specs.Words.{Bytes, le, leBytes}
+use Rattle.words.proofs.WordsLaws.{length-leBytes, write-read, sets-append, sets-whole}
 use Rattle.drive.specs.declared.Drive.{Drive}
+use Rattle.table.specs.declared.Table.{Table}
 use Rattle.desk.specs.declared.Stage.{Stage}
 use Rattle.desk.specs.declared.Stage.the-variants.{Vacant, Waiting, Finished}
 use Rattle.desk.specs.declared.Row.{Row}
 use Rattle.desk.specs.declared.Desk.{Desk}
-use Rattle.image.specs.Image.{each, flat, stageWords, rowWords, rowsWords, driveWords, slotsWords, tailWords, deskWords, image, rowAt, slotAt, tailAt, deskSize}
+use Rattle.image.specs.Image.{each, flat, listed, stageWords, rowWords, rowsWords, driveWords, slotsWords, tailWords, marksWords, placesWords, givenWords, parametersWords, deskWords, image, rowAt, slotAt, tailAt, markAt, deskSize}
+use Rattle.image.proofs.Fields.{length-listed, length-marks}
 
 module _ {A : Type 0} (f : A → List ℕ) where
   pub each-append : (xs ys : List A) → each f (xs ++ ys) ≡ each f xs ++ each f ys
@@ -85,20 +87,66 @@ length-rows rows e = length-each rowWords 23 length-row rows ∙ ap (λ (m : ℕ
 pub length-slots : (drives : List Drive) → length drives ≡ 8 → length (slotsWords drives) ≡ 14 * 8
 length-slots drives e = length-each driveWords 14 length-drive drives ∙ ap (λ (m : ℕ). 14 * m) e
 
+-- the sections behind the last words
+pub length-places : (d : Desk) → length (d .placed) ≡ 8 → length (d .addresses) ≡ 8 → length (placesWords d) ≡ 8 * 2
+length-places d e f = length-append (marksWords (d .placed)) (d .addresses) ∙ omega (arith, length-marks (d .placed))
+
+pub length-parameters : (b : Table) → length (b .present) ≡ 8 → length (parametersWords b) ≡ 8 + 14
+length-parameters b e =
+    length-append (marksWords (b .present)) (givenWords (b .parameters))
+    ∙ omega (arith, length-marks (b .present), length-listed (λ j. le 8 (b .parameters) (8 * j)) 0 14)
+
+-- bytes as words, eight a word
+words-from : (p : List ℕ) (i n : ℕ) → Bytes p → 8 * i + 8 * n ≡ length p → flat (listed (λ j. le 8 p (8 * j)) i n) ≡ drop (8 * i) p
+unfolding each
+words-from p i zero h e = sym (drop-of-length-le p {i = 8 * i} (omega arith))
+words-from p i (suc n) h e =
+    let z : 8 * i + 8 ≡ 8 * suc i = omega arith in
+    rw (write-read 8 p (8 * i) h (omega arith), words-from p (suc i) n h (omega arith), ← z, ← drop-drop 8 (8 * i) p) (take-append-drop 8 (drop (8 * i) p))
+
+pub flat-words : (p : List ℕ) → Bytes p → length p ≡ 112 → flat (givenWords p) ≡ p
+flat-words p h e = words-from p 0 14 h (omega arith)
+
 -- the sections, laid one after the other
+
+-- those behind the last words
+pub more-laid : (s : List ℕ) (at : ℕ) (d : Desk) → length (d .placed) ≡ 8 → length (d .addresses) ≡ 8 → length (d .table .present) ≡ 8
+    → sets (sets (sets (sets s at (flat (marksWords (d .placed)))) (at + 64) (flat (d .addresses))) (at + 128) (flat (marksWords (d .table .present)))) (at + 192) (flat (givenWords (d .table .parameters)))
+    ≡ sets s at (flat (placesWords d ++ parametersWords (d .table)))
+more-laid s at d p a n =
+    let P = marksWords (d .placed) in
+    let A = d .addresses in
+    let N = marksWords (d .table .present) in
+    let W = givenWords (d .table .parameters) in
+    let lp : length (flat P) ≡ 64 = length-flat P ∙ omega (arith, length-marks (d .placed)) in
+    let la : length (flat P ++ flat A) ≡ 128 = length-append (flat P) (flat A) ∙ omega (arith, length-flat A) in
+    let parts : flat ((P ++ A) ++ (N ++ W)) ≡ (flat P ++ flat A) ++ (flat N ++ flat W) =
+    rw (each-append (leBytes 8) (P ++ A) (N ++ W), each-append (leBytes 8) P A, each-append (leBytes 8) N W) in
+    let ln : length ((flat P ++ flat A) ++ flat N) ≡ 192 = length-append (flat P ++ flat A) (flat N) ∙ omega (arith, length-flat N, length-marks (d .table .present)) in
+    ap (λ (x : List ℕ). sets (sets x (at + 128) (flat N)) (at + 192) (flat W)) (sets-next s at 64 (flat P) (flat A) lp)
+    ∙ ap (λ (x : List ℕ). sets x (at + 192) (flat W)) (sets-next s at 128 (flat P ++ flat A) (flat N) la)
+    ∙ sets-next s at 192 ((flat P ++ flat A) ++ flat N) (flat W) ln
+    ∙ ap (sets s at) (append-assoc (flat P ++ flat A) (flat N) (flat W) ∙ sym parts)
+
 pub laid-out : (s : List ℕ) (d : Desk) → length s ≡ deskSize → length (d .rows) ≡ 8 → length (d .table .drives) ≡ 8
-    → sets (sets (sets s (rowAt 0) (flat (rowsWords (d .rows)))) (slotAt 0) (flat (slotsWords (d .table .drives)))) (tailAt 0) (flat (tailWords d)) ≡ image d
+    → length (d .placed) ≡ 8 → length (d .addresses) ≡ 8 → length (d .table .present) ≡ 8
+    → sets (sets (sets (sets s (rowAt 0) (flat (rowsWords (d .rows)))) (slotAt 0) (flat (slotsWords (d .table .drives)))) (tailAt 0) (flat (tailWords d))) (markAt 0) (flat (placesWords d ++ parametersWords (d .table)))
+    ≡ image d
 unfolding image deskWords
-laid-out s d n r t =
-    let R = flat (rowsWords (d .rows)) in
-    let D = flat (slotsWords (d .table .drives)) in
-    let T = flat (tailWords d) in
-    let lr : length R ≡ slotAt 0 = length-flat (rowsWords (d .rows)) ∙ omega (arith, length-rows (d .rows) r) in
-    let ld : length (R ++ D) ≡ tailAt 0 = length-append R D ∙ omega (arith, length-flat (slotsWords (d .table .drives)), length-slots (d .table .drives) t) in
-    let lt : length ((R ++ D) ++ T) ≡ length s = length-append (R ++ D) T ∙ omega (arith, length-flat (tailWords d)) in
-    ap (λ (l : List ℕ). sets l (tailAt 0) T) (sets-next s 0 (slotAt 0) R D lr)
-    ∙ sets-next s 0 (tailAt 0) (R ++ D) T ld
-    ∙ sets-whole s ((R ++ D) ++ T) (sym lt)
-    ∙ append-assoc R D T
-    ∙ sym (each-append (leBytes 8) (rowsWords (d .rows)) (slotsWords (d .table .drives) ++ tailWords d)
-    ∙ ap (λ (l : List ℕ). R ++ l) (each-append (leBytes 8) (slotsWords (d .table .drives)) (tailWords d)))
+laid-out s d n r t p a q =
+    let R = rowsWords (d .rows) in
+    let D = slotsWords (d .table .drives) in
+    let T = tailWords d in
+    let M = placesWords d ++ parametersWords (d .table) in
+    let lr : length (flat R) ≡ slotAt 0 = length-flat R ∙ omega (arith, length-rows (d .rows) r) in
+    let ld : length (flat R ++ flat D) ≡ tailAt 0 = length-append (flat R) (flat D) ∙ omega (arith, length-flat D, length-slots (d .table .drives) t) in
+    let lt : length ((flat R ++ flat D) ++ flat T) ≡ markAt 0 = length-append (flat R ++ flat D) (flat T) ∙ omega (arith, length-flat T) in
+    let lm : length M ≡ 38 = length-append (placesWords d) (parametersWords (d .table)) ∙ omega (arith, length-places d p a, length-parameters (d .table) q) in
+    let l : length (((flat R ++ flat D) ++ flat T) ++ flat M) ≡ length s = length-append ((flat R ++ flat D) ++ flat T) (flat M) ∙ omega (arith, length-flat M) in
+    ap (λ (x : List ℕ). sets (sets x (tailAt 0) (flat T)) (markAt 0) (flat M)) (sets-next s 0 (slotAt 0) (flat R) (flat D) lr)
+    ∙ ap (λ (x : List ℕ). sets x (markAt 0) (flat M)) (sets-next s 0 (tailAt 0) (flat R ++ flat D) (flat T) ld)
+    ∙ sets-next s 0 (markAt 0) ((flat R ++ flat D) ++ flat T) (flat M) lt
+    ∙ sets-whole s (((flat R ++ flat D) ++ flat T) ++ flat M) (sym l)
+    ∙ append-assoc (flat R ++ flat D) (flat T) (flat M)
+    ∙ append-assoc (flat R) (flat D) (flat T ++ flat M)
+    ∙ sym (rw (each-append (leBytes 8) R (D ++ (T ++ M)), each-append (leBytes 8) D (T ++ M), each-append (leBytes 8) T M))

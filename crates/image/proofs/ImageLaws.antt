@@ -4,13 +4,14 @@ use Prim.Native.Nat.{ℕ, zero, suc, _+_, _*_, _%_, _^_, _-_, _≤_, _<_}
 use native.Mathlib.Nat.{add-zero, zero-add, mul-zero, mul-suc, mul-le-mul-left, mod-eq-of-lt}
 use native.Mathlib.Omega.{arith}
 use mathlib.Core.Path.{_≡_, refl, sym, _∙_, ap, subst}
+use mathlib.Core.Logic.{⊎-elim}
 use mathlib.Core.Bool.{Bool, true, false}
 use mathlib.Core.List.{List, [], _∷_, _++_, append-assoc, append-nil}
-use lib.ListN.{length, getD, replicate, length-append, List·getD-append}
-use lib.Seq.{getD-append-add, take-all}
+use lib.ListN.{length, take, getD, replicate, length-append, List·getD-append, List·getD-eq-default}
+use lib.Seq.{getD-append-add, drop-at, take-all}
 use lib.Dec.{eqb}
 use borrow.Author.Tests.{eq-eqb, eqb-true}
-use Rattle.logic.proofs.LogicLaws.{true≢false}
+use Rattle.logic.proofs.LogicLaws.{true≢false, lt-or-le}
 use Rattle.logic.specs.Logic.{pick, both}
 use Rattle.words.specs.Words.{Bytes, le, leBytes, part}
 use Rattle.words.proofs.WordsLaws.{le-lt, le-ext, read-write, write-read, leBytes-append, length-leBytes, bytes-leBytes, bytes-part}
@@ -29,9 +30,9 @@ use Rattle.desk.specs.Acceptable.{accept}
 use Rattle.desk.specs.Calls.{closed}
 use Rattle.desk.proofs.AcceptableLaws.{closed-refused}
 use Rattle.memory.proofs.Sets.{length-part}
-use Rattle.image.specs.Image.{each, flat, requestWords, stageWords, rowWords, rowsWords, driveWords, slotsWords, tailWords, deskWords, image, slotSize, rowAt, slotAt, tailAt, deskSize, countAt, pointerAt, arenaAt, storeAt, requestPlace, finishedPlace, registersAt, requestAt, readStage, readRow, readDrive, readRows, readSlots, readDesk, isImage, deskOf, accepted, FitsRegisters, FitsRequest, FitsStage, FitsDrive, FitsTable, FitsDesk, ImageOf, Exact}
-use Rattle.image.proofs.Fill.{length-each, length-flat, length-row, length-drive, length-rows, length-slots}
-use Rattle.image.proofs.Fields.{listed-is, row-of, slot-of}
+use Rattle.image.specs.Image.{each, flat, requestWords, stageWords, rowWords, rowsWords, driveWords, slotsWords, tailWords, marksWords, placesWords, givenWords, parametersWords, deskWords, image, slotSize, rowAt, slotAt, tailAt, markAt, addressAt, presentAt, bytesAt, deskSize, countAt, pointerAt, arenaAt, storeAt, requestPlace, finishedPlace, registersAt, requestAt, readStage, readRow, readDrive, readRows, readSlots, readMarks, readAddresses, readDesk, isImage, deskOf, accepted, FitsRegisters, FitsRequest, FitsStage, FitsDrive, FitsTable, FitsDesk, ImageOf, Exact}
+use Rattle.image.proofs.Fill.{each-append, length-each, length-flat, length-row, length-drive, length-rows, length-slots, length-places, length-parameters, flat-words}
+use Rattle.image.proofs.Fields.{listed-is, length-marks, row-of, slot-of, address-of}
 
 -- ---- members of a list that is put together
 
@@ -193,6 +194,14 @@ says-each f n wide e s i at xs t k l p h j m q r =
         let m : n * suc k ≤ n * a = mul-le-mul-left n l in
         omega (arith, m, mul-suc n k)
 
+-- marks, whatever follows them
+marks-read : (s : List ℕ) (i : ℕ) (marks : List Bool) (t : List ℕ) → length marks ≡ 8 → Says s i (marksWords marks ++ t) → readMarks s i ≡ marks
+marks-read s i marks t e h =
+    listed-is (λ k. eqb (getD s (i + 8 * k) 0) 1) marks 8 false e (λ k l.
+    let m = says-each (λ (x : Bool). pick x 1 0 ∷ []) 1 (λ x. refl) false s i (i + 8 * k) marks t k (omega arith) (omega arith) h in
+    ap (λ (x : ℕ). eqb x 1) (rw add-zero at (byte s (i + 8 * k) (pick (getD marks k false) 1 0 ∷ []) m 0 (pick (getD marks k false) 1 0) (omega arith) refl (bit-fits (getD marks k false))))
+    ∙ carry-bit (getD marks k false))
+
 says-flat : (ws : List ℕ) → Says (flat ws) 0 ws
 unfolding Says
 says-flat ws j m l q =
@@ -213,26 +222,47 @@ module _ (d : Desk) (fit : FitsDesk d) where
   pub length-image : length (image d) ≡ deskSize
   unfolding image deskWords
   length-image =
+      let R = rowsWords (d .rows) in
+      let S = slotsWords (d .table .drives) in
+      let P = placesWords d in
+      let Q = parametersWords (d .table) in
       length-flat (deskWords d)
       ∙ omega (
         arith,
         length-rows (d .rows) (fit .eight),
         length-slots (d .table .drives) (fit .table .eight),
-        length-append (rowsWords (d .rows)) (slotsWords (d .table .drives) ++ tailWords d),
-        length-append (slotsWords (d .table .drives)) (tailWords d),
+        length-places d (fit .placed) (fit .addresses),
+        length-parameters (d .table) (fit .table .present),
+        length-append R (S ++ (tailWords d ++ (P ++ Q))),
+        length-append S (tailWords d ++ (P ++ Q)),
+        length-append (tailWords d) (P ++ Q),
+        length-append P Q,
       )
 
   -- the words of each section
 
-  says-rows : Says (image d) (rowAt 0) (rowsWords (d .rows) ++ (slotsWords (d .table .drives) ++ tailWords d))
+  says-rows : Says (image d) (rowAt 0) (rowsWords (d .rows) ++ (slotsWords (d .table .drives) ++ (tailWords d ++ (placesWords d ++ parametersWords (d .table)))))
   unfolding image deskWords
   says-rows = says-flat (deskWords d)
 
-  says-slots : Says (image d) (slotAt 0) (slotsWords (d .table .drives) ++ tailWords d)
+  says-slots : Says (image d) (slotAt 0) (slotsWords (d .table .drives) ++ (tailWords d ++ (placesWords d ++ parametersWords (d .table))))
   says-slots = says-right (image d) (rowAt 0) (slotAt 0) (rowsWords (d .rows)) _ (omega (arith, length-rows (d .rows) (fit .eight))) says-rows
 
-  says-tail : Says (image d) (tailAt 0) (tailWords d)
+  says-tail : Says (image d) (tailAt 0) (tailWords d ++ (placesWords d ++ parametersWords (d .table)))
   says-tail = says-right (image d) (slotAt 0) (tailAt 0) (slotsWords (d .table .drives)) _ (omega (arith, length-slots (d .table .drives) (fit .table .eight))) says-slots
+
+  says-more : Says (image d) (markAt 0) (placesWords d ++ parametersWords (d .table))
+  says-more = says-right (image d) (tailAt 0) (markAt 0) (tailWords d) _ (omega arith) says-tail
+
+  says-places : Says (image d) (markAt 0) (placesWords d)
+  says-places = says-left (image d) (markAt 0) (placesWords d) _ says-more
+
+  says-addresses : Says (image d) (addressAt 0) (d .addresses)
+  says-addresses = says-right (image d) (markAt 0) (addressAt 0) (marksWords (d .placed)) (d .addresses) (omega (arith, fit .placed, length-marks (d .placed))) says-places
+
+  says-parameters : Says (image d) (presentAt 0) (parametersWords (d .table))
+  says-parameters =
+      says-right (image d) (markAt 0) (presentAt 0) (placesWords d) (parametersWords (d .table)) (omega (arith, length-places d (fit .placed) (fit .addresses))) says-more
 
   -- each section is read back
 
@@ -252,7 +282,26 @@ module _ (d : Desk) (fit : FitsDesk d) where
       (fit .table .each i l) (bytes-flat (deskWords d)) (omega (arith, length-image)))
 
   tail-read : (j v : ℕ) → j < 4 → getD (tailWords d) j 0 ≡ v → v < 256 ^ 8 → le 8 (image d) (tailAt j) ≡ v
-  tail-read j v l e f = field (image d) (tailAt 0) (tailWords d) says-tail 8 j v (omega arith) l e f
+  tail-read j v l e f = field (image d) (tailAt 0) (tailWords d) (says-left (image d) (tailAt 0) (tailWords d) _ says-tail) 8 j v (omega arith) l e f
+
+  addresses-read : readAddresses (image d) ≡ d .addresses
+  addresses-read =
+      listed-is (λ g. le 8 (image d) (addressAt g)) (d .addresses) 8 0 (fit .addresses) (λ g l.
+      field (image d) (addressAt 0) (d .addresses) says-addresses 8 g (getD (d .addresses) g 0) (omega arith) (omega (arith, fit .addresses)) refl (fit .address g))
+
+  -- the last section is the bytes as they are
+  parameters-read : part 112 (image d) (bytesAt 0) ≡ d .table .parameters
+  unfolding image deskWords
+  parameters-read =
+      let p = d .table .parameters in
+      let W = givenWords p in
+      let F = rowsWords (d .rows) ++ (slotsWords (d .table .drives) ++ (tailWords d ++ (placesWords d ++ marksWords (d .table .present)))) in
+      let e : deskWords d ≡ F ++ W = simp append-assoc in
+      let w : flat W ≡ p = flat-words p (fit .table .bytes) (fit .table .parameters) in
+      let l : length (flat F) ≡ bytesAt 0 = omega (arith, length-image, ap length (ap flat e ∙ each-append (leBytes 8) F W) ∙ length-append (flat F) (flat W), ap length w, fit .table .parameters) in
+      ap (λ (s : List ℕ). part 112 s (bytesAt 0)) (ap flat e ∙ each-append (leBytes 8) F W)
+      ∙ ap (take 112) (drop-at (flat F) (flat W) (bytesAt 0) l ∙ w)
+      ∙ take-all 112 p (omega (arith, fit .table .parameters))
 
   pub read-image : readDesk (image d) ≡ d
   unfolding readDesk
@@ -264,6 +313,10 @@ module _ (d : Desk) (fit : FitsDesk d) where
         tail-read 1 (d .pointer) (omega arith) refl (fit .pointer),
         tail-read 2 (d .arena) (omega arith) refl (fit .arena),
         tail-read 3 (d .store) (omega arith) refl (fit .store),
+        marks-read (image d) (markAt 0) (d .placed) (d .addresses) (fit .placed) says-places,
+        addresses-read,
+        marks-read (image d) (presentAt 0) (d .table .present) _ (fit .table .present) says-parameters,
+        parameters-read,
       )
 
 -- the desk of a desk's image is the desk
@@ -341,7 +394,17 @@ module _ (b : List ℕ) (h : Bytes b) where
         eight = refl;
         each = λ i q. rw (slot-of b i q) (drive-fits (slotAt i) (omega arith));
         count = le-lt 8 b countAt h;
+        present = refl;
+        parameters = length-part 112 b (bytesAt 0) (omega arith);
+        bytes = bytes-part 112 b (bytesAt 0) h;
       }
+
+  addresses-fit : (g : ℕ) → getD (readAddresses b) g 0 < 256 ^ 8
+  addresses-fit g =
+      ⊎-elim
+      (λ l. rw (address-of b g l) (le-lt 8 b (addressAt g) h))
+      (λ l. rw (List·getD-eq-default (readAddresses b) 0 {n = g} l) (omega arith))
+      (lt-or-le g 8)
 
   read-fits : length b ≡ deskSize → FitsDesk (readDesk b)
   unfolding readDesk
@@ -353,6 +416,9 @@ module _ (b : List ℕ) (h : Bytes b) where
         pointer = le-lt 8 b pointerAt h;
         arena = le-lt 8 b arenaAt h;
         store = le-lt 8 b storeAt h;
+        placed = refl;
+        addresses = refl;
+        address = addresses-fit;
       }
 
 -- ---- accepted exactly when it is the image of an acceptable desk

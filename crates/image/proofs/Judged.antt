@@ -1,7 +1,7 @@
 -- A block that is judged on its words is accepted exactly when it is accepted as the desk that it says.
 -- Assumes nothing.
-use Prim.Native.Nat.{ℕ, zero, suc, _+_, _-_, _*_, _/_, _^_, _≤_, _<_}
-use native.Mathlib.Nat.{add-zero, zero-add, add-assoc, mul-zero, mul-suc}
+use Prim.Native.Nat.{ℕ, zero, suc, _+_, _-_, _*_, _/_, _%_, _^_, _≤_, _<_}
+use native.Mathlib.Nat.{add-zero, zero-add, add-assoc, mul-zero, mul-suc, one-le-pow}
 use native.Mathlib.Numerals.{add-one}
 use native.Mathlib.Omega.{arith}
 use mathlib.Core.Path.{_≡_, refl, sym, _∙_, ap, subst}
@@ -20,23 +20,24 @@ use Rattle.drive.specs.declared.Drive.{Drive}
 use Rattle.drive.specs.Drive.{same, fieldsOk, inStore, overlap, isBlank, blankNumbers, blankNames}
 use Rattle.drive.proofs.DriveLaws.{same-refl, same-true}
 use Rattle.table.specs.declared.Table.{Table}
-use Rattle.table.specs.Table.{noDrive, zeroDrive, firstDrives, refusal, overlapsAny, soundTo, blankTo, isSound}
+use Rattle.table.specs.Table.{noDrive, zeroDrive, refusal, overlapsAny, soundTo, blankTo, attachedTo, isSound}
 use Rattle.table.proofs.TableLaws.{taken-is}
 use Rattle.memory.specs.Window.{windowLength}
+use Rattle.int13.specs.Placement.{noPlacement, tableCount}
 use Rattle.int13.specs.Steps.{firstDrive, isDrive, driveAt}
 use Rattle.desk.specs.declared.Request.{Request}
 use Rattle.desk.specs.declared.Stage.the-variants.{Vacant, Waiting, Finished}
 use Rattle.desk.specs.declared.Row.{Row}
 use Rattle.desk.specs.Parts.{stageIn}
 use Rattle.int13.specs.Answers.{registerNumbers}
-use Rattle.desk.specs.Acceptable.{requestOk, stageOk, rowsOk, accept}
+use Rattle.desk.specs.Acceptable.{requestOk, stageOk, rowsOk, placementOk, placementsOk, accept}
 use Rattle.desk.specs.Calls.{closed}
 use Rattle.desk.proofs.AcceptableLaws.{closed-refused}
-use Rattle.image.specs.Image.{each, flat, listed, requestWords, stageWords, rowWords, rowsWords, driveWords, slotsWords, tailWords, deskWords, image, rowSize, slotSize, rowAt, slotAt, tailAt, deskSize, countAt, pointerAt, arenaAt, storeAt, requestPlace, finishedPlace, registersAt, requestAt, readStage, readRow, readDrive, readRows, readSlots, readDesk, isImage, deskOf, accepted, FitsDrive}
-use Rattle.image.specs.Judged.{below, areRegisters, isRequest, isSlot, driveGood, drivesGood, restZero, firstIn, blocksIn, apart, aloneTo, drivesApart, follows, ascending, waitingGood, finishedGood, rowGood, rowsGood, tableGood, judged}
-use Rattle.image.proofs.Fill.{length-row, length-drive, length-rows, length-slots}
+use Rattle.image.specs.Image.{each, flat, listed, requestWords, stageWords, rowWords, rowsWords, driveWords, slotsWords, tailWords, marksWords, placesWords, givenWords, parametersWords, deskWords, image, rowSize, slotSize, rowAt, slotAt, tailAt, markAt, addressAt, presentAt, bytesAt, deskSize, countAt, pointerAt, arenaAt, storeAt, requestPlace, finishedPlace, registersAt, requestAt, readStage, readRow, readDrive, readRows, readSlots, readMarks, readAddresses, readDesk, isImage, deskOf, accepted, FitsDrive}
+use Rattle.image.specs.Judged.{below, areRegisters, isRequest, isSlot, driveGood, drivesGood, restZero, firstIn, blocksIn, apart, aloneTo, drivesApart, follows, ascending, waitingGood, finishedGood, rowGood, rowsGood, zeroBytes, moreGood, tableGood, judged}
+use Rattle.image.proofs.Fill.{length-row, length-drive, length-rows, length-slots, length-places, length-parameters}
 use Rattle.image.proofs.ImageLaws.{Says, drive-read, drive-fits}
-use Rattle.image.proofs.Fields.{row-of, slot-of}
+use Rattle.image.proofs.Fields.{listed-at, length-listed, length-marks, row-of, slot-of, placement-at, attached-of}
 
 -- ---- the eight bytes of a word
 
@@ -445,10 +446,10 @@ module _ (b : List ℕ) where
       all-ext n _ (λ i. both (both (fieldsOk (readDrive b (slotAt i))) (inStore (readDrive b (slotAt i)) store)) (aloneTo i b i)) at
       ∙ sym (all-both n (λ i. both (fieldsOk (readDrive b (slotAt i))) (inStore (readDrive b (slotAt i)) store)) (λ i. aloneTo i b i))
     where
-      at : (i : ℕ) → i < n → eqb (refusal (firstDrives drives i) (getD drives i noDrive) store) 0
+      at : (i : ℕ) → i < n → eqb (refusal i drives (getD drives i noDrive) store) 0
           ≡ both (both (fieldsOk (readDrive b (slotAt i))) (inStore (readDrive b (slotAt i)) store)) (aloneTo i b i)
       at i q =
-          ap (λ (d : Drive). eqb (refusal (firstDrives drives i) d store) 0) (drive-of i (omega arith))
+          ap (λ (d : Drive). eqb (refusal i drives d store) 0) (drive-of i (omega arith))
           ∙ sym (taken-is i drives (readDrive b (slotAt i)) store (omega arith))
           ∙ ap (λ (x : Bool). both (both (fieldsOk (readDrive b (slotAt i))) (inStore (readDrive b (slotAt i)) store)) x) (alone-is i (omega arith))
 
@@ -522,30 +523,77 @@ module _ (b : List ℕ) (h : Bytes b) (l : length b ≡ deskSize) where
       arrange : (p q f a z : Bool) → both (both p q) (both (both f a) z) ≡ both (both p f) (both (both q z) a)
       arrange p q f a z = simp (both-assoc, both-comm, both-left)
 
-  tail-is : matches b (tailAt 0) (tailWords (readDesk b)) ≡ true
-  unfolding matches readDesk
-  tail-is = rw (whole-is b h storeAt (omega arith), whole-is b h arenaAt (omega arith), whole-is b h pointerAt (omega arith), whole-is b h countAt (omega arith))
+  -- words that fill theirs
+  fill-is : (at n : ℕ) (f : ℕ → ℕ) → at + 8 * n ≤ length b → ((j : ℕ) → j < n → f j ≡ le 8 b (at + 8 * j)) → matches b at (listed f 0 n) ≡ true
+  unfolding matches
+  fill-is at n f m g =
+      rw (length-listed f 0 n) (all-intro n _ (λ j q.
+      ap (λ (x : ℕ). same (part 8 b (at + 8 * j)) (leBytes 8 x)) (listed-at f 0 n j 0 q ∙ ap f (zero-add j) ∙ g j q) ∙ whole-is b h (at + 8 * j) (omega arith)))
 
-  image-is : same b (image (readDesk b)) ≡ both (matches b (rowAt 0) (rowsWords (readRows b))) (matches b (slotAt 0) (slotsWords (readSlots b)))
+  tail-is : matches b (tailAt 0) (tailWords (readDesk b)) ≡ true
+  unfolding readDesk
+  tail-is = fill-is (tailAt 0) 4 (λ j. le 8 b (tailAt j)) (omega arith) (λ j q. refl)
+
+  addresses-is : matches b (addressAt 0) (readAddresses b) ≡ true
+  addresses-is = fill-is (addressAt 0) 8 (λ g. le 8 b (addressAt g)) (omega arith) (λ g q. refl)
+
+  bytes-is : matches b (bytesAt 0) (givenWords (part 112 b (bytesAt 0))) ≡ true
+  bytes-is =
+      fill-is (bytesAt 0) 14 _ (omega arith) (λ j q.
+      le-ext 8 (part 112 b (bytesAt 0)) b (8 * j) (bytesAt 0 + 8 * j) (λ m r.
+      let z : bytesAt 0 + (8 * j + m) ≡ bytesAt 0 + 8 * j + m = omega arith in
+      getD-take 112 (drop (bytesAt 0) b) (8 * j + m) 0 (omega arith) ∙ getD-drop (bytesAt 0) b (8 * j + m) 0 ∙ ap (λ (k : ℕ). getD b k 0) z))
+
+  marks-is : (at : ℕ) → at + 64 ≤ length b → matches b at (marksWords (readMarks b at)) ≡ below 8 2 b at
+  unfolding below
+  marks-is at m =
+      matches-each b (λ (x : Bool). pick x 1 0 ∷ []) 1 (λ x. refl) (λ i. eqb (getD b (at + 8 * i) 0) 1) 8 0 at
+      ∙ all-ext 8 (λ j. matches b (at + 8 * (1 * j)) (pick (eqb (getD b (at + 8 * (0 + j)) 0) 1) 1 0 ∷ [])) (λ j. ltb (le 8 b (at + 8 * j)) 2) (λ j q.
+      let z : at + 8 * (1 * j) ≡ at + 8 * j = omega arith in
+      rw (z, zero-add) (matches-one b (pick (eqb (getD b (at + 8 * j) 0) 1) 1 0) (at + 8 * j) ∙ bit-is b h (at + 8 * j) (omega arith)))
+
+  more-is : matches b (markAt 0) (placesWords (readDesk b) ++ parametersWords (readDesk b .table)) ≡ both (below 8 2 b (markAt 0)) (below 8 2 b (presentAt 0))
+  unfolding readDesk
+  more-is =
+      let P = marksWords (readMarks b (markAt 0)) in
+      let A = readAddresses b in
+      let N = marksWords (readMarks b (presentAt 0)) in
+      let W = givenWords (part 112 b (bytesAt 0)) in
+      let lp : length P ≡ 8 = length-marks (readMarks b (markAt 0)) in
+      let ln : length N ≡ 8 = length-marks (readMarks b (presentAt 0)) in
+      matches-then b (P ++ A) (N ++ W) (markAt 0) (presentAt 0) (rw (length-append P A) (omega (arith, lp)))
+      ∙ rw (
+        matches-then b P A (markAt 0) (addressAt 0) (omega (arith, lp)),
+        matches-then b N W (presentAt 0) (bytesAt 0) (omega (arith, ln)),
+        addresses-is,
+        bytes-is,
+        marks-is (markAt 0) (omega arith),
+        marks-is (presentAt 0) (omega arith),
+        both-itself (below 8 2 b (markAt 0)),
+        both-itself (below 8 2 b (presentAt 0)),
+      )
+
+  image-is : same b (image (readDesk b))
+      ≡ both (matches b (rowAt 0) (rowsWords (readRows b))) (both (matches b (slotAt 0) (slotsWords (readSlots b))) (both (below 8 2 b (markAt 0)) (below 8 2 b (presentAt 0))))
   unfolding image deskWords readDesk
   image-is =
       let R = rowsWords (readRows b) in
       let S = slotsWords (readSlots b) in
       let T = tailWords (readDesk b) in
-      let lr : length R ≡ 23 * 8 = length-rows (readRows b) refl in
-      let ls : length S ≡ 14 * 8 = length-slots (readSlots b) refl in
-      let n : 0 + 8 * length (R ++ (S ++ T)) ≡ length b = rw (length-append R (S ++ T), length-append S T) (omega arith) in
-      same-flat b (R ++ (S ++ T)) 0 n
-      ∙ matches-then b R (S ++ T) (rowAt 0) (slotAt 0) (omega arith)
-      ∙ ap (λ (x : Bool). both (matches b (rowAt 0) R) x) rest
-    where
-      rest : matches b (slotAt 0) (slotsWords (readSlots b) ++ tailWords (readDesk b)) ≡ matches b (slotAt 0) (slotsWords (readSlots b))
-      rest =
-          matches-then b (slotsWords (readSlots b)) (tailWords (readDesk b)) (slotAt 0) (tailAt 0) (omega (arith, length-slots (readSlots b) refl))
-          ∙ rw tail-is (both-itself (matches b (slotAt 0) (slotsWords (readSlots b))))
+      let P = placesWords (readDesk b) in
+      let Q = parametersWords (readDesk b .table) in
+      let n : 0 + 8 * length (R ++ (S ++ (T ++ (P ++ Q)))) ≡ length b =
+      rw (length-append R (S ++ (T ++ (P ++ Q))), length-append S (T ++ (P ++ Q)), length-append T (P ++ Q), length-append P Q)
+      (omega (arith, length-rows (readRows b) refl, length-slots (readSlots b) refl, length-places (readDesk b) refl refl, length-parameters (readDesk b .table) refl)) in
+      same-flat b (R ++ (S ++ (T ++ (P ++ Q)))) 0 n
+      ∙ matches-then b R (S ++ (T ++ (P ++ Q))) (rowAt 0) (slotAt 0) (omega (arith, length-rows (readRows b) refl))
+      ∙ ap (λ (x : Bool). both (matches b (rowAt 0) R) x)
+      (matches-then b S (T ++ (P ++ Q)) (slotAt 0) (tailAt 0) (omega (arith, length-slots (readSlots b) refl))
+      ∙ ap (λ (x : Bool). both (matches b (slotAt 0) S) x) (matches-then b T (P ++ Q) (tailAt 0) (markAt 0) (omega arith) ∙ rw (tail-is, more-is)))
 
-  sized : both (tableGood b) (both (ltb (le 8 b pointerAt) 8) (rowsGood 8 b (windowLength (le 8 b arenaAt)))) ≡ both (same b (image (readDesk b))) (accept (readDesk b))
-  unfolding tableGood accept isSound readDesk count drives
+  sized : both (tableGood b) (both (ltb (le 8 b pointerAt) 8) (both (rowsGood 8 b (windowLength (le 8 b arenaAt))) (moreGood b (windowLength (le 8 b arenaAt)))))
+      ≡ both (same b (image (readDesk b))) (accept (readDesk b))
+  unfolding tableGood moreGood accept isSound readDesk count drives
   sized = rw image-is (go (leb count 8) (leb-true count 8))
     where
       store : ℕ
@@ -554,16 +602,112 @@ module _ (b : List ℕ) (h : Bytes b) (l : length b ≡ deskSize) where
       M : ℕ
       M = windowLength (le 8 b arenaAt)
 
+      marks : Bool
+      marks = both (below 8 2 b (markAt 0)) (below 8 2 b (presentAt 0))
+
+      attached : Bool
+      attached = attachedTo 8 (readDesk b .table)
+
+      placements : Bool
+      placements = placementsOk 8 (tableCount (readDesk b .table)) M (readDesk b)
+
       go : (t : Bool) → (t ≡ true → count ≤ 8)
-          → both (both t (both (drivesGood count b store) (both (restZero 8 count b) (drivesApart count b)))) (both (ltb (le 8 b pointerAt) 8) (rowsGood 8 b M))
-          ≡ both (both (matches b (rowAt 0) (rowsWords (readRows b))) (matches b (slotAt 0) (slotsWords (readSlots b))))
-          (both (both t (both (soundTo count (drives b) store) (blankTo 8 (drives b) count))) (both (ltb (le 8 b pointerAt) 8) (rowsOk 8 (readDesk b .rows) (readDesk b .table) M)))
+          → both (both t (both (drivesGood count b store) (both (restZero 8 count b) (drivesApart count b)))) (both (ltb (le 8 b pointerAt) 8) (both (rowsGood 8 b M) (both marks (both attached placements))))
+          ≡ both (both (matches b (rowAt 0) (rowsWords (readRows b))) (both (matches b (slotAt 0) (slotsWords (readSlots b))) marks))
+          (both (both t (both (soundTo count (drives b) store) (both (blankTo 8 (drives b) count) attached))) (both (ltb (le 8 b pointerAt) 8) (both (rowsOk 8 (readDesk b .rows) (readDesk b .table) M) placements)))
       go true m = rw (← table-is store (m refl), ← rows-is M) (arrange (matches b (rowAt 0) (rowsWords (readRows b))) (matches b (slotAt 0) (slotsWords (readSlots b)))
-          (both (soundTo count (drives b) store) (blankTo 8 (drives b) count)) (ltb (le 8 b pointerAt) 8) (rowsOk 8 (readDesk b .rows) (readDesk b .table) M))
+          (soundTo count (drives b) store) (blankTo 8 (drives b) count) (ltb (le 8 b pointerAt) 8) (rowsOk 8 (readDesk b .rows) (readDesk b .table) M) marks attached placements)
         where
-          arrange : (r p s q o : Bool) → both (both p s) (both q (both r o)) ≡ both (both r p) (both s (both q o))
-          arrange r p s q o = simp (both-assoc, both-left)
-      go false m = sym (both-false (both (matches b (rowAt 0) (rowsWords (readRows b))) (matches b (slotAt 0) (slotsWords (readSlots b)))))
+          arrange : (r p s z q o m a l : Bool)
+              → both (both p (both s z)) (both q (both (both r o) (both m (both a l)))) ≡ both (both r (both p m)) (both (both s (both z a)) (both q (both o l)))
+          arrange r p s z q o m a l = simp (both-assoc, both-left)
+      go false m = sym (both-false (both (matches b (rowAt 0) (rowsWords (readRows b))) (both (matches b (slotAt 0) (slotsWords (readSlots b))) marks)))
+
+-- ---- zeros behind the last words
+
+-- a word is zero exactly when its bytes are
+zero-word : (k : ℕ) (s : List ℕ) (at : ℕ) → eqb (le k s at) 0 ≡ zeroBytes k s at
+unfolding le zeroBytes
+zero-word zero s at = refl
+zero-word (suc k) s at =
+    true-iff _ _
+    (λ e.
+    let z = eqb-true (le k s at + 256 ^ k * getD s (at + k) 0) 0 e in
+    let p = one-le-pow k 256 (omega arith) in
+    both-intro _ _ (eq-eqb (getD s (at + k) 0) 0 (none (256 ^ k) (getD s (at + k) 0) p (omega arith))) (sym (zero-word k s at) ∙ eq-eqb (le k s at) 0 (omega arith)))
+    (λ e.
+    let w = both-true (eqb (getD s (at + k) 0) 0) (zeroBytes k s at) e in
+    let x : le k s at ≡ 0 = eqb-true (le k s at) 0 (zero-word k s at ∙ w .1) in
+    let y : getD s (at + k) 0 ≡ 0 = eqb-true (getD s (at + k) 0) 0 (w .0) in
+    rw (x, y, mul-zero (256 ^ k)))
+  where
+    none : (p x : ℕ) → 1 ≤ p → p * x ≡ 0 → x ≡ 0
+    none p zero l e = refl
+    none p (suc x) l e = absurd (omega (arith, mul-suc p x))
+
+-- fourteen bytes as two words
+pub zero-given : {r x y : Bool} (s : List ℕ) (at : ℕ) → x ≡ eqb (le 8 s at) 0 → y ≡ eqb (le 8 s (at + 6)) 0 → r ≡ both x y → r ≡ zeroBytes 14 s at
+unfolding zeroBytes
+zero-given s at e f g =
+    g ∙ rw (e, f) (rw (zero-word 8 s at, zero-word 8 s (at + 6)) (true-iff _ _
+    (λ t.
+    let w = both-true (zeroBytes 8 s at) (zeroBytes 8 s (at + 6)) t in
+    all-intro 14 _ (λ j l. ⊎-elim
+    (λ q. all-at 8 j (λ j. eqb (getD s (at + j) 0) 0) (w .0) q)
+    (λ q. let z : at + 6 + (j - 6) ≡ at + j = omega arith in rw z at (all-at 8 (j - 6) (λ j. eqb (getD s (at + 6 + j) 0) 0) (w .1) (omega arith)))
+    (lt-or-le j 8)))
+    (λ t. both-intro (zeroBytes 8 s at) (zeroBytes 8 s (at + 6))
+    (all-intro 8 _ (λ j l. all-at 14 j (λ j. eqb (getD s (at + j) 0) 0) t (omega arith)))
+    (all-intro 8 _ (λ j l. let z : at + (6 + j) ≡ at + 6 + j = omega arith in rw z at (all-at 14 (6 + j) (λ j. eqb (getD s (at + j) 0) 0) t (omega arith)))))))
+
+-- words that are all zero mark nothing
+module _ (b : List ℕ) (e : below 38 1 b (markAt 0) ≡ true) where
+  word-zero : (j : ℕ) → j < 38 → le 8 b (markAt 0 + 8 * j) ≡ 0
+  unfolding below
+  word-zero j l = omega (arith, ltb-true (le 8 b (markAt 0 + 8 * j)) 1 (all-at 38 j (λ j. ltb (le 8 b (markAt 0 + 8 * j)) 1) e l))
+
+  byte-zero : (m : ℕ) → m < 304 → getD b (markAt 0 + m) 0 ≡ 0
+  unfolding zeroBytes
+  byte-zero m l =
+      let z : markAt 0 + 8 * (m / 8) + m % 8 ≡ markAt 0 + m = omega arith in
+      let w = sym (zero-word 8 b (markAt 0 + 8 * (m / 8))) ∙ eq-eqb _ 0 (word-zero (m / 8) (omega arith)) in
+      rw z at (eqb-true (getD b (markAt 0 + 8 * (m / 8) + m % 8) 0) 0 (all-at 8 (m % 8) (λ j. eqb (getD b (markAt 0 + 8 * (m / 8) + j) 0) 0) w (omega arith)))
+
+  small : (at : ℕ) → markAt 0 ≤ at → at + 64 ≤ bytesAt 0 → at % 8 ≡ 0 → below 8 2 b at ≡ true
+  unfolding below
+  small at l r m =
+      all-intro 8 _ (λ j q.
+      let z : markAt 0 + 8 * ((at - markAt 0) / 8 + j) ≡ at + 8 * j = omega arith in
+      let w : le 8 b (at + 8 * j) ≡ 0 = ap (le 8 b) (sym z) ∙ word-zero ((at - markAt 0) / 8 + j) (omega arith) in
+      lt-ltb (le 8 b (at + 8 * j)) 2 (omega (arith, w)))
+
+  mark-zero : (at k : ℕ) → at + 8 * k + 8 ≤ bytesAt 0 → markAt 0 ≤ at → getD b (at + 8 * k) 0 ≡ 0
+  mark-zero at k l m =
+      let z : markAt 0 + (at - markAt 0 + 8 * k) ≡ at + 8 * k = omega arith in
+      rw z at (byte-zero (at - markAt 0 + 8 * k) (omega arith))
+
+  attached-none : attachedTo 8 (readDesk b .table) ≡ true
+  unfolding attachedTo zeroBytes
+  attached-none =
+      all-intro 8 _ (λ i l.
+      attached-of b i l
+      ∙ rw (mark-zero (presentAt 0) i (omega arith) (omega arith))
+      (all-intro 14 (λ j. eqb (getD b (bytesAt i + j) 0) 0) (λ j q.
+      let z : markAt 0 + (192 + 14 * i + j) ≡ bytesAt i + j = omega arith in
+      eq-eqb (getD b (bytesAt i + j) 0) 0 (ap (λ (k : ℕ). getD b k 0) (sym z) ∙ byte-zero (192 + 14 * i + j) (omega arith)))))
+
+  placements-none : (tables M : ℕ) → placementsOk 8 tables M (readDesk b) ≡ true
+  unfolding placementsOk
+  placements-none tables M =
+      all-intro 8 _ (λ g l.
+      let z : markAt 0 + 8 * (8 + g) ≡ addressAt g = omega arith in
+      let y : le 8 b (addressAt g) ≡ 0 = ap (le 8 b) (sym z) ∙ word-zero (8 + g) (omega arith) in
+      ap (placementOk tables M) (sym (placement-at {p = noPlacement} b g l (rw (mark-zero (markAt 0) g (omega arith) (omega arith))) (sym y))))
+
+  pub zeros-good : (M : ℕ) → true ≡ moreGood b M
+  unfolding moreGood
+  zeros-good M =
+      rw (small (markAt 0) (omega arith) (omega arith) refl, small (presentAt 0) (omega arith) (omega arith) refl, attached-none, placements-none (tableCount (readDesk b .table)) M)
 
 -- ---- judged and accepted
 
@@ -580,7 +724,7 @@ unfolding judged isImage
 judged-is b h = go (eqb (length b) deskSize) (eqb-true (length b) deskSize) ∙ sym (accepted-both b)
   where
     go : (t : Bool) → (t ≡ true → length b ≡ deskSize)
-        → both t (both (tableGood b) (both (ltb (le 8 b pointerAt) 8) (rowsGood 8 b (windowLength (le 8 b arenaAt)))))
+        → both t (both (tableGood b) (both (ltb (le 8 b pointerAt) 8) (both (rowsGood 8 b (windowLength (le 8 b arenaAt))) (moreGood b (windowLength (le 8 b arenaAt))))))
         ≡ both (both t (same b (image (readDesk b)))) (accept (readDesk b))
     go true l = sized b h (l refl)
     go false l = refl
@@ -649,7 +793,11 @@ module _ (b : List ℕ) (h : Bytes b) where
   unfolding judged
   judged-table l e f = rw (← judged-is b h, eq-eqb (length b) deskSize l, sym e ∙ f)
 
-  pub judged-rows : {p a : ℕ} {t r : Bool} → length b ≡ deskSize → p ≡ le 8 b pointerAt → p < 8 → t ≡ tableGood b → t ≡ true → a ≡ le 8 b arenaAt
-      → r ≡ rowsGood 8 b (a / 8) → r ≡ accepted b
-  unfolding judged
-  judged-rows {p} l ep m e f ea er = rw (← judged-is b h, er, ea, eq-eqb (length b) deskSize l, sym e ∙ f, ← ep, lt-ltb p 8 m)
+  module _ {p a : ℕ} {t r : Bool} (l : length b ≡ deskSize) (ep : p ≡ le 8 b pointerAt) (m : p < 8) (e : t ≡ tableGood b) (f : t ≡ true) (ea : a ≡ le 8 b arenaAt) (er : r ≡ rowsGood 8 b (a / 8)) where
+    pub judged-rows : r ≡ false → false ≡ accepted b
+    unfolding judged
+    judged-rows z = rw (← judged-is b h, eq-eqb (length b) deskSize l, sym e ∙ f, ← ep, lt-ltb p 8 m, ← ea, sym er ∙ z)
+
+    pub judged-more : {x : Bool} → r ≡ true → x ≡ moreGood b (a / 8) → x ≡ accepted b
+    unfolding judged
+    judged-more z k = rw (← judged-is b h, eq-eqb (length b) deskSize l, sym e ∙ f, ← ep, lt-ltb p 8 m, ← ea, sym er ∙ z) k

@@ -1,22 +1,23 @@
--- A row's words or the pointer's word set in an image: the image of the desk with that row or pointer.
+-- A row's words, the pointer's word or a guest's mark and address set in an image: the image of the desk with that row, pointer or placement.
 -- Assumes nothing.
 use Prim.Native.Nat.{ℕ, zero, suc, _+_, _*_, _<_}
 use native.Mathlib.Nat.{zero-add, add-suc, suc-add, mul-zero, mul-suc}
 use native.Mathlib.Omega.{arith}
 use mathlib.Core.Path.{_≡_, refl, sym, _∙_, ap, subst}
-use mathlib.Core.Bool.{true}
-use mathlib.Core.List.{List, [], _∷_, _++_, append-assoc, append-nil}
+use mathlib.Core.Bool.{Bool, true}
+use mathlib.Core.List.{List, [], _∷_, _++_, append-assoc}
 use lib.ListN.{length, set, length-append, length-set}
 use lib.Seq.{sets, drop-at}
 use borrow.Author.Tests.{eq-eqb}
+use Rattle.logic.specs.Logic.{pick}
 use Rattle.words.specs.Words.{leBytes}
 use Rattle.words.proofs.WordsLaws.{length-leBytes, sets-front}
 use Rattle.desk.specs.declared.Stage.{Stage}
 use Rattle.desk.specs.declared.Row.{Row}
 use Rattle.desk.specs.declared.Desk.{Desk}
-use Rattle.desk.specs.Parts.{withStage, withPointer}
-use Rattle.image.specs.Image.{each, flat, stageWords, rowWords, rowsWords, slotsWords, tailWords, deskWords, image, rowAt, pointerAt, deskSize, readDesk, deskOf, accepted, laid, putStage, putPointer}
-use Rattle.image.proofs.Fill.{each-append, length-flat, length-row, length-rows, length-slots}
+use Rattle.desk.specs.Parts.{withStage, withPointer, withPlacement}
+use Rattle.image.specs.Image.{each, flat, stageWords, rowWords, rowsWords, slotsWords, tailWords, marksWords, placesWords, parametersWords, deskWords, image, rowAt, tailAt, markAt, addressAt, pointerAt, deskSize, readDesk, deskOf, accepted, laid, putStage, putPointer, putPlacement}
+use Rattle.image.proofs.Fill.{each-append, each-one, length-each, length-flat, length-row, length-rows, length-slots}
 use Rattle.image.proofs.ImageLaws.{accepted-read}
 
 -- ---- stores behind the first of two lists
@@ -54,7 +55,7 @@ unfolding each
 flat-each f [] = refl
 flat-each f (x ∷ xs) = rw (each-append (leBytes 8) (f x) (each f xs), flat-each f xs)
 
--- ---- an image with one row or the pointer set
+-- ---- an image with one row, the pointer or a placement set
 
 rowBytes : Row → List ℕ
 rowBytes r = flat (rowWords r)
@@ -63,42 +64,97 @@ length-rowBytes : (r : Row) → length (rowBytes r) ≡ rowAt 1
 unfolding rowBytes
 length-rowBytes r = length-flat (rowWords r) ∙ ap (λ (m : ℕ). 8 * m) (length-row r)
 
-image-rows : (d : Desk) → image d ≡ each rowBytes (d .rows) ++ flat (slotsWords (d .table .drives) ++ tailWords d)
-unfolding image deskWords rowBytes
+-- what stands behind the rows
+behind : Desk → List ℕ
+behind d = slotsWords (d .table .drives) ++ (tailWords d ++ (placesWords d ++ parametersWords (d .table)))
+
+image-rows : (d : Desk) → image d ≡ each rowBytes (d .rows) ++ flat (behind d)
+unfolding image deskWords rowBytes behind
 image-rows d =
-    each-append (leBytes 8) (rowsWords (d .rows)) (slotsWords (d .table .drives) ++ tailWords d)
-    ∙ ap (λ (l : List ℕ). l ++ flat (slotsWords (d .table .drives) ++ tailWords d)) (flat-each rowWords (d .rows))
+    each-append (leBytes 8) (rowsWords (d .rows)) (behind d)
+    ∙ ap (λ (l : List ℕ). l ++ flat (behind d)) (flat-each rowWords (d .rows))
 
 pub image-stage : (d : Desk) (g : ℕ) (s : Stage) → g < length (d .rows) → putStage (image d) g s ≡ image (withStage d g s)
-unfolding putStage rowBytes
+unfolding putStage rowBytes behind
 image-stage d g s h =
     ap (λ (l : List ℕ). sets l (rowAt g) (flat (stageWords s))) (image-rows d)
     ∙ set-each rowBytes (rowAt 1) length-rowBytes (d .rows) _ g (record { stage = s }) h
     ∙ sym (image-rows (withStage d g s))
 
--- what stands before the last words
+-- what stands before the last words, and behind them
 front : Desk → List ℕ
 front d = flat (rowsWords (d .rows) ++ slotsWords (d .table .drives))
 
-image-front : (d : Desk) → image d ≡ front d ++ flat (tailWords d)
-unfolding image deskWords front
+more : Desk → List ℕ
+more d = flat (placesWords d ++ parametersWords (d .table))
+
+image-front : (d : Desk) → image d ≡ front d ++ (flat (tailWords d) ++ more d)
+unfolding image deskWords front more
 image-front d =
-    ap flat (sym (append-assoc (rowsWords (d .rows)) (slotsWords (d .table .drives)) (tailWords d)))
-    ∙ each-append (leBytes 8) (rowsWords (d .rows) ++ slotsWords (d .table .drives)) (tailWords d)
+    let M = placesWords d ++ parametersWords (d .table) in
+    ap flat (sym (append-assoc (rowsWords (d .rows)) (slotsWords (d .table .drives)) (tailWords d ++ M)))
+    ∙ each-append (leBytes 8) (rowsWords (d .rows) ++ slotsWords (d .table .drives)) (tailWords d ++ M)
+    ∙ ap (λ (l : List ℕ). front d ++ l) (each-append (leBytes 8) (tailWords d) M)
+
+length-front : (d : Desk) → length (d .rows) ≡ 8 → length (d .table .drives) ≡ 8 → length (front d) ≡ tailAt 0
+unfolding front
+length-front d r t =
+    length-flat (rowsWords (d .rows) ++ slotsWords (d .table .drives))
+    ∙ omega (arith, length-append (rowsWords (d .rows)) (slotsWords (d .table .drives)), length-rows (d .rows) r, length-slots (d .table .drives) t)
 
 pub image-pointer : (d : Desk) (p : ℕ) → length (d .rows) ≡ 8 → length (d .table .drives) ≡ 8 → putPointer (image d) p ≡ image (withPointer d p)
-unfolding putPointer front
+unfolding putPointer front more
 image-pointer d p r t =
-    let l : length (front d) ≡ rowAt 8 + 8 * (14 * 8) =
-    length-flat (rowsWords (d .rows) ++ slotsWords (d .table .drives))
-    ∙ omega (arith, length-append (rowsWords (d .rows)) (slotsWords (d .table .drives)), length-rows (d .rows) r, length-slots (d .table .drives) t) in
     ap (λ (b : List ℕ). sets b pointerAt (leBytes 8 p)) (image-front d)
-    ∙ sets-behind (front d) (flat (tailWords d)) (rowAt 8 + 8 * (14 * 8)) (8 * 1) (leBytes 8 p) l
-    ∙ ap (λ (b : List ℕ). front d ++ b)
-    (ap (λ (b : List ℕ). sets b (8 * 1) (leBytes 8 p)) (sym (append-nil (flat (tailWords d))))
-    ∙ set-each (leBytes 8) 8 (length-leBytes 8) (tailWords d) [] 1 p (omega arith)
-    ∙ append-nil _)
+    ∙ sets-behind (front d) (flat (tailWords d) ++ more d) (tailAt 0) (8 * 1) (leBytes 8 p) (length-front d r t)
+    ∙ ap (λ (b : List ℕ). front d ++ b) (set-each (leBytes 8) 8 (length-leBytes 8) (tailWords d) (more d) 1 p (omega arith))
     ∙ sym (image-front (withPointer d p))
+
+-- a guest's mark and address: what stands before the marks, and behind the addresses
+before : Desk → List ℕ
+before d = front d ++ flat (tailWords d)
+
+markBytes : Bool → List ℕ
+markBytes x = flat (pick x 1 0 ∷ [])
+
+length-markBytes : (x : Bool) → length (markBytes x) ≡ 8
+unfolding markBytes
+length-markBytes x = length-flat (pick x 1 0 ∷ [])
+
+one-mark : leBytes 8 1 ≡ markBytes true
+unfolding markBytes
+one-mark = sym (each-one (leBytes 8) 1)
+
+image-places : (d : Desk) → image d ≡ before d ++ (each markBytes (d .placed) ++ (flat (d .addresses) ++ flat (parametersWords (d .table))))
+unfolding before more markBytes
+image-places d =
+    let M = marksWords (d .placed) in
+    let A = d .addresses in
+    let Q = parametersWords (d .table) in
+    let e : more d ≡ each markBytes (d .placed) ++ (flat A ++ flat Q) =
+    each-append (leBytes 8) (M ++ A) Q
+    ∙ ap (λ (l : List ℕ). l ++ flat Q) (each-append (leBytes 8) M A)
+    ∙ append-assoc (flat M) (flat A) (flat Q)
+    ∙ ap (λ (l : List ℕ). l ++ (flat A ++ flat Q)) (flat-each (λ x. pick x 1 0 ∷ []) (d .placed)) in
+    image-front d ∙ sym (append-assoc (front d) (flat (tailWords d)) (more d)) ∙ ap (λ (l : List ℕ). before d ++ l) e
+
+pub image-placement : (d : Desk) (g address : ℕ) → length (d .rows) ≡ 8 → length (d .table .drives) ≡ 8 → length (d .placed) ≡ 8 → length (d .addresses) ≡ 8 → g < 8
+    → putPlacement (image d) g address ≡ image (withPlacement d g address)
+unfolding putPlacement before front
+image-placement d g address r t p a h =
+    let Q = flat (parametersWords (d .table)) in
+    let M = each markBytes (set (d .placed) g true) in
+    let lb : length (before d) ≡ markAt 0 = length-append (front d) (flat (tailWords d)) ∙ omega (arith, length-front d r t, length-flat (tailWords d)) in
+    let lm : length (before d ++ M) ≡ addressAt 0 = length-append (before d) M ∙ omega (arith, lb, length-each markBytes 8 length-markBytes (set (d .placed) g true), length-set (d .placed) g true) in
+    let first : sets (image d) (markAt g) (leBytes 8 1) ≡ before d ++ (M ++ (flat (d .addresses) ++ Q)) =
+    ap (λ (b : List ℕ). sets b (markAt g) (leBytes 8 1)) (image-places d)
+    ∙ sets-behind (before d) _ (markAt 0) (8 * g) (leBytes 8 1) lb
+    ∙ ap (λ (b : List ℕ). before d ++ b) (ap (sets _ (8 * g)) one-mark ∙ set-each markBytes 8 length-markBytes (d .placed) _ g true (omega arith)) in
+    ap (λ (b : List ℕ). sets b (addressAt g) (leBytes 8 address)) (first ∙ sym (append-assoc (before d) M (flat (d .addresses) ++ Q)))
+    ∙ sets-behind (before d ++ M) _ (addressAt 0) (8 * g) (leBytes 8 address) lm
+    ∙ ap (λ (b : List ℕ). (before d ++ M) ++ b) (set-each (leBytes 8) 8 (length-leBytes 8) (d .addresses) Q g address (omega arith))
+    ∙ append-assoc (before d) M (flat (set (d .addresses) g address) ++ Q)
+    ∙ sym (image-places (withPlacement d g address))
 
 -- ---- an accepted block
 
@@ -110,7 +166,15 @@ slots-eight : (b : List ℕ) → length (readDesk b .table .drives) ≡ 8
 unfolding readDesk
 slots-eight b = refl
 
--- the block that a call leaves, which writes a row or a row and the pointer, is the block of the desk that it leaves
+placed-eight : (b : List ℕ) → length (readDesk b .placed) ≡ 8
+unfolding readDesk
+placed-eight b = refl
+
+addresses-eight : (b : List ℕ) → length (readDesk b .addresses) ≡ 8
+unfolding readDesk
+addresses-eight b = refl
+
+-- the block that a call leaves, which writes a row, a row and the pointer, or a placement, is the block of the desk that it leaves
 module _ (b : List ℕ) (a : accepted b ≡ true) where
   laid-accepted : (d : Desk) → laid b d ≡ image d
   unfolding laid
@@ -134,3 +198,11 @@ module _ (b : List ℕ) (a : accepted b ≡ true) where
       ∙ image-pointer (withStage (readDesk b) g s) p (length-set (readDesk b .rows) g _ ∙ rows-eight b) (slots-eight b)
       ∙ ap (λ (d : Desk). image (withPointer (withStage d g s) p)) (sym (w .desk))
       ∙ sym (laid-accepted (withPointer (withStage (deskOf b) g s) p))
+
+  pub put-placement : (g address : ℕ) → g < 8 → putPlacement b g address ≡ laid b (withPlacement (deskOf b) g address)
+  put-placement g address h =
+      let w = accepted-read b a in
+      ap (λ (x : List ℕ). putPlacement x g address) (sym (w .image))
+      ∙ image-placement (readDesk b) g address (rows-eight b) (slots-eight b) (placed-eight b) (addresses-eight b) h
+      ∙ ap (λ (d : Desk). image (withPlacement d g address)) (sym (w .desk))
+      ∙ sym (laid-accepted (withPlacement (deskOf b) g address))

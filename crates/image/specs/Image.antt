@@ -86,10 +86,14 @@ marksWords marks = each (λ x. pick x 1 0 ∷ []) marks
 abbrev pub placesWords : Desk → List ℕ
 placesWords d = marksWords (d .placed) ++ d .addresses
 
+-- the bytes of all slots' parameters, eight a word in their order
+abbrev pub givenWords : List ℕ → List ℕ
+givenWords bytes = listed (λ j. le 8 bytes (8 * j)) 0 14
+
 -- the section of the drives' parameters (document 02, 2026-01): which slots have a record, and the fourteen bytes of each, one slot's behind the
--- other's, eight bytes a word in their order
+-- other's
 abbrev pub parametersWords : Table → List ℕ
-parametersWords b = marksWords (b .present) ++ listed (λ j. le 8 (b .parameters) (8 * j)) 0 14
+parametersWords b = marksWords (b .present) ++ givenWords (b .parameters)
 
 -- the sections one after the other; one that is added later goes behind them, so that none of these moves
 unfoldable pub deskWords : Desk → List ℕ

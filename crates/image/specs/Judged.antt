@@ -1,7 +1,7 @@
 -- Document 01, "Calls the host makes": a desk block judged on its words, with no desk made of it. Each part is the rule of one section, and
 -- `judged` of all of them says the same as `accepted`.
 -- Assumes nothing.
-use Prim.Native.Nat.{ℕ, zero, suc, _+_, _-_, _*_, _/_, _^_}
+use Prim.Native.Nat.{ℕ, _+_, _-_, _*_, _/_, _^_}
 use mathlib.Core.Bool.{Bool, true, false}
 use mathlib.Core.List.{List}
 use lib.ListN.{length, getD}
@@ -11,12 +11,11 @@ use Rattle.words.specs.Words.{le}
 use Rattle.drive.specs.Drive.{fieldsOk, inStore}
 use Rattle.memory.specs.Window.{guests, windowLength}
 use Rattle.memory.specs.Blocks.{blockLength}
-use Rattle.attached.specs.Parameters.{givenLength}
-use Rattle.table.specs.Table.{mostDrives}
-use Rattle.int13.specs.declared.Placement.{Placement}
+use Rattle.table.specs.Table.{mostDrives, attachedTo}
+use Rattle.int13.specs.Placement.{tableCount}
 use Rattle.desk.specs.declared.Stage.the-variants.{Waiting}
-use Rattle.desk.specs.Acceptable.{stageOk, placementOk}
-use Rattle.image.specs.Image.{rowAt, slotAt, deskSize, countAt, pointerAt, arenaAt, storeAt, markAt, addressAt, presentAt, bytesAt, requestPlace, finishedPlace, requestAt, readDrive, readDesk}
+use Rattle.desk.specs.Acceptable.{stageOk, placementsOk}
+use Rattle.image.specs.Image.{rowAt, slotAt, deskSize, countAt, pointerAt, arenaAt, storeAt, markAt, presentAt, requestPlace, finishedPlace, requestAt, readDrive, readDesk}
 
 -- ---- "Calls the host makes", the desk block: words within the width of their fields
 
@@ -105,36 +104,15 @@ rowsGood n b M = allBelow n (λ g. rowGood b M (rowAt g))
 
 -- ---- document 02, 2026-01: parameters and placements in a block
 
--- slot i has a record of parameters
-abbrev pub presentIn : List ℕ → ℕ → Bool
-presentIn b i = eqb (le 8 b (presentAt i)) 1
-
 -- n bytes from a place are zero
 unfoldable pub zeroBytes : ℕ → List ℕ → ℕ → Bool
 zeroBytes n b at = allBelow n (λ j. eqb (getD b (at + j) 0) 0)
 
--- only slots with a drive have parameters, and a slot without has zeros for them
-unfoldable pub parametersGood : ℕ → ℕ → List ℕ → Bool
-parametersGood n count b = allBelow n (λ i. pick (presentIn b i) (ltb i count) (zeroBytes givenLength b (bytesAt i)))
-
--- how many of the first n slots have parameters
-unfoldable pub presentTo : ℕ → List ℕ → ℕ
-presentTo zero b = 0
-presentTo (suc n) b = presentTo n b + pick (presentIn b n) 1 0
-
--- guest g's placement
-abbrev pub placementIn : List ℕ → ℕ → Placement
-placementIn b g = record { placed = eqb (le 8 b (markAt g)) 1; address = le 8 b (addressAt g) }
-
--- the first n guests have good places for so many tables
-unfoldable pub placesGood : ℕ → ℕ → List ℕ → ℕ → Bool
-placesGood n tables b M = allBelow n (λ g. placementOk tables M (placementIn b g))
-
--- the marks are 0 or 1, and what they mark is good
+-- the marks are 0 or 1; only slots with a drive have parameters, and a slot without has zeros for them; and every place is good
 unfoldable pub moreGood : List ℕ → ℕ → Bool
 moreGood b M =
     both (both (below guests 2 b (markAt 0)) (below mostDrives 2 b (presentAt 0)))
-    (both (parametersGood mostDrives (le 8 b countAt) b) (placesGood guests (presentTo mostDrives b) b M))
+    (both (attachedTo mostDrives (readDesk b .table)) (placementsOk guests (tableCount (readDesk b .table)) M (readDesk b)))
 
 -- ---- "Calls the host makes", the desk block: which are accepted
 

@@ -19,15 +19,17 @@ ghost use lib.Seq.{sets};
 ghost use lib.Dec.{eqb};
 ghost use Rattle.logic.specs.Logic.{pick, both};
 ghost use Rattle.words.specs.Words.{part};
-ghost use Rattle.table.specs.Table.{mostDrives, parametersTo};
+ghost use Rattle.attached.specs.Parameters.{givenLength};
+ghost use Rattle.table.specs.Table.{mostDrives, attachedAt, attachedTo, parametersTo};
 ghost use Rattle.desk.specs.declared.Stage.the-variants.{Waiting, Finished};
 ghost use Rattle.desk.specs.Parts.{stageAt, isWaiting, placementAt};
+ghost use Rattle.desk.specs.Acceptable.{placementsOk};
 ghost use Rattle.desk.specs.Calls.{firstWaiting};
 ghost use Rattle.memory.specs.Window.{guests};
 ghost use Rattle.int13.specs.Placement.{tableCount};
 ghost use Rattle.int13.specs.Steps.{firstDrive, driveCount, isDrive, driveAt, shownOf};
-ghost use Rattle.image.specs.Image.{rowSize, slotSize, slotAt, deskSize, each, flat, stageWords, rowWords, driveWords, image, registersAt, requestAt, readStage, readDrive, readMarks, readDesk, accepted, laid, putStage, putPointer, markAt, presentAt, bytesAt, marksWords, placesWords, parametersWords, putPlacement};
-ghost use Rattle.image.specs.Judged.{below, areRegisters, isRequest, isSlot, driveGood, drivesGood, restZero, firstIn, blocksIn, apart, aloneTo, drivesApart, follows, ascending, waitingGood, finishedGood, rowGood, rowsGood, tableGood, zeroBytes, parametersGood, presentTo, placesGood, moreGood};
+ghost use Rattle.image.specs.Image.{rowSize, slotSize, slotAt, deskSize, each, flat, stageWords, rowWords, driveWords, image, registersAt, requestAt, readStage, readDrive, readMarks, readDesk, accepted, laid, putStage, putPointer, markAt, presentAt, bytesAt, marksWords, placesWords, givenWords, parametersWords, putPlacement};
+ghost use Rattle.image.specs.Judged.{below, areRegisters, isRequest, isSlot, driveGood, drivesGood, restZero, firstIn, blocksIn, apart, aloneTo, drivesApart, follows, ascending, waitingGood, finishedGood, rowGood, rowsGood, tableGood, zeroBytes, moreGood};
 
 // Rows of a desk and slots of a table.
 const GUESTS: usize = memory::GUESTS;
@@ -64,8 +66,10 @@ const BYTES: usize = PRESENT + 8 * MOST_DRIVES;
 // Bytes of the parameters of all slots.
 const GIVEN: usize = attached::GIVEN_LENGTH * MOST_DRIVES;
 
-// Bytes of a block.
+// Bytes of a block, and the words behind the last ones.
 pub const SIZE: usize = BYTES + GIVEN;
+
+const MORE: usize = (SIZE - MARKS) / 8;
 
 // The BIOS number of the first drive; bytes of a block of the store.
 const FIRST_DRIVE: u8 = int13::FIRST_DRIVE;
@@ -562,93 +566,65 @@ fn rows_good(b: &[u8], m: u64) -> bool
     true
 }
 
-// n bytes from a place are zero.
-fn zero_bytes(b: &[u8], at: usize, n: usize) -> bool
-    requires { ⌜ at + n ≤ length (now b) ⌝ }
-    ensures { λ r. ⌜ r ≡ zeroBytes n (now (b .entry)) at ⌝ }
+// The fourteen bytes of a slot are zero, tested as two words, of which the second begins inside the first.
+fn zero_given(b: &[u8], at: usize) -> bool
+    requires { ⌜ at + givenLength ≤ length (now b) ⌝ }
+    ensures { λ r. ⌜ r ≡ zeroBytes givenLength (now (b .entry)) at ⌝ }
 {
-    let mut zero = true;
-    let mut j = 0;
-    while j < n {
-        zero = logic::and(b[at + j] == 0, zero);
-        j += 1;
-    }
-    zero
+    logic::and(words::get64(b, at) == 0, words::get64(b, at + 6) == 0)
 }
 
-fn parameters_good(b: &[u8], count: usize) -> bool
-    requires { ⌜ length (now b) ≡ deskSize ⌝ }
-    ensures { λ r. ⌜ r ≡ parametersGood mostDrives count (now (b .entry)) ⌝ }
+// A slot has parameters only if it has a drive, and zeros for them if it has none.
+fn is_attached(b: &[u8], i: usize) -> bool
+    requires { ⌜ (length (now b) ≡ deskSize) × (i < mostDrives) ⌝ }
+    ensures { λ r. ⌜ r ≡ attachedAt (readDesk (now (b .entry)) .table) i ⌝ }
 {
-    let mut i = 0;
-    while i < MOST_DRIVES {
-        if words::get64(b, PRESENT + 8 * i) == 1 {
-            if count <= i {
-                return false;
-            }
-        } else {
-            if !zero_bytes(
-                b,
-                BYTES + attached::GIVEN_LENGTH * i,
-                attached::GIVEN_LENGTH,
-            ) {
-                return false;
-            }
-        }
-        i += 1;
+    if mark_at(b, PRESENT + 8 * i) {
+        return (i as u64) < words::get64(b, COUNT);
     }
-    true
+    zero_given(b, BYTES + attached::GIVEN_LENGTH * i)
 }
 
-fn present_to(b: &[u8]) -> u8
+fn parameters_good(b: &[u8]) -> bool
     requires { ⌜ length (now b) ≡ deskSize ⌝ }
-    ensures { λ r. ⌜ r ≡ presentTo mostDrives (now (b .entry)) ⌝ }
+    ensures { λ r. ⌜ r ≡ attachedTo mostDrives (readDesk (now (b .entry)) .table) ⌝ }
 {
-    let mut count = 0u8;
+    let mut good = true;
     let mut i = 0;
     while i < MOST_DRIVES {
-        if words::get64(b, PRESENT + 8 * i) == 1 {
-            count += 1;
-        }
+        good = logic::and(is_attached(b, i), good);
         i += 1;
     }
-    count
+    good
 }
 
 fn places_good(b: &[u8], tables: u8, m: u64) -> bool
     requires { ⌜ length (now b) ≡ deskSize ⌝ }
-    ensures { λ r. ⌜ r ≡ placesGood guests tables (now (b .entry)) m ⌝ }
+    ensures { λ r. ⌜ r ≡ placementsOk guests tables m (readDesk (now (b .entry))) ⌝ }
 {
     let mut good = true;
     let mut g = 0;
     while g < GUESTS {
-        let p = Placement {
-            placed: words::get64(b, MARKS + 8 * g) == 1,
-            address: words::get64(b, ADDRESSES + 8 * g),
-        };
-        good = logic::and(desk::placement_ok(tables, m, p), good);
+        good = logic::and(desk::placement_ok(tables, m, placement_of(b, g)), good);
         g += 1;
     }
     good
 }
 
-// What stands behind the last words. Most blocks have zeros there.
+// What stands behind the last words. Most blocks have zeros there, which are good.
 fn more_good(b: &[u8], m: u64) -> bool
     requires { ⌜ length (now b) ≡ deskSize ⌝ }
     ensures { λ r. ⌜ r ≡ moreGood (now (b .entry)) m ⌝ }
 {
-    if below(b, MARKS, 38, 1) {
+    if below(b, MARKS, MORE, 1) {
         return true;
     }
     let marks = logic::and(
         below(b, MARKS, GUESTS, 2),
         below(b, PRESENT, MOST_DRIVES, 2),
     );
-    if !marks {
-        return false;
-    }
-    let parameters = parameters_good(b, words::get64(b, COUNT) as usize);
-    logic::and(parameters, places_good(b, present_to(b), m))
+    let good = logic::and(parameters_good(b), places_good(b, table_count(b), m));
+    logic::and(marks, good)
 }
 
 // Whether a block is the image of an acceptable desk.
@@ -859,6 +835,14 @@ fn put_marks(out: &mut [u8], at: usize, marks: [bool; 8])
     put_words(out, at, &w);
 }
 
+// Lays the bytes of all slots out as they are: words of them have the same bytes.
+fn put_given(out: &mut [u8], bytes: &[u8])
+    requires { ⌜ (length (now out) ≡ deskSize) × (length (now bytes) ≡ givenLength * mostDrives) ⌝ }
+    ensures { λ _. ⌜ now (out .exit) ≡ sets (now (out .entry)) (bytesAt 0) (flat (givenWords (now (bytes .entry)))) ⌝ }
+{
+    words::store(out, BYTES, bytes);
+}
+
 // The sections behind the last words.
 fn put_more(d: Desk, out: &mut [u8])
     requires { ⌜ length (now out) ≡ deskSize ⌝ }
@@ -872,7 +856,7 @@ fn put_more(d: Desk, out: &mut [u8])
     put_marks(out, MARKS, placed);
     put_words(out, ADDRESSES, &addresses);
     put_marks(out, PRESENT, present);
-    words::store(out, BYTES, &parameters);
+    put_given(out, &parameters);
 }
 
 // Lays a desk out in a block of its size.

@@ -1,5 +1,5 @@
 use native.Mathlib.Omega.{arith}
-use Rattle.image.proofs.Judged.{judged-size, judged-pointer, judged-table, judged-rows}
+use Rattle.image.proofs.Judged.{judged-size, judged-pointer, judged-table, judged-rows, judged-more}
 use borrow.Author.Tests.{not-true, not-false}
 use borrow.Author.Needs.{needs}
 use Rattle.words.specs.Words.{Bytes}
@@ -24,10 +24,19 @@ returns-3 c =
 
 returns-4 : tie.Need-returns-4
 returns-4 c =
-    let t = c .before .before in
+    let r = c .before in
+    let t = r .before .before in
     let s = t .before .before .before .before in
     judged-rows _ (bytes (s .before)) (s .if1 .left) (t .before .before .before .get64 .ensures) (t .before .before .if2 .left)
-    (t .before .table-good .ensures) (not-false _ (t .if3 .left)) (c .before .get642 .ensures) (c .rows-good .ensures)
+    (t .before .table-good .ensures) (not-false _ (t .if3 .left)) (r .before .get642 .ensures) (r .rows-good .ensures) (not-true _ (c .if4 .taken))
+
+returns-5 : tie.Need-returns-5
+returns-5 c =
+    let r = c .before .before in
+    let t = r .before .before in
+    let s = t .before .before .before .before in
+    judged-more _ (bytes (s .before)) (s .if1 .left) (t .before .before .before .get64 .ensures) (t .before .before .if2 .left)
+    (t .before .table-good .ensures) (not-false _ (t .if3 .left)) (r .before .get642 .ensures) (r .rows-good .ensures) (not-false _ (c .before .if4 .left)) (c .more-good .ensures)
 
 pub acceptable-spec : {M : Type 1} → statement M
 acceptable-spec =
@@ -40,4 +49,6 @@ acceptable-spec =
     returns-3
     (search needs)
     (search needs)
-    returns-4)
+    returns-4
+    (search needs)
+    returns-5)

@@ -9,16 +9,22 @@ use Rattle.image.proofs.lay.Tie as tie
 
 returns : tie.Need-returns
 returns c =
-    let h = c .before .before .before .before .before .before .before .before .before .before .before .before .before .before .before .before .before in
+    let h = c .before .before .before .before .before .before .before .before .before .before .before .before .before .before .before .before .before .before .before .before .before in
     let a = h .args in
     let r : length (a .d .rows) ≡ 8 = search (needs, length-mapped) in
     let t : length (a .d .table .drives) ≡ 8 = search (needs, length-mapped) in
-    c .before .before .put-words .ensures ∙ rw (c .before .before .before .before .before .before .before .put-drives .ensures, c .before .before .before .before .before .before .before .before .before .before .before .put-rows .ensures) (laid-out (now (a .out)) (a .d) (h .pre) r t)
+    let p : length (a .d .placed) ≡ 8 = search (needs, length-mapped) in
+    let l : length (a .d .addresses) ≡ 8 = search (needs, length-mapped) in
+    let q : length (a .d .table .present) ≡ 8 = search (needs, length-mapped) in
+    c .before .before .put-more .ensures
+    ∙ rw (c .before .before .before .before .before .before .put-words .ensures, c .before .before .before .before .before .before .before .before .before .before .before .put-drives .ensures, c .before .before .before .before .before .before .before .before .before .before .before .before .before .before .before .put-rows .ensures)
+    (laid-out (now (a .out)) (a .d) (h .pre) r t p l q)
 
 pub lay-spec : {M : Type 1} → statement M
 lay-spec =
     tie.close
     (tie.spec
+    (search needs)
     (search needs)
     (search needs)
     (search needs)

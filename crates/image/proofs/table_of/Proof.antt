@@ -5,7 +5,21 @@ use Rattle.image.proofs.table_of.Tie as tie
 
 returns : tie.Need-returns
 unfolding readDesk
-returns c = rw (c .get64 .ensures, c .before .drive-in8 .ensures, c .before .before .drive-in7 .ensures, c .before .before .before .drive-in6 .ensures, c .before .before .before .before .drive-in5 .ensures, c .before .before .before .before .before .drive-in4 .ensures, c .before .before .before .before .before .before .drive-in3 .ensures, c .before .before .before .before .before .before .before .drive-in2 .ensures, c .before .before .before .before .before .before .before .before .drive-in .ensures)
+returns c =
+    let d = c .before .before .before in
+    rw (
+      c .parameters-of .ensures,
+      c .before .present-of .ensures,
+      c .before .before .get64 .ensures,
+      d .drive-in8 .ensures,
+      d .before .drive-in7 .ensures,
+      d .before .before .drive-in6 .ensures,
+      d .before .before .before .drive-in5 .ensures,
+      d .before .before .before .before .drive-in4 .ensures,
+      d .before .before .before .before .before .drive-in3 .ensures,
+      d .before .before .before .before .before .before .drive-in2 .ensures,
+      d .before .before .before .before .before .before .before .drive-in .ensures,
+    )
 
 pub table-of-spec : {M : Type 1} → statement M
 table-of-spec =
@@ -20,4 +34,6 @@ table-of-spec =
     (search needs)
     (search needs)
     (search needs)
+    (search needs)
+    (λ c κs. c .before .before .before .before .before .before .before .before .before .before .before .pre)
     returns)
