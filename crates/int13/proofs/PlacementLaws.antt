@@ -40,7 +40,7 @@ counted b i t e = rw (add-one, e)
 -- ---- their bytes
 
 -- fourteen bytes a slot
-length-at : (b : Table) (i : ℕ) → length (b .parameters) ≡ 112 → i < 8 → length (parametersAt b i) ≡ 14
+pub length-at : (b : Table) (i : ℕ) → length (b .parameters) ≡ 112 → i < 8 → length (parametersAt b i) ≡ 14
 length-at b i l h = length-take-le 14 (drop (14 * i) (b .parameters)) (rw length-drop (omega arith))
 
 -- sixteen bytes a table
