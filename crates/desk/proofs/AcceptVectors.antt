@@ -148,6 +148,19 @@ abbrev withPlaces : List Bool → List ℕ → Desk
 withPlaces marks at =
     record { rows = rows; pointer = 7; table = table (places secondDrive zeroDrive) 2; arena = 560005; store = 2207235; placed = marks; addresses = at }
 
+-- and with other marks and bytes of parameters
+abbrev withParts : List Bool → List ℕ → Desk
+withParts present bytes =
+    record {
+      rows = rows;
+      pointer = 7;
+      table = record { drives = places secondDrive zeroDrive; count = 2; present = present; parameters = bytes };
+      arena = 560005;
+      store = 2207235;
+      placed = placed;
+      addresses = addresses;
+    }
+
 -- ---- the conditions of acceptance, one after the other: desks on the right side of each, then desks on its wrong side
 
 -- the pointer is below 8
@@ -157,7 +170,8 @@ pointers = map good (0 ∷ 1 ∷ 2 ∷ 3 ∷ 4 ∷ 5 ∷ 6 ∷ 7 ∷ [])
 abbrev badPointers : List Desk
 badPointers = map good (8 ∷ 18446744073709551615 ∷ [])
 
--- the table obeys the rules: drives apart (7), inside the store (6), a field of each kind (5), at most 8 (4), unused places zero
+-- the table obeys the rules: drives apart (7), inside the store (6), a field of each kind (5), at most 8 (4), unused places zero, parameters of
+-- drives only
 abbrev tables : List Desk
 tables = withDrive (other 4005 0x48 5 1) ∷ withStore 2206720 ∷ withDrive (other 4010 0x7F 5 1) ∷ withDrive (other 4010 0x48 4 1) ∷ []
 
@@ -171,6 +185,9 @@ badTables =
     ∷ desk (places secondDrive zeroDrive) 3 7 560005 2207235 rows
     ∷ desk (places secondDrive zeroDrive) 9 7 560005 2207235 rows
     ∷ desk (places secondDrive (other 4310 0x48 5 1)) 2 7 560005 2207235 rows
+    ∷ withParts (true ∷ true ∷ true ∷ replicate 5 false) parameters
+    ∷ withParts (true ∷ false ∷ replicate 6 false) parameters
+    ∷ withParts (true ∷ true ∷ replicate 6 false) (set parameters 111 1)
     ∷ []
 
 -- the row names a drive; its function is one that waits
@@ -258,7 +275,7 @@ pub acceptance : map (map accept) (pointers ∷ tables ∷ counts ∷ ranges ∷
     ∷ map (map accept) (badPointers ∷ badTables ∷ badDrives ∷ badFunctions ∷ badCounts ∷ badRanges ∷ badBuffers ∷ badPackets ∷ badWrites ∷ badMoveds ∷ badPlacements ∷ [])
     ∷ []
     ≡ map (λ (n : ℕ). replicate n true) (8 ∷ 4 ∷ 2 ∷ 2 ∷ 2 ∷ 3 ∷ [])
-    ∷ map (λ (n : ℕ). replicate n false) (2 ∷ 8 ∷ 3 ∷ 3 ∷ 4 ∷ 5 ∷ 3 ∷ 4 ∷ 2 ∷ 6 ∷ 6 ∷ [])
+    ∷ map (λ (n : ℕ). replicate n false) (2 ∷ 11 ∷ 3 ∷ 3 ∷ 4 ∷ 5 ∷ 3 ∷ 4 ∷ 2 ∷ 6 ∷ 6 ∷ [])
     ∷ []
 unfolding accept rowsOk requestOk placementsOk placeOk parametersTo isDrive isSound soundTo blankTo attachedTo refusal overlapsAny overlap inStore fieldsOk geometryFits inLimits busOk interfaceOk isBlank blankNumbers blankNames same
 acceptance = refl
