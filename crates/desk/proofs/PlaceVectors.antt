@@ -7,7 +7,7 @@ use Prim.Native.Nat.{ℕ, zero, suc, _+_, _*_}
 use lib.ListN.{length, replicate, set}
 use Rattle.words.specs.Words.{le, leBytes}
 use Rattle.chs.specs.Chs.{inLimits}
-use Rattle.memory.specs.Window.{spanStart, spanLength}
+use Rattle.memory.specs.Window.{spanStart, spanLength, windowOf}
 use Rattle.drive.specs.declared.Drive.{Drive}
 use Rattle.drive.specs.Drive.{isBlank, blankNumbers, blankNames, same, busOk, interfaceOk, geometryFits, fieldsOk, inStore, overlap, pci, ata}
 use Rattle.table.specs.declared.Table.{Table}
@@ -26,6 +26,8 @@ use Rattle.desk.specs.Parts.{vacantRow}
 use Rattle.desk.specs.Acceptable.{requestOk, rowsOk, placeOk, placementsOk, accept}
 use Rattle.desk.specs.Calls.{done, postOf, placeTables, placeOf}
 use Rattle.desk.specs.Numbers.{postNumbers, placeNumbers, postGiven, placeRowGiven, placeGiven}
+use Rattle.desk.specs.Placed.{Leads}
+use Rattle.desk.proofs.Placed.{leads}
 
 -- ---- three drives of a block each; the first and the last have a record of parameters
 
@@ -123,6 +125,14 @@ module _ (arena store : List ℕ) (la : length arena ≡ 4355) (ls : length stor
       ≡ done (at mixed 7) (PlaceRefused 21) arena store ∷ done (at mixed 7) (PlaceRefused 26) arena store ∷ done (at mixed 7) (PlaceRefused 26) arena store ∷ []
   unfolding placeOf accept rowsOk requestOk placementsOk placeOk parametersTo isDrive isSound soundTo blankTo attachedTo refusal overlapsAny overlap inStore fieldsOk geometryFits inLimits busOk interfaceOk isBlank blankNumbers blankNames same
   place-refused = rw (la, ls)
+
+  -- so there are placements at which the pointer leads to the table: for a finished row, by an arena whose last three bytes are nobody's
+  placed-there : placeOf (at mixed 7) 4 32 arena store .answer ≡ Placed
+  unfolding placeOf accept rowsOk requestOk placementsOk placeOk parametersTo isDrive isSound soundTo blankTo attachedTo refusal overlapsAny overlap inStore fieldsOk geometryFits inLimits busOk interfaceOk isBlank blankNumbers blankNames same
+  placed-there = rw (la, ls)
+
+  pub found-there : Leads table 4 544 32 (windowOf arena 4 544) (placeOf (at mixed 7) 4 32 arena store)
+  found-there = leads (at mixed 7) 4 32 arena store (record { drives = refl; parameters = refl; placed = refl; addresses = refl }) placed-there
 
 -- ---- the limits of a place, by how many tables there are and the arena's length
 
