@@ -7,9 +7,10 @@
  * The parts
  *
  *   desk    EDD_DESK_SIZE bytes that hold the whole state of one service: the drives, one row for each guest, the turn
- *           pointer, and the lengths of arena and store given at the opening. To the host these bytes are opaque. They
- *           contain no address, so a block may be copied and put back as long as the same library is linked. A block
- *           belongs to the version of the library that wrote it: do not keep it in a file for a later one.
+ *           pointer, the place of each guest's parameter tables, and the lengths of arena and store given at the opening. To
+ *           the host these bytes are opaque. They contain no address of the host's memory, so a block may be copied and put
+ *           back as long as the same library is linked. A block belongs to the version of the library that wrote it: do not
+ *           keep it in a file for a later one.
  *   arena   the memory of all guests. Guest g, 0 to 7, has the window that starts at g * M, where M is the arena's length
  *           divided by 8, rounded down (edd_window). Every segment:offset address of a guest counts from the start of its
  *           window: 16 * segment + offset, never wrapped. Up to seven bytes at the end of the arena belong to nobody.
@@ -19,13 +20,13 @@
  *
  * What every call keeps to
  *
- *   All input has an answer. Registers, packets, tables and desk blocks may hold anything; a guest's number and the two
- *   lengths of edd_open may be any number. A slice may have any length, provided that its memory really is that long. The
- *   result is EDD_DONE (0), a number that says why the call was refused, or EDD_NOTHING_YET (256) where there is nothing
- *   to hand out yet.
+ *   All input has an answer. Registers, packets, tables and desk blocks may hold anything; a guest's number, the two
+ *   lengths of edd_open and the address of edd_place may be any number. A slice may have any length, provided that its
+ *   memory really is that long. The result is EDD_DONE (0), a number that says why the call was refused, or
+ *   EDD_NOTHING_YET (256) where there is nothing to hand out yet.
  *
  *   A refused call changes nothing: no register, no result and no byte of desk, arena, store or buffer is written. The one
- *   exception is *place of edd_open, which is written when the table is refused (1 to 8) and at no other time. A call that
+ *   exception is *place of edd_open, which is written when the table is refused (1 to 9) and at no other time. A call that
  *   answers 256 changes nothing either, except that a post stores the waiting request in the desk.
  *
  *   The caller owns everything. The library keeps no pointer after a call returns, allocates nothing, starts nothing, and
@@ -37,11 +38,11 @@
  *   of its own that they could share, so no request can meet another's scratch data.
  *
  *   What is proved is about the bytes at the beginning and at the end of a call. It holds if nobody else writes, while the
- *   call runs, the desk block, the window of the guest that is posted, served or withdrawn, or the blocks that are moved.
- *   Of the rest of arena and store a call uses only the lengths: a post or a withdrawal touches no window but its guest's;
- *   a turn touches no window but that of the guest it serves, whose request was waiting, and no block but those it moves;
- *   no other call touches a block. This is tested with protected pages and not proved. So a guest that has no request
- *   waiting may go on running in its own window, without the lock, while calls for other guests run.
+ *   call runs, the desk block, the window of the guest that is posted, served, withdrawn or placed for, or the blocks that
+ *   are moved. Of the rest of arena and store a call uses only the lengths: a post, a withdrawal or a placement touches no
+ *   window but its guest's; a turn touches no window but that of the guest it serves, whose request was waiting, and no
+ *   block but those it moves; no other call touches a block. This is tested with protected pages and not proved. So a guest
+ *   that has no request waiting may go on running in its own window, without the lock, while calls for other guests run.
  *
  *   A guest whose request is waiting leaves its buffer alone until the request has ended, because a turn may be reading or
  *   writing it. It may overwrite its packet, but a withdrawal writes two bytes there.
@@ -54,7 +55,7 @@
  *   NULL: neither that of a slice longer than 0 nor that of a result or a register. A slice needs no alignment; results
  *   and registers are aligned as their types require.
  *
- *   The interface may grow by change request. The names of these eleven calls and the order and types of their parameters
+ *   The interface may grow by change request. The names of these twelve calls and the order and types of their parameters
  *   stay; a call that needs more arguments comes under a new name. Everything else can change from one version to the
  *   next: the sizes (EDD_DESK_SIZE, EDD_TABLE_SIZE_MAX, EDD_STACK_MAX), the form of the block, the refusals, and what a
  *   turn may answer. Compile with the header that came with the library; edd_version() == EDD_VERSION says whether you did.
@@ -66,7 +67,8 @@
  *   withdrawn, it finishes within 8 * ceil(n / 16) such turns, n being its number of blocks. A turn changes no other
  *   guest's row or window. The registers, window and blocks of a finished request are those of the same request served
  *   alone at the time of its post, whatever the other guests posted, as long as the host leaves that window and the store
- *   alone meanwhile and no other guest writes a block that the request names.
+ *   alone meanwhile and no other guest writes a block that the request names. What a post answers at once it answers as
+ *   served alone too, with the tables where they were placed for that guest at its post.
  *
  *
  * The drive table
@@ -88,6 +90,12 @@
  *     52  8 bytes each: interface path, device path; any bytes, handed out by 48h
  *
  *   Each drive lies inside the store, and no two drives share a block.
+ *
+ *   Directly after its drive a record of length 20 and kind 4 may stand, at most one for each drive. From it the library
+ *   makes the drive's device parameter table for a guest to read (edd_place):
+ *
+ *      4  2 bytes: the drive's number, counted from 0 in table order
+ *      6  14 bytes: bytes 0 to 13 of the device parameter table; any bytes
  *
  *
  * Example: one block of drive 80h to 0000:0200 of guest 2. The result is 0, AH of a BIOS refusal, or -1.
@@ -128,7 +136,7 @@
 #endif
 
 /* The version of this header. Each change request raises it by 1; edd_version() answers that of the library. */
-#define EDD_VERSION 1
+#define EDD_VERSION 2
 
 /* Asks the compiler to warn where the result of a call is ignored. Define it yourself, as nothing, to switch that off. */
 #ifndef EDD_NODISCARD
@@ -149,11 +157,11 @@ extern "C" {
 
 /* ---- sizes */
 
-#define EDD_DESK_SIZE 2400     /* bytes of a desk block; edd_desk_size() answers the same */
+#define EDD_DESK_SIZE 2704     /* bytes of a desk block; edd_desk_size() answers the same */
 #define EDD_BLOCK_SIZE 512     /* bytes of a block of the store */
 #define EDD_GUESTS 8           /* guests are 0 to 7 */
 #define EDD_DRIVES 8           /* drives of a table, at most */
-#define EDD_TABLE_SIZE_MAX 548 /* bytes of the longest table: eight drives of 68 and the end record of 4 */
+#define EDD_TABLE_SIZE_MAX 708 /* bytes of the longest table: eight drives of 68 + 20 and the end record of 4 */
 #define EDD_TURN_BLOCKS 16     /* blocks that one turn moves, at most */
 #define EDD_STACK_MAX 12288    /* bytes of stack that a call uses, at most */
 
@@ -164,22 +172,25 @@ extern "C" {
 
 /* Refusals of a drive table, by edd_open. *place says where: the start of the record, or for 8 the first byte too many. */
 #define EDD_TABLE_CUT_OFF 1     /* the table stops inside a record or before the end record: lend all of it */
-#define EDD_TABLE_LENGTH 2      /* the record's length is wrong for its kind: it must be 68, or 4 for the end record */
-#define EDD_TABLE_KIND 3        /* unknown kind of record: this library knows drives (1) and the end (0) */
+#define EDD_TABLE_LENGTH 2      /* the record's length is wrong for its kind: it must be 68, 20, or 4 for the end record */
+#define EDD_TABLE_KIND 3        /* unknown kind of record: this library knows drives (1), parameters (4) and the end (0) */
 #define EDD_TABLE_NINTH_DRIVE 4 /* more than eight drives: use a second desk */
 #define EDD_TABLE_FIELD 5       /* a field of the drive breaks its rule: correct the record */
 #define EDD_TABLE_STORE 6       /* the drive ends past the store: lend a longer store or correct the record */
 #define EDD_TABLE_OVERLAP 7     /* the drive shares a block with an earlier one: correct its first block */
 #define EDD_TABLE_TRAILING 8    /* a byte follows the end record: lend the table without it */
+#define EDD_TABLE_NOT_LAST 9    /* the record of kind 4 does not name the last drive read, or repeats one: correct the table */
 
-/* House refusals. Where several apply the order is 25, 24, 20, then 19, 21, 22 or 23. */
+/* House refusals. Where several apply the order is 25, 24, 20, then 19, 21, 22 or 23, then 26. */
 #define EDD_BUFFER_SHORT 19      /* edd_write: the buffer is shorter than the table: EDD_TABLE_SIZE_MAX is always enough */
 #define EDD_NO_SUCH_GUEST 20     /* the guest's number is 8 or more: an error of the host */
-#define EDD_ROW_NOT_VACANT 21    /* edd_post: the guest's last request waits or is finished: collect or withdraw it first */
+#define EDD_ROW_NOT_VACANT 21    /* edd_post: the guest's last request waits or is finished: collect or withdraw it first.
+                                    edd_place: it waits */
 #define EDD_NOT_FINISHED 22      /* edd_collect: nothing to collect: post, or give more turns */
 #define EDD_NOT_WAITING 23       /* edd_withdraw: no request waits: if it has finished, collect it */
 #define EDD_LENGTH_DIFFERS 24    /* arena or store is not as long as at the opening: lend the same, or open again */
 #define EDD_DESK_NOT_ACCEPTED 25 /* the block has another size, or its bytes are not those of an acceptable desk: open it */
+#define EDD_BAD_PLACE 26         /* edd_place: the tables cannot lie at that address: choose another */
 
 /*
  * 25 does not detect every block that was never opened, nor all damage: a block of zeros, for example, is that of a desk
@@ -211,10 +222,11 @@ EDD_NODISCARD uint32_t edd_version(void);
 EDD_NODISCARD uint64_t edd_desk_size(void);
 
 /*
- * Opens a desk: reads the drive table, keeps the two lengths, makes all rows vacant and the turn pointer 0.
+ * Opens a desk: reads the drive table, keeps the two lengths, makes all rows vacant and the turn pointer 0. No guest has
+ * parameter tables then: place them anew (edd_place).
  *
  *   desk, desk_len    the block to write. Only its size is looked at. It may hold any bytes, even those of a desk in use;
- *                     the requests of that desk are then lost.
+ *                     the requests and placements of that desk are then lost.
  *   table, table_len  the whole drive table, with nothing after it
  *   arena_length      length in bytes of the arena that later calls will be lent; any number
  *   store_length      length in bytes of the store that later calls will be lent; any number. The store has
@@ -222,7 +234,7 @@ EDD_NODISCARD uint64_t edd_desk_size(void);
  *   place             where the table is refused
  *
  * 0         done: the whole block is written; *place is not.
- * 1 to 8    the table is refused: only *place is written.
+ * 1 to 9    the table is refused: only *place is written.
  * 25        desk_len is not EDD_DESK_SIZE; tested first. Nothing is written, not even *place.
  */
 EDD_NODISCARD uint32_t edd_open(uint8_t *desk, size_t desk_len, const uint8_t *table, size_t table_len,
@@ -257,6 +269,10 @@ EDD_NODISCARD uint32_t edd_write(const uint8_t *desk, size_t desk_len, uint8_t *
  * 0               answered at once: the registers are those to give the guest. Carry is 0, or 1 with the reason in AH.
  * 256             the request waits: give turns, then collect. No register is written, nor is carry.
  * 25, 24, 20, 21  refused, tested in this order. Nothing is written.
+ *
+ * 41h answers CX 0001h, and 48h has FFFFh:FFFFh at offset 26 of a result of 30 bytes or more. For a drive with a record of
+ * kind 4, and a guest for which edd_place was done since the opening, these are CX 0005h and a pointer to the drive's
+ * parameter table.
  *
  * The packet is read here and never again, so from now on the guest may overwrite it. Its place is remembered: a
  * withdrawal writes the count word there. The guest leaves the buffer alone until the request has ended.
@@ -315,6 +331,32 @@ EDD_NODISCARD uint32_t edd_withdraw(uint8_t *desk, size_t desk_len, uint8_t *are
                                     const uint8_t *store, size_t store_len, uint64_t guest, uint16_t *ax, uint16_t *bx,
                                     uint16_t *cx, uint16_t *dx, uint16_t *ds, uint16_t *si, uint16_t *es,
                                     uint16_t *carry);
+
+/*
+ * Places the device parameter tables in a guest's window: for each drive with a record of kind 4 sixteen bytes, one table
+ * after another in drive order, from the address on. A drive without such a record takes no room. A table is the record's
+ * fourteen bytes, with bits 7 and 5 of byte 4 set, then 11h, the revision, and a byte that makes the sum of all sixteen zero
+ * modulo 256. From now on, until the desk is opened or the guest's tables are placed anew, 48h gives this guest the pointer
+ * to the table of a drive that has one, offset 0 and segment address / 16 of that table, and 41h sets bit 2 of CX.
+ *
+ *   desk, desk_len    the guest's placement changes
+ *   arena, arena_len  the whole arena. The tables are written into the guest's window, so that guest must not run meanwhile.
+ *   store, store_len  the whole store. Only the length is looked at.
+ *   guest             0 to 7
+ *   address           where the first table lies, counted from the start of the window; 0 is a place like any other
+ *
+ * 0                   done. Without any record of kind 4 nothing is written to the window, but the placement is kept.
+ * 25, 24, 20, 21, 26  refused, tested in this order. Nothing is written, and the guest keeps the placement that it had.
+ *                     21: the guest's request waits; a finished one does not matter. 26: the address is no multiple of 16,
+ *                     the last table ends past the window (with no table: the address lies past its end), or a table's
+ *                     segment would be above FFFFh.
+ *
+ * The tables are the guest's memory, which it or its own reads may overwrite. The library does not look at them again: the
+ * pointer can be trusted only as long as the guest leaves the tables alone. Tables that were placed before stay where they
+ * are, as bytes that nothing points to.
+ */
+EDD_NODISCARD uint32_t edd_place(uint8_t *desk, size_t desk_len, uint8_t *arena, size_t arena_len, const uint8_t *store,
+                                 size_t store_len, uint64_t guest, uint64_t address);
 
 /*
  * Where a guest's window lies in an arena of that length: bytes *start to *start + *length - 1. For a guest of 8 or more

@@ -54,7 +54,7 @@ static void turn_hot(struct times *t, int batch, enum mover mover, unsigned func
     uint64_t guest = 0, moved = 0;
     const struct service *s = &services[mover == MODEL ? 1 : 0];
 
-    place_open(&p, s, 8, arena, 1 * MIB, store, 1 * MIB);
+    place_open(&p, s, 8, 0, arena, 1 * MIB, store, 1 * MIB);
     struct registers r = place_packet(&p, function, 0, 0, EDD_TURN_BLOCKS, BUFFER, 0);
     expect(place_post(&p, s, 0, &r) == EDD_NOTHING_YET, "the post waits");
     memcpy(ready, p.desk, sizeof ready);
@@ -102,7 +102,7 @@ static void turn_cold(struct times *time, int batch, enum mover mover, unsigned 
         uint64_t start = round % (drive_blocks / WALK_BLOCKS) * WALK_BLOCKS;
         uint64_t guest = 0, moved = 0, total = 0;
 
-        place_open(&p, s, 8, memory, WALK_ARENA, store, LARGE);
+        place_open(&p, s, 8, 0, memory, WALK_ARENA, store, LARGE);
         for (unsigned g = 0; g < EDD_GUESTS; g++) {
             struct registers r = place_packet(&p, function, g, g, WALK_BLOCKS, buffer, start);
             expect(place_post(&p, s, g, &r) == EDD_NOTHING_YET, "the post waits");
@@ -198,7 +198,7 @@ static double whole_request(const struct service *s, unsigned function, unsigned
     uint64_t guest = 0, moved = 0;
     struct registers r;
 
-    place_open(&p, s, 8, arena, 1 * MIB, store, 1 * MIB);
+    place_open(&p, s, 8, 0, arena, 1 * MIB, store, 1 * MIB);
     struct registers packet = place_packet(&p, 0x42, 3, 3, count, BUFFER, 0);
     struct registers chs = { .ax = (uint16_t)(function << 8 | count), .bx = 0, .cx = 1, .dx = 0x83, .es = BUFFER / 16 };
     double begun = nanoseconds();
@@ -244,7 +244,7 @@ static void table_request(void)
     line();
 }
 
-/* ---- 3. to 5. each call by itself */
+/* ---- 3. to 6. each call by itself */
 
 /* In which stage guest 0's row must be before the call. */
 enum stage { VACANT, WAITING, WAITING_ONE, FINISHED, DAMAGED };
@@ -325,6 +325,16 @@ static uint32_t withdraw(struct place *p, const struct service *s)
     return place_withdraw(p, s, 0, &r);
 }
 
+static uint32_t place(struct place *p, const struct service *s)
+{
+    return place_tables(p, s, 0, TABLES);
+}
+
+static uint32_t place_odd(struct place *p, const struct service *s)
+{
+    return place_tables(p, s, 0, TABLES + 1);
+}
+
 static uint32_t write_table(struct place *p, const struct service *s)
 {
     uint8_t out[EDD_TABLE_SIZE_MAX];
@@ -383,6 +393,8 @@ static const struct call calls[] = {
     { "collect refused, 22", VACANT, 0, EDD_NOT_FINISHED, collect },
     { "withdraw", WAITING, 1, EDD_DONE, withdraw },
     { "withdraw refused, 23", VACANT, 0, EDD_NOT_WAITING, withdraw },
+    { "place", VACANT, 0, EDD_DONE, place },
+    { "place refused, 26", VACANT, 0, EDD_BAD_PLACE, place_odd },
     { "write", VACANT, 0, EDD_DONE, write_table },
     { "write refused, 19", VACANT, 0, EDD_BUFFER_SHORT, write_short },
     { "open", VACANT, 0, EDD_DONE, open_desk },
@@ -398,6 +410,8 @@ struct setting {
     unsigned drives;
     size_t arena_length, store_length;
     int crowded; /* the rows of guests 1 to 7 wait, each with sixteen blocks */
+    int parameters; /* each drive has a record of kind 4 */
+    int placed; /* and the tables are placed for all eight guests */
 };
 
 /* With no drive nothing can wait, and while rows wait no turn is idle. */
@@ -412,8 +426,10 @@ static int can(const struct call *c, const struct setting *at)
 static void prepare(struct place *p, const struct service *s, const struct call *c, const struct setting *at)
 {
     uint64_t guest, moved;
-    place_open(p, s, at->drives, arena, at->arena_length, store, at->store_length);
-    open_length = place_table(open_table, at->drives, at->store_length);
+    place_open(p, s, at->drives, at->parameters, arena, at->arena_length, store, at->store_length);
+    open_length = place_table(open_table, at->drives, at->parameters, at->store_length);
+    for (unsigned g = 0; at->placed && g < EDD_GUESTS; g++)
+        expect(place_tables(p, s, g, TABLES) == EDD_DONE, "the tables are placed");
     packet_registers = place_packet(p, 0x42, 0, 0, c->stage == WAITING_ONE ? 1 : EDD_TURN_BLOCKS, BUFFER, 0);
     if (c->stage == WAITING || c->stage == WAITING_ONE || c->stage == FINISHED) {
         struct registers r = packet_registers;
@@ -472,7 +488,7 @@ static int moves_nothing(const struct call *c)
 {
     if (c->make == turn)
         return c->answer == EDD_NOTHING_YET;
-    if (c->make == write_table)
+    if (c->make == write_table || c->make == place)
         return c->answer != EDD_DONE;
     return c->make != open_desk && c->make != window && c->make != block && c->make != address;
 }
@@ -537,22 +553,27 @@ static struct summary table_calls(const struct setting *settings, unsigned count
 int main(int argc, char **argv)
 {
     static const struct setting drives[] = {
-        { "no drive", 0, 1 * MIB, 1 * MIB, 0 },
-        { "1 drive", 1, 1 * MIB, 1 * MIB, 0 },
-        { "4 drives", 4, 1 * MIB, 1 * MIB, 0 },
-        { "8 drives", 8, 1 * MIB, 1 * MIB, 0 },
+        { "no drive", 0, 1 * MIB, 1 * MIB, 0, 0, 0 },
+        { "1 drive", 1, 1 * MIB, 1 * MIB, 0, 0, 0 },
+        { "4 drives", 4, 1 * MIB, 1 * MIB, 0, 0, 0 },
+        { "8 drives", 8, 1 * MIB, 1 * MIB, 0, 0, 0 },
     };
     static const struct setting sizes[] = {
-        { "1M, 1M", 8, 1 * MIB, 1 * MIB, 0 },
-        { "64M, 1M", 8, 64 * MIB, 1 * MIB, 0 },
-        { "1G, 1M", 8, LARGE, 1 * MIB, 0 },
-        { "1M, 64M", 8, 1 * MIB, 64 * MIB, 0 },
-        { "1M, 1G", 8, 1 * MIB, LARGE, 0 },
-        { "1G, 1G", 8, LARGE, LARGE, 0 },
+        { "1M, 1M", 8, 1 * MIB, 1 * MIB, 0, 0, 0 },
+        { "64M, 1M", 8, 64 * MIB, 1 * MIB, 0, 0, 0 },
+        { "1G, 1M", 8, LARGE, 1 * MIB, 0, 0, 0 },
+        { "1M, 64M", 8, 1 * MIB, 64 * MIB, 0, 0, 0 },
+        { "1M, 1G", 8, 1 * MIB, LARGE, 0, 0, 0 },
+        { "1G, 1G", 8, LARGE, LARGE, 0, 0, 0 },
     };
     static const struct setting rows[] = {
-        { "0 waiting", 8, 1 * MIB, 1 * MIB, 0 },
-        { "7 waiting", 8, 1 * MIB, 1 * MIB, 1 },
+        { "0 waiting", 8, 1 * MIB, 1 * MIB, 0, 0, 0 },
+        { "7 waiting", 8, 1 * MIB, 1 * MIB, 1, 0, 0 },
+    };
+    static const struct setting tables[] = {
+        { "no record", 8, 1 * MIB, 1 * MIB, 0, 0, 0 },
+        { "8 records", 8, 1 * MIB, 1 * MIB, 0, 1, 0 },
+        { "placed", 8, 1 * MIB, 1 * MIB, 0, 1, 1 },
     };
     if (argc < 2 || argc > 3) {
         fprintf(stderr, "usage: bench LIBRARY.so [MODEL.so]\n");
@@ -585,19 +606,23 @@ int main(int argc, char **argv)
     struct summary by_size = table_calls(sizes, 6);
     printf("5. Each call, by the rows of the other guests that wait, 8 drives; ns. The model with 7 waiting.\n\n");
     struct summary by_rows = table_calls(rows, 2);
+    printf("6. Each call, by the parameter tables, 8 drives; ns. Other rows vacant; placed: 8 records, placed for all guests. The model with\n"
+           "   all placed.\n\n");
+    struct summary by_tables = table_calls(tables, 3);
 
     printf("Aims\n");
-    printf("   a call below %.0f ns: the slowest takes %.0f (%s), with seven other rows waiting %.0f (%s): %s\n", BELOW,
-           by_drives.most, by_drives.slowest, by_rows.most, by_rows.slowest,
-           by_drives.most < BELOW && by_rows.most < BELOW ? "met" : "NOT met");
+    printf("   a call below %.0f ns: the slowest takes %.0f (%s), with seven other rows waiting %.0f (%s), with parameter tables %.0f"
+           " (%s): %s\n", BELOW, by_drives.most, by_drives.slowest, by_rows.most, by_rows.slowest, by_tables.most, by_tables.slowest,
+           by_drives.most < BELOW && by_rows.most < BELOW && by_tables.most < BELOW ? "met" : "NOT met");
     printf("   a turn of 16 blocks not in cache, at most %.1f times memcpy: read %.2f, write %.2f: %s\n", MEMCPY_TIMES, to_memcpy[0],
            to_memcpy[1], to_memcpy[0] <= MEMCPY_TIMES && to_memcpy[1] <= MEMCPY_TIMES ? "met" : "NOT met");
     if (service_count == 2) {
         printf("   and at most %.2f times the model: read %.2f, write %.2f: %s\n", MODEL_TURN, to_model[0], to_model[1],
                to_model[0] <= MODEL_TURN && to_model[1] <= MODEL_TURN ? "met" : "NOT met");
         printf("   a call that moves no blocks, at most %.1f times the model: the dearest %.2f (%s), with seven other rows waiting"
-               " %.2f (%s): %s\n", MODEL_CALL, by_drives.dearest, by_drives.dear, by_rows.dearest, by_rows.dear,
-               by_drives.dearest <= MODEL_CALL && by_rows.dearest <= MODEL_CALL ? "met" : "NOT met");
+               " %.2f (%s), with parameter tables %.2f (%s): %s\n", MODEL_CALL, by_drives.dearest, by_drives.dear, by_rows.dearest,
+               by_rows.dear, by_tables.dearest, by_tables.dear,
+               by_drives.dearest <= MODEL_CALL && by_rows.dearest <= MODEL_CALL && by_tables.dearest <= MODEL_CALL ? "met" : "NOT met");
         printf("   an opening of 8 drives, at most %.1f times the model: %.2f: %s\n", MODEL_OPEN, by_drives.opening,
                by_drives.opening <= MODEL_OPEN ? "met" : "NOT met");
     }

@@ -17,12 +17,12 @@ struct registers {
     uint16_t ax, bx, cx, dx, ds, si, es, carry;
 };
 
-/* The table of so many drives, each an eighth of the store. Returns its length. */
-size_t place_table(uint8_t table[EDD_TABLE_SIZE_MAX], unsigned drives, size_t store_length);
+/* The table of so many drives, each an eighth of the store, with records of kind 4 or without. Returns its length. */
+size_t place_table(uint8_t table[EDD_TABLE_SIZE_MAX], unsigned drives, int parameters, size_t store_length);
 
 /* Opens a desk over an arena and a store. Stops the program if the table is refused. */
-void place_open(struct place *p, const struct service *s, unsigned drives, uint8_t *arena, size_t arena_length, uint8_t *store,
-                size_t store_length);
+void place_open(struct place *p, const struct service *s, unsigned drives, int parameters, uint8_t *arena, size_t arena_length,
+                uint8_t *store, size_t store_length);
 
 /* Lays a packet into the guest's window and gives the registers of 42h or 43h on it. Its place in the window is PACKET. */
 struct registers place_packet(struct place *p, unsigned function, unsigned guest, unsigned drive, unsigned count, uint64_t buffer,
@@ -30,6 +30,7 @@ struct registers place_packet(struct place *p, unsigned function, unsigned guest
 
 #define PACKET 0x100
 #define BUFFER 0x1000
+#define TABLES 0x8000 /* where parameter tables are placed */
 
 /* The calls with all that they are lent. */
 static inline uint32_t place_post(struct place *p, const struct service *s, uint64_t guest, struct registers *r)
@@ -52,6 +53,11 @@ static inline uint32_t place_withdraw(struct place *p, const struct service *s, 
 {
     return s->withdraw(p->desk, sizeof p->desk, p->arena, p->arena_length, p->store, p->store_length, guest, &r->ax, &r->bx,
                        &r->cx, &r->dx, &r->ds, &r->si, &r->es, &r->carry);
+}
+
+static inline uint32_t place_tables(struct place *p, const struct service *s, uint64_t guest, uint64_t address)
+{
+    return s->place(p->desk, sizeof p->desk, p->arena, p->arena_length, p->store, p->store_length, guest, address);
 }
 
 /* Stops the program with what was wrong: a benchmark of wrong answers says nothing. */

@@ -29,6 +29,7 @@ void service_load(struct service *s, const char *name, const char *path)
     find(object, "edd_turn", &s->turn);
     find(object, "edd_collect", &s->collect);
     find(object, "edd_withdraw", &s->withdraw);
+    find(object, "edd_place", &s->place);
     find(object, "edd_window", &s->window);
     find(object, "edd_block", &s->block);
     find(object, "edd_address", &s->address);

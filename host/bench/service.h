@@ -18,6 +18,7 @@ struct service {
                         uint16_t *, uint16_t *);
     uint32_t (*withdraw)(uint8_t *, size_t, uint8_t *, size_t, const uint8_t *, size_t, uint64_t, uint16_t *, uint16_t *,
                          uint16_t *, uint16_t *, uint16_t *, uint16_t *, uint16_t *, uint16_t *);
+    uint32_t (*place)(uint8_t *, size_t, uint8_t *, size_t, const uint8_t *, size_t, uint64_t, uint64_t);
     uint32_t (*window)(uint64_t, uint64_t, uint64_t *, uint64_t *);
     uint32_t (*block)(uint32_t, uint32_t, uint32_t, uint32_t, uint32_t, uint32_t, uint32_t *);
     uint32_t (*address)(uint32_t, uint32_t, uint32_t, uint64_t, uint32_t *, uint32_t *, uint32_t *);

@@ -249,6 +249,64 @@ static void protected_drive(machine *m)
     free(table);
 }
 
+/* 48h of guest 4 on the drive, its result at 0000:0200: the segment and the offset at offset 26, and CX of 41h */
+static uint32_t pointer_and_extensions(machine *m, uint16_t *cx)
+{
+    registers r = set(0x4800, 1, 2, 0x0080, 0x20, 0, 8);
+    const uint8_t *result = m->arena + 4 * WINDOW + 0x200;
+
+    m->arena[4 * WINDOW + 0x200] = 30, m->arena[4 * WINDOW + 0x201] = 0;
+    CHECK(post(m, 4, &r) == EDD_DONE && r.carry == 0);
+    r = set(0x4100, 0x55AA, 2, 0x0080, 6, 7, 8);
+    CHECK(post(m, 4, &r) == EDD_DONE && r.carry == 0);
+    *cx = r.cx;
+    return (uint32_t)(result[28] | result[29] << 8) << 16 | (uint32_t)(result[26] | result[27] << 8);
+}
+
+/* rule: exports::edd_place exports::edd_open exports::edd_write exports::edd_post */
+/* a drive with a record of kind 4: its parameter table in a guest's window, and the pointer to it */
+static void parameter_tables(machine *m)
+{
+    uint8_t *table = bytes(92, 0), *out = bytes(92, 0);
+    uint64_t place = 77, written = 77, guest = 77, moved = 77;
+    uint16_t cx = 77;
+    unsigned sum = 0;
+    registers r = set(0x0201, 0x0200, 0x0001, 0x0080, 4, 5, 0);
+
+    memcpy(table, paper_table, 68);
+    table[68] = 20, table[70] = 4, table[72] = 1; /* for the second drive, which is not there */
+    for (unsigned i = 0; i < 14; i++)
+        table[74 + i] = (uint8_t)(16 * i + i);
+    table[88] = 4;
+    CHECK(edd_open(m->desk, EDD_DESK_SIZE, table, 92, ARENA, STORE, &place) == EDD_TABLE_NOT_LAST && place == 68);
+    table[72] = 0;
+    CHECK(edd_open(m->desk, EDD_DESK_SIZE, table, 92, ARENA, STORE, &place) == EDD_DONE);
+    CHECK(pointer_and_extensions(m, &cx) == 0xFFFFFFFF && cx == 1);
+    CHECK(edd_place(m->desk, EDD_DESK_SIZE, m->arena, ARENA, m->store, STORE, 4, 0x1010) == EDD_DONE);
+    CHECK(pointer_and_extensions(m, &cx) == 0x01010000 && cx == 5);
+    const uint8_t *placed = m->arena + 4 * WINDOW + 0x1010;
+    for (unsigned i = 0; i < 16; i++)
+        sum += placed[i];
+    CHECK(sum % 256 == 0 && placed[14] == 0x11 && placed[4] == (0x44 | 0xA0) && placed[0] == 0 && placed[13] == 0xDD);
+    /* refused: everything is as it was */
+    CHECK(edd_place(m->desk, EDD_DESK_SIZE - 1, m->arena, ARENA, m->store, STORE, 4, 0) == EDD_DESK_NOT_ACCEPTED);
+    CHECK(edd_place(m->desk, EDD_DESK_SIZE, m->arena, ARENA - 1, m->store, STORE, 4, 0) == EDD_LENGTH_DIFFERS);
+    CHECK(edd_place(m->desk, EDD_DESK_SIZE, m->arena, ARENA, m->store, STORE, 8, 0) == EDD_NO_SUCH_GUEST);
+    CHECK(edd_place(m->desk, EDD_DESK_SIZE, m->arena, ARENA, m->store, STORE, 4, 0x1018) == EDD_BAD_PLACE);
+    CHECK(edd_place(m->desk, EDD_DESK_SIZE, m->arena, ARENA, m->store, STORE, 4, WINDOW) == EDD_BAD_PLACE);
+    CHECK(post(m, 4, &r) == EDD_NOTHING_YET);
+    CHECK(edd_place(m->desk, EDD_DESK_SIZE, m->arena, ARENA, m->store, STORE, 4, 0) == EDD_ROW_NOT_VACANT);
+    CHECK(turn(m, &guest, &moved) == EDD_DONE && guest == 4 && collect(m, 4, &r) == EDD_DONE);
+    CHECK(pointer_and_extensions(m, &cx) == 0x01010000 && cx == 5);
+    /* the table is written back as it was opened; an opening ends the placement */
+    CHECK(edd_write(m->desk, EDD_DESK_SIZE, out, 92, &written) == EDD_DONE && written == 92 && memcmp(out, table, 92) == 0);
+    CHECK(edd_open(m->desk, EDD_DESK_SIZE, table, 92, ARENA, STORE, &place) == EDD_DONE);
+    CHECK(pointer_and_extensions(m, &cx) == 0xFFFFFFFF && cx == 1);
+    CHECK(edd_open(m->desk, EDD_DESK_SIZE, paper_table, 72, ARENA, STORE, &place) == EDD_DONE);
+    free(out);
+    free(table);
+}
+
 /* rule: exports::edd_write exports::edd_post exports::edd_turn exports::edd_collect exports::edd_withdraw */
 static void house_refusals(machine *m)
 {
@@ -303,6 +361,7 @@ int main(void)
     withdrawal(&m);
     at_once(&m);
     protected_drive(&m);
+    parameter_tables(&m);
     house_refusals(&m);
     numbers();
     free(m.desk);

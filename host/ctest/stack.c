@@ -50,6 +50,11 @@ static void do_withdraw(void)
     answer = edd_withdraw(desk, sizeof desk, arena, sizeof arena, store, sizeof store, 7, &ax, &bx, &cx, &dx, &ds, &si, &es, &carry);
 }
 
+static void do_place(void)
+{
+    answer = edd_place(desk, sizeof desk, arena, sizeof arena, store, sizeof store, 7, 0x8000);
+}
+
 static void do_numbers(void)
 {
     answer = edd_window(sizeof arena, 7, &first, &second) + edd_block(4, 1, 16, 3, 0, 16, &small[0]) +
@@ -95,20 +100,23 @@ static void set_request(void)
 int main(void)
 {
     for (unsigned i = 0; i < EDD_DRIVES; i++) {
-        uint8_t *drive = table + 68 * i;
+        uint8_t *drive = table + 88 * i, *parameters = drive + 68;
         drive[0] = 68, drive[2] = 1, drive[16] = DRIVE_BLOCKS, drive[34] = 4, drive[36] = 1, drive[38] = 16;
         drive[24] = (uint8_t)(DRIVE_BLOCKS * i), drive[25] = (uint8_t)(DRIVE_BLOCKS * i >> 8);
         memcpy(drive + 40, "PCI", 3);
         memcpy(drive + 44, "ATA", 3);
+        parameters[0] = 20, parameters[2] = 4, parameters[4] = (uint8_t)i;
     }
-    table[68 * EDD_DRIVES] = 4;
+    table[88 * EDD_DRIVES] = 4;
 
     measure(do_open, "open", EDD_DONE);
     measure(do_write, "write", EDD_DONE);
     measure(do_turn, "idle turn", EDD_NOTHING_YET);
+    measure(do_place, "place", EDD_DONE);
     set_request();
     measure(do_post, "post 42h", EDD_NOTHING_YET);
     measure(do_post, "refused post", EDD_ROW_NOT_VACANT);
+    measure(do_place, "refused place", EDD_ROW_NOT_VACANT);
     measure(do_turn, "turn", EDD_DONE);
     measure(do_turn, "last turn", EDD_DONE);
     measure(do_collect, "collect", EDD_DONE);

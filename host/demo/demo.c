@@ -3,7 +3,8 @@
  *
  * Every guest works on its own disk, keeps its own copy of what its memory and its disk must hold, and compares after each
  * request: the registers, what it laid down, what it read, and the blocks of the store that it named. At the end the whole
- * store is compared with those copies. For a monitor of your own, copy host/example, not this.
+ * store is compared with those copies. Three disks have a device parameter table, which the host places for half of the
+ * guests: they follow the pointer of 48h to it. For a monitor of your own, copy host/example, not this.
  *
  *   demo [-r requests] [-s seed] [-p pause]
  */
@@ -229,9 +230,9 @@ static int verdict(const struct faults *f, uint64_t seed)
     return 1;
 }
 
-static void print_table(const struct monitor *m)
+static void print_table(const struct monitor *m, const struct guest *guests)
 {
-    uint64_t gap = 0;
+    uint64_t gap = 0, followed = 0, without = 0;
     printf("\n%-5s  %-10s %9s %10s %9s  %-16s %8s %10s\n", "guest", "workload", "requests", "blocks", "turns",
            "longest wait", "refused", "withdrawn");
     for (unsigned g = 0; g < EDD_GUESTS; g++) {
@@ -242,9 +243,13 @@ static void print_table(const struct monitor *m)
                (unsigned long long)n->withdrawn);
         if (n->longest_gap > gap)
             gap = n->longest_gap;
+        followed += guests[g].followed;
+        without += guests[g].without;
     }
     printf("\nA wait is counted in turns from the post to the last part, \"of\" its bound 8 * ceil(n / 16).\n"
-           "The longest time from one part of a request to its next: %llu turns of 8.\n", (unsigned long long)gap);
+           "The longest time from one part of a request to its next: %llu turns of 8.\n"
+           "The pointer of 48h was followed to a parameter table %llu times, and was FFFF:FFFF %llu times.\n",
+           (unsigned long long)gap, (unsigned long long)followed, (unsigned long long)without);
 }
 
 /* ---- all together */
@@ -282,6 +287,10 @@ int main(int argc, char **argv)
         memcpy(monitor_window(&monitor, g), guests[g].memory, WINDOW_SIZE);
         memcpy(store + disks[g].first * EDD_BLOCK_SIZE, guests[g].disk, disks[g].blocks * EDD_BLOCK_SIZE);
     }
+    for (unsigned g = 0; g < EDD_GUESTS; g += 2) {
+        monitor_place(&monitor, g, TABLES);
+        guest_placed(&guests[g]);
+    }
     for (unsigned g = 0; g < EDD_GUESTS; g++)
         guests[g].shared = guests[SHARED_DISK].disk; /* protected, so nobody changes it */
 
@@ -313,7 +322,7 @@ int main(int argc, char **argv)
      * that does not see OpenMP's barrier then sees that the guests are done.
      */
     monitor_lock(&monitor);
-    print_table(&monitor);
+    print_table(&monitor, guests);
     printf("\n%.1f seconds, %llu turns\n", now() - begun, (unsigned long long)monitor.turns);
     struct faults faults = { 0, { 0 } };
     check_guests(&faults, &monitor, guests, o.requests);

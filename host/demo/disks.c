@@ -3,15 +3,15 @@
 #include <string.h>
 
 const struct disk disks[EDD_DRIVES] = {
-    /* C, H, S        first   blocks  flags   protected */
-    { 306, 4, 17,         3,  20808, 0x0000, 0, "ISA", "ATA" },
-    { 80, 2, 18,      20811,   2880, 0x0000, 0, "ISA", "ATA" },     /* touches the disk before it */
-    { 40, 16, 63,     23700,  40960, 0x0008, 0, "PCI", "SCSI" },
-    { 20, 16, 63,     64660,  20480, 0x0002, 0, "PCI", "ATA" },
-    { 100, 7, 33,     86000,  24000, 0x000a, 0, "PCI", "1394" },
-    { 33, 5, 61,     110000,  10100, 0x0008, 0, "PCI", "USB" },
-    { 64, 2, 32,     120111,   4401, 0x0000, 0, "PCI", "FIBRE" },
-    { 80, 2, 15,     124590,   2400, 0x0004, 1, "PCI", "ATAPI" },
+    /* C, H, S        first   blocks  flags   protected         record of kind 4: ports 1F0h and 3F6h, IRQ 14, and so on */
+    { 306, 4, 17,         3,  20808, 0x0000, 0, "ISA", "ATA", "\xf0\x01\xf6\x03\x00\xcb\x0e\x00\x00\x04\x00\x00\x00\x00" },
+    { 80, 2, 18,      20811,   2880, 0x0000, 0, "ISA", "ATA", NULL }, /* touches the disk before it */
+    { 40, 16, 63,     23700,  40960, 0x0008, 0, "PCI", "SCSI", NULL },
+    { 20, 16, 63,     64660,  20480, 0x0002, 0, "PCI", "ATA", "\x70\x01\x76\x03\x50\x07\x0f\x01\x22\x03\x31\x00\x00\x00" },
+    { 100, 7, 33,     86000,  24000, 0x000a, 0, "PCI", "1394", NULL },
+    { 33, 5, 61,     110000,  10100, 0x0008, 0, "PCI", "USB", NULL },
+    { 64, 2, 32,     120111,   4401, 0x0000, 0, "PCI", "FIBRE", "any bytes here" },
+    { 80, 2, 15,     124590,   2400, 0x0004, 1, "PCI", "ATAPI", NULL },
 };
 
 void put_word(uint8_t *at, unsigned bytes, uint64_t value)
@@ -21,7 +21,7 @@ void put_word(uint8_t *at, unsigned bytes, uint64_t value)
 }
 
 /* One drive's record, document 01, "The drive table". */
-static void put_record(uint8_t *at, const struct disk *disk)
+static void put_drive(uint8_t *at, const struct disk *disk)
 {
     memset(at, 0, 68);
     put_word(at + 0, 2, 68);
@@ -42,11 +42,26 @@ static void put_record(uint8_t *at, const struct disk *disk)
     put_word(at + 60, 8, ~disk->first);
 }
 
+/* The record of kind 4 behind it, change request 2026-01. */
+static void put_parameters(uint8_t *at, const struct disk *disk)
+{
+    put_word(at + 0, 2, 20);
+    put_word(at + 2, 2, 4);
+    put_word(at + 4, 2, (uint64_t)(disk - disks));
+    memcpy(at + 6, disk->parameters, PARAMETERS);
+}
+
 size_t disks_table(uint8_t table[EDD_TABLE_SIZE_MAX])
 {
     size_t length = 0;
-    for (unsigned i = 0; i < EDD_DRIVES; i++, length += 68)
-        put_record(table + length, &disks[i]);
+    for (unsigned i = 0; i < EDD_DRIVES; i++) {
+        put_drive(table + length, &disks[i]);
+        length += 68;
+        if (disks[i].parameters) {
+            put_parameters(table + length, &disks[i]);
+            length += 20;
+        }
+    }
     put_word(table + length, 4, 4); /* the end record: length 4, kind 0 */
     return length + 4;
 }

@@ -16,6 +16,7 @@ struct disk {
     uint16_t flags;            /* information flags; bit 3: 43h may be asked to verify */
     uint8_t is_protected;
     const char *bus, *interface;
+    const char *parameters;    /* the 14 bytes of its record of kind 4; NULL where it has none */
 };
 
 /* Disk g is drive 80h + g. The last one is protected. Between the disks the store has blocks that belong to nobody. */
@@ -23,6 +24,7 @@ extern const struct disk disks[EDD_DRIVES];
 
 #define STORE_BLOCKS 127000
 #define SHARED_DISK 7
+#define PARAMETERS 14
 
 /* Lays out the drive table of the eight disks and returns its length. */
 size_t disks_table(uint8_t table[EDD_TABLE_SIZE_MAX]);

@@ -394,6 +394,43 @@ static void packet_only(struct guest *g, unsigned function)
     make(g, &q);
 }
 
+/* Where the table of a disk lies in the guest's window, 0 if the guest finds none: those of the disks before it come first. */
+static uint64_t table_of(const struct guest *g, const struct disk *disk)
+{
+    uint64_t at = TABLES;
+    if (!g->placed || !disk->parameters)
+        return 0;
+    for (const struct disk *before = disks; before < disk; before++)
+        if (before->parameters)
+            at += 16;
+    return at;
+}
+
+/* As a driver does: from the result of 48h in the window to the table, whose bytes sum to zero, and whose first are the disk's. */
+static void follow_pointer(struct guest *g, uint64_t result, const struct disk *disk)
+{
+    const uint8_t *window = monitor_window(g->monitor, g->number), *pointer = window + result + 26;
+    unsigned offset = pointer[0] | (unsigned)pointer[1] << 8, segment = pointer[2] | (unsigned)pointer[3] << 8;
+    uint8_t sum = 0;
+
+    if (!table_of(g, disk)) {
+        if (offset != 0xffff || segment != 0xffff)
+            fail(g, "48h gives the pointer %04x:%04x, and there is no table", segment, offset);
+        g->without++;
+        return;
+    }
+    const uint8_t *table = window + 16 * segment + offset;
+    if (offset != 0 || 16 * segment > WINDOW_SIZE - 16) {
+        fail(g, "48h gives the pointer %04x:%04x", segment, offset);
+        return;
+    }
+    for (unsigned i = 0; i < 16; i++)
+        sum = (uint8_t)(sum + table[i]);
+    if (sum != 0 || memcmp(table, disk->parameters, 4) != 0)
+        fail(g, "at %04x:%04x there is no parameter table of its disk", segment, offset);
+    g->followed++;
+}
+
 /* 48h: the whole result, document 01's layout */
 static void parameters(struct guest *g)
 {
@@ -412,7 +449,10 @@ static void parameters(struct guest *g)
     put_word(q.result + 12, 4, disk->sectors);
     put_word(q.result + 16, 8, disk->blocks);
     put_word(q.result + 24, 2, EDD_BLOCK_SIZE);
-    put_word(q.result + 26, 4, 0xffffffff);
+    if (table_of(g, disk))
+        put_word(q.result + 26, 4, table_of(g, disk) / 16 << 16); /* offset 0, then the segment */
+    else
+        put_word(q.result + 26, 4, 0xffffffff);
     put_word(q.result + 30, 2, 0xbedd);
     q.result[32] = 0x24;
     memcpy(q.result + 36, disk->bus, strlen(disk->bus));
@@ -429,6 +469,8 @@ static void parameters(struct guest *g)
     as_pair(g, place, &q.given.ds, &q.given.si);
     want(&q, 0);
     make(g, &q);
+    if (q.result_length >= 30)
+        follow_pointer(g, place, disk);
 }
 
 /* 08h, 41h or 48h */
@@ -452,7 +494,7 @@ static void ask(struct guest *g)
         want(&q, 0);
         q.wanted.ax = 0x3000;
         q.wanted.bx = 0xaa55;
-        q.wanted.cx = 0x0001;
+        q.wanted.cx = table_of(g, disk) ? 0x0005 : 0x0001;
     }
     make(g, &q);
 }
@@ -545,6 +587,23 @@ static void one_request(struct guest *g)
     case ASK: ask(g); break;
     case WRONG: wrong(g); break;
     case KINDS: break;
+    }
+}
+
+/* Sixteen bytes for each disk that has a record, source document 002, Table 00278, with what change request 2026-01 sets in it. */
+void guest_placed(struct guest *g)
+{
+    g->placed = 1;
+    for (const struct disk *disk = disks; disk < disks + EDD_DRIVES; disk++) {
+        uint8_t *table = g->memory + table_of(g, disk), sum = 0;
+        if (!disk->parameters)
+            continue;
+        memcpy(table, disk->parameters, PARAMETERS);
+        table[4] |= 0xa0;
+        table[14] = 0x11;
+        for (unsigned i = 0; i < 15; i++)
+            sum = (uint8_t)(sum + table[i]);
+        table[15] = (uint8_t)-sum;
     }
 }
 

@@ -8,6 +8,7 @@
 #include "monitor.h"
 
 #define WINDOW_SIZE 0x100000 /* 1 MiB, what a real-mode program can name */
+#define TABLES 0x300         /* where its parameter tables are placed: below all packets, results and buffers of the demo */
 
 struct workload;
 
@@ -21,6 +22,9 @@ struct guest {
     uint8_t *disk;            /* what its disk must hold */
     const uint8_t *shared;    /* what the shared disk must hold */
     uint64_t written;         /* serial number of the blocks it has written */
+    int placed;               /* the host has placed the parameter tables in its window */
+    uint64_t followed;        /* pointers of 48h that it has followed to its disk's table */
+    uint64_t without;         /* results of 48h whose pointer was FFFF:FFFF */
 
     int failed;               /* it has seen something it must not; then it stops */
     char fault[160];          /* what that was */
@@ -32,6 +36,9 @@ const char *guest_workload(unsigned number);
 /* Makes guest g. Its memory and its disk get contents of their own; the caller lays them into window and store. */
 int guest_make(struct guest *g, struct monitor *monitor, unsigned number, uint64_t seed);
 void guest_free(struct guest *g);
+
+/* The host has placed the parameter tables for this guest: its copy of its memory gets what they must be. */
+void guest_placed(struct guest *g);
 
 /* Makes so many requests, checks each, and leaves the monitor. This is what a guest's thread runs. */
 void guest_run(struct guest *g, uint64_t requests);

@@ -7,7 +7,7 @@
 #include "tsan.h"
 
 /*
- * A refusal, 19 to 25, says that the monitor itself made a mistake: no guest can cause one. There is no sensible way to go
+ * A refusal, 19 to 26, says that the monitor itself made a mistake: no guest can cause one. There is no sensible way to go
  * on, so say which call it was and stop.
  */
 static void refused(const char *call, uint32_t number)
@@ -186,6 +186,17 @@ static void check_served(const struct monitor *m, uint64_t guest, uint64_t moved
         impossible("edd_turn", "a guest was served that has no request", guest);
     if (moved > EDD_TURN_BLOCKS)
         impossible("edd_turn", "more blocks were moved than a turn may move", guest);
+}
+
+void monitor_place(struct monitor *m, unsigned guest, uint64_t address)
+{
+    monitor_lock(m);
+    tsan_desk(m);
+    tsan_window(m, guest);
+    uint32_t number = edd_place(m->desk, sizeof m->desk, m->arena, m->arena_length, m->store, m->store_length, guest, address);
+    if (number != EDD_DONE)
+        refused("edd_place", number);
+    monitor_unlock(m);
 }
 
 int monitor_turn(struct monitor *m)

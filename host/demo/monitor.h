@@ -95,6 +95,12 @@ struct outcome monitor_int13(struct monitor *m, unsigned guest, struct registers
  */
 int monitor_turn(struct monitor *m);
 
+/*
+ * Places the parameter tables of all disks at an address of a guest's window. The guest must not run meanwhile: here this is
+ * done before its thread starts. Call it without the lock.
+ */
+void monitor_place(struct monitor *m, unsigned guest, uint64_t address);
+
 /* A guest's thread has made its last call. Call it without the lock. */
 void monitor_leave(struct monitor *m);
 

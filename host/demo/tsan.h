@@ -3,7 +3,7 @@
  * library was not: a call without the lock, or a guest that writes its buffer while a call moves blocks there, would go
  * unnoticed. So, in that build only, the caller itself touches what the call may touch (edd_desk.h, "What may run at the
  * same time"), next to the call and under the same lock: every byte of the desk; one byte in 512 of the window of the guest
- * that is posted, served or withdrawn, so that no transfer of a block can miss them all; and one byte in 64 KiB of the
+ * that is posted, served, withdrawn or placed for, so that no transfer of a block can miss them all; and one byte in 64 KiB of the
  * store. Which guest a turn serves is known only after it, so its window is touched then. In every other build this is
  * empty. A monitor needs none of it.
  */

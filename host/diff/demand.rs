@@ -19,15 +19,22 @@ struct Request {
     undisturbed: bool,
 }
 
+/// The address of a guest's placement, if it has one.
+type Placement = Option<u64>;
+
 #[derive(Default)]
 pub struct Watch {
     table: Vec<u8>,
+    /// The last placement of each guest that was not refused since the opening; `None` where that is not known.
+    placements: [Option<Placement>; 8],
     waiting: [Option<Request>; 8],
     to_collect: [Option<Registers>; 8],
-    /// Requests that finished, those of them whose memory could be compared, and posts answered at once that were compared.
+    /// Requests that finished, those of them whose memory could be compared, posts answered at once that were compared, and of these the
+    /// 41h and 48h of guests with placement.
     pub finished: u64,
     pub compared: u64,
     pub at_once: u64,
+    pub at_once_placed: u64,
 }
 
 impl Watch {
@@ -35,10 +42,12 @@ impl Watch {
     pub fn opened(&mut self, table: Vec<u8>) {
         self.forget();
         self.table = table;
+        self.placements = [Some(None); 8];
     }
 
-    /// Somebody else wrote the desk: nothing is known of its rows any more.
+    /// Somebody else wrote the desk: nothing is known of its rows and placements any more.
     pub fn forget(&mut self) {
+        self.placements = Default::default();
         self.waiting = Default::default();
         self.to_collect = Default::default();
     }
@@ -53,10 +62,21 @@ impl Watch {
         (0..8).for_each(|guest| self.window_disturbed(guest));
     }
 
-    /// A post that waits wrote nothing, so window and store are as it found them.
+    /// A placement that was not refused. It is no post, turn or withdrawal, and a waiting request's guest is refused it: nothing that
+    /// is compared later is disturbed.
+    pub fn placed(&mut self, guest: usize, address: u64) -> Result<(), String> {
+        self.placements[guest] = Some(Some(address));
+        if self.waiting[guest].is_some() {
+            return Err(format!("guest {guest}: its request waits, but a placement was not refused"));
+        }
+        Ok(())
+    }
+
+    /// A post that waits wrote nothing, so window and store are as it found them. No function that waits looks at the placement.
     pub fn accepted(&mut self, guest: usize, posted: Registers, window: &[u8], store: &[u8]) -> Result<(), String> {
         let (mut window, mut store) = (window.to_vec(), store.to_vec());
-        let Some((registers, Some(named))) = served_alone(&self.table, posted, &mut window, &mut store) else {
+        let placement = self.placements[guest].flatten();
+        let Some((registers, Some(named))) = served_alone(&self.table, placement, posted, &mut window, &mut store) else {
             return Err(format!("guest {guest}: the row waits, but served alone answers at once"));
         };
         let fresh = Request { registers, window, store, named, moved: 0, turns: 0, unserved: 0, undisturbed: true };
@@ -64,17 +84,20 @@ impl Watch {
         Ok(())
     }
 
-    /// A post answered at once is served alone too.
+    /// A post answered at once is served alone too, fed the placement at the post.
     pub fn answered(
         &mut self,
+        guest: usize,
         posted: Registers,
         mut window: Vec<u8>,
         store: &mut [u8],
         got: Registers,
         left: &[u8],
     ) -> Result<(), String> {
+        let Some(placement) = self.placements[guest] else { return Ok(()) };
         self.at_once += 1;
-        match served_alone(&self.table, posted, &mut window, store) {
+        self.at_once_placed += u64::from(placement.is_some() && matches!(posted.ah(), 0x41 | 0x48));
+        match served_alone(&self.table, placement, posted, &mut window, store) {
             Some((registers, None)) if registers == got && window == left => Ok(()),
             other => Err(format!("answered at once, but not as served alone: {:?}", other.map(|o| o.0))),
         }

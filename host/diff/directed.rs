@@ -1,7 +1,8 @@
-//! Cases written by hand, each named after the point of document 01 that it is about. Every case runs against the library and against
+//! Cases written by hand, each named after the point of document 01 or of a change request that it is about. Every case runs against the library and against
 //! the model, and says itself what must come out.
 //!
-//! Letters: a refusals, b functions, c the drive table, d the desk block, e windows and turns, g sums and threads.
+//! Letters: a refusals, b functions, c the drive table, d the desk block, e windows and turns, g sums and threads, h parameter tables
+//! (change request 2026-01).
 
 use crate::chance::Chance;
 use crate::drives::{self, paper_drive, Drive};
@@ -21,6 +22,13 @@ const POINTER: usize = 297;
 const ARENA_LENGTH: usize = 298;
 const STORE_LENGTH: usize = 299;
 const DRIVE_COUNT: usize = 296;
+const PLACED: usize = 300;
+const ADDRESSES: usize = 308;
+const PRESENT: usize = 316;
+const PARAMETERS: usize = 8 * 324; // a byte
+
+/// Eight drives with a record of kind 4 each, and the end record.
+const LONGEST_TABLE: usize = 8 * (68 + 20) + 4;
 
 fn row(guest: usize, word: usize) -> usize {
     23 * guest + word
@@ -114,9 +122,52 @@ impl<'a> Stand<'a> {
         (answer, registers)
     }
 
+    fn place(&mut self, guest: u64, address: u64) -> u32 {
+        let (desk, arena) = (self.desk.bytes_mut(), self.arena.bytes_mut());
+        let answer = self.service.place(desk, arena, self.store.bytes(), guest, address);
+        self.beside();
+        answer
+    }
+
     fn write(&self, out: &mut [u8]) -> (u32, u64) {
         let mut written = UNWRITTEN;
         (self.service.write(self.desk.bytes(), out, &mut written), written)
+    }
+
+    /// Places, and nothing changes but the window's bytes from the address on and the guest's two words of the block.
+    fn place_done(&mut self, guest: usize, address: usize, tables: &[[u8; 16]]) {
+        let mut expected = self.all();
+        let at = guest * (self.arena.bytes().len() / 8) + address;
+        expected.1[at..at + 16 * tables.len()].copy_from_slice(&tables.concat());
+        for (word, value) in [(PLACED + guest, 1), (ADDRESSES + guest, address as u64)] {
+            expected.0[8 * word..8 * word + 8].copy_from_slice(&value.to_le_bytes());
+        }
+        assert_eq!(self.place(guest as u64, address as u64), DONE, "guest {guest} at {address:x}");
+        assert!(self.all() == expected, "guest {guest} at {address:x}: memory");
+    }
+
+    fn place_refused(&mut self, number: u32, guest: u64, address: u64) {
+        let before = self.all();
+        assert_eq!(self.place(guest, address), number, "guest {guest} at {address:x}");
+        assert!(self.all() == before, "guest {guest} at {address:x}: something changed");
+    }
+
+    /// What 48h of so many bytes returns to a guest for a drive, laid at 0000:0200, and the four bytes after 26, returned or not.
+    fn result(&mut self, guest: usize, dl: u8, size: u16) -> (Vec<u8>, [u8; 4]) {
+        self.window(guest)[0x200..0x202].copy_from_slice(&size.to_le_bytes());
+        let given = Registers { ds: 0x20, si: 0, ..registers(0x48, 0, dl) };
+        assert_eq!(self.post(guest as u64, given), (DONE, succeeded(given)), "48h of {dl:02x}");
+        let window = self.window(guest);
+        let returned = usize::from(window[0x200]);
+        (window[0x200..0x200 + returned].to_vec(), window[0x200 + 26..0x200 + 30].try_into().unwrap())
+    }
+
+    /// The pointer of 48h and CX of 41h.
+    fn shown(&mut self, guest: usize, dl: u8) -> ([u8; 4], u16) {
+        let given = Registers { bx: 0x55AA, ..registers(0x41, 0, dl) };
+        let (answer, got) = self.post(guest as u64, given);
+        assert_eq!((answer, got), (DONE, Registers { ax: 0x3000, bx: 0xAA55, cx: got.cx, ..given }));
+        (self.result(guest, dl, 66).1, got.cx)
     }
 
     /// Nothing beside the slices was written.
@@ -127,7 +178,7 @@ impl<'a> Stand<'a> {
     }
 
     fn accepted(&self) -> bool {
-        let (answer, _) = self.write(&mut [0; 548]);
+        let (answer, _) = self.write(&mut [0; LONGEST_TABLE]);
         assert!(matches!(answer, DONE | 25), "write answered {answer}");
         answer == DONE
     }
@@ -167,11 +218,12 @@ impl<'a> Stand<'a> {
 
     fn refused_everywhere(&mut self, what: &str) {
         let before = self.all();
-        assert_eq!(self.write(&mut [0; 548]), (25, UNWRITTEN), "{what}: write");
+        assert_eq!(self.write(&mut [0; LONGEST_TABLE]), (25, UNWRITTEN), "{what}: write");
         assert_eq!(self.post(1, by_packet(0x42, 0)), (25, by_packet(0x42, 0)), "{what}: post");
         assert_eq!(self.turn(), (25, UNWRITTEN, UNWRITTEN), "{what}: turn");
         assert_eq!(self.collect(1), (25, STALE), "{what}: collect");
         assert_eq!(self.withdraw(1), (25, STALE), "{what}: withdraw");
+        assert_eq!(self.place(1, 0), 25, "{what}: place");
         assert!(self.all() == before, "{what}: something changed");
     }
 
@@ -251,9 +303,18 @@ fn small_drive(first: u64, blocks: u64) -> Drive {
     Drive { first, blocks, cylinders: 1, heads: 1, sectors: blocks.min(63) as u8, ..paper_drive() }
 }
 
+/// A drive with a record of kind 4, whose fourteen bytes count up from the first.
+fn with_parameters(drive: Drive, first: u8) -> Drive {
+    Drive { parameters: Some(counting(first)), ..drive }
+}
+
+fn counting(first: u8) -> [u8; 14] {
+    std::array::from_fn(|i| first.wrapping_add(i as u8))
+}
+
 // ---- a: refusals
 
-// rule: postOf turnOf collectOf withdrawOf writtenOf
+// rule: postOf turnOf collectOf withdrawOf placeOf writtenOf
 fn a1_order_of_house_numbers(service: &dyn Service) {
     let mut stand = Stand::paper(service, 1024);
     stand.arena = Lent::holding(&[0; 100], Place::END);
@@ -262,12 +323,14 @@ fn a1_order_of_house_numbers(service: &dyn Service) {
     assert_eq!(stand.post(9, by_packet(0x42, 0)).0, 25, "post: desk, arena and guest are bad");
     assert_eq!(stand.turn().0, 25);
     assert_eq!(stand.withdraw(9).0, 25);
+    assert_eq!(stand.place(9, 1), 25);
     assert_eq!(stand.collect(9).0, 25);
     assert_eq!(stand.write(&mut []).0, 25);
     stand.desk.bytes_mut().copy_from_slice(&good);
     assert_eq!(stand.post(9, by_packet(0x42, 0)).0, 24, "post: arena and guest are bad");
     assert_eq!(stand.turn().0, 24);
     assert_eq!(stand.withdraw(9).0, 24);
+    assert_eq!(stand.place(9, 1), 24);
     assert_eq!(stand.collect(9).0, 20, "collect is lent no arena");
     assert_eq!(stand.write(&mut []).0, 19);
     let mut stand = Stand::paper(service, 1024);
@@ -275,12 +338,13 @@ fn a1_order_of_house_numbers(service: &dyn Service) {
         assert_eq!(stand.post(guest, by_packet(0x42, 0)), (20, by_packet(0x42, 0)));
         assert_eq!(stand.withdraw(guest), (20, STALE));
         assert_eq!(stand.collect(guest), (20, STALE));
+        assert_eq!(stand.place(guest, 1), 20);
     }
     assert_eq!(stand.withdraw(7), (23, STALE));
     assert_eq!(stand.collect(7), (22, STALE));
 }
 
-// rule: postOf turnOf withdrawOf
+// rule: postOf turnOf withdrawOf placeOf
 fn a2_store_length_alone(service: &dyn Service) {
     let mut stand = Stand::paper(service, 1024);
     assert_eq!(stand.post_packet(3, 0x42, 1, 0).0, NOTHING_YET);
@@ -291,13 +355,14 @@ fn a2_store_length_alone(service: &dyn Service) {
         let before = stand.all();
         assert_eq!(stand.post(2, by_packet(0x42, 0)), (24, by_packet(0x42, 0)), "post");
         assert_eq!(stand.post(2, registers(0x41, 7, 0x80)), (24, registers(0x41, 7, 0x80)), "post of 41h");
+        assert_eq!(stand.place(2, 0), 24, "place");
         assert_eq!(stand.turn(), (24, UNWRITTEN, UNWRITTEN), "turn");
         assert_eq!(stand.withdraw(3), (24, STALE), "withdraw");
         assert!(stand.all() == before, "something changed");
     }
 }
 
-// rule: postOf turnOf withdrawOf
+// rule: postOf turnOf withdrawOf placeOf
 fn a2_arena_length_alone(service: &dyn Service) {
     let mut stand = Stand::paper(service, 1024);
     assert_eq!(stand.post_packet(3, 0x42, 1, 0).0, NOTHING_YET);
@@ -305,6 +370,7 @@ fn a2_arena_length_alone(service: &dyn Service) {
         stand.arena = Lent::holding(&vec![9; wrong], Place::END);
         let before = stand.all();
         assert_eq!(stand.post(2, by_packet(0x42, 0)), (24, by_packet(0x42, 0)), "post");
+        assert_eq!(stand.place(2, 0), 24, "place");
         assert_eq!(stand.turn(), (24, UNWRITTEN, UNWRITTEN), "turn");
         assert_eq!(stand.withdraw(3), (24, STALE), "withdraw");
         assert!(stand.all() == before, "something changed");
@@ -452,7 +518,7 @@ fn a9_waiting_row_with_carry_1(service: &dyn Service) {
     assert_eq!(stand.collect(3), (DONE, succeeded(by_packet(0x42, 0))), "finished with carry clear");
 }
 
-// rule: exports::edd_open exports::edd_write exports::edd_post exports::edd_turn exports::edd_collect exports::edd_withdraw
+// rule: exports::edd_open exports::edd_write exports::edd_post exports::edd_turn exports::edd_collect exports::edd_withdraw exports::edd_place
 fn a10_empty_slices(service: &dyn Service) {
     let table = drives::table(&[]);
     let (mut desk, mut none) = (vec![0; DESK_SIZE], []);
@@ -465,12 +531,14 @@ fn a10_empty_slices(service: &dyn Service) {
     assert_eq!(service.turn(&mut none, &mut [0; 8], &mut [0; 8], &mut guest, &mut moved), 25);
     assert_eq!(service.collect(&mut none, 0, &mut given), 25);
     assert_eq!(service.withdraw(&mut none, &mut [0; 8], &[0; 8], 0, &mut given), 25);
+    assert_eq!(service.place(&mut none, &mut [0; 8], &[0; 8], 0, 0), 25);
     // everything empty
     assert_eq!(service.open(&mut none, &[], 0, 0, &mut place), 25);
     assert_eq!(service.write(&none, &mut [], &mut written), 25);
     assert_eq!(service.post(&mut none, &mut [], &[], 0, &mut given), 25);
     assert_eq!(service.turn(&mut none, &mut [], &mut [], &mut guest, &mut moved), 25);
     assert_eq!(service.withdraw(&mut none, &mut [], &[], 0, &mut given), 25);
+    assert_eq!(service.place(&mut none, &mut [], &[], 0, 0), 25);
     assert_eq!((place, written, guest, moved, given), (UNWRITTEN, UNWRITTEN, UNWRITTEN, UNWRITTEN, STALE));
     // an empty table
     assert_eq!(service.open(&mut desk, &[], 0, 0, &mut place), 1);
@@ -480,6 +548,7 @@ fn a10_empty_slices(service: &dyn Service) {
     assert_eq!(service.write(&desk, &mut [], &mut written), 19);
     assert_eq!(service.turn(&mut desk, &mut [], &mut [], &mut guest, &mut moved), NOTHING_YET);
     assert_eq!(service.withdraw(&mut desk, &mut [], &[], 0, &mut given), 23);
+    assert_eq!((service.place(&mut desk, &mut [], &[], 0, 0), service.place(&mut desk, &mut [], &[], 0, 16)), (DONE, 26));
     for ah in [0x02, 0x03, 0x08, 0x41, 0x42, 0x43, 0x44, 0x47, 0x48, 0x00] {
         let mut asked = registers(ah, 1, 0x80);
         assert_eq!(service.post(&mut desk, &mut [], &[], 7, &mut asked), DONE);
@@ -492,6 +561,8 @@ fn a10_empty_slices(service: &dyn Service) {
     assert_eq!(service.turn(&mut desk, &mut [], &mut [0; 8], &mut guest, &mut moved), 24);
     assert_eq!(service.turn(&mut desk, &mut [0; 8], &mut [], &mut guest, &mut moved), 24);
     assert_eq!(service.withdraw(&mut desk, &mut [], &[], 0, &mut given), 24);
+    assert_eq!(service.place(&mut desk, &mut [], &[0; 8], 0, 0), 24);
+    assert_eq!(service.place(&mut desk, &mut [0; 8], &[], 0, 0), 24);
     assert_eq!((written, guest, moved, given), (UNWRITTEN, UNWRITTEN, UNWRITTEN, STALE));
 }
 
@@ -949,7 +1020,7 @@ fn c7_written_back(service: &dyn Service) {
         let list = drives::drives(&mut chance, 100);
         let table = drives::table(&list);
         let stand = Stand::open(service, &list, 0, 100 * 512);
-        let mut out = Lent::holding(&[0x3C; 600], Place::END);
+        let mut out = Lent::holding(&[0x3C; 800], Place::END);
         assert_eq!(stand.write(out.bytes_mut()), (DONE, table.len() as u64), "round {round}");
         assert!(out.margin_intact(), "the library wrote beside the buffer");
         assert!(out.bytes()[..table.len()] == table[..], "the bytes that were opened");
@@ -1465,12 +1536,12 @@ fn g2_run_by_program(service: &dyn Service) {
     assert_eq!(stand.post_packet(0, 0x43, 1, 2048).1.ah(), 0x03, "protected and out of range");
 }
 
-// rule: exports::edd_post exports::edd_turn
+// rule: exports::edd_post exports::edd_turn exports::edd_place
 /// A call touches the window of its own guest and the blocks that it moves, and nothing else of arena and store: it does not even read
 /// there. So another guest may go on running in its own window. While a call runs, all other pages are made inaccessible.
 fn g5_no_other_memory_is_touched(service: &dyn Service) {
     const WINDOW: usize = 16 * 4096;
-    let drive = Drive { first: 16, blocks: 256, cylinders: 4, heads: 1, sectors: 63, ..paper_drive() };
+    let drive = Drive { first: 16, blocks: 256, cylinders: 4, heads: 1, sectors: 63, ..with_parameters(paper_drive(), 0) };
     let mut stand = Stand::open(service, &[drive], 8 * WINDOW, 300 * 4096);
     let own = |guest: usize| guest * WINDOW..(guest + 1) * WINDOW;
     let nothing = 0..0;
@@ -1507,6 +1578,9 @@ fn g5_no_other_memory_is_touched(service: &dyn Service) {
         for ah in [0x08, 0x41, 0x44, 0x47, 0x48, 0x15] {
             assert_eq!(stand.post(guest as u64, by_packet(ah, 0)).0, DONE);
         }
+        assert_eq!(stand.place(guest as u64, WINDOW as u64 - 16), DONE);
+        stand.arena.keep_only(Some(nothing.clone()));
+        assert_eq!((stand.place(guest as u64, WINDOW as u64), stand.place(8, 0)), (26, 20));
         stand.arena.keep_only(None);
         stand.store.keep_only(None);
     }
@@ -1527,6 +1601,438 @@ fn g3_answered_at_once_leaves_the_desk(service: &dyn Service) {
             }
         }
     }
+}
+
+// ---- h: parameter tables (change request 2026-01)
+
+/// Three drives, of which the first and the third have records of kind 4; and the two tables that they come to.
+fn gapped() -> [Drive; 3] {
+    [with_parameters(small_drive(0, 4), 0x10), small_drive(4, 4), with_parameters(small_drive(8, 4), 0x50)]
+}
+const GAPPED: [[u8; 16]; 2] = [
+    [0x10, 0x11, 0x12, 0x13, 0xB4, 0x15, 0x16, 0x17, 0x18, 0x19, 0x1A, 0x1B, 0x1C, 0x1D, 0x11, 0x14],
+    [0x50, 0x51, 0x52, 0x53, 0xF4, 0x55, 0x56, 0x57, 0x58, 0x59, 0x5A, 0x5B, 0x5C, 0x5D, 0x11, 0x94],
+];
+const NO_POINTER: [u8; 4] = [0xFF; 4];
+
+fn three_drives(service: &dyn Service, window: usize) -> Stand<'_> {
+    Stand::open(service, &gapped(), 8 * window, 12 * 512)
+}
+
+fn small_record(number: u64) -> Vec<u8> {
+    small_drive(number, 1).record()
+}
+
+fn parameters_record(number: u16) -> Vec<u8> {
+    drives::parameters_record(number, counting(number as u8))
+}
+
+// rule: parametersRefusal notLast
+fn h1_not_the_last_drive(service: &dyn Service) {
+    let (d, p) = (small_record, parameters_record);
+    let cases: [(&str, Vec<Vec<u8>>, (u32, u64)); 13] = [
+        ("no drive read", vec![p(0)], (9, 0)),
+        ("its own", vec![d(0), p(0)], (0, UNWRITTEN)),
+        ("a later drive", vec![d(0), p(1)], (9, 68)),
+        ("a later drive that follows", vec![d(0), p(1), d(1)], (9, 68)),
+        ("an earlier drive", vec![d(0), d(1), p(0)], (9, 136)),
+        ("an earlier drive that has one", vec![d(0), p(0), d(1), p(0)], (9, 156)),
+        ("a repeat", vec![d(0), p(0), p(0)], (9, 88)),
+        ("a repeat of the second", vec![d(0), p(0), d(1), p(1), p(1)], (9, 176)),
+        ("two drives", vec![d(0), p(0), d(1), p(1)], (0, UNWRITTEN)),
+        ("the second alone", vec![d(0), d(1), p(1)], (0, UNWRITTEN)),
+        ("counted from 80h", vec![d(0), p(0x80)], (9, 68)),
+        ("the high byte", vec![d(0), p(0x100)], (9, 68)),
+        ("2^16 - 1", vec![d(0), p(0xFFFF)], (9, 68)),
+    ];
+    for (what, records, expected) in cases {
+        let table = [records.concat(), drives::END.to_vec()].concat();
+        assert_eq!(opened(service, &table, 9), expected, "{what}");
+    }
+    let eight: Vec<u8> = (0..8).flat_map(|i| [d(i), p(i as u16)].concat()).collect();
+    let with = |more: &[Vec<u8>]| [&eight[..], &more.concat(), &drives::END].concat();
+    assert_eq!(opened(service, &with(&[]), 9), (0, UNWRITTEN), "the longest table");
+    assert_eq!(with(&[]).len(), LONGEST_TABLE);
+    assert_eq!(opened(service, &with(&[p(7)]), 9), (9, 704), "a repeat after eight");
+    assert_eq!(opened(service, &with(&[p(8)]), 9), (9, 704), "the ninth drive's");
+    assert_eq!(opened(service, &with(&[d(8), p(8)]), 9), (4, 704), "a ninth drive comes first");
+}
+
+// rule: headerOf lengthOk isKind
+fn h1_checks_before_9(service: &dyn Service) {
+    let (drive, bad) = (small_record(0), parameters_record(5));
+    let at_68 = |record: &[u8]| opened(service, &[&drive[..], record].concat(), 9);
+    assert_eq!(opened(service, &bad[..19], 9), (1, 0), "cut off, and no drive read");
+    assert_eq!((at_68(&bad[..19]), at_68(&bad[..4]), at_68(&bad[..3])), ((1, 68), (1, 68), (1, 68)), "cut off");
+    assert_eq!(at_68(&bad), (9, 68), "nothing behind it");
+    for length in [0, 4, 6, 19, 21, 68, 0x1400, 0x114] {
+        let mut record = bad.clone();
+        record[..2].copy_from_slice(&u16::to_le_bytes(length));
+        assert_eq!(at_68(&record), (2, 68), "length {length}");
+        assert_eq!(at_68(&record[..4]), (2, 68), "length {length}, cut off");
+    }
+    for kind in [2, 3, 5, 0x104, 0x400] {
+        let mut record = bad.clone();
+        record[2..4].copy_from_slice(&u16::to_le_bytes(kind));
+        assert_eq!(at_68(&record), (3, 68), "kind {kind}");
+    }
+    assert_eq!((at_68(&[20, 0, 0, 0]), at_68(&[20, 0, 1, 0])), ((2, 68), (2, 68)), "the length of another kind");
+    // before the fields of the drive behind it and the bytes after the end; a record that is good leaves those tests
+    let faulty = Drive { sectors: 0, ..small_drive(1, 1) }.record();
+    assert_eq!(at_68(&[&bad[..], &faulty].concat()), (9, 68));
+    assert_eq!(at_68(&[&bad[..], &[4, 0, 0, 0, 0]].concat()), (9, 68));
+    let good = parameters_record(0);
+    assert_eq!(at_68(&[&good[..], &faulty].concat()), (5, 88));
+    assert_eq!(at_68(&[&good[..], &[4, 0, 0, 0, 0]].concat()), (8, 92));
+    assert_eq!(at_68(&good), (1, 88), "no end record");
+}
+
+// rule: openCall exports::edd_open
+fn h1_refused_changes_nothing(service: &dyn Service) {
+    let mut stand = three_drives(service, 1024);
+    stand.place_done(2, 0x40, &GAPPED);
+    let before = stand.all();
+    let table = [small_record(0), parameters_record(1), drives::END.to_vec()].concat();
+    assert_eq!(stand.open_again(&table, 8 * 1024, 12 * 512), (9, 68));
+    assert!(stand.all() == before, "something changed");
+    assert_eq!(stand.shown(2, 0x82), ([0, 0, 5, 0], 5), "the desk goes on");
+}
+
+// rule: slotRecords tableOf writeOut withParameters
+fn h2_written_back_raw(service: &dyn Service) {
+    for first in [0x00, 0x20, 0x7C, 0x80, 0xA0, 0xF0] {
+        let list: Vec<Drive> = (0..8).map(|i| with_parameters(small_drive(i, 1), first + i as u8)).collect();
+        let table = drives::table(&list);
+        let mut stand = Stand::open(service, &list, 8 * 1024, 8 * 512);
+        let raw = table.chunks(88).take(8).flat_map(|records| records[74..].to_vec()).collect::<Vec<u8>>();
+        assert!(stand.desk.bytes()[PARAMETERS..] == raw[..], "as the records have them");
+        for placed in [false, true] {
+            let mut out = [0x3C; LONGEST_TABLE + 3];
+            assert_eq!(stand.write(&mut out), (DONE, LONGEST_TABLE as u64));
+            assert!(out[..LONGEST_TABLE] == table[..] && out[LONGEST_TABLE..] == [0x3C; 3], "placed: {placed}");
+            assert_eq!(stand.write(&mut [0; LONGEST_TABLE - 1]), (19, UNWRITTEN));
+            assert_eq!(stand.place(5, 0x100), DONE);
+        }
+    }
+    // a table with gaps, into a buffer just long enough
+    let (stand, table) = (three_drives(service, 1024), drives::table(&gapped()));
+    let mut out = [0; 3 * 68 + 2 * 20 + 4];
+    assert_eq!(stand.write(&mut out), (DONE, out.len() as u64));
+    assert!(out[..] == table[..]);
+    assert_eq!(stand.write(&mut out[1..]), (19, UNWRITTEN));
+}
+
+// rule: placeOf houseTests exports::edd_place
+fn h3_order_of_house_numbers(service: &dyn Service) {
+    let mut stand = three_drives(service, 1024);
+    assert_eq!(stand.post_packet(3, 0x42, 1, 0).0, NOTHING_YET);
+    let (arena, store) = (stand.arena.bytes().to_vec(), stand.store.bytes().to_vec());
+    for (arena, store) in [(&arena[1..], &store[..]), (&arena[..], &store[1..]), (&arena[..0], &store[..0])] {
+        stand.arena = Lent::holding(arena, Place::END);
+        stand.store = Lent::holding(store, Place::END);
+        stand.set_word(POINTER, 8);
+        stand.place_refused(25, 9, 1);
+        stand.set_word(POINTER, 0);
+        for (guest, address) in [(9, 1), (3, 1), (3, 0), (2, 1), (2, 0)] {
+            stand.place_refused(24, guest, address);
+        }
+    }
+    stand.arena = Lent::holding(&arena, Place::END);
+    stand.store = Lent::holding(&store, Place::END);
+    for guest in [8, 9, 256, 1 << 32, u64::MAX] {
+        stand.place_refused(20, guest, 1);
+        stand.place_refused(20, guest, 0);
+    }
+    for address in [1, 0, 1024, u64::MAX] {
+        stand.place_refused(21, 3, address);
+    }
+    stand.place_refused(26, 2, 1);
+    stand.place_done(2, 0, &GAPPED);
+}
+
+// rule: placeStage placeOf
+fn h4_waiting_and_finished_rows(service: &dyn Service) {
+    let mut stand = Stand::open(service, &[with_parameters(small_drive(0, 40), 0x10)], 8 * 12_000, 40 * 512);
+    for given in [by_sector(0x02, 20, 0, 0, 1), by_sector(0x03, 20, 0, 0, 1), by_packet(0x42, 0), by_packet(0x43, 0)] {
+        stand.packet(3, 0, 20, (0, 0x200), 0);
+        assert_eq!(stand.post(3, given).0, NOTHING_YET);
+        stand.place_refused(21, 3, 0x2E00);
+        stand.place_done(4, 0, &GAPPED[..1]);
+        assert_eq!(stand.turn(), (DONE, 3, 16));
+        stand.place_refused(21, 3, 16);
+        assert_eq!(stand.turn(), (DONE, 3, 4));
+        // finished: placed, and the row is as it was
+        stand.place_done(3, 11_968, &GAPPED[..1]);
+        assert_eq!(stand.collect(3), (DONE, succeeded(given)));
+        stand.place_done(3, 11_984, &GAPPED[..1]);
+    }
+    stand.packet(3, 0, 20, (0, 0x200), 0);
+    assert_eq!(stand.post(3, by_packet(0x42, 0)).0, NOTHING_YET);
+    stand.place_refused(21, 3, 0);
+    assert_eq!(stand.withdraw(3).0, DONE);
+    stand.place_done(3, 0, &GAPPED[..1]);
+}
+
+// rule: placeOk badPlace
+fn h5_bad_places(service: &dyn Service) {
+    // two tables in windows of that many bytes: the last good address, if there is one
+    for (window, last) in [(0, None), (31, None), (32, Some(0)), (47, Some(0)), (48, Some(16)), (1023, Some(976)), (1024, Some(992))] {
+        let mut stand = three_drives(service, window);
+        if let Some(last) = last {
+            for address in [0, 16, last / 2 & !15, last].into_iter().filter(|address| *address <= last) {
+                stand.place_done(1, address, &GAPPED);
+            }
+        }
+        let next = last.map_or(0, |last| last as u64 + 16);
+        let past = [next, next + 16, next + 1024, 1 << 32, 1 << 63];
+        let wrapping = [u64::MAX - 15, u64::MAX - 31, 0u64.wrapping_sub(32), u64::MAX];
+        for address in past.into_iter().chain(wrapping).chain(1..16).chain(17..32) {
+            stand.place_refused(26, 1, address);
+        }
+    }
+    // a byte less, and the same address is too far
+    three_drives(service, 1008).place_done(7, 976, &GAPPED);
+    three_drives(service, 1007).place_refused(26, 7, 976);
+}
+
+// rule: placeOk placeTables
+fn h6_no_tables(service: &dyn Service) {
+    for drives in [&[][..], &[small_drive(0, 4)]] {
+        for (window, last) in [(0, 0), (1015, 1008), (1024, 1024)] {
+            let mut stand = Stand::open(service, drives, 8 * window, 4 * 512);
+            for address in [0, 16, last].into_iter().filter(|address| *address <= last) {
+                stand.place_done(6, address, &[]);
+                assert!(stand.accepted());
+            }
+            for address in [last as u64 + 16, 1, 8, 1 << 63, u64::MAX - 15] {
+                stand.place_refused(26, 6, address);
+            }
+        }
+    }
+    // what has no segment is not tested for one
+    let mut stand = Stand::vast(service, &[small_drive(0, 4)], 8 * 0x20_0000, 4 * 512);
+    assert_eq!((stand.place(0, 0x10_0000), stand.place(0, 0x20_0000), stand.place(0, 0x20_0010)), (DONE, DONE, 26));
+    assert!(stand.accepted());
+    assert_eq!(stand.shown(0, 0x80), (NO_POINTER, 1), "placed, but the drive has no record");
+}
+
+// rule: placeOk segments pointerOf
+fn h7_segments(service: &dyn Service) {
+    const WINDOW: usize = 0x11_0010;
+    let one = [with_parameters(small_drive(0, 4), 0x10)];
+    let mut stand = Stand::vast(service, &one, 8 * WINDOW, 12 * 512);
+    assert_eq!(stand.place(7, 0xF_FFF0), DONE);
+    assert!(stand.window(7)[0xF_FFF0..0x10_0000] == GAPPED[0]);
+    assert_eq!(stand.shown(7, 0x80), ([0, 0, 0xFF, 0xFF], 5), "FFFF:0000 is a pointer");
+    for address in [0x10_0000, 0x10_0010, 0x11_0000, 0xF_FFF1] {
+        assert_eq!(stand.place(7, address), 26, "{address:x} lies inside the window");
+    }
+    assert_eq!(stand.shown(7, 0x80), ([0, 0, 0xFF, 0xFF], 5), "refused: the placement stays");
+    // the last of two decides
+    let mut stand = Stand::vast(service, &gapped(), 8 * WINDOW, 12 * 512);
+    assert_eq!((stand.place(7, 0xF_FFF0), stand.place(7, 0xF_FFE0)), (26, DONE));
+    assert!(stand.window(7)[0xF_FFE0..0x10_0000] == GAPPED.concat());
+    assert_eq!((stand.shown(7, 0x80).0, stand.shown(7, 0x82).0), ([0, 0, 0xFE, 0xFF], [0, 0, 0xFF, 0xFF]));
+    assert!(stand.accepted());
+    // and so in the block
+    stand.refused_with("a segment of 10000h", ADDRESSES + 7, 0xF_FFF0);
+    stand.refused_with("a segment of 10000h", ADDRESSES + 7, 0x10_0000);
+}
+
+// rule: tablesOf tablesIn placeTables
+fn h8_what_is_placed(service: &dyn Service) {
+    let mut stand = three_drives(service, 1024);
+    for guest in 0..8 {
+        stand.place_done(guest, 16 * guest, &GAPPED);
+    }
+    stand.place_done(7, 992, &GAPPED);
+    stand.place_done(0, 16, &GAPPED);
+    let last = [small_drive(0, 1), small_drive(1, 1), with_parameters(small_drive(2, 1), 0x50)];
+    let mut stand = Stand::open(service, &last, 8 * 1024 + 7, 3 * 512);
+    stand.place_done(7, 1008, &GAPPED[1..]);
+    assert_eq!(stand.shown(7, 0x82).0, [0, 0, 63, 0], "drives without a record take no room");
+}
+
+// rule: driveFlags checksum parameterTable TableBytes
+fn h8_flags_and_sum(service: &dyn Service) {
+    let mut chance = Chance::new(8);
+    for flags in 0..=255 {
+        let mut bytes: [u8; 14] = chance.bytes(14).try_into().unwrap();
+        bytes[4] = flags;
+        let drive = Drive { parameters: Some(bytes), ..small_drive(0, 1) };
+        let mut stand = Stand::open(service, &[drive], 8 * 64, 512);
+        assert_eq!(stand.place(3, 32), DONE);
+        let table = stand.window(3)[32..48].to_vec();
+        assert_eq!(table[4], flags | 0xA0, "bits 7 and 5 are set, the others as given");
+        assert!(table[..4] == bytes[..4] && table[5..14] == bytes[5..], "as given");
+        assert_eq!((table[14], table.iter().fold(0u8, |sum, byte| sum.wrapping_add(*byte))), (0x11, 0));
+    }
+}
+
+// rule: pointerOf shownIn tableAddress resultOut
+fn h9_pointer_of_48h(service: &dyn Service) {
+    let mut stand = three_drives(service, 1024);
+    // before and after: the same result but for bytes 26 to 29, of every size
+    let sizes = [26, 29, 30, 65, 66, 1000];
+    let asked = || (0x80..0x83).flat_map(move |dl| sizes.map(|size| (dl, size)));
+    let before: Vec<_> = asked().map(|(dl, size)| stand.result(2, dl, size).0).collect();
+    stand.place_done(2, 0x40, &GAPPED);
+    for (before, (dl, size)) in before.into_iter().zip(asked()) {
+        let mut expected = before.clone();
+        if size >= 30 {
+            assert_eq!(before[26..30], NO_POINTER, "{dl:02x}: not placed");
+            expected[26..30].copy_from_slice(&[[0, 0, 4, 0], NO_POINTER, [0, 0, 5, 0]][usize::from(dl - 0x80)]);
+        }
+        stand.window(2)[0x21A..0x21E].fill(0x77);
+        let (got, after_26) = stand.result(2, dl, size);
+        assert_eq!(got, expected, "{dl:02x}, size {size}");
+        assert!(size >= 30 || after_26 == [0x77; 4], "26 bytes have no pointer");
+    }
+    for guest in [0, 1, 3, 7] {
+        assert_eq!(stand.result(guest, 0x80, 66).1, NO_POINTER, "guest {guest} has no placement");
+    }
+    // address 0 is a place, and each guest has its own
+    stand.place_done(3, 0, &GAPPED);
+    assert_eq!((stand.shown(3, 0x80).0, stand.shown(3, 0x82).0), ([0; 4], [0, 0, 1, 0]));
+    assert_eq!((stand.shown(2, 0x80).0, stand.shown(2, 0x82).0), ([0, 0, 4, 0], [0, 0, 5, 0]));
+    // the result may lie over the tables: the pointer is the desk's
+    stand.place_done(2, 0x200, &GAPPED);
+    assert_eq!((stand.shown(2, 0x80).0, stand.shown(2, 0x82).0), ([0, 0, 0x20, 0], [0, 0, 0x21, 0]));
+    // an address of more than a byte of segment
+    let mut stand = three_drives(service, 70_000);
+    stand.place_done(5, 0x1_0FF0, &GAPPED);
+    assert_eq!((stand.shown(5, 0x80).0, stand.shown(5, 0x82).0), ([0, 0, 0xFF, 0x10], [0, 0, 0x00, 0x11]));
+}
+
+// rule: extensions extensionsGiven
+fn h10_check_extensions(service: &dyn Service) {
+    let mut stand = three_drives(service, 1024);
+    let all = |stand: &mut Stand, guest: usize| [0x80, 0x81, 0x82].map(|dl| stand.shown(guest, dl).1);
+    assert_eq!(all(&mut stand, 4), [1, 1, 1], "not placed");
+    stand.place_done(4, 16, &GAPPED);
+    assert_eq!(all(&mut stand, 4), [5, 1, 5]);
+    assert_eq!((all(&mut stand, 3), all(&mut stand, 5)), ([1, 1, 1], [1, 1, 1]), "other guests");
+    for bad in [Registers { bx: 0xAA55, ..registers(0x41, 1, 0x80) }, Registers { bx: 0x55AA, ..registers(0x41, 1, 0x83) }] {
+        assert_eq!(stand.post(4, bad), (DONE, refused(bad, 0x01)), "CX stays");
+    }
+}
+
+// rule: withPlacement placeTables
+fn h11_placed_anew(service: &dyn Service) {
+    let mut stand = three_drives(service, 1024);
+    stand.place_done(2, 0x40, &GAPPED);
+    for (number, address) in [(26, 0x41), (26, 1008), (26, u64::MAX - 15)] {
+        stand.place_refused(number, 2, address);
+    }
+    assert_eq!((stand.shown(2, 0x80), stand.shown(2, 0x81), stand.shown(2, 0x82)), (([0, 0, 4, 0], 5), (NO_POINTER, 1), ([0, 0, 5, 0], 5)));
+    // the guest writes over its tables: the pointer stays, and the library does not look
+    stand.window(2)[0x40..0x60].fill(0);
+    assert_eq!(stand.shown(2, 0x82), ([0, 0, 5, 0], 5));
+    // anew, over a part of the old ones and then elsewhere: old bytes stay
+    stand.place_done(2, 0x50, &GAPPED);
+    assert_eq!((stand.shown(2, 0x80).0, stand.shown(2, 0x82).0), ([0, 0, 5, 0], [0, 0, 6, 0]));
+    stand.place_done(2, 0, &GAPPED);
+    assert!(stand.window(2)[0x50..0x70] == GAPPED.concat());
+    assert_eq!((stand.shown(2, 0x80).0, stand.shown(2, 0x82).0), ([0; 4], [0, 0, 1, 0]));
+    // posts, turns, collects and withdrawals keep it
+    assert_eq!(stand.post(2, by_sector(0x02, 1, 0, 0, 1)).0, NOTHING_YET);
+    assert_eq!((stand.turn().1, stand.collect(2).0), (2, DONE));
+    assert_eq!(stand.post(2, by_sector(0x02, 1, 0, 0, 1)).0, NOTHING_YET);
+    assert_eq!(stand.withdraw(2).0, DONE);
+    assert_eq!((stand.word(PLACED + 2), stand.word(ADDRESSES + 2), stand.shown(2, 0x82).0), (1, 0, [0, 0, 1, 0]));
+}
+
+// rule: opened openOf
+fn h12_opening_clears(service: &dyn Service) {
+    let mut stand = three_drives(service, 1024);
+    let fresh = stand.desk.bytes().to_vec();
+    for guest in 0..8 {
+        stand.place_done(guest, 0x40, &GAPPED);
+    }
+    let placed = stand.all();
+    assert_eq!(stand.open_again(&[], 8 * 1024, 12 * 512), (1, 0));
+    assert_eq!((stand.shown(5, 0x80), stand.desk.bytes() == &placed.0[..]), (([0, 0, 4, 0], 5), true), "a refused one does not");
+    assert_eq!(stand.open_again(&drives::table(&gapped()), 8 * 1024, 12 * 512), (DONE, UNWRITTEN));
+    assert!(stand.desk.bytes() == &fresh[..], "no mark, no address");
+    for guest in 0..8 {
+        assert_eq!((stand.shown(guest, 0x80), stand.shown(guest, 0x82)), ((NO_POINTER, 1), (NO_POINTER, 1)));
+        assert!(stand.window(guest)[0x40..0x60] == GAPPED.concat(), "the bytes stay");
+    }
+}
+
+// rule: placementOk placementsOk isImage accept
+fn h13_placements_in_the_block(service: &dyn Service) {
+    let mut stand = three_drives(service, 1024);
+    stand.place_done(2, 0x40, &GAPPED);
+    stand.place_done(5, 0, &GAPPED);
+    for guest in 0..8 {
+        for mark in [2, 3, 256, 257, 1 << 32, (1 << 32) + 1, 1 << 63, u64::MAX] {
+            stand.refused_with("mark of placement", PLACED + guest, mark);
+        }
+    }
+    stand.refused_with("an address that is not marked", PLACED + 2, 0);
+    stand.accepted_with("address 0 that is not marked", PLACED + 5, 0);
+    stand.accepted_with("address 0 that is marked", PLACED + 1, 1);
+    for address in [1, 16, 32, 1 << 63, u64::MAX] {
+        stand.refused_with("an address without a mark", ADDRESSES + 1, address);
+    }
+    for address in [0, 16, 976, 992] {
+        stand.accepted_with("another good place", ADDRESSES + 2, address);
+    }
+    for address in [1, 8, 0x41, 0x4F, 991, 993, 1000, 1008, 1024, 1 << 32, 1 << 63, u64::MAX - 31, u64::MAX - 15, u64::MAX] {
+        stand.refused_with("a bad place", ADDRESSES + 2, address);
+    }
+    // by the block's own M
+    stand.refused_with("a shorter arena", ARENA_LENGTH, 8 * 0x60 - 1);
+    stand.accepted_with("an arena just long enough", ARENA_LENGTH, 8 * 0x60);
+    // with no table the address alone counts
+    let mut stand = Stand::open(service, &[small_drive(0, 4)], 8 * 1024, 4 * 512);
+    stand.place_done(2, 1024, &[]);
+    stand.accepted_with("0", ADDRESSES + 2, 0);
+    for address in [1040, 1, 1023, u64::MAX - 15] {
+        stand.refused_with("a bad place for none", ADDRESSES + 2, address);
+    }
+    stand.set_word(ARENA_LENGTH, u64::MAX);
+    stand.accepted_with("beyond every segment", ADDRESSES + 2, u64::MAX / 8 & !15);
+    stand.refused_with("beyond the window", ADDRESSES + 2, (u64::MAX / 8 & !15) + 16);
+}
+
+// rule: attachedAt isSound isImage
+fn h14_parameters_in_the_block(service: &dyn Service) {
+    let mut stand = three_drives(service, 1024);
+    for slot in 0..8 {
+        for mark in [2, 256, 257, 1 << 32, 1 << 63, u64::MAX] {
+            stand.refused_with("mark of parameters", PRESENT + slot, mark);
+        }
+    }
+    for slot in 3..8 {
+        stand.refused_with("parameters past the drives", PRESENT + slot, 1);
+    }
+    stand.refused_with("bytes that are not marked", PRESENT, 0);
+    stand.accepted_with("a record of zeros", PRESENT + 1, 1);
+    for at in 0..112 {
+        // the second drive and the slots past the drives have none
+        let old = stand.desk.bytes()[PARAMETERS + at];
+        for byte in [1, 0x80, 0xFF] {
+            stand.desk.bytes_mut()[PARAMETERS + at] = byte;
+            if matches!(at / 14, 0 | 2) {
+                assert!(stand.accepted(), "any byte of a record: {at}");
+            } else {
+                stand.refused_everywhere("a byte without a record");
+            }
+        }
+        stand.desk.bytes_mut()[PARAMETERS + at] = old;
+    }
+    // a record more, and the tables of a guest that were the last to fit do not fit any more
+    stand.place_done(6, 992, &GAPPED);
+    stand.refused_with("no room for a third", PRESENT + 1, 1);
+    stand.place_done(6, 976, &GAPPED);
+    stand.accepted_with("room for a third", PRESENT + 1, 1);
+    // a record less
+    stand.desk.bytes_mut()[PARAMETERS..PARAMETERS + 14].fill(0);
+    stand.accepted_with("one table", PRESENT, 0);
+    stand.set_word(PRESENT, 0);
+    assert_eq!((stand.shown(6, 0x80).0, stand.shown(6, 0x82).0), (NO_POINTER, [0, 0, 61, 0]), "by the records that there are");
 }
 
 macro_rules! cases {
@@ -1588,6 +2094,23 @@ const CASES: &[(&str, fn(&dyn Service))] = cases![
     g2_run_by_program,
     g3_answered_at_once_leaves_the_desk,
     g5_no_other_memory_is_touched,
+    h1_not_the_last_drive,
+    h1_checks_before_9,
+    h1_refused_changes_nothing,
+    h2_written_back_raw,
+    h3_order_of_house_numbers,
+    h4_waiting_and_finished_rows,
+    h5_bad_places,
+    h6_no_tables,
+    h7_segments,
+    h8_what_is_placed,
+    h8_flags_and_sum,
+    h9_pointer_of_48h,
+    h10_check_extensions,
+    h11_placed_anew,
+    h12_opening_clears,
+    h13_placements_in_the_block,
+    h14_parameters_in_the_block,
 ];
 
 /// The case that runs, for the message when the machine stops it.

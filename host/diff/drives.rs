@@ -1,5 +1,5 @@
-//! Drive tables for the tests: good ones, and the ways to damage them. The records are laid out here again from document 01, so that a
-//! fault in the model's writer is not hidden.
+//! Drive tables for the tests: good ones, and the ways to damage them. The records are laid out here again from document 01 and change
+//! request 2026-01, so that a fault in the model's writer is not hidden.
 
 use crate::chance::Chance;
 
@@ -17,6 +17,8 @@ pub struct Drive {
     pub interface_type: [u8; 8],
     pub interface_path: [u8; 8],
     pub device_path: [u8; 8],
+    /// Of its record of kind 4, if it has one.
+    pub parameters: Option<[u8; 14]>,
 }
 
 pub const END: [u8; 4] = [4, 0, 0, 0];
@@ -46,10 +48,29 @@ impl Drive {
     }
 }
 
+/// The record of kind 4 that gives a drive, counted from 0, its parameters.
+pub fn parameters_record(number: u16, parameters: [u8; 14]) -> Vec<u8> {
+    let mut record = vec![20, 0, 4, 0];
+    record.extend(number.to_le_bytes());
+    record.extend(parameters);
+    record
+}
+
+/// The records of all drives, each drive's parameters behind it.
+fn records(drives: &[Drive]) -> Vec<Vec<u8>> {
+    let of = |(i, d): (usize, &Drive)| [Some(d.record()), d.parameters.map(|bytes| parameters_record(i as u16, bytes))];
+    drives.iter().enumerate().flat_map(of).flatten().collect()
+}
+
 pub fn table(drives: &[Drive]) -> Vec<u8> {
-    let mut bytes: Vec<u8> = drives.iter().flat_map(Drive::record).collect();
+    let mut bytes = records(drives).concat();
     bytes.extend(END);
     bytes
+}
+
+/// How many parameter tables the drives have.
+pub fn tables(drives: &[Drive]) -> u64 {
+    drives.iter().filter(|d| d.parameters.is_some()).count() as u64
 }
 
 /// The drive of document 01's table of 72 bytes.
@@ -67,6 +88,7 @@ pub fn paper_drive() -> Drive {
         interface_type: *b"ATA\0\0\0\0\0",
         interface_path: [0, 0x1F, 1, 0, 0, 0, 0, 0],
         device_path: [0; 8],
+        parameters: None,
     }
 }
 
@@ -81,6 +103,8 @@ fn drive(chance: &mut Chance, first: u64, blocks: u64) -> Drive {
     let cylinders = if chance.percent(60) { most } else { chance.between(1, most) };
     let mut paths = [0; 16];
     chance.fill(&mut paths);
+    let mut parameters = [0; 14];
+    chance.fill(&mut parameters);
     Drive {
         physical: [chance.any() as u32, chance.any() as u32, chance.any() as u32],
         blocks,
@@ -94,6 +118,7 @@ fn drive(chance: &mut Chance, first: u64, blocks: u64) -> Drive {
         interface_type: chance.one_of(&TYPES),
         interface_path: paths[..8].try_into().unwrap(),
         device_path: paths[8..].try_into().unwrap(),
+        parameters: chance.percent(40).then_some(parameters),
     }
 }
 
@@ -142,6 +167,20 @@ fn damaged_drive(chance: &mut Chance, drives: &mut [Drive], store_blocks: u64) {
     }
 }
 
+/// A record of kind 4 that names any drive, repeats one, or stands elsewhere.
+fn damaged_parameters(chance: &mut Chance, records: &mut Vec<Vec<u8>>) {
+    let near = chance.below(9) as u16;
+    let number = chance.weighed(&[(6, near), (1, 0x100), (1, 0xFFFF)]);
+    let mut record = parameters_record(number, chance.bytes(14).try_into().unwrap());
+    let of_kind_4: Vec<usize> = (0..records.len()).filter(|i| records[*i][2] == 4).collect();
+    if !of_kind_4.is_empty() && chance.percent(60) {
+        let from = chance.one_of(&of_kind_4);
+        record = if chance.percent(50) { records.remove(from) } else { records[from].clone() };
+    }
+    let at = chance.below(records.len() as u64 + 1) as usize;
+    records.insert(at, record);
+}
+
 /// The bytes of a table, good or not, for a store of that many blocks.
 pub fn any_table(chance: &mut Chance, store_blocks: u64) -> Vec<u8> {
     let mut list = drives(chance, store_blocks.min(1 << 20));
@@ -163,7 +202,13 @@ pub fn any_table(chance: &mut Chance, store_blocks: u64) -> Vec<u8> {
         }
         _ => {}
     }
-    let mut bytes = table(&list);
+    let mut records = records(&list);
+    if chance.percent(15) {
+        damaged_parameters(chance, &mut records);
+    }
+    let starts: Vec<usize> = (0..=records.len()).map(|i| records[..i].concat().len()).collect();
+    let mut bytes = records.concat();
+    bytes.extend(END);
     let length = bytes.len() as u64;
     match chance.below(12) {
         0 => bytes.truncate(chance.below(length + 1) as usize),
@@ -175,9 +220,9 @@ pub fn any_table(chance: &mut Chance, store_blocks: u64) -> Vec<u8> {
         3 => bytes.push(0),
         4 => bytes[chance.below(length) as usize] ^= 1 << chance.below(8),
         5 => {
-            let record = 68 * chance.below(length / 68 + 1) as usize;
-            let at = record + chance.below(4) as usize;
-            bytes[at.min(length as usize - 1)] = chance.one_of(&[0, 1, 2, 4, 5, 0x43, 0x44, 0x45, 0xFF]);
+            // the length word or the kind of a record
+            let at = chance.one_of(&starts) + chance.below(4) as usize;
+            bytes[at] = chance.one_of(&[0, 1, 2, 3, 4, 5, 0x13, 0x14, 0x15, 0x43, 0x44, 0x45, 0xFF]);
         }
         6 if chance.percent(20) => bytes.clear(),
         7 if chance.percent(30) => {

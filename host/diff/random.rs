@@ -25,6 +25,7 @@ pub enum Call {
     Turn,
     Collect { guest: u64, registers: Registers },
     Withdraw { guest: u64, registers: Registers },
+    Place { guest: u64, address: u64 },
     Window { arena_length: u64, guest: u64 },
     Block { geometry: [u32; 3], address: [u32; 3] },
     Address { geometry: [u32; 3], block: u64 },
@@ -70,6 +71,7 @@ fn perform(service: &dyn Service, call: &Call, lent: Slices, before: [u64; 3]) -
             r = *registers;
             service.withdraw(desk, arena, store, *guest, &mut r)
         }
+        Call::Place { guest, address } => service.place(desk, arena, store, *guest, *address),
         Call::Window { arena_length, guest } => {
             let [start, length, _] = &mut n;
             service.window(*arena_length, *guest, start, length)
@@ -133,7 +135,8 @@ pub struct Run {
     spare: Spare,
 }
 
-const TABLE_ROOM: usize = 1024;
+const TABLE_ROOM: usize = 2048;
+const LONGEST_TABLE: usize = 708;
 const SPARE_ROOM: usize = 1 << 17;
 
 impl World {
@@ -218,7 +221,8 @@ impl World {
             }
             Call::Post { guest, registers } => {
                 if let Some(found) = found {
-                    self.watch.answered(*registers, found, &mut self.model_store, got.registers, window(*guest))?;
+                    let guest = *guest as usize;
+                    self.watch.answered(guest, *registers, found, &mut self.model_store, got.registers, window(guest as u64))?;
                 }
             }
             Call::Turn => {
@@ -226,6 +230,7 @@ impl World {
                 self.watch.turned(served, arena, store)?;
             }
             Call::Withdraw { guest, .. } => self.watch.withdrawn(*guest as usize),
+            Call::Place { guest, address } => self.watch.placed(*guest as usize, *address)?,
             Call::Collect { guest, .. } => self.watch.collected(*guest as usize, got.registers)?,
             _ => {}
         }
@@ -313,7 +318,7 @@ impl Run {
         let lent_arena = if own(&arena) { &mut world.arena } else { &mut spare.arena };
         let lent_store = if own(&store) { &mut world.store } else { &mut spare.store };
 
-        let only_read = matches!(call, Call::Post { .. } | Call::Withdraw { .. });
+        let only_read = matches!(call, Call::Post { .. } | Call::Withdraw { .. } | Call::Place { .. });
         lent_store.set_read_only(only_read);
         lent_desk.set_read_only(matches!(call, Call::Write));
         spare.table.set_read_only(true);
@@ -344,7 +349,7 @@ impl Run {
             before,
         );
 
-        let lends_memory = matches!(call, Call::Post { .. } | Call::Turn | Call::Withdraw { .. });
+        let lends_memory = matches!(call, Call::Post { .. } | Call::Turn | Call::Withdraw { .. } | Call::Place { .. });
         let mut found = None;
         if by_library != by_model {
             found = Some(format!("library {by_library:?}\nmodel   {by_model:?}"));
@@ -368,6 +373,7 @@ impl Run {
             return Err(format!("seed {}, call {}: {call:x?}\nlengths: {lengths}\n{what}", self.seed, self.calls));
         }
         self.tally.add(&call, &by_model);
+        self.tally_tables(&call, &by_model, own_desk && own_memory);
         let opening = matches!(call, Call::Open { .. });
         if own_desk && !self.world.suspended && (own_memory || !opening) {
             self.world
@@ -377,16 +383,37 @@ impl Run {
         Ok(by_model)
     }
 
+    /// What is counted of parameter tables and the pointers to them.
+    fn tally_tables(&mut self, call: &Call, done: &Outcome, own: bool) {
+        if done.answer != 0 || !own {
+            return;
+        }
+        match call {
+            Call::Place { .. } => {
+                let tables = self.world.rows().map_or(0, |desk| desk.drives.parameters.iter().flatten().count());
+                self.tally.placed(tables as u64);
+            }
+            Call::Post { guest, registers } if registers.ah() == 0x48 && done.registers.carry == 0 => {
+                let at = (guest * self.world.window + model::parts::linear(registers.ds, registers.si)) as usize;
+                let result = &self.world.model_arena[at..];
+                if result[0] >= 30 {
+                    self.tally.shown(result[26..30] != [0xFF; 4]);
+                }
+            }
+            _ => {}
+        }
+    }
+
     /// Buffers around the length of the world's table, for edd_write.
     fn room_for_write(&mut self) -> usize {
-        let table = 68 * self.world.drives.len() + 4;
+        let table = drives::table(&self.world.drives).len();
         match self.chance.below(6) {
             0 => table,
             1 => table - 1,
             2 => table + self.chance.below(100) as usize,
             3 => self.chance.below(4) as usize,
             4 => self.chance.below(table as u64) as usize,
-            _ => 548,
+            _ => LONGEST_TABLE,
         }
     }
 
@@ -410,7 +437,7 @@ impl Run {
     fn at_desk(&mut self, desk: Slice) -> Result<(), String> {
         // turns and collects are rarer where there is nothing to serve or to hand out
         let (waiting, finished) = self.rows_by_stage();
-        let kind = self.chance.weighed(&[(30, 0), (4 + 6 * waiting, 1), (2 + 6 * finished, 2), (3 + waiting / 2, 3), (3, 4)]);
+        let kind = self.chance.weighed(&[(30, 0), (4 + 6 * waiting, 1), (2 + 6 * finished, 2), (3 + waiting / 2, 3), (3, 4), (4, 5)]);
         let arena = self.memory(self.world.model_arena.len());
         let store = self.memory(self.world.model_store.len());
         let call = match kind {
@@ -418,7 +445,8 @@ impl Run {
             1 => Call::Turn,
             2 => Call::Collect { guest: self.guest_in(|row| matches!(row, Row::Finished(_))), registers: self.registers() },
             3 => Call::Withdraw { guest: self.guest_in(|row| matches!(row, Row::Waiting(_))), registers: self.registers() },
-            _ => Call::Write,
+            4 => Call::Write,
+            _ => Call::Place { guest: self.guest_in(|row| !matches!(row, Row::Waiting(_))), address: self.address() },
         };
         self.call(call, desk, arena, store, Vec::new())?;
         // the host and the guests write memory between calls
@@ -631,6 +659,28 @@ impl Run {
         self.world.poke(guest, place, &size.to_le_bytes());
     }
 
+    // ---- placements
+
+    /// An address for parameter tables: mostly a good one, else one that is just too far, misaligned or absurd.
+    fn address(&mut self) -> u64 {
+        let (window, tables) = (self.world.window, drives::tables(&self.world.drives));
+        let last = window.saturating_sub(16 * tables) & !15;
+        let last_segment = 0x10_0000 - 16 * tables;
+        match self.chance.below(24) {
+            0 => 0,
+            1 => last,
+            2 => last + 16,
+            3 => window,
+            4 => window.next_multiple_of(16),
+            5 => self.chance.between(0, last),
+            6 => 16 * self.chance.between(0, last / 16) + self.chance.one_of(&[1, 2, 4, 8, 15]),
+            7 => self.chance.one_of(&[last_segment, last_segment + 16, 0xF_FFF0, 0x10_0000]),
+            8 => self.chance.one_of(&[u64::MAX, u64::MAX - 15, 1 << 63, 1 << 32, 0u64.wrapping_sub(16 * tables)]),
+            9 => self.chance.any() & !15,
+            _ => 16 * self.chance.between(0, last / 16),
+        }
+    }
+
     // ---- openings
 
     fn opening(&mut self) -> Result<(), String> {
@@ -659,7 +709,8 @@ impl Run {
         let opened = self.call(Call::Open { arena_length, store_length }, desk, Slice::Own, Slice::Own, table)?;
         if is_own && opened.answer == 0 {
             // the drives that the posts are made for are those that now stand in the block
-            self.world.drives = self.world.rows().map(|desk| desk.drives.known().iter().map(known).collect()).unwrap_or_default();
+            self.world.drives =
+                self.world.rows().map(|desk| (0..desk.drives.count).map(|i| known(&desk.drives, i)).collect()).unwrap_or_default();
         }
         Ok(())
     }
@@ -699,9 +750,11 @@ impl Run {
         for _ in 0..more {
             self.at_desk(Slice::Own)?;
         }
-        let own_lengths = |b: &[u8]| b[8 * 298..] == kept[8 * 298..] && b[8 * 184..8 * 297] == kept[8 * 184..8 * 297];
+        // table and lengths as they were; rows, pointer and placements may be others
+        let own_table =
+            |b: &[u8]| [184..297, 298..300, 316..338].into_iter().all(|w| b[8 * w.start..8 * w.end] == kept[8 * w.start..8 * w.end]);
         let accepted = self.world.rows().is_some();
-        if accepted && own_lengths(&self.world.model_desk) && self.chance.percent(30) {
+        if accepted && own_table(&self.world.model_desk) && self.chance.percent(30) {
             self.world.watch.forget();
         } else {
             self.world.set_desk(&kept);
@@ -714,7 +767,7 @@ impl Run {
     fn change_block(&mut self, bytes: &mut [u8]) {
         let guest = self.chance.below(8) as usize;
         let row = 23 * self.waiting_row().unwrap_or(guest);
-        let at = match self.chance.below(14) {
+        let at = match self.chance.below(17) {
             0 => {
                 let at = self.chance.below(DESK_SIZE as u64) as usize;
                 bytes[at] ^= 1 << self.chance.below(8);
@@ -726,7 +779,8 @@ impl Run {
             6..=8 => return self.change_to_edge(bytes, row),
             9..=10 => 184 + 14 * self.chance.below(self.world.drives.len().max(1) as u64) as usize + self.chance.below(14) as usize,
             11 => 296 + self.chance.below(4) as usize,
-            _ => self.chance.below(300) as usize,
+            12..=14 => return self.change_tables(bytes, guest),
+            _ => self.chance.below(DESK_SIZE as u64 / 8) as usize,
         };
         let old = word_at(bytes, at);
         let drive = self.world.drives.first().copied();
@@ -736,6 +790,32 @@ impl Run {
         values.extend([self.chance.any(), u64::from(self.chance.word()), self.world.window, blocks, first, first + blocks]);
         let value = self.chance.one_of(&values);
         set_word_at(bytes, at, value);
+    }
+
+    /// Changes what the block says of parameter tables: a guest's mark or address, a slot's mark or bytes.
+    fn change_tables(&mut self, bytes: &mut [u8], guest: usize) {
+        let slot = self.chance.below(8) as usize;
+        let raw = 8 * 324 + 14 * slot;
+        match self.chance.below(6) {
+            0 => set_word_at(bytes, 300 + guest, self.chance.one_of(&[0, 1, 1, 2, 256, 1 << 32, u64::MAX])),
+            1 => set_word_at(bytes, 308 + guest, self.address()),
+            2 => {
+                let address = self.address();
+                set_word_at(bytes, 300 + guest, 1);
+                set_word_at(bytes, 308 + guest, address);
+            }
+            3 => set_word_at(bytes, 316 + slot, self.chance.one_of(&[0, 1, 1, 2, 256, 1 << 63])),
+            4 => bytes[raw + self.chance.below(14) as usize] = self.chance.byte(),
+            _ => {
+                // a record more or less, which moves what the placements of all guests must have room for
+                let present = word_at(bytes, 316 + slot) == 0;
+                set_word_at(bytes, 316 + slot, u64::from(present));
+                bytes[raw..raw + 14].fill(0);
+                if present {
+                    self.chance.fill(&mut bytes[raw..raw + 14]);
+                }
+            }
+        }
     }
 
     /// Sets one word of a waiting row to the last value that the other words allow there, or to the first that they do not.
@@ -854,7 +934,8 @@ impl Run {
     }
 }
 
-fn known(drive: &model::parts::Drive) -> Drive {
+fn known(drives: &model::parts::Drives, slot: usize) -> Drive {
+    let drive = drives.slot[slot];
     Drive {
         physical: [drive.physical_cylinders, drive.physical_heads, drive.physical_sectors],
         blocks: drive.blocks,
@@ -868,6 +949,7 @@ fn known(drive: &model::parts::Drive) -> Drive {
         interface_type: drive.interface_type,
         interface_path: drive.interface_path,
         device_path: drive.device_path,
+        parameters: drives.parameters[slot],
     }
 }
 
@@ -911,6 +993,10 @@ fn difference(what: &str, lent: &Lent, model: &[u8]) -> Option<String> {
         text += &match word {
             0..=183 => format!(" (word {word}: guest {}, word {} of its row)", word / 23, word % 23),
             184..=295 => format!(" (word {word}: drive place {}, word {})", (word - 184) / 14, (word - 184) % 14),
+            300..=307 => format!(" (word {word}: guest {}, mark of placement)", word - 300),
+            308..=315 => format!(" (word {word}: guest {}, address of placement)", word - 308),
+            316..=323 => format!(" (word {word}: drive place {}, mark of parameters)", word - 316),
+            324..=337 => format!(" (drive place {}, byte {} of its parameters)", (at - 8 * 324) / 14, (at - 8 * 324) % 14),
             _ => format!(" (word {word})"),
         };
     }

@@ -15,6 +15,7 @@ pub trait Service {
     fn turn(&self, desk: &mut [u8], arena: &mut [u8], store: &mut [u8], guest: &mut u64, moved: &mut u64) -> u32;
     fn collect(&self, desk: &mut [u8], guest: u64, registers: &mut Registers) -> u32;
     fn withdraw(&self, desk: &mut [u8], arena: &mut [u8], store: &[u8], guest: u64, registers: &mut Registers) -> u32;
+    fn place(&self, desk: &mut [u8], arena: &mut [u8], store: &[u8], guest: u64, address: u64) -> u32;
     fn window(&self, arena_length: u64, guest: u64, start: &mut u64, length: &mut u64) -> u32;
     fn block(&self, geometry: Geometry, address: Address, block: &mut u32) -> u32;
     fn address(&self, geometry: Geometry, block: u64, address: &mut Address) -> u32;
@@ -48,6 +49,9 @@ impl Service for Model {
     }
     fn withdraw(&self, desk: &mut [u8], arena: &mut [u8], store: &[u8], guest: u64, registers: &mut Registers) -> u32 {
         model::withdraw(desk, arena, store, guest, registers)
+    }
+    fn place(&self, desk: &mut [u8], arena: &mut [u8], store: &[u8], guest: u64, address: u64) -> u32 {
+        model::place(desk, arena, store, guest, address)
     }
     fn window(&self, arena_length: u64, guest: u64, start: &mut u64, length: &mut u64) -> u32 {
         model::window(arena_length, guest, start, length)
@@ -132,6 +136,16 @@ extern "C" {
         si: *mut u16,
         es: *mut u16,
         carry: *mut u16,
+    ) -> u32;
+    fn edd_place(
+        desk: *mut u8,
+        desk_len: usize,
+        arena: *mut u8,
+        arena_len: usize,
+        store: *const u8,
+        store_len: usize,
+        guest: u64,
+        address: u64,
     ) -> u32;
     fn edd_window(arena_length: u64, guest: u64, start: *mut u64, length: *mut u64) -> u32;
     fn edd_block(c: u32, h: u32, s: u32, cylinder: u32, head: u32, sector: u32, block: *mut u32) -> u32;
@@ -285,6 +299,10 @@ impl Service for Library {
         };
         *registers = take_registers(&r);
         answer
+    }
+    fn place(&self, desk: &mut [u8], arena: &mut [u8], store: &[u8], guest: u64, address: u64) -> u32 {
+        let (d, a, s) = (self.pointer_mut(desk), self.pointer_mut(arena), self.pointer(store));
+        unsafe { edd_place(d, desk.len(), a, arena.len(), s, store.len(), guest, address) }
     }
     fn window(&self, arena_length: u64, guest: u64, start: &mut u64, length: &mut u64) -> u32 {
         let mut out = Places::new([*start, *length], GUARD);

@@ -17,6 +17,11 @@ pub struct Tally {
     finished: u64,
     compared: u64,
     at_once: u64,
+    at_once_placed: u64,
+    /// Placements by the number of tables, answers of 41h by CX, and results of 48h with a pointer and with FFFFh:FFFFh.
+    placed: BTreeMap<u64, u64>,
+    extensions: BTreeMap<u16, u64>,
+    pointers: [u64; 2],
 }
 
 /// AH of an answered post, or this for a request that waits.
@@ -25,13 +30,14 @@ const WAITS: u32 = 256;
 const UNKNOWN: u8 = 0xFF;
 const HANDLED: [u8; 9] = [0x02, 0x03, 0x08, 0x41, 0x42, 0x43, 0x44, 0x47, 0x48];
 
-const EXPECTED_ANSWERS: [(&str, &[u32]); 9] = [
-    ("open", &[0, 1, 2, 3, 4, 5, 6, 7, 8, 25]),
+const EXPECTED_ANSWERS: [(&str, &[u32]); 10] = [
+    ("open", &[0, 1, 2, 3, 4, 5, 6, 7, 8, 9, 25]),
     ("write", &[0, 19, 25]),
     ("post", &[0, 20, 21, 24, 25, 256]),
     ("turn", &[0, 24, 25, 256]),
     ("collect", &[0, 20, 22, 25]),
     ("withdraw", &[0, 20, 23, 24, 25]),
+    ("place", &[0, 20, 21, 24, 25, 26]),
     ("window", &[0]),
     ("block", &[0, 4]),
     ("address", &[0, 4]),
@@ -59,6 +65,7 @@ impl Tally {
             Call::Turn => "turn",
             Call::Collect { .. } => "collect",
             Call::Withdraw { .. } => "withdraw",
+            Call::Place { .. } => "place",
             Call::Window { .. } => "window",
             Call::Block { .. } => "block",
             Call::Address { .. } => "address",
@@ -69,6 +76,9 @@ impl Tally {
                 let function = if HANDLED.contains(&registers.ah()) { registers.ah() } else { UNKNOWN };
                 let code = if outcome.answer == 0 { u32::from(outcome.registers.ah()) } else { WAITS };
                 *self.codes.entry((function, code)).or_default() += 1;
+                if function == 0x41 && outcome.registers.carry == 0 {
+                    *self.extensions.entry(outcome.registers.cx).or_default() += 1;
+                }
             }
             Call::Withdraw { .. } if outcome.answer == 0 => {
                 *self.withdrawn.entry(outcome.registers.ah()).or_default() += 1;
@@ -82,10 +92,21 @@ impl Tally {
         *(if accepted { &mut self.hostile_accepted } else { &mut self.hostile_refused }) += 1;
     }
 
+    /// A placement that was done, of so many tables.
+    pub fn placed(&mut self, tables: u64) {
+        *self.placed.entry(tables).or_default() += 1;
+    }
+
+    /// A 48h result of 30 bytes or more, with a pointer or without.
+    pub fn shown(&mut self, pointer: bool) {
+        self.pointers[usize::from(pointer)] += 1;
+    }
+
     pub fn add_watch(&mut self, watch: &Watch) {
         self.finished += watch.finished;
         self.compared += watch.compared;
         self.at_once += watch.at_once;
+        self.at_once_placed += watch.at_once_placed;
     }
 
     /// What the run should have met and did not.
@@ -102,8 +123,13 @@ impl Tally {
         if self.hostile_accepted == 0 || self.hostile_refused == 0 {
             missing.push("hostile blocks of both kinds".into());
         }
-        if self.compared == 0 || self.compared == self.finished || self.at_once == 0 {
+        if self.compared == 0 || self.compared == self.finished || self.at_once == 0 || self.at_once_placed == 0 {
             missing.push("requests to compare with served alone".into());
+        }
+        missing.extend((0..=3).filter(|n| !self.placed.contains_key(n)).map(|n| format!("a placement of {n} tables")));
+        missing.extend([1, 5].iter().filter(|cx| !self.extensions.contains_key(cx)).map(|cx| format!("41h with CX {cx:04x}h")));
+        if self.pointers.contains(&0) {
+            missing.push("48h results with a pointer and without".into());
         }
         missing
     }
@@ -126,9 +152,14 @@ impl Tally {
         let parts: Vec<String> = self.parts.iter().map(|(k, times)| format!("{k}: {times}")).collect();
         println!("blocks moved by a turn {}", parts.join(", "));
         println!(
-            "demand 3: {} requests followed to their end, {} of them with their memory; {} posts answered at once",
-            self.finished, self.compared, self.at_once
+            "demand 3: {} requests followed to their end, {} of them with their memory; {} posts answered at once, {} of them 41h or 48h \
+             with placement",
+            self.finished, self.compared, self.at_once, self.at_once_placed
         );
+        let placed: Vec<String> = self.placed.iter().map(|(n, times)| format!("{n}: {times}")).collect();
+        println!("tables of a placement {}", placed.join(", "));
+        let extensions: Vec<String> = self.extensions.iter().map(|(cx, times)| format!("{cx:04x}h: {times}")).collect();
+        println!("41h CX {}; 48h pointers: {} given, {} not", extensions.join(", "), self.pointers[1], self.pointers[0]);
         println!("hostile blocks: {} accepted, {} refused; worlds: {}", self.hostile_accepted, self.hostile_refused, self.worlds);
     }
 }

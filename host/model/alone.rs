@@ -13,10 +13,16 @@ pub struct Named {
 }
 
 /// What a post comes to for the machine: its registers, and the blocks it names if it is not answered at once. Window and store are
-/// its state. `None` if the bytes are not a table.
-pub fn served_alone(table: &[u8], posted: Registers, window: &mut [u8], store: &mut [u8]) -> Option<(Registers, Option<Named>)> {
+/// its state; it "is fed the placement at the post too". `None` if the bytes are not a table.
+pub fn served_alone(
+    table: &[u8],
+    placement: Option<u64>,
+    posted: Registers,
+    window: &mut [u8],
+    store: &mut [u8],
+) -> Option<(Registers, Option<Named>)> {
     let drives = table::read(table, store.len() as u64 / BLOCK_SIZE).ok()?;
-    let request = match steps(&drives, window, posted) {
+    let request = match steps(&drives, placement, window, posted) {
         Outcome::Answered(answer) => return Some((answer, None)),
         Outcome::Waits(request) => request,
     };

@@ -1,5 +1,7 @@
-//! The desk as a block of bytes (docs/BLOCK.md), and document 01's rule when a block is accepted ("Calls the host makes").
+//! The desk as a block of bytes (docs/BLOCK.md), and document 01's rule when a block is accepted ("Calls the host makes"), with the words
+//! and the rule of change request 2026-01.
 
+use crate::parameters::{may_lie, Parameters};
 use crate::parts::{inside, window_length, Desk, Drive, Drives, Registers, Request, Row, BLOCK_SIZE, GUESTS, MOST_DRIVES};
 use crate::steps::Function;
 use crate::table::check_drive;
@@ -11,7 +13,12 @@ const COUNT_AT: usize = DRIVES_AT + MOST_DRIVES * DRIVE_WORDS;
 const POINTER_AT: usize = COUNT_AT + 1;
 const ARENA_LENGTH_AT: usize = COUNT_AT + 2;
 const STORE_LENGTH_AT: usize = COUNT_AT + 3;
-const WORDS: usize = COUNT_AT + 4;
+const PLACED_AT: usize = COUNT_AT + 4;
+const ADDRESSES_AT: usize = PLACED_AT + GUESTS;
+const PRESENT_AT: usize = ADDRESSES_AT + GUESTS;
+const PARAMETERS_AT: usize = PRESENT_AT + MOST_DRIVES;
+const PARAMETERS_SIZE: usize = size_of::<Parameters>();
+const WORDS: usize = PARAMETERS_AT + MOST_DRIVES * PARAMETERS_SIZE / 8;
 pub const DESK_SIZE: usize = 8 * WORDS;
 
 const VACANT: u64 = 0;
@@ -49,8 +56,13 @@ pub fn read(bytes: &[u8]) -> Option<Desk> {
     if pointer >= GUESTS as u64 {
         return None;
     }
-    let mut desk = Desk { rows: [Row::Vacant; GUESTS], drives: Drives::default(), pointer, arena_length, store_length };
+    let mut desk =
+        Desk { rows: [Row::Vacant; GUESTS], drives: Drives::default(), pointer, placements: [None; GUESTS], arena_length, store_length };
     read_drives(bytes, count, store_length / BLOCK_SIZE, &mut desk.drives)?;
+    read_parameters(bytes, &mut desk.drives)?;
+    for guest in 0..GUESTS {
+        desk.placements[guest] = read_placement(bytes, guest, &desk.drives, window_length(arena_length))?;
+    }
     for (guest, row) in desk.rows.iter_mut().enumerate() {
         *row = read_row(&words(bytes, ROW_WORDS * guest), &desk.drives, window_length(arena_length))?;
     }
@@ -96,6 +108,46 @@ fn read_drive(at: &Words<DRIVE_WORDS>) -> Option<Drive> {
         interface_path: at[12].to_le_bytes(),
         device_path: at[13].to_le_bytes(),
     })
+}
+
+/// A mark of the block: 0 or 1.
+fn read_mark(bytes: &[u8], at: usize) -> Option<bool> {
+    match words(bytes, at) {
+        [0] => Some(false),
+        [1] => Some(true),
+        _ => None,
+    }
+}
+
+fn parameters_at(slot: usize) -> std::ops::Range<usize> {
+    let from = 8 * PARAMETERS_AT + PARAMETERS_SIZE * slot;
+    from..from + PARAMETERS_SIZE
+}
+
+/// The raw bytes of the records of kind 4. Only a drive has some, and where there are none the bytes are zero.
+fn read_parameters(bytes: &[u8], drives: &mut Drives) -> Option<()> {
+    for slot in 0..MOST_DRIVES {
+        let raw: Parameters = bytes[parameters_at(slot)].try_into().unwrap();
+        if read_mark(bytes, PRESENT_AT + slot)? {
+            if slot >= drives.count {
+                return None;
+            }
+            drives.parameters[slot] = Some(raw);
+        } else if raw != [0; PARAMETERS_SIZE] {
+            return None;
+        }
+    }
+    Some(())
+}
+
+/// "a desk block with a bad place is 25". Without placement the address is 0.
+fn read_placement(bytes: &[u8], guest: usize, drives: &Drives, window_length: u64) -> Option<Option<u64>> {
+    let [address] = words(bytes, ADDRESSES_AT + guest);
+    if read_mark(bytes, PLACED_AT + guest)? {
+        may_lie(drives, address, window_length).then_some(Some(address))
+    } else {
+        (address == 0).then_some(None)
+    }
 }
 
 fn read_registers(at: &[u64]) -> Option<Registers> {
@@ -209,6 +261,11 @@ pub fn put_pointer(bytes: &mut [u8], pointer: u64) {
     put(bytes, POINTER_AT, &[pointer]);
 }
 
+pub fn put_placement(bytes: &mut [u8], guest: usize, placement: Option<u64>) {
+    put(bytes, PLACED_AT + guest, &[u64::from(placement.is_some())]);
+    put(bytes, ADDRESSES_AT + guest, &[placement.unwrap_or(0)]);
+}
+
 /// The whole block of a desk.
 pub fn write(bytes: &mut [u8], desk: &Desk) {
     for (guest, row) in desk.rows.iter().enumerate() {
@@ -221,4 +278,11 @@ pub fn write(bytes: &mut [u8], desk: &Desk) {
     put_pointer(bytes, desk.pointer);
     put(bytes, ARENA_LENGTH_AT, &[desk.arena_length]);
     put(bytes, STORE_LENGTH_AT, &[desk.store_length]);
+    for (guest, placement) in desk.placements.iter().enumerate() {
+        put_placement(bytes, guest, *placement);
+    }
+    for (slot, parameters) in desk.drives.parameters.iter().enumerate() {
+        put(bytes, PRESENT_AT + slot, &[u64::from(parameters.is_some())]);
+        bytes[parameters_at(slot)].copy_from_slice(&parameters.unwrap_or_default());
+    }
 }

@@ -1,8 +1,9 @@
-//! Document 01, "Calls the host makes", with the house numbers of "Numbers given back". The calls of include/edd_desk.h, with slices
-//! and references for its pointers.
+//! Document 01, "Calls the host makes", with the house numbers of "Numbers given back", and the placement of change request 2026-01.
+//! The calls of include/edd_desk.h, with slices and references for its pointers.
 
 use crate::addresses::{Address, Geometry};
 use crate::block;
+use crate::parameters;
 use crate::parts::{self, Desk, Registers, Request, Row, BLOCK_SIZE, GUESTS};
 use crate::steps::{self, Function, Outcome, WITHDRAWN};
 use crate::table;
@@ -18,6 +19,7 @@ const NOT_FINISHED: u32 = 22;
 const NOT_WAITING: u32 = 23;
 const LENGTH_DIFFERS: u32 = 24;
 const NOT_ACCEPTED: u32 = 25;
+const BAD_PLACE: u32 = 26;
 const OUTSIDE: u32 = 4;
 
 /// "It moves the next 16 blocks".
@@ -54,7 +56,7 @@ fn number(call: impl FnOnce() -> Result<u32, u32>) -> u32 {
 
 /// The header's EDD_VERSION; each change request raises both.
 pub fn version() -> u32 {
-    1
+    2
 }
 
 pub fn desk_size() -> u64 {
@@ -71,7 +73,8 @@ pub fn open(desk: &mut [u8], table: &[u8], arena_length: u64, store_length: u64,
             refusal.number
         }
         Ok(drives) => {
-            block::write(desk, &Desk { rows: [Row::Vacant; GUESTS], drives, pointer: 0, arena_length, store_length });
+            let opened = Desk { rows: [Row::Vacant; GUESTS], drives, pointer: 0, placements: [None; GUESTS], arena_length, store_length };
+            block::write(desk, &opened);
             DONE
         }
     }
@@ -98,7 +101,7 @@ pub fn post(desk: &mut [u8], arena: &mut [u8], store: &[u8], guest: u64, registe
         let Row::Vacant = read.rows[row] else {
             return Err(ROW_NOT_VACANT);
         };
-        match steps::steps(&read.drives, parts::window(arena, guest), *registers) {
+        match steps::steps(&read.drives, read.placements[row], parts::window(arena, guest), *registers) {
             Outcome::Answered(answer) => {
                 *registers = answer;
                 Ok(DONE)
@@ -182,6 +185,28 @@ pub fn withdraw(desk: &mut [u8], arena: &mut [u8], store: &[u8], guest: u64, reg
         }
         block::put_row(desk, row, &Row::Vacant);
         *registers = steps::stopped(request.registers, WITHDRAWN, request.moved);
+        Ok(DONE)
+    })
+}
+
+/// "The host places all tables in a guest's window". Refused with 26 "for a place misaligned, tables ending past the window (with none,
+/// the address past it) or a table's segment above FFFFh, and house 21 for a waiting row, 21 first".
+pub fn place(desk: &mut [u8], arena: &mut [u8], store: &[u8], guest: u64, address: u64) -> u32 {
+    number(|| {
+        let read = accepted(desk)?;
+        same_lengths(&read, arena, store)?;
+        let row = guest_of(guest)?;
+        if let Row::Waiting(_) = read.rows[row] {
+            return Err(ROW_NOT_VACANT);
+        }
+        let window = parts::window(arena, guest);
+        if !parameters::may_lie(&read.drives, address, window.len() as u64) {
+            return Err(BAD_PLACE);
+        }
+        for (i, table) in parameters::tables_of(&read.drives).enumerate() {
+            window[address as usize + parameters::TABLE_SIZE * i..][..parameters::TABLE_SIZE].copy_from_slice(&table);
+        }
+        block::put_placement(desk, row, Some(address));
         Ok(DONE)
     })
 }

@@ -1,5 +1,5 @@
-//! Document 01 once more. It follows the paper, the table of words in docs/BLOCK.md, the C interface and the readings in
-//! docs/DECISIONS.md, and shares no code with the crates. The differential test (host/diff) compares the library with it, and the
+//! Document 01 and change request 2026-01 once more. It follows the papers, the table of words in docs/BLOCK.md, the C interface and the
+//! readings in docs/DECISIONS.md, and shares no code with the crates. The differential test (host/diff) compares the library with it, and the
 //! benchmark measures against it.
 //!
 //! Each file is a section of the paper, each function one of its sentences:
@@ -10,6 +10,7 @@
 //!   block      the desk as a block of bytes, and when it is accepted, from "Calls the host makes"
 //!   calls      Calls the host makes, with the house numbers of "Numbers given back"
 //!   alone      served alone, from "The words of demand 3"
+//!   parameters the device parameter table, from change request 2026-01
 //!
 //! `calls` has the exported calls under their C names without `edd_`, on slices and references in place of pointers.
 
@@ -17,10 +18,11 @@ pub mod addresses;
 pub mod alone;
 pub mod block;
 pub mod calls;
+pub mod parameters;
 pub mod parts;
 pub mod steps;
 pub mod table;
 
 pub use block::DESK_SIZE;
-pub use calls::{address, block_number, collect, desk_size, open, post, turn, version, window, withdraw, write};
+pub use calls::{address, block_number, collect, desk_size, open, place, post, turn, version, window, withdraw, write};
 pub use parts::Registers;

@@ -1,4 +1,6 @@
-//! Document 01, "Parts of the desk".
+//! Document 01, "Parts of the desk", and what change request 2026-01 adds to them.
+
+use crate::parameters::Parameters;
 
 pub const GUESTS: usize = 8;
 pub const MOST_DRIVES: usize = 8;
@@ -65,10 +67,11 @@ impl Drive {
     }
 }
 
-/// The drives in table order; slots past the count are blank.
+/// The drives in table order, and what their records of kind 4 hold; slots past the count are blank.
 #[derive(Clone, Copy, PartialEq, Eq, Debug, Default)]
 pub struct Drives {
     pub slot: [Drive; MOST_DRIVES],
+    pub parameters: [Option<Parameters>; MOST_DRIVES],
     pub count: usize,
 }
 
@@ -76,9 +79,12 @@ impl Drives {
     pub fn known(&self) -> &[Drive] {
         &self.slot[..self.count]
     }
-    /// The drive of a BIOS number, 80h upward in table order.
+    /// The slot of a BIOS number, 80h upward in table order.
+    pub fn slot_of(&self, number: u64) -> Option<usize> {
+        usize::try_from(number.checked_sub(FIRST_DRIVE)?).ok().filter(|slot| *slot < self.count)
+    }
     pub fn numbered(&self, number: u64) -> Option<&Drive> {
-        self.known().get(usize::try_from(number.checked_sub(FIRST_DRIVE)?).ok()?)
+        self.slot_of(number).map(|slot| &self.slot[slot])
     }
 }
 
@@ -106,6 +112,8 @@ pub struct Desk {
     pub rows: [Row; GUESTS],
     pub drives: Drives,
     pub pointer: u64,
+    /// The address at which the guest's parameter tables were placed, if they were.
+    pub placements: [Option<u64>; GUESTS],
     pub arena_length: u64,
     pub store_length: u64,
 }

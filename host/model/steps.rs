@@ -1,6 +1,7 @@
-//! Document 01, "Steps of each function", and the BIOS answers of "Numbers given back".
+//! Document 01, "Steps of each function", and the BIOS answers of "Numbers given back". 41h and 48h as change request 2026-01 has them.
 
 use crate::addresses::{address_in, Geometry};
+use crate::parameters::{extensions_of, pointer_to};
 use crate::parts::{inside, linear, Drive, Drives, Registers, Request, BLOCK_SIZE};
 use crate::table::{qword, word};
 
@@ -58,16 +59,16 @@ impl Function {
     }
 }
 
-/// The steps of the function in AH, for a guest's registers and its window.
-pub fn steps(drives: &Drives, window: &mut [u8], posted: Registers) -> Outcome {
+/// The steps of the function in AH, for a guest's registers, its window and the place of its parameter tables.
+pub fn steps(drives: &Drives, placement: Option<u64>, window: &mut [u8], posted: Registers) -> Outcome {
     let given = Registers { carry: 0, ..posted };
     match given.ah() {
         0x02 | 0x03 => read_write_sectors(drives, window, given),
         0x08 => Outcome::Answered(drive_parameters(drives, given)),
-        0x41 => Outcome::Answered(check_extensions(drives, given)),
+        0x41 => Outcome::Answered(check_extensions(drives, placement, given)),
         0x42..=0x44 => blocks_by_packet(drives, window, given),
         0x47 => Outcome::Answered(seek(drives, window, given)),
-        0x48 => Outcome::Answered(extended_parameters(drives, window, given)),
+        0x48 => Outcome::Answered(extended_parameters(drives, placement, window, given)),
         _ => Outcome::Answered(refused(given, BAD_PARAMETER)),
     }
 }
@@ -253,11 +254,13 @@ fn drive_parameters(drives: &Drives, given: Registers) -> Registers {
     out
 }
 
-fn check_extensions(drives: &Drives, given: Registers) -> Registers {
-    if drive_in_dl(drives, &given).is_none() || given.bx != 0x55AA {
-        return refused(given, BAD_PARAMETER);
+fn check_extensions(drives: &Drives, placement: Option<u64>, given: Registers) -> Registers {
+    match drives.slot_of(u64::from(given.dl())) {
+        Some(slot) if given.bx == 0x55AA => {
+            Registers { ax: 0x3000, bx: 0xAA55, cx: extensions_of(drives, placement, slot), carry: 0, ..given }
+        }
+        _ => refused(given, BAD_PARAMETER),
     }
-    Registers { ax: 0x3000, bx: 0xAA55, cx: 0x0001, carry: 0, ..given }
 }
 
 const RESULT_SIZE: usize = 66;
@@ -273,7 +276,7 @@ fn returned_size(asked: u16) -> Option<usize> {
 }
 
 /// The whole result buffer, by its places.
-fn result_of(drive: &Drive, returned: usize) -> [u8; RESULT_SIZE] {
+fn result_of(drive: &Drive, pointer: [u8; 4], returned: usize) -> [u8; RESULT_SIZE] {
     let mut result = [0; RESULT_SIZE];
     result[0..2].copy_from_slice(&(returned as u16).to_le_bytes());
     result[2..4].copy_from_slice(&drive.flags.to_le_bytes());
@@ -282,7 +285,7 @@ fn result_of(drive: &Drive, returned: usize) -> [u8; RESULT_SIZE] {
     result[12..16].copy_from_slice(&drive.physical_sectors.to_le_bytes());
     result[16..24].copy_from_slice(&drive.blocks.to_le_bytes());
     result[24..26].copy_from_slice(&512u16.to_le_bytes());
-    result[26..30].copy_from_slice(&[0xFF; 4]);
+    result[26..30].copy_from_slice(&pointer);
     result[30..32].copy_from_slice(&0xBEDDu16.to_le_bytes());
     result[32] = 0x24;
     result[36..40].copy_from_slice(&drive.host_bus);
@@ -293,20 +296,20 @@ fn result_of(drive: &Drive, returned: usize) -> [u8; RESULT_SIZE] {
     result
 }
 
-fn extended_parameters(drives: &Drives, window: &mut [u8], given: Registers) -> Registers {
+fn extended_parameters(drives: &Drives, placement: Option<u64>, window: &mut [u8], given: Registers) -> Registers {
     let place = linear(given.ds, given.si);
     let length = window.len() as u64;
-    let returned = drive_in_dl(drives, &given).and_then(|drive| {
+    let returned = drives.slot_of(u64::from(given.dl())).and_then(|slot| {
         if !inside(place, 2, length) {
             return None;
         }
         let returned = returned_size(word(window, place as usize))?;
-        inside(place, returned as u64, length).then_some((drive, returned))
+        inside(place, returned as u64, length).then_some((slot, returned))
     });
-    let Some((drive, returned)) = returned else {
+    let Some((slot, returned)) = returned else {
         return refused(given, BAD_PARAMETER);
     };
-    let result = result_of(drive, returned);
+    let result = result_of(&drives.slot[slot], pointer_to(drives, placement, slot), returned);
     window[place as usize..][..returned].copy_from_slice(&result[..returned]);
     succeeded(given)
 }

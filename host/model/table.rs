@@ -1,12 +1,14 @@
-//! Document 01, "The drive table".
+//! Document 01, "The drive table", with the record of kind 4 that change request 2026-01 adds.
 
+use crate::parameters::Parameters;
 use crate::parts::{inside, Drive, Drives, MOST_DRIVES};
 
 const HEADER: usize = 4;
 const END: (u16, usize) = (0, 4);
 const DRIVE: (u16, usize) = (1, 68);
+const PARAMETERS: (u16, usize) = (4, 20);
 
-/// A refusal: its number, 1 to 8, and the place.
+/// A refusal: its number, 1 to 9, and the place.
 #[derive(Clone, Copy, PartialEq, Eq, Debug)]
 pub struct Refusal {
     pub number: u32,
@@ -16,6 +18,7 @@ pub struct Refusal {
 enum Record {
     End,
     Drive,
+    Parameters,
 }
 
 pub fn word(bytes: &[u8], at: usize) -> u16 {
@@ -39,6 +42,7 @@ fn header(left: &[u8]) -> Result<Record, u32> {
     let (record, length) = match kind {
         k if k == END.0 => (Record::End, END.1),
         k if k == DRIVE.0 => (Record::Drive, DRIVE.1),
+        k if k == PARAMETERS.0 => (Record::Parameters, PARAMETERS.1),
         _ => return Err(3),
     };
     if usize::from(word(left, 0)) != length {
@@ -70,9 +74,13 @@ fn drive_of(record: &[u8]) -> Drive {
     }
 }
 
+fn put_header(record: &mut [u8], (kind, length): (u16, usize)) {
+    record[0..2].copy_from_slice(&(length as u16).to_le_bytes());
+    record[2..4].copy_from_slice(&kind.to_le_bytes());
+}
+
 fn record_of(drive: &Drive, record: &mut [u8]) {
-    record[0..2].copy_from_slice(&(DRIVE.1 as u16).to_le_bytes());
-    record[2..4].copy_from_slice(&DRIVE.0.to_le_bytes());
+    put_header(record, DRIVE);
     record[4..8].copy_from_slice(&drive.physical_cylinders.to_le_bytes());
     record[8..12].copy_from_slice(&drive.physical_heads.to_le_bytes());
     record[12..16].copy_from_slice(&drive.physical_sectors.to_le_bytes());
@@ -131,6 +139,15 @@ pub fn check_drive(drive: &Drive, earlier: &[Drive], store_blocks: u64) -> Resul
     }
 }
 
+/// The fourteen bytes of a record of kind 4, if the drive it names is the last one read and has none yet; else 9.
+fn parameters_of(record: &[u8], drives: &Drives) -> Result<Parameters, u32> {
+    let named = usize::from(word(record, 4));
+    if named + 1 != drives.count || drives.parameters[named].is_some() {
+        return Err(9);
+    }
+    Ok(record[6..20].try_into().unwrap())
+}
+
 /// Reads a whole table for a store of that many blocks.
 pub fn read(table: &[u8], store_blocks: u64) -> Result<Drives, Refusal> {
     let mut drives = Drives::default();
@@ -147,22 +164,32 @@ pub fn read(table: &[u8], store_blocks: u64) -> Result<Drives, Refusal> {
                 drives.count += 1;
                 place += DRIVE.1;
             }
+            Record::Parameters => {
+                let parameters = parameters_of(&table[place..place + PARAMETERS.1], &drives).map_err(refused)?;
+                drives.parameters[drives.count - 1] = Some(parameters);
+                place += PARAMETERS.1;
+            }
         }
     }
 }
 
 /// The length of the drives as a table.
 pub fn length(drives: &Drives) -> usize {
-    DRIVE.1 * drives.count + END.1
+    DRIVE.1 * drives.count + PARAMETERS.1 * drives.parameters.iter().flatten().count() + END.1
 }
 
 /// Lays the drives out as a table again; the caller has made sure that there is room.
 pub fn write(drives: &Drives, out: &mut [u8]) {
     let mut place = 0;
-    for drive in drives.known() {
+    for (slot, drive) in drives.known().iter().enumerate() {
         record_of(drive, &mut out[place..place + DRIVE.1]);
         place += DRIVE.1;
+        if let Some(parameters) = &drives.parameters[slot] {
+            put_header(&mut out[place..], PARAMETERS);
+            out[place + 4..place + 6].copy_from_slice(&(slot as u16).to_le_bytes());
+            out[place + 6..place + 20].copy_from_slice(parameters);
+            place += PARAMETERS.1;
+        }
     }
-    out[place..place + 2].copy_from_slice(&(END.1 as u16).to_le_bytes());
-    out[place + 2..place + 4].copy_from_slice(&END.0.to_le_bytes());
+    put_header(&mut out[place..], END);
 }

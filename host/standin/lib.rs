@@ -5,6 +5,8 @@
 
 use model::addresses::{Address, Geometry};
 use model::Registers;
+#[allow(unused_imports)]
+use model::DESK_SIZE;
 use std::slice::{from_raw_parts, from_raw_parts_mut};
 
 /// The slice of a pointer and a length; a null pointer with length 0 is an empty one.
@@ -57,7 +59,7 @@ pub unsafe extern "C" fn edd_open(
 ) -> u32 {
     let (desk, table) = unsafe { (lent_mut(desk, desk_len), lent(table, table_len)) };
     #[cfg(fault = "place_on_25")]
-    if desk.len() != 2400 {
+    if desk.len() != DESK_SIZE {
         *place = 0;
     }
     #[cfg(fault = "reads_past_table")]
@@ -66,7 +68,19 @@ pub unsafe extern "C" fn edd_open(
     }
     #[cfg(fault = "store_length_narrowed")]
     let store_length = u64::from(store_length as u32);
-    model::open(desk, table, arena_length, store_length, place)
+    #[cfg(fault = "placements_survive")]
+    let before = desk.to_vec();
+    let answer = model::open(desk, table, arena_length, store_length, place);
+    #[cfg(fault = "bad_parameters_skipped")]
+    if answer == 9 {
+        let without = [&table[..*place as usize], &table[*place as usize + 20..]].concat();
+        return model::open(desk, &without, arena_length, store_length, place);
+    }
+    #[cfg(fault = "placements_survive")]
+    if answer == 0 && model::block::read(&before).is_some() {
+        desk[8 * 300..8 * 316].copy_from_slice(&before[8 * 300..8 * 316]);
+    }
+    answer
 }
 
 #[no_mangle]
@@ -79,6 +93,10 @@ pub unsafe extern "C" fn edd_write(desk: *const u8, desk_len: usize, out: *mut u
     #[cfg(fault = "packet_word_free")]
     let desk = &packet_words_cleared(desk)[..];
     let answer = model::write(desk, out, written);
+    #[cfg(fault = "placed_bytes_written")]
+    if answer == 0 && *written >= 92 && out[70] == 4 {
+        out[78] |= 0xA0;
+    }
     #[cfg(fault = "clears_rest_of_buffer")]
     if answer == 0 {
         out[*written as usize..].fill(0);
@@ -94,7 +112,7 @@ pub unsafe extern "C" fn edd_write(desk: *const u8, desk_len: usize, out: *mut u
 #[cfg(fault = "packet_word_free")]
 fn packet_words_cleared(desk: &[u8]) -> Vec<u8> {
     let mut copy = desk.to_vec();
-    if desk.len() == 2400 {
+    if desk.len() == DESK_SIZE {
         for guest in 0..8 {
             if words::get(desk, 23 * guest) == 1 && matches!(words::get(desk, 23 * guest + 1) >> 8, 2 | 3) {
                 words::set(&mut copy, 23 * guest + 13, 0);
@@ -125,12 +143,12 @@ pub unsafe extern "C" fn edd_post(
     let (desk, arena, store) = unsafe { (lent_mut(desk, desk_len), lent_mut(arena, arena_len), lent(store, store_len)) };
     let given = Registers { ax: *ax, bx: *bx, cx: *cx, dx: *dx, ds, si, es, carry: *carry };
     #[cfg(fault = "lengths_before_desk")]
-    if desk.len() == 2400 && words::get(desk, 298) != arena.len() as u64 {
+    if desk.len() == DESK_SIZE && words::get(desk, 298) != arena.len() as u64 {
         return 24;
     }
     #[cfg(fault = "store_length_unseen")]
-    let store = if desk.len() == 2400 {
-        let length = u64::from_le_bytes(desk[2392..2400].try_into().unwrap());
+    let store = if desk.len() == DESK_SIZE {
+        let length = words::get(desk, 299);
         if length <= store.len() as u64 {
             &store[..length as usize]
         } else {
@@ -155,6 +173,21 @@ pub unsafe extern "C" fn edd_post(
         if u64::from_le_bytes(packet[8..16].try_into().unwrap()) > 1 << 63 {
             out = model::steps::succeeded(given);
         }
+    }
+    #[cfg(fault = "pointer_by_slot")]
+    if answer == 0 && given.ax >> 8 == 0x48 && out.carry == 0 {
+        // as if a drive without a record took room too
+        let result = guest as usize * (arena.len() / 8) + model::parts::linear(ds, si) as usize;
+        let slot = usize::from(given.dl() - 0x80);
+        let without = (0..slot).filter(|slot| words::get(desk, 316 + slot) == 0).count() as u16;
+        if words::get(desk, 300 + guest as usize) == 1 && words::get(desk, 316 + slot) == 1 && arena[result] >= 30 {
+            let segment = &mut arena[result + 28..result + 30];
+            segment.copy_from_slice(&(u16::from_le_bytes([segment[0], segment[1]]).wrapping_add(without)).to_le_bytes());
+        }
+    }
+    #[cfg(fault = "extensions_unplaced")]
+    if answer == 0 && given.ax >> 8 == 0x41 && out.carry == 0 && words::get(desk, 316 + usize::from(given.dl() - 0x80)) == 1 {
+        out.cx = 5;
     }
     #[cfg(fault = "static_scratch")]
     if answer == 256 {
@@ -195,7 +228,7 @@ pub unsafe extern "C" fn edd_turn(
         unsafe { arena.as_ptr().read_volatile() };
     }
     #[cfg(fault = "packet_read_again")]
-    if desk.len() == 2400 && words::get(desk, 298) == arena.len() as u64 {
+    if desk.len() == DESK_SIZE && words::get(desk, 298) == arena.len() as u64 {
         for guest in 0..8 {
             let place = (guest * (arena.len() / 8)).saturating_add(words::get(desk, 23 * guest + 13) as usize);
             let packet = arena.get(place..place.saturating_add(16)).filter(|packet| packet[0] >= 16);
@@ -205,10 +238,10 @@ pub unsafe extern "C" fn edd_turn(
         }
     }
     #[cfg(fault = "search_from_zero")]
-    let pointer = if desk.len() == 2400 { std::mem::replace(&mut desk[8 * 297], 0) } else { 0 };
+    let pointer = if desk.len() == DESK_SIZE { std::mem::replace(&mut desk[8 * 297], 0) } else { 0 };
     let answer = model::turn(desk, arena, store, guest, moved);
     #[cfg(fault = "search_from_zero")]
-    if desk.len() == 2400 && answer != 0 {
+    if desk.len() == DESK_SIZE && answer != 0 {
         desk[8 * 297] = pointer;
     }
     #[cfg(fault = "pointer_stays")]
@@ -288,6 +321,50 @@ pub unsafe extern "C" fn edd_withdraw(
     if answer == 0 {
         (*ax, *bx, *cx, *dx) = (out.ax, out.bx, out.cx, out.dx);
         (*ds, *si, *es, *carry) = (out.ds, out.si, out.es, out.carry);
+    }
+    answer
+}
+
+#[no_mangle]
+pub unsafe extern "C" fn edd_place(
+    desk: *mut u8,
+    desk_len: usize,
+    arena: *mut u8,
+    arena_len: usize,
+    store: *const u8,
+    store_len: usize,
+    guest: u64,
+    address: u64,
+) -> u32 {
+    let (desk, arena, store) = unsafe { (lent_mut(desk, desk_len), lent_mut(arena, arena_len), lent(store, store_len)) };
+    #[cfg(fault = "finished_row_refuses")]
+    if desk.len() == DESK_SIZE && guest < 8 && words::get(desk, 23 * guest as usize) == 2 {
+        let answer = model::place(&mut desk.to_vec(), &mut arena.to_vec(), store, guest, address);
+        return if matches!(answer, 0 | 26) { 21 } else { answer };
+    }
+    #[cfg(fault = "place_before_row")]
+    if address % 16 != 0 && model::place(&mut desk.to_vec(), &mut arena.to_vec(), store, guest, address) == 21 {
+        return 26;
+    }
+    #[cfg(fault = "address_0_is_none")]
+    if address == 0 {
+        return model::place(&mut desk.to_vec(), arena, store, guest, address);
+    }
+    let answer = model::place(desk, arena, store, guest, address);
+    #[cfg(fault = "flags_raw")]
+    if let Some(slot) = (0..8).find(|slot| answer == 0 && words::get(desk, 316 + slot) == 1) {
+        // of the first table; its sum is still zero
+        let at = guest as usize * (arena.len() / 8) + address as usize;
+        let raw = desk[8 * 324 + 14 * slot + 4];
+        arena[at + 15] = arena[at + 15].wrapping_add(arena[at + 4] - raw);
+        arena[at + 4] = raw;
+    }
+    #[cfg(fault = "next_window")]
+    if answer == 0 && guest < 7 {
+        let at = (guest as usize + 1) * (arena.len() / 8) + address as usize;
+        if let Some(byte) = arena.get_mut(at) {
+            *byte ^= 1;
+        }
     }
     answer
 }

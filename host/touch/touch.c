@@ -2,7 +2,8 @@
  * touch - which bytes of arena and store a call touches, as the processor tells us: before the call everything that it may not touch
  * is made inaccessible, so that a single read elsewhere ends the program.
  *
- *   post, withdraw   the window of their guest, and no byte of the store
+ *   post, withdraw,  the window of their guest, and no byte of the store
+ *   place
  *   turn             the window of the guest that it serves and the store blocks that it moves. A read only reads the blocks, a write
  *                    only reads the window.
  *
@@ -179,6 +180,17 @@ static void withdraw(unsigned guest)
     must(answer == EDD_DONE, "refused");
 }
 
+/* The tables of all eight drives at an address. A refused placement touches nothing at all. */
+static void place(unsigned guest, uint64_t address, uint32_t expected)
+{
+    snprintf(doing, sizeof doing, "placement for guest %u at %llu", guest, (unsigned long long)address);
+    only_window(guest, expected == EDD_DONE ? PROT_READ | PROT_WRITE : PROT_NONE);
+    uint32_t answer = edd_place(desk, sizeof desk, arena, ARENA, store, STORE, guest, address);
+    open_all();
+    calls++;
+    must(answer == expected, "another answer than expected");
+}
+
 /* ---- what is run */
 
 /* rule: exports::edd_post exports::edd_turn exports::edd_collect exports::edd_withdraw */
@@ -195,6 +207,27 @@ static void one_by_one(void)
                 moved = turn(g, q, moved);
             collect(g);
         }
+    }
+}
+
+/* rule: exports::edd_place exports::edd_post */
+/* Tables for every guest: at the window's start, across a page, and as its last bytes. Then 41h and 48h with placement. */
+static void placements(void)
+{
+    for (unsigned g = 0; g < EDD_GUESTS; g++) {
+        place(g, 0, EDD_DONE);
+        place(g, 4096 - 64, EDD_DONE);
+        place(g, WINDOW - 16 * EDD_DRIVES, EDD_DONE);
+        place(g, WINDOW - 16 * EDD_DRIVES + 16, EDD_BAD_PLACE);
+        place(g, 8, EDD_BAD_PLACE);
+        for (unsigned i = 0; i < REQUESTS; i++)
+            if (requests[i].function == 0x41 || requests[i].function == 0x48)
+                post(g, &requests[i]);
+        post(g, &requests[0]);
+        place(g, 0, EDD_ROW_NOT_VACANT);
+        turn(g, &requests[0], 0);
+        place(g, 0, EDD_DONE);
+        collect(g);
     }
 }
 
@@ -238,7 +271,7 @@ static void open_desk(void)
     uint8_t table[EDD_TABLE_SIZE_MAX] = { 0 };
     uint64_t place = 0;
     for (unsigned i = 0; i < EDD_DRIVES; i++) {
-        uint8_t *at = table + 68 * i;
+        uint8_t *at = table + 88 * i;
         put_word(at + 0, 4, 0x00010044); /* length 68, kind 1 */
         put_word(at + 16, 8, DRIVE_BLOCKS);
         put_word(at + 24, 8, DRIVE_BLOCKS * i);
@@ -247,8 +280,10 @@ static void open_desk(void)
         at[38] = SECTORS;
         memcpy(at + 40, "PCI", 3);
         memcpy(at + 44, "ATA", 3);
+        put_word(at + 68, 4, 0x00040014); /* length 20, kind 4 */
+        put_word(at + 72, 2, i);
     }
-    put_word(table + 68 * EDD_DRIVES, 4, 4);
+    put_word(table + 88 * EDD_DRIVES, 4, 4);
     must(edd_open(desk, sizeof desk, table, sizeof table, ARENA, STORE, &place) == EDD_DONE, "refused");
 }
 
@@ -280,6 +315,7 @@ int main(void)
     snprintf(doing, sizeof doing, "open");
     open_desk();
     one_by_one();
+    placements();
     for (unsigned i = 0; i < REQUESTS; i++) {
         if (requests[i].waits && requests[i].count > 2 * EDD_TURN_BLOCKS) {
             open_desk(); /* so that the turn pointer is 0 */

@@ -2,7 +2,7 @@
 -- every limit is reached, one refused desk for each condition, which differs from it in one thing, and what the calls do at it.
 -- Assumes nothing.
 use mathlib.Core.Path.{_≡_, refl, _∙_}
-use mathlib.Core.Bool.{true, false}
+use mathlib.Core.Bool.{Bool, true, false}
 use mathlib.Core.List.{List, [], _∷_, _++_, map}
 use Prim.Native.Nat.{ℕ}
 use lib.ListN.{length, replicate, set}
@@ -11,7 +11,9 @@ use Rattle.words.specs.Words.{le, leBytes}
 use Rattle.chs.specs.Chs.{inLimits, isValid, blockOf}
 use Rattle.drive.specs.declared.Drive.{Drive}
 use Rattle.drive.specs.Drive.{driveOf, recordOf, geometryBytes, sizeBytes, nameBytes, isBlank, blankNumbers, blankNames, same, busOk, interfaceOk, geometryFits, fieldsOk, inStore, overlap, isa, pci, ata, scsi}
-use Rattle.table.specs.Table.{zeroDrive, headerOf, headerAt, overlapsAny, refusal, driveStep, endStep, stepOf, stepAt, readFrom, readTable, recordNumbers, numbersFrom, tableNumbers, recordsOf, bytesOf, tableOf, writeAnswer, writeOut, writtenNumbers, soundTo, blankTo, isSound}
+use Rattle.attached.specs.Parameters.{parametersRecord}
+use Rattle.table.specs.declared.Table.{Table}
+use Rattle.table.specs.Table.{emptyTable, zeroDrive, headerOf, headerAt, overlapsAny, refusal, recordRefusal, parametersRefusal, withRecord, recordStep, endStep, stepOf, stepAt, readFrom, readTable, recordNumbers, numbersFrom, tableNumbers, recordsOf, bytesOf, tableOf, writeAnswer, writeOut, writtenNumbers, soundTo, blankTo, attachedTo, isSound, parametersTo}
 use Rattle.memory.specs.Window.{spanLength, windowOf, withWindow}
 use Rattle.memory.proofs.WindowLaws.{length-window}
 use Rattle.memory.specs.Blocks.{blocks}
@@ -29,7 +31,7 @@ use Rattle.desk.specs.declared.TurnAnswer.the-variants.{Served}
 use Rattle.desk.specs.declared.CollectAnswer.the-variants.{Given as CollectGiven}
 use Rattle.desk.specs.declared.WithdrawAnswer.the-variants.{Given as WithdrawGiven}
 use Rattle.desk.specs.Parts.{vacantRow}
-use Rattle.desk.specs.Acceptable.{requestOk, rowsOk, accept}
+use Rattle.desk.specs.Acceptable.{requestOk, rowsOk, placeOk, placementsOk, accept}
 use Rattle.desk.specs.Calls.{done, openOf, writtenOf, writtenOut, postOf, firstWaiting, stageAfter, turnOf, collectOf, withdrawOf}
 use Rattle.desk.specs.Numbers.{openGiven, turnGiven}
 
@@ -109,9 +111,23 @@ rows =
     ∷ waits 0x420B 0x80 5 3 68464 33 0
     ∷ []
 
+-- the parameters of both drives, fourteen bytes each
+abbrev parameters : List ℕ
+parameters = 51 ∷ 52 ∷ 53 ∷ 54 ∷ 55 ∷ 56 ∷ 57 ∷ 58 ∷ 59 ∷ 60 ∷ 61 ∷ 62 ∷ 63 ∷ 64 ∷ 71 ∷ 72 ∷ 73 ∷ 74 ∷ 75 ∷ 76 ∷ 77 ∷ 78 ∷ 79 ∷ 80 ∷ 81 ∷ 82 ∷ 83 ∷ 84 ∷ replicate 84 0
+
+abbrev table : List Drive → ℕ → Table
+table drives count = record { drives = drives; count = count; present = true ∷ true ∷ replicate 6 false; parameters = parameters }
+
+-- their tables are placed for all guests but 3 and 6; guest 0's at address 0, guest 1's to the window's last byte
+abbrev placed : List Bool
+placed = true ∷ true ∷ true ∷ false ∷ true ∷ true ∷ false ∷ true ∷ []
+
+abbrev addresses : List ℕ
+addresses = 0 ∷ 69968 ∷ 16 ∷ 0 ∷ 32 ∷ 48 ∷ 0 ∷ 64 ∷ []
+
 abbrev desk : List Drive → ℕ → ℕ → ℕ → ℕ → List Row → Desk
 desk drives count pointer arena store rows =
-    record { rows = rows; pointer = pointer; table = record { drives = drives; count = count }; arena = arena; store = store }
+    record { rows = rows; pointer = pointer; table = table drives count; arena = arena; store = store; placed = placed; addresses = addresses }
 
 -- an arena of 8 x 70,000 + 5 bytes, a store of 4311 x 512 + 3
 abbrev good : ℕ → Desk
@@ -127,6 +143,24 @@ withDrive d = desk (places d zeroDrive) 2 7 560005 2207235 rows
 abbrev withStore : ℕ → Desk
 withStore store = desk (places secondDrive zeroDrive) 2 7 560005 store rows
 
+-- the same with other marks and addresses of the guests' placements
+abbrev withPlaces : List Bool → List ℕ → Desk
+withPlaces marks at =
+    record { rows = rows; pointer = 7; table = table (places secondDrive zeroDrive) 2; arena = 560005; store = 2207235; placed = marks; addresses = at }
+
+-- and with other marks and bytes of parameters
+abbrev withParts : List Bool → List ℕ → Desk
+withParts present bytes =
+    record {
+      rows = rows;
+      pointer = 7;
+      table = record { drives = places secondDrive zeroDrive; count = 2; present = present; parameters = bytes };
+      arena = 560005;
+      store = 2207235;
+      placed = placed;
+      addresses = addresses;
+    }
+
 -- ---- the conditions of acceptance, one after the other: desks on the right side of each, then desks on its wrong side
 
 -- the pointer is below 8
@@ -136,7 +170,8 @@ pointers = map good (0 ∷ 1 ∷ 2 ∷ 3 ∷ 4 ∷ 5 ∷ 6 ∷ 7 ∷ [])
 abbrev badPointers : List Desk
 badPointers = map good (8 ∷ 18446744073709551615 ∷ [])
 
--- the table obeys the rules: drives apart (7), inside the store (6), a field of each kind (5), at most 8 (4), unused places zero
+-- the table obeys the rules: drives apart (7), inside the store (6), a field of each kind (5), at most 8 (4), unused places zero, parameters of
+-- drives only
 abbrev tables : List Desk
 tables = withDrive (other 4005 0x48 5 1) ∷ withStore 2206720 ∷ withDrive (other 4010 0x7F 5 1) ∷ withDrive (other 4010 0x48 4 1) ∷ []
 
@@ -150,6 +185,9 @@ badTables =
     ∷ desk (places secondDrive zeroDrive) 3 7 560005 2207235 rows
     ∷ desk (places secondDrive zeroDrive) 9 7 560005 2207235 rows
     ∷ desk (places secondDrive (other 4310 0x48 5 1)) 2 7 560005 2207235 rows
+    ∷ withParts (true ∷ true ∷ true ∷ replicate 5 false) parameters
+    ∷ withParts (true ∷ false ∷ replicate 6 false) parameters
+    ∷ withParts (true ∷ true ∷ replicate 6 false) (set parameters 111 1)
     ∷ []
 
 -- the row names a drive; its function is one that waits
@@ -219,49 +257,69 @@ badMoveds =
     ∷ withRow 7 (waits 0x420B 0x80 5 0 68464 33 0)
     ∷ []
 
-pub acceptance : map (map accept) (pointers ∷ tables ∷ counts ∷ ranges ∷ moveds ∷ [])
-    ∷ map (map accept) (badPointers ∷ badTables ∷ badDrives ∷ badFunctions ∷ badCounts ∷ badRanges ∷ badBuffers ∷ badPackets ∷ badWrites ∷ badMoveds ∷ [])
+-- a guest with placement has a good place, for two tables: a multiple of 16 from which they end inside the window; one without has 0
+abbrev placements : List Desk
+placements = withPlaces placed (set addresses 7 69968) ∷ withPlaces (set placed 3 true) addresses ∷ withPlaces (replicate 8 false) (replicate 8 0) ∷ []
+
+abbrev badPlacements : List Desk
+badPlacements =
+    withPlaces placed (set addresses 7 72)
+    ∷ withPlaces placed (set addresses 0 8)
+    ∷ withPlaces placed (set addresses 7 69984)
+    ∷ withPlaces placed (set addresses 7 18446744073709551600)
+    ∷ withPlaces placed (set addresses 3 16)
+    ∷ withPlaces (set placed 7 false) addresses
     ∷ []
-    ≡ map (λ (n : ℕ). replicate n true) (8 ∷ 4 ∷ 2 ∷ 2 ∷ 2 ∷ [])
-    ∷ map (λ (n : ℕ). replicate n false) (2 ∷ 8 ∷ 3 ∷ 3 ∷ 4 ∷ 5 ∷ 3 ∷ 4 ∷ 2 ∷ 6 ∷ [])
+
+pub acceptance : map (map accept) (pointers ∷ tables ∷ counts ∷ ranges ∷ moveds ∷ placements ∷ [])
+    ∷ map (map accept) (badPointers ∷ badTables ∷ badDrives ∷ badFunctions ∷ badCounts ∷ badRanges ∷ badBuffers ∷ badPackets ∷ badWrites ∷ badMoveds ∷ badPlacements ∷ [])
     ∷ []
-unfolding accept rowsOk requestOk isDrive isSound soundTo blankTo refusal overlapsAny overlap inStore fieldsOk geometryFits inLimits busOk interfaceOk isBlank blankNumbers blankNames same
+    ≡ map (λ (n : ℕ). replicate n true) (8 ∷ 4 ∷ 2 ∷ 2 ∷ 2 ∷ 3 ∷ [])
+    ∷ map (λ (n : ℕ). replicate n false) (2 ∷ 11 ∷ 3 ∷ 3 ∷ 4 ∷ 5 ∷ 3 ∷ 4 ∷ 2 ∷ 6 ∷ 6 ∷ [])
+    ∷ []
+unfolding accept rowsOk requestOk placementsOk placeOk parametersTo isDrive isSound soundTo blankTo attachedTo refusal overlapsAny overlap inStore fieldsOk geometryFits inLimits busOk interfaceOk isBlank blankNumbers blankNames same
 acceptance = refl
 
--- ---- open: all rows vacant, the pointer 0, the table's drives in order, the two lengths each in its place
+-- ---- open: all rows vacant, the pointer 0, the table's drives in order with their parameters, the two lengths each in its place, nothing placed
 
 abbrev tableBytes : List ℕ
 tableBytes =
     68 ∷ 0 ∷ 1 ∷ 0 ∷ 243 ∷ 3 ∷ 0 ∷ 0 ∷ 244 ∷ 3 ∷ 0 ∷ 0 ∷ 245 ∷ 3 ∷ 0 ∷ 0 ∷ 160 ∷ 15 ∷ 0 ∷ 0 ∷ 0 ∷ 0 ∷ 0 ∷ 0
     ∷ 5 ∷ 0 ∷ 0 ∷ 0 ∷ 0 ∷ 0 ∷ 0 ∷ 0 ∷ 10 ∷ 0 ∷ 17 ∷ 0 ∷ 3 ∷ 0 ∷ 9 ∷ 0 ∷ 80 ∷ 67 ∷ 73 ∷ 0 ∷ 65 ∷ 84 ∷ 65 ∷ 0
-    ∷ 0 ∷ 0 ∷ 0 ∷ 0 ∷ 11 ∷ 12 ∷ 13 ∷ 14 ∷ 15 ∷ 16 ∷ 17 ∷ 18 ∷ 21 ∷ 22 ∷ 23 ∷ 24 ∷ 25 ∷ 26 ∷ 27 ∷ 28 ∷ 68 ∷ 0 ∷ 1 ∷ 0
+    ∷ 0 ∷ 0 ∷ 0 ∷ 0 ∷ 11 ∷ 12 ∷ 13 ∷ 14 ∷ 15 ∷ 16 ∷ 17 ∷ 18 ∷ 21 ∷ 22 ∷ 23 ∷ 24 ∷ 25 ∷ 26 ∷ 27 ∷ 28
+    ∷ 20 ∷ 0 ∷ 4 ∷ 0 ∷ 0 ∷ 0 ∷ 51 ∷ 52 ∷ 53 ∷ 54 ∷ 55 ∷ 56 ∷ 57 ∷ 58 ∷ 59 ∷ 60 ∷ 61 ∷ 62 ∷ 63 ∷ 64 ∷ 68 ∷ 0 ∷ 1 ∷ 0
     ∷ 219 ∷ 7 ∷ 0 ∷ 0 ∷ 220 ∷ 7 ∷ 0 ∷ 0 ∷ 221 ∷ 7 ∷ 0 ∷ 0 ∷ 44 ∷ 1 ∷ 0 ∷ 0 ∷ 0 ∷ 0 ∷ 0 ∷ 0 ∷ 170 ∷ 15 ∷ 0 ∷ 0
     ∷ 0 ∷ 0 ∷ 0 ∷ 0 ∷ 72 ∷ 0 ∷ 5 ∷ 0 ∷ 7 ∷ 0 ∷ 8 ∷ 1 ∷ 73 ∷ 83 ∷ 65 ∷ 0 ∷ 83 ∷ 67 ∷ 83 ∷ 73 ∷ 0 ∷ 0 ∷ 0 ∷ 0
-    ∷ 31 ∷ 32 ∷ 33 ∷ 34 ∷ 35 ∷ 36 ∷ 37 ∷ 38 ∷ 41 ∷ 42 ∷ 43 ∷ 44 ∷ 45 ∷ 46 ∷ 47 ∷ 48 ∷ 4 ∷ 0 ∷ 0 ∷ 0 ∷ []
+    ∷ 31 ∷ 32 ∷ 33 ∷ 34 ∷ 35 ∷ 36 ∷ 37 ∷ 38 ∷ 41 ∷ 42 ∷ 43 ∷ 44 ∷ 45 ∷ 46 ∷ 47 ∷ 48
+    ∷ 20 ∷ 0 ∷ 4 ∷ 0 ∷ 1 ∷ 0 ∷ 71 ∷ 72 ∷ 73 ∷ 74 ∷ 75 ∷ 76 ∷ 77 ∷ 78 ∷ 79 ∷ 80 ∷ 81 ∷ 82 ∷ 83 ∷ 84 ∷ 4 ∷ 0 ∷ 0 ∷ 0 ∷ []
 
-pub opening : openOf tableBytes 560005 2207235
-    ≡ record { desk = desk (places secondDrive zeroDrive) 2 0 560005 2207235 (replicate 8 vacantRow); answer = Opened }
-unfolding openOf le driveOf readTable readFrom stepAt stepOf endStep driveStep headerAt headerOf refusal overlapsAny overlap inStore fieldsOk geometryFits inLimits busOk interfaceOk same
+-- a desk with vacant rows and nothing placed: its table, its pointer, its store's length
+abbrev fresh : Table → ℕ → ℕ → Desk
+fresh b pointer store =
+    record { rows = replicate 8 vacantRow; pointer = pointer; table = b; arena = 560005; store = store; placed = replicate 8 false; addresses = replicate 8 0 }
+
+pub opening : openOf tableBytes 560005 2207235 ≡ record { desk = fresh (table (places secondDrive zeroDrive) 2) 0 2207235; answer = Opened }
+unfolding openOf le driveOf readTable readFrom stepAt stepOf endStep recordStep withRecord recordRefusal parametersRefusal headerAt headerOf refusal overlapsAny overlap inStore fieldsOk geometryFits inLimits busOk interfaceOk same
 opening = refl
 
--- a store of one byte less than its 4310 blocks: refused at the second record, and the desk is of no use. By the second promise too
+-- a store of one byte less than its 4310 blocks: refused at the second drive's record, and the desk is of no use. By the second promise too
 pub opening-short : openOf tableBytes 560005 2206719
-    ≡ record { desk = desk (replicate 8 zeroDrive) 0 8 560005 2206719 (replicate 8 vacantRow); answer = OpenRefused 6 68 }
-unfolding openOf le driveOf readTable readFrom stepAt stepOf endStep driveStep headerAt headerOf refusal overlapsAny overlap inStore fieldsOk geometryFits inLimits busOk interfaceOk same
+    ≡ record { desk = fresh emptyTable 8 2206719; answer = OpenRefused 6 88 }
+unfolding openOf le driveOf readTable readFrom stepAt stepOf endStep recordStep withRecord recordRefusal parametersRefusal headerAt headerOf refusal overlapsAny overlap inStore fieldsOk geometryFits inLimits busOk interfaceOk same
 opening-short = refl
 
-pub openings-given : map (openGiven tableBytes) (2207235 ∷ 2206719 ∷ []) ≡ (0 ∷ []) ∷ (6 ∷ 68 ∷ []) ∷ []
-unfolding openGiven le driveOf tableNumbers numbersFrom recordNumbers stepAt stepOf endStep driveStep headerAt headerOf refusal overlapsAny overlap inStore fieldsOk geometryFits inLimits busOk interfaceOk same
+pub openings-given : map (openGiven tableBytes) (2207235 ∷ 2206719 ∷ []) ≡ (0 ∷ []) ∷ (6 ∷ 88 ∷ []) ∷ []
+unfolding openGiven le driveOf tableNumbers numbersFrom recordNumbers stepAt stepOf endStep recordStep withRecord recordRefusal parametersRefusal headerAt headerOf refusal overlapsAny overlap inStore fieldsOk geometryFits inLimits busOk interfaceOk same
 openings-given = refl
 
 -- ---- write: the bytes of the opening again, in a buffer that has room; bytes past them stay
 
-pub table-written : map (λ (room : ℕ). writtenNumbers (writtenOf (good 7) room)) (139 ∷ 140 ∷ 142 ∷ []) ≡ (19 ∷ []) ∷ (0 ∷ 140 ∷ []) ∷ (0 ∷ 140 ∷ []) ∷ []
-unfolding writtenOf writtenNumbers writeAnswer tableOf bytesOf recordsOf recordOf geometryBytes sizeBytes nameBytes leBytes accept rowsOk requestOk isDrive isSound soundTo blankTo refusal overlapsAny overlap inStore fieldsOk geometryFits inLimits busOk interfaceOk isBlank blankNumbers blankNames same
+pub table-written : map (λ (room : ℕ). writtenNumbers (writtenOf (good 7) room)) (179 ∷ 180 ∷ 182 ∷ []) ≡ (19 ∷ []) ∷ (0 ∷ 180 ∷ []) ∷ (0 ∷ 180 ∷ []) ∷ []
+unfolding writtenOf writtenNumbers writeAnswer tableOf bytesOf recordsOf recordOf parametersRecord geometryBytes sizeBytes nameBytes leBytes accept rowsOk requestOk placementsOk placeOk parametersTo isDrive isSound soundTo blankTo attachedTo refusal overlapsAny overlap inStore fieldsOk geometryFits inLimits busOk interfaceOk isBlank blankNumbers blankNames same
 table-written = refl
 
-pub table-bytes : writtenOut (good 7) (replicate 142 9) ≡ tableBytes ++ (9 ∷ 9 ∷ [])
-unfolding writtenOut writeOut tableOf bytesOf recordsOf recordOf geometryBytes sizeBytes nameBytes leBytes accept rowsOk requestOk isDrive isSound soundTo blankTo refusal overlapsAny overlap inStore fieldsOk geometryFits inLimits busOk interfaceOk isBlank blankNumbers blankNames same
+pub table-bytes : writtenOut (good 7) (replicate 182 9) ≡ tableBytes ++ (9 ∷ 9 ∷ [])
+unfolding writtenOut writeOut tableOf bytesOf recordsOf recordOf parametersRecord geometryBytes sizeBytes nameBytes leBytes accept rowsOk requestOk placementsOk placeOk parametersTo isDrive isSound soundTo blankTo attachedTo refusal overlapsAny overlap inStore fieldsOk geometryFits inLimits busOk interfaceOk isBlank blankNumbers blankNames same
 table-bytes = refl
 
 -- ---- the calls, for every arena and store of those lengths
@@ -288,7 +346,7 @@ module _ (arena store : List ℕ) (la : length arena ≡ 560005) (ls : length st
   -- the turn at the pointer, and the number of blocks; the pointer goes to the guest after, from 7 to 0; all moved, the row is finished
   pub turns : map (λ (p : ℕ). turnOf (good p) arena store .answer) (0 ∷ 1 ∷ 2 ∷ 3 ∷ 4 ∷ 5 ∷ 6 ∷ 7 ∷ [])
       ≡ Served 0 16 ∷ Served 1 1 ∷ Served 2 16 ∷ Served 3 1 ∷ Served 6 2 ∷ Served 6 2 ∷ Served 6 2 ∷ Served 7 3 ∷ []
-  unfolding turnOf firstWaiting accept rowsOk requestOk isDrive isSound soundTo blankTo refusal overlapsAny overlap inStore fieldsOk geometryFits inLimits busOk interfaceOk isBlank blankNumbers blankNames same
+  unfolding turnOf firstWaiting accept rowsOk requestOk placementsOk placeOk parametersTo isDrive isSound soundTo blankTo attachedTo refusal overlapsAny overlap inStore fieldsOk geometryFits inLimits busOk interfaceOk isBlank blankNumbers blankNames same
   turns = rw (la, ls)
 
   -- the only waiting row is the last that the search comes to; and the turns by the second promise
@@ -296,12 +354,12 @@ module _ (arena store : List ℕ) (la : length arena ≡ 560005) (ls : length st
   lone = desk (places secondDrive zeroDrive) 2 5 560005 2207235 (set (replicate 8 vacantRow) 4 (waits 0x420B 0x80 5 3 68464 33 0))
 
   pub turn-round : turnOf lone arena store .answer ≡ Served 4 3
-  unfolding turnOf firstWaiting accept rowsOk requestOk isDrive isSound soundTo blankTo refusal overlapsAny overlap inStore fieldsOk geometryFits inLimits busOk interfaceOk isBlank blankNumbers blankNames same
+  unfolding turnOf firstWaiting accept rowsOk requestOk placementsOk placeOk parametersTo isDrive isSound soundTo blankTo attachedTo refusal overlapsAny overlap inStore fieldsOk geometryFits inLimits busOk interfaceOk isBlank blankNumbers blankNames same
   turn-round = rw (la, ls)
 
   pub turns-given : map (λ (d : Desk). turnGiven d arena store) (lone ∷ map good (0 ∷ 1 ∷ 4 ∷ 7 ∷ []))
       ≡ (0 ∷ 4 ∷ 3 ∷ []) ∷ (0 ∷ 0 ∷ 16 ∷ []) ∷ (0 ∷ 1 ∷ 1 ∷ []) ∷ (0 ∷ 6 ∷ 2 ∷ []) ∷ (0 ∷ 7 ∷ 3 ∷ []) ∷ []
-  unfolding turnGiven firstWaiting accept rowsOk requestOk isDrive isSound soundTo blankTo refusal overlapsAny overlap inStore fieldsOk geometryFits inLimits busOk interfaceOk isBlank blankNumbers blankNames same
+  unfolding turnGiven firstWaiting accept rowsOk requestOk placementsOk placeOk parametersTo isDrive isSound soundTo blankTo attachedTo refusal overlapsAny overlap inStore fieldsOk geometryFits inLimits busOk interfaceOk isBlank blankNumbers blankNames same
   turns-given = rw (la, ls)
 
   pub turn-desks : map (λ (p : ℕ). turnOf (good p) arena store .desk) (0 ∷ 1 ∷ 2 ∷ 3 ∷ 4 ∷ 7 ∷ [])
@@ -312,7 +370,7 @@ module _ (arena store : List ℕ) (la : length arena ≡ 560005) (ls : length st
       ∷ after 7 6 (Finished (success 0x000A))
       ∷ after 0 7 (Finished (success 0x000B))
       ∷ []
-  unfolding turnOf firstWaiting stageAfter accept rowsOk requestOk isDrive isSound soundTo blankTo refusal overlapsAny overlap inStore fieldsOk geometryFits inLimits busOk interfaceOk isBlank blankNumbers blankNames same
+  unfolding turnOf firstWaiting stageAfter accept rowsOk requestOk placementsOk placeOk parametersTo isDrive isSound soundTo blankTo attachedTo refusal overlapsAny overlap inStore fieldsOk geometryFits inLimits busOk interfaceOk isBlank blankNumbers blankNames same
   turn-desks = rw (la, ls)
 
   -- reads: to buffer + 512 x moved, from 512 x (first + start + moved)
@@ -322,7 +380,7 @@ module _ (arena store : List ℕ) (la : length arena ≡ 560005) (ls : length st
       ∷ withWindow arena 6 70000 (blocks (windowOf arena 6 70000) 68976 store 2074112 2)
       ∷ withWindow arena 7 70000 (blocks (windowOf arena 7 70000) 68464 store 5120 3)
       ∷ []
-  unfolding turnOf firstWaiting moves accept rowsOk requestOk isDrive isSound soundTo blankTo refusal overlapsAny overlap inStore fieldsOk geometryFits inLimits busOk interfaceOk isBlank blankNumbers blankNames same
+  unfolding turnOf firstWaiting moves accept rowsOk requestOk placementsOk placeOk parametersTo isDrive isSound soundTo blankTo attachedTo refusal overlapsAny overlap inStore fieldsOk geometryFits inLimits busOk interfaceOk isBlank blankNumbers blankNames same
   reads = rw (la, ls)
 
   -- writes: to 512 x (first + start + moved), from buffer + 512 x moved
@@ -331,24 +389,24 @@ module _ (arena store : List ℕ) (la : length arena ≡ 560005) (ls : length st
       ∷ blocks store 2050048 (windowOf arena 3 70000) 16393 1
       ∷ store
       ∷ []
-  unfolding turnOf firstWaiting moves accept rowsOk requestOk isDrive isSound soundTo blankTo refusal overlapsAny overlap inStore fieldsOk geometryFits inLimits busOk interfaceOk isBlank blankNumbers blankNames same
+  unfolding turnOf firstWaiting moves accept rowsOk requestOk placementsOk placeOk parametersTo isDrive isSound soundTo blankTo attachedTo refusal overlapsAny overlap inStore fieldsOk geometryFits inLimits busOk interfaceOk isBlank blankNumbers blankNames same
   writes = rw (la, ls)
 
   -- withdrawals: AH 80h and carry set; 02h and 03h have the blocks moved in AL, 42h and 43h in the word at packet + 2
   pub withdrawals : map (λ (g : ℕ). withdrawOf (good 7) g arena store .answer) (0 ∷ 1 ∷ 2 ∷ 3 ∷ [])
       ≡ map (λ (ax : ℕ). WithdrawGiven (registers ax)) (0x8070 ∷ 0x8010 ∷ 0x8007 ∷ 0x8008 ∷ [])
-  unfolding withdrawOf accept rowsOk requestOk isDrive isSound soundTo blankTo refusal overlapsAny overlap inStore fieldsOk geometryFits inLimits busOk interfaceOk isBlank blankNumbers blankNames same
+  unfolding withdrawOf accept rowsOk requestOk placementsOk placeOk parametersTo isDrive isSound soundTo blankTo attachedTo refusal overlapsAny overlap inStore fieldsOk geometryFits inLimits busOk interfaceOk isBlank blankNumbers blankNames same
   withdrawals = rw (la, ls)
 
   pub withdrawn-desks : map (λ (g : ℕ). withdrawOf (good 7) g arena store .desk) (1 ∷ 2 ∷ []) ≡ after 7 1 Vacant ∷ after 7 2 Vacant ∷ []
-  unfolding withdrawOf accept rowsOk requestOk isDrive isSound soundTo blankTo refusal overlapsAny overlap inStore fieldsOk geometryFits inLimits busOk interfaceOk isBlank blankNumbers blankNames same
+  unfolding withdrawOf accept rowsOk requestOk placementsOk placeOk parametersTo isDrive isSound soundTo blankTo attachedTo refusal overlapsAny overlap inStore fieldsOk geometryFits inLimits busOk interfaceOk isBlank blankNumbers blankNames same
   withdrawn-desks = rw (la, ls)
 
   pub count-words : map (λ (g : ℕ). withdrawOf (good 7) g arena store .arena) (2 ∷ 3 ∷ [])
       ≡ withWindow arena 2 70000 (sets (windowOf arena 2 70000) 69986 (96 ∷ 0 ∷ []))
       ∷ withWindow arena 3 70000 (sets (windowOf arena 3 70000) 23 (32 ∷ 0 ∷ []))
       ∷ []
-  unfolding withdrawOf leBytes accept rowsOk requestOk isDrive isSound soundTo blankTo refusal overlapsAny overlap inStore fieldsOk geometryFits inLimits busOk interfaceOk isBlank blankNumbers blankNames same
+  unfolding withdrawOf leBytes accept rowsOk requestOk placementsOk placeOk parametersTo isDrive isSound soundTo blankTo attachedTo refusal overlapsAny overlap inStore fieldsOk geometryFits inLimits busOk interfaceOk isBlank blankNumbers blankNames same
   count-words = rw (la, ls)
 
   -- a post of 02h: the block of 3/2/5 in 5/7/8, the buffer at ES:BX, 10010h + 123h; it waits with nothing moved, and carry is dropped
@@ -358,10 +416,10 @@ module _ (arena store : List ℕ) (la : length arena ≡ 560005) (ls : length st
 
   pub post-waits : (postOf (good 7) 5 call arena store .answer ≡ PostWaits)
       × (postOf (good 7) 5 call arena store .desk ≡ after 7 5 (Waiting (record { job = asked; moved = 0 })))
-  unfolding postOf begin steps sectors blockOf isValid accept rowsOk requestOk isDrive isSound soundTo blankTo refusal overlapsAny overlap inStore fieldsOk geometryFits inLimits busOk interfaceOk isBlank blankNumbers blankNames same
+  unfolding postOf begin steps sectors blockOf isValid accept rowsOk requestOk placementsOk placeOk parametersTo isDrive isSound soundTo blankTo attachedTo refusal overlapsAny overlap inStore fieldsOk geometryFits inLimits busOk interfaceOk isBlank blankNumbers blankNames same
   post-waits = (rw (window-5, la, ls), rw (window-5, la, ls))
 
 -- collect: the finished registers as they stand, and the row is vacant
 pub collected : collectOf (good 7) 4 [] [] ≡ done (after 7 4 Vacant) (CollectGiven (registers 0x4809)) [] []
-unfolding collectOf accept rowsOk requestOk isDrive isSound soundTo blankTo refusal overlapsAny overlap inStore fieldsOk geometryFits inLimits busOk interfaceOk isBlank blankNumbers blankNames same
+unfolding collectOf accept rowsOk requestOk placementsOk placeOk parametersTo isDrive isSound soundTo blankTo attachedTo refusal overlapsAny overlap inStore fieldsOk geometryFits inLimits busOk interfaceOk isBlank blankNumbers blankNames same
 collected = refl

@@ -1,6 +1,6 @@
 -- What an accepted desk says, as facts.
 -- Assumes nothing.
-use mathlib.Core.Path.{_≡_, refl}
+use mathlib.Core.Path.{_≡_, refl, ap, _∙_}
 use mathlib.Core.Logic.{_⊎_, ⊎-elim}
 use mathlib.Core.Bool.{Bool, true, false, not}
 use mathlib.Core.List.{List, [], _∷_}
@@ -15,24 +15,26 @@ use lib.ListN.{length, length-take}
 use lib.Dec.{leb, eqb}
 use borrow.Author.Tests.{leb-true, ltb-true, eqb-true}
 use Rattle.logic.specs.Logic.{pick, both, either}
-use Rattle.logic.proofs.LogicLaws.{both-true, both-intro}
+use Rattle.logic.proofs.LogicLaws.{both-true, both-intro, all-more}
 use Rattle.drive.specs.declared.Drive.{Drive}
 use Rattle.chs.specs.Chs.{size}
 use Rattle.drive.specs.Drive.{geometryOf, isProtected, same, blankNumbers, blankNames, isBlank}
 use Rattle.table.specs.declared.Table.{Table}
-use Rattle.table.specs.Table.{soundTo, blankTo, isSound, drivesOf}
+use Rattle.table.specs.Table.{soundTo, blankTo, attachedTo, isSound, drivesOf}
 use Rattle.table.proofs.Sound.{Obeys, good-obeys}
 use Rattle.int13.specs.declared.Registers.{Registers}
 use Rattle.int13.specs.declared.Job.{Job}
+use Rattle.int13.specs.declared.Placement.{Placement}
 use Rattle.int13.specs.Answers.{ah, isSectors, isWrite}
+use Rattle.int13.specs.Placement.{tableCount}
 use Rattle.int13.specs.Steps.{isDrive, driveAt}
 use Rattle.desk.specs.declared.Request.{Request}
 use Rattle.desk.specs.declared.Stage.{Stage}
 use Rattle.desk.specs.declared.Stage.the-variants.{Vacant, Waiting, Finished}
 use Rattle.desk.specs.declared.Row.{Row}
 use Rattle.desk.specs.declared.Desk.{Desk}
-use Rattle.desk.specs.Parts.{windowSize, storeBlocks, stageIn}
-use Rattle.desk.specs.Acceptable.{isTransfer, packetOk, jobRules, jobOk, movedOk, requestOk, stageOk, rowsOk, accept}
+use Rattle.desk.specs.Parts.{windowSize, storeBlocks, stageIn, placementAt}
+use Rattle.desk.specs.Acceptable.{isTransfer, packetOk, jobRules, jobOk, movedOk, requestOk, stageOk, rowsOk, placementOk, placementsOk, accept}
 use Rattle.desk.specs.Calls.{closed}
 
 -- ---- the parts of the test
@@ -41,13 +43,15 @@ pub record Accepted (d : Desk) : Type 0 where
   pub sound : isSound (d .table) (storeBlocks d) ≡ true
   pub pointer : d .pointer < 8
   pub rows : rowsOk 8 (d .rows) (d .table) (windowSize d) ≡ true
+  pub placements : placementsOk 8 (tableCount (d .table)) (windowSize d) d ≡ true
 
 pub accept-true : (d : Desk) → accept d ≡ true → Accepted d
 unfolding accept
 accept-true d e =
     let p = both-true _ _ e in
     let q = both-true _ _ (p .1) in
-    record { sound = p .0; pointer = ltb-true (d .pointer) 8 (q .0); rows = q .1 }
+    let r = both-true _ _ (q .1) in
+    record { sound = p .0; pointer = ltb-true (d .pointer) 8 (q .0); rows = r .0; placements = r .1 }
 
 pub rowsOk-at : (n : ℕ) (rows : List Row) (b : Table) (M g : ℕ) → g < n → rowsOk n rows b M ≡ true → stageOk b M (stageIn rows g) ≡ true
 unfolding rowsOk
@@ -139,6 +143,11 @@ pub rowsOk-more : {r a s : Bool} (i : ℕ) (rows : List Row) (b : Table) (M : �
 unfolding rowsOk
 rowsOk-more i rows b M p q e = rw (add-one, q, e, p)
 
+pub placements-more : {r a s : Bool} {p : Placement} (g n M : ℕ) (d : Desk) → s ≡ placementsOk g n M d → r ≡ both a s → a ≡ placementOk n M p → p ≡ placementAt d g
+    → r ≡ placementsOk (g + 1) n M d
+unfolding placementsOk
+placements-more g n M d h e a p = all-more g (λ i. placementOk n M (placementAt d i)) h e (a ∙ ap (placementOk n M) p)
+
 -- a count past its limit, whatever else
 pub job-count : {f : ℕ} {sector count : Bool} (d : Drive) (M : ℕ) (j : Job) → f ≡ ah (j .registers) → sector ≡ isSectors f → count ≡ leb (j .count) (pick sector 128 127) → count ≡ false
     → false ≡ jobRules d M j
@@ -160,5 +169,5 @@ job-tests d M j ef es ec c ew et ei eg ep eb ek el en er eo ex =
 
 -- at a desk whose opening was refused every call is 25
 pub closed-refused : (arena store : ℕ) → accept (closed arena store) ≡ false
-unfolding accept isSound soundTo blankTo isBlank blankNumbers blankNames same rowsOk
+unfolding accept isSound soundTo blankTo attachedTo isBlank blankNumbers blankNames same rowsOk
 closed-refused arena store = refl

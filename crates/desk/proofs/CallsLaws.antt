@@ -20,6 +20,7 @@ use Rattle.int13.specs.declared.Registers.{Registers}
 use Rattle.int13.specs.declared.Outcome.{Outcome}
 use Rattle.int13.specs.declared.Outcome.the-variants.{Answered, Waits as OutcomeWaits}
 use Rattle.int13.specs.Answers.{ah}
+use Rattle.int13.specs.Placement.{tableCount}
 use Rattle.int13.specs.Steps.{Checked, driveAt, fed, begin}
 use Rattle.int13.specs.Alone.{Memory, storeBlock, moves}
 use Rattle.desk.proofs.Stage as stage
@@ -38,9 +39,11 @@ use Rattle.desk.specs.declared.TurnAnswer.the-variants.{Served, Idle, Re
 use Rattle.desk.specs.declared.CollectAnswer.the-variants.{Given as CollectGiven, Refused as CollectRefused}
 use Rattle.desk.specs.declared.WithdrawAnswer.{WithdrawAnswer}
 use Rattle.desk.specs.declared.WithdrawAnswer.the-variants.{Refused as WithdrawRefused}
-use Rattle.desk.specs.Parts.{windowSize, ownWindow, withOwn, stageIn, stageAt, withStage, isWaiting, next, withPointer}
-use Rattle.desk.specs.Acceptable.{packetOk, InRange, accept}
-use Rattle.desk.specs.Calls.{houseTests, houseNumber, isLent, done, writtenOf, writtenOut, postChecked, postRow, postOf, firstWaiting, quota, serviceOf, Transferred, serve, serveStage, turnNext, turnOf, collectStage, collectOf, withdrawnWindow, withdrawStage, withdrawOf}
+use Rattle.desk.specs.declared.PlaceAnswer.{PlaceAnswer}
+use Rattle.desk.specs.declared.PlaceAnswer.the-variants.{Placed, Refused as PlaceRefused}
+use Rattle.desk.specs.Parts.{windowSize, ownWindow, withOwn, stageIn, stageAt, withStage, isWaiting, next, withPointer, placementAt, withPlacement}
+use Rattle.desk.specs.Acceptable.{packetOk, InRange, placeOk, accept}
+use Rattle.desk.specs.Calls.{houseTests, houseNumber, isLent, done, writtenOf, writtenOut, postChecked, postRow, postOf, firstWaiting, quota, serviceOf, Transferred, serve, serveStage, turnNext, turnOf, collectStage, collectOf, withdrawnWindow, withdrawStage, withdrawOf, tablesIn, placeTables, placeStage, placeOf}
 use Rattle.desk.proofs.AcceptableLaws.{accept-true, rowsOk-at, Waits, waits-facts, not-waiting, drive-obeys}
 
 -- ---- stages that a `let .. else` leaves
@@ -54,6 +57,17 @@ post-stage : (s : Stage) (d : Desk) (g : ℕ) (r : Registers) (arena store : Lis
 post-stage Vacant d g r arena store k = absurd (⊎-elim (λ w. omega arith) (λ w. omega arith) k)
 post-stage (Waiting q) d g r arena store k = refl
 post-stage (Finished x) d g r arena store k = refl
+
+-- a place is looked at for every row but a waiting one
+place-stage : (s : Stage) (d : Desk) (g address : ℕ) (arena store : List ℕ) → isWaiting s ≡ true → done d (PlaceRefused 21) arena store ≡ placeStage d g address s arena store
+place-stage Vacant d g address arena store e = impossible (cc)
+place-stage (Waiting q) d g address arena store e = refl
+place-stage (Finished r) d g address arena store e = impossible (cc)
+
+place-other : (s : Stage) (d : Desk) (g address : ℕ) (arena store : List ℕ) → isWaiting s ≡ false → placeTables d g address arena store ≡ placeStage d g address s arena store
+place-other Vacant d g address arena store e = refl
+place-other (Waiting q) d g address arena store e = impossible (cc)
+place-other (Finished r) d g address arena store e = refl
 
 -- a post that passed its tests, by its parts
 post-parts : (d : Desk) (g : ℕ) (arena store : List ℕ) (o : Outcome) (w : List ℕ)
@@ -153,11 +167,11 @@ module _ (d : Desk) (g : ℕ) (arena store : List ℕ) (p : Passed (accept d) (i
   post-other r k = post-stage (stageAt d g) d g r arena store k ∙ post-row r
 
   pub post-vacant : {desk : Desk} {answer : PostAnswer} {outcome : Outcome} {w : List ℕ} (r : Registers) → stageAt d g ≡ Vacant
-      → outcome ≡ begin (fed (d .table)) r (ownWindow arena g) .outcome → w ≡ begin (fed (d .table)) r (ownWindow arena g) .window
+      → outcome ≡ begin (fed (d .table) (placementAt d g)) r (ownWindow arena g) .outcome → w ≡ begin (fed (d .table) (placementAt d g)) r (ownWindow arena g) .window
       → desk ≡ postChecked d g [] [] outcome [] .desk → answer ≡ postChecked d g [] [] outcome [] .answer
       → done desk answer (withOwn arena g w) store ≡ postOf d g r arena store
   post-vacant r v eo ew e₁ e₂ =
-      let asked : ℕ → Checked = λ n. begin (fed (d .table)) r (windowOf arena g n) in
+      let asked : ℕ → Checked = λ n. begin (fed (d .table) (placementAt d g)) r (windowOf arena g n) in
       rw (e₁, e₂, eo, ew)
       (ap (λ (n : ℕ). done (postChecked d g [] [] (asked n .outcome) [] .desk) (postChecked d g [] [] (asked n .outcome) [] .answer) (withWindow arena g n (asked n .window)) store) (own-length d arena store (p .lent))
       ∙ post-parts d g arena store (asked (windowSize d) .outcome) (asked (windowSize d) .window)
@@ -178,6 +192,30 @@ module _ (d : Desk) (g : ℕ) (arena store : List ℕ) (p : Passed (accept d) (i
       rw (e₁, e₂, e₃)
       (ap (λ (n : ℕ). done (withdrawStage d g (Waiting q) [] [] .desk) (withdrawStage d g (Waiting q) [] [] .answer) (withWindow arena g n (withdrawnWindow q (windowOf arena g n))) store) (own-length d arena store (p .lent))
       ∙ ap (λ (s : Stage). withdrawStage d g s arena store) (sym w) ∙ withdraw-row)
+
+  place-row : (address : ℕ) → placeStage d g address (stageAt d g) arena store ≡ placeOf d g address arena store
+  unfolding placeOf
+  place-row address = house-on (λ n. done d (PlaceRefused n) arena store) _ p
+
+  pub place-waiting : (address : ℕ) → isWaiting (stageAt d g) ≡ true → done d (PlaceRefused 21) arena store ≡ placeOf d g address arena store
+  place-waiting address w = place-stage (stageAt d g) d g address arena store w ∙ place-row address
+
+  pub place-bad : (address : ℕ) → isWaiting (stageAt d g) ≡ false → placeOk (tableCount (d .table)) (windowSize d) address ≡ false
+      → done d (PlaceRefused 26) arena store ≡ placeOf d g address arena store
+  place-bad address w e =
+      let t : done d (PlaceRefused 26) arena store ≡ placeTables d g address arena store = rw e in
+      t ∙ place-other (stageAt d g) d g address arena store w ∙ place-row address
+
+  pub place-done : {desk : Desk} {answer : PlaceAnswer} {arena′ : List ℕ} (address : ℕ) → isWaiting (stageAt d g) ≡ false
+      → placeOk (tableCount (d .table)) (windowSize d) address ≡ true → desk ≡ withPlacement d g address → answer ≡ Placed
+      → arena′ ≡ withOwn arena g (tablesIn (d .table) address (ownWindow arena g))
+      → done desk answer arena′ store ≡ placeOf d g address arena store
+  place-done address w e e₁ e₂ e₃ =
+      let laid : ℕ → List ℕ = λ n. withWindow arena g n (tablesIn (d .table) address (windowOf arena g n)) in
+      let t : done (withPlacement d g address) Placed (laid (windowSize d)) store ≡ placeTables d g address arena store = rw e in
+      rw (e₁, e₂, e₃)
+      (ap (λ (n : ℕ). done (withPlacement d g address) Placed (laid n) store) (own-length d arena store (p .lent))
+      ∙ t ∙ place-other (stageAt d g) d g address arena store w ∙ place-row address)
 
 -- ---- the guest that a search finds
 

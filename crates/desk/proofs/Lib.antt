@@ -3,5 +3,8 @@ pub mod AcceptableLaws
 pub mod CallsLaws
 pub mod NumbersLaws
 pub mod Transfers
+pub mod Places
+pub mod Placed
 pub mod Vectors
 pub mod AcceptVectors
+pub mod PlaceVectors

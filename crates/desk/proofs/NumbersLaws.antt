@@ -7,6 +7,7 @@ use Prim.Native.Nat.{ℕ, _/_, _<_}
 use native.Mathlib.Omega.{arith}
 use lib.ListN.{length, drop}
 use lib.Dec.{ltb}
+use Rattle.logic.specs.Logic.{pick}
 use Rattle.logic.proofs.LogicLaws.{impossible}
 use Rattle.memory.specs.Window.{windowOf}
 use Rattle.table.specs.declared.Answer.{Answer}
@@ -19,6 +20,7 @@ use Rattle.int13.specs.declared.Registers.{Registers}
 use Rattle.int13.specs.declared.Outcome.{Outcome}
 use Rattle.int13.specs.declared.Outcome.the-variants.{Answered, Waits}
 use Rattle.int13.specs.Answers.{outcomeNumbers}
+use Rattle.int13.specs.Placement.{tableCount}
 use Rattle.int13.specs.Steps.{fed, begin}
 use Rattle.int13.proofs.Numbers.{registers-apart, begin-answered}
 use Rattle.desk.specs.declared.Stage.{Stage}
@@ -37,10 +39,12 @@ use Rattle.desk.specs.declared.CollectAnswer.{CollectAnswer}
 use Rattle.desk.specs.declared.CollectAnswer.the-variants.{Given as CollectGiven, Refused as CollectRefused}
 use Rattle.desk.specs.declared.WithdrawAnswer.{WithdrawAnswer}
 use Rattle.desk.specs.declared.WithdrawAnswer.the-variants.{Given as WithdrawGiven, Refused as WithdrawRefused}
-use Rattle.desk.specs.Parts.{stageAt}
-use Rattle.desk.specs.Acceptable.{accept}
-use Rattle.desk.specs.Calls.{houseTests, isLent, Done, done, openAnswer, openOf, writtenOf, writtenOut, postChecked, postRow, postOf, firstWaiting, serveStage, turnNext, turnOf, collectStage, collectOf, withdrawStage, withdrawOf}
-use Rattle.desk.specs.Numbers.{openNumbers, postNumbers, turnNumbers, collectNumbers, withdrawNumbers, houseFirst, openGiven, writeGiven, postStepsGiven, postRowGiven, postGiven, turnRowGiven, turnNextGiven, turnGiven, collectRowGiven, collectGiven, withdrawRowGiven, withdrawGiven}
+use Rattle.desk.specs.declared.PlaceAnswer.{PlaceAnswer}
+use Rattle.desk.specs.declared.PlaceAnswer.the-variants.{Placed, Refused as PlaceRefused}
+use Rattle.desk.specs.Parts.{stageAt, placementAt}
+use Rattle.desk.specs.Acceptable.{placeOk, accept}
+use Rattle.desk.specs.Calls.{houseTests, isLent, Done, done, openAnswer, openOf, writtenOf, writtenOut, postChecked, postRow, postOf, firstWaiting, serveStage, turnNext, turnOf, collectStage, collectOf, withdrawStage, withdrawOf, placeTables, placeStage, placeOf}
+use Rattle.desk.specs.Numbers.{openNumbers, postNumbers, turnNumbers, collectNumbers, withdrawNumbers, placeNumbers, houseFirst, openGiven, writeGiven, postStepsGiven, postRowGiven, postGiven, turnRowGiven, turnNextGiven, turnGiven, collectRowGiven, collectGiven, withdrawRowGiven, withdrawGiven, placeTestsGiven, placeRowGiven, placeGiven}
 
 -- numbers go through the tests before the row's
 house-numbers : {A : Type 0} (f : A → List ℕ) (refused : ℕ → A) (x : A) (own : List ℕ) (a l g : Bool) → ((n : ℕ) → f (refused n) ≡ n ∷ []) → f x ≡ own
@@ -83,7 +87,7 @@ post-checked d g arena store (Waits j) w = refl
 post-row : (d : Desk) (g : ℕ) (r : Registers) (arena store : List ℕ) (s : Stage) → posts (postRow d g r arena store s) ≡ postRowGiven d g r arena s
 unfolding postNumbers
 post-row d g r arena store Vacant =
-    post-checked d g arena store _ _ ∙ ap postStepsGiven (begin-answered (d .table) r (windowOf arena g (d .arena / 8)) refl refl .2)
+    post-checked d g arena store _ _ ∙ ap postStepsGiven (begin-answered (d .table) (placementAt d g) r (windowOf arena g (d .arena / 8)) refl refl .2)
 post-row d g r arena store (Waiting q) = refl
 post-row d g r arena store (Finished x) = refl
 
@@ -149,6 +153,33 @@ unfolding withdrawOf withdrawGiven withdrawNumbers
 withdraw-answered d g arena store e =
     (e, ap withdraws e ∙ house-numbers withdraws (λ n. done d (WithdrawRefused n) arena store) _ _ (accept d) (isLent d arena store) (ltb g 8) (λ n. refl) (withdraw-row d g (stageAt d g) arena store))
 
+-- ---- place
+
+abbrev places : Done PlaceAnswer → List ℕ
+places x = placeNumbers (x .answer)
+
+place-picks : (t : Bool) (x : Done PlaceAnswer) (d : Desk) (arena store : List ℕ) → x .answer ≡ Placed → places (pick t x (done d (PlaceRefused 26) arena store)) ≡ pick t (0 ∷ []) (26 ∷ [])
+unfolding placeNumbers
+place-picks true x d arena store e = rw e
+place-picks false x d arena store e = refl
+
+-- the place as the paper has it
+place-tests : (d : Desk) (g address : ℕ) (arena store : List ℕ) → places (placeTables d g address arena store) ≡ placeTestsGiven (tableCount (d .table)) (d .arena / 8) address
+unfolding placeOk
+place-tests d g address arena store = place-picks (placeOk (tableCount (d .table)) (d .arena / 8) address) _ d arena store refl
+
+place-row : (d : Desk) (g address : ℕ) (s : Stage) (arena store : List ℕ) → places (placeStage d g address s arena store) ≡ placeRowGiven d address s
+unfolding placeNumbers
+place-row d g address Vacant arena store = place-tests d g address arena store
+place-row d g address (Waiting q) arena store = refl
+place-row d g address (Finished r) arena store = place-tests d g address arena store
+
+pub place-answered : {x : Done PlaceAnswer} (d : Desk) (g address : ℕ) (arena store : List ℕ) → x ≡ placeOf d g address arena store
+    → (x ≡ placeOf d g address arena store) × (placeNumbers (x .answer) ≡ placeGiven d g address arena store)
+unfolding placeOf placeGiven placeNumbers
+place-answered d g address arena store e =
+    (e, ap places e ∙ house-numbers places (λ n. done d (PlaceRefused n) arena store) _ _ (accept d) (isLent d arena store) (ltb g 8) (λ n. refl) (place-row d g address (stageAt d g) arena store))
+
 -- ---- no two answers have the same numbers
 
 pub open-apart : (x y : OpenAnswer) → openNumbers x ≡ openNumbers y → x ≡ y
@@ -195,12 +226,17 @@ turn-apart (TurnRefused m) (Served h l) a b e = impossible (cc)
 turn-apart (TurnRefused m) Idle a b e = let z : m ≡ 256 = cc in absurd (omega arith)
 turn-apart (TurnRefused m) (TurnRefused n) a b e = cc
 
+-- what holds of 25, 24, 20 and the row's number holds of the call's
+house-each : {A : Type 0} (P : ℕ → Type 0) (f : A → ℕ) (refused : ℕ → A) (x : A) (a l g : Bool) → P 25 → P 24 → P 20 → ((n : ℕ) → f (refused n) ≡ n) → P (f x)
+    → P (f (houseTests a l g refused x))
+house-each P f refused x false l g p q r n h = rw (n 25) p
+house-each P f refused x true false g p q r n h = rw (n 24) q
+house-each P f refused x true true false p q r n h = rw (n 20) r
+house-each P f refused x true true true p q r n h = h
+
 -- the refusals of both calls are bytes
 house-byte : {A : Type 0} (f : A → ℕ) (refused : ℕ → A) (x : A) (a l g : Bool) → ((n : ℕ) → f (refused n) ≡ n) → f x < 256 → f (houseTests a l g refused x) < 256
-house-byte f refused x false l g n h = rw (n 25) (omega arith)
-house-byte f refused x true false g n h = rw (n 24) (omega arith)
-house-byte f refused x true true false n h = rw (n 20) (omega arith)
-house-byte f refused x true true true n h = h
+house-byte f refused x a l g = house-each (λ n. n < 256) f refused x a l g (omega arith) (omega arith) (omega arith)
 
 pub post-byte : (d : Desk) (g : ℕ) (r : Registers) (arena store : List ℕ) → postHouse (postOf d g r arena store .answer) < 256
 unfolding postOf
@@ -212,7 +248,7 @@ post-byte d g r arena store =
     by-outcome (Waits j) w = omega arith
 
     by-row : (s : Stage) → postHouse (postRow d g r arena store s .answer) < 256
-    by-row Vacant = let k = begin (fed (d .table)) r (windowOf arena g (d .arena / 8)) in by-outcome (k .outcome) (k .window)
+    by-row Vacant = let k = begin (fed (d .table) (placementAt d g)) r (windowOf arena g (d .arena / 8)) in by-outcome (k .outcome) (k .window)
     by-row (Waiting q) = omega arith
     by-row (Finished x) = omega arith
 
@@ -243,3 +279,37 @@ withdraw-apart (WithdrawGiven r) (WithdrawGiven s) e = ap WithdrawGiven (registe
 withdraw-apart (WithdrawGiven r) (WithdrawRefused n) e = impossible (cc)
 withdraw-apart (WithdrawRefused m) (WithdrawGiven s) e = impossible (cc)
 withdraw-apart (WithdrawRefused m) (WithdrawRefused n) e = cc
+
+-- the house number of a refusal; 1 where the tables are placed
+abbrev pub placeHouse : PlaceAnswer → ℕ
+placeHouse Placed = 1
+placeHouse (PlaceRefused n) = n
+
+-- 0 is the list of tables that are placed: a refusal with that number would have the same, and no house number is 0
+pub place-apart : (x y : PlaceAnswer) → 0 < placeHouse x → 0 < placeHouse y → placeNumbers x ≡ placeNumbers y → x ≡ y
+unfolding placeNumbers
+place-apart Placed Placed a b e = refl
+place-apart Placed (PlaceRefused n) a b e = let z : 0 ≡ n = cc in absurd (omega arith)
+place-apart (PlaceRefused m) Placed a b e = let z : m ≡ 0 = cc in absurd (omega arith)
+place-apart (PlaceRefused m) (PlaceRefused n) a b e = cc
+
+abbrev Byte : Done PlaceAnswer → Type 0
+Byte x = (0 < placeHouse (x .answer)) × (placeHouse (x .answer) < 256)
+
+pub place-byte : (d : Desk) (g address : ℕ) (arena store : List ℕ) → (0 < placeHouse (placeOf d g address arena store .answer)) × (placeHouse (placeOf d g address arena store .answer) < 256)
+unfolding placeOf
+place-byte d g address arena store =
+    house-each (λ n. (0 < n) × (n < 256)) (λ (x : Done PlaceAnswer). placeHouse (x .answer)) (λ n. done d (PlaceRefused n) arena store) _ (accept d) (isLent d arena store) (ltb g 8)
+    (omega arith, omega arith) (omega arith, omega arith) (omega arith, omega arith) (λ n. refl) (by-row (stageAt d g))
+  where
+    by-test : (t : Bool) (x : Done PlaceAnswer) → x .answer ≡ Placed → Byte (pick t x (done d (PlaceRefused 26) arena store))
+    by-test true x e = rw e (omega arith, omega arith)
+    by-test false x e = (omega arith, omega arith)
+
+    by-place : Byte (placeTables d g address arena store)
+    by-place = by-test (placeOk (tableCount (d .table)) (d .arena / 8) address) _ refl
+
+    by-row : (s : Stage) → Byte (placeStage d g address s arena store)
+    by-row Vacant = by-place
+    by-row (Waiting q) = (omega arith, omega arith)
+    by-row (Finished r) = by-place

@@ -11,11 +11,12 @@ use Rattle.memory.specs.Window.{spanStart, spanLength}
 use Rattle.layout.specs.Packet.{readPacket}
 use Rattle.layout.specs.ResultBuffer.{returnedSize, parameterBytes, blockBytes, interfaceBytes, pathBytes, sum, wholeResult, resultBytes, resultAnswer}
 use Rattle.drive.specs.Drive.{driveOf, isBlank, blankNumbers, blankNames, same, busOk, interfaceOk, geometryFits, fieldsOk, inStore, overlap}
-use Rattle.table.specs.Table.{emptyTable, headerOf, headerAt, overlapsAny, refusal, driveStep, endStep, stepOf, stepAt, readFrom, readTable, recordsOf, bytesOf, tableOf, writeAnswer, writeOut, writtenNumbers, writeNumbers, soundTo, blankTo, isSound}
+use Rattle.table.specs.Table.{emptyTable, headerOf, headerAt, overlapsAny, refusal, recordRefusal, withRecord, recordStep, endStep, stepOf, stepAt, readFrom, readTable, recordsOf, bytesOf, tableOf, writeAnswer, writeOut, writtenNumbers, writeNumbers, soundTo, blankTo, attachedTo, isSound}
 use Rattle.words.specs.Words.{le}
 use Rattle.int13.specs.declared.Registers.{Registers}
 use Rattle.int13.specs.declared.Outcome.{Outcome}
 use Rattle.int13.specs.declared.Outcome.the-variants.{Answered, Waits}
+use Rattle.int13.specs.Placement.{noPlacement}
 use Rattle.int13.specs.Numbers.{checkGiven, bufferGiven, stepsGiven, beginGiven}
 use Rattle.int13.specs.Steps.{isDrive, fed, parameters, extensions, packetPlan, seek as seekSteps, sectors, result, steps, begin}
 use Rattle.desk.specs.declared.Row.{Row}
@@ -26,7 +27,7 @@ use Rattle.desk.specs.declared.Next.the-variants.{Guest}
 use Rattle.desk.specs.declared.PostAnswer.the-variants.{Waits as PostWaits}
 use Rattle.desk.specs.declared.TurnAnswer.the-variants.{Served}
 use Rattle.desk.specs.Parts.{vacantRow}
-use Rattle.desk.specs.Acceptable.{rowsOk, accept}
+use Rattle.desk.specs.Acceptable.{rowsOk, placementsOk, accept}
 use Rattle.desk.specs.Calls.{openOf, writtenOf, writtenOut, postVacant, postRow, postOf, firstWaiting, turnOf, collectStage, collectOf, withdrawStage, withdrawOf}
 use Rattle.desk.specs.Numbers.{openNumbers, postNumbers, turnNumbers, collectNumbers, withdrawNumbers, writeGiven, postRowGiven, postGiven, turnRowGiven, turnGiven, collectRowGiven, collectGiven, withdrawRowGiven, withdrawGiven}
 
@@ -39,7 +40,7 @@ row s = record { stage = s }
 
 -- a desk with no drives, for an arena of 8 bytes and a store of none, with a stage at guest 3
 abbrev desk : Stage → ℕ → Desk
-desk s pointer = record { rows = set (replicate 8 vacantRow) 3 (row s); pointer = pointer; table = emptyTable; arena = 8; store = 0 }
+desk s pointer = record { rows = set (replicate 8 vacantRow) 3 (row s); pointer = pointer; table = emptyTable; arena = 8; store = 0; placed = replicate 8 false; addresses = replicate 8 0 }
 
 abbrev arena : List ℕ
 arena = replicate 8 7
@@ -70,7 +71,7 @@ pub order : houses (desk Vacant 8) 8 [] arena []
     ∷ ((20 ∷ []) ∷ (256 ∷ []) ∷ (20 ∷ []) ∷ (20 ∷ []) ∷ (19 ∷ []) ∷ [])
     ∷ ((0 ∷ 0x0107 ∷ 0x55AA ∷ 3 ∷ 0x80 ∷ 4 ∷ 5 ∷ 6 ∷ 1 ∷ []) ∷ (256 ∷ []) ∷ (22 ∷ []) ∷ (23 ∷ []) ∷ (0 ∷ 4 ∷ []) ∷ [])
     ∷ [])
-unfolding postOf turnOf collectOf withdrawOf writtenOf postNumbers turnNumbers collectNumbers withdrawNumbers writtenNumbers writeAnswer tableOf bytesOf recordsOf leBytes accept rowsOk isSound soundTo blankTo isBlank blankNumbers blankNames same firstWaiting begin steps isDrive parameters extensions writeNumbers beginGiven stepsGiven checkGiven writeGiven postGiven turnGiven collectGiven withdrawGiven
+unfolding postOf turnOf collectOf withdrawOf writtenOf postNumbers turnNumbers collectNumbers withdrawNumbers writtenNumbers writeAnswer tableOf bytesOf recordsOf leBytes accept rowsOk placementsOk isSound soundTo blankTo attachedTo isBlank blankNumbers blankNames same firstWaiting begin steps isDrive parameters extensions writeNumbers beginGiven stepsGiven checkGiven writeGiven postGiven turnGiven collectGiven withdrawGiven
 order = refl
 
 -- a finished row refuses a post (21) and a withdrawal (23), and is collected once; any registers may stand in it
@@ -87,7 +88,7 @@ pub finished-row : postNumbers (postOf finished 3 registers arena [] .answer)
     ∷ []
     ≡ (21 ∷ []) ∷ (23 ∷ []) ∷ (0 ∷ 0x4107 ∷ 0x55AA ∷ 3 ∷ 0x80 ∷ 4 ∷ 5 ∷ 6 ∷ 1 ∷ []) ∷ (22 ∷ [])
     ∷ (21 ∷ []) ∷ (23 ∷ []) ∷ (0 ∷ 0x4107 ∷ 0x55AA ∷ 3 ∷ 0x80 ∷ 4 ∷ 5 ∷ 6 ∷ 1 ∷ []) ∷ []
-unfolding postOf collectOf withdrawOf postNumbers collectNumbers withdrawNumbers postGiven collectGiven withdrawGiven accept rowsOk isSound soundTo blankTo isBlank blankNumbers blankNames same
+unfolding postOf collectOf withdrawOf postNumbers collectNumbers withdrawNumbers postGiven collectGiven withdrawGiven accept rowsOk placementsOk isSound soundTo blankTo attachedTo isBlank blankNumbers blankNames same
 finished-row = refl
 
 -- a request that waits, whatever it asks
@@ -112,7 +113,7 @@ openings = refl
 -- a table write lays four bytes and leaves the rest of the buffer; a short buffer stays
 pub writes : writtenOut (desk Vacant 0) (9 ∷ 9 ∷ 9 ∷ 9 ∷ 9 ∷ 9 ∷ []) ∷ writtenOut (desk Vacant 0) (9 ∷ 9 ∷ 9 ∷ []) ∷ writtenOut (desk Vacant 8) (9 ∷ 9 ∷ 9 ∷ 9 ∷ []) ∷ []
     ≡ (4 ∷ 0 ∷ 0 ∷ 0 ∷ 9 ∷ 9 ∷ []) ∷ (9 ∷ 9 ∷ 9 ∷ []) ∷ (9 ∷ 9 ∷ 9 ∷ 9 ∷ []) ∷ []
-unfolding writtenOut writeOut tableOf bytesOf recordsOf leBytes accept rowsOk isSound soundTo blankTo isBlank blankNumbers blankNames same
+unfolding writtenOut writeOut tableOf bytesOf recordsOf leBytes accept rowsOk placementsOk isSound soundTo blankTo attachedTo isBlank blankNumbers blankNames same
 writes = refl
 
 -- ---- a waiting row, in calls that have passed their tests; windows of 16 bytes, with the packet at place 0
@@ -137,7 +138,7 @@ abbrev partly : Registers → ℕ → Stage
 partly r packet = Waiting (record { job = record { registers = r; drive = 0x80; start = 0; count = 17; buffer = 0; packet = packet }; moved = 16 })
 
 abbrev small : Desk
-small = record { rows = replicate 8 vacantRow; pointer = 0; table = emptyTable; arena = 128; store = 0 }
+small = record { rows = replicate 8 vacantRow; pointer = 0; table = emptyTable; arena = 128; store = 0; placed = replicate 8 false; addresses = replicate 8 0 }
 
 -- a post is refused (21) and a collect (22); a withdrawal after 16 of 17 blocks gives them in AL for 02h, and leaves the window; for 42h AL
 -- stays and the packet's count word gives them, over whatever lies there. The guest is 1
@@ -181,7 +182,8 @@ waiting-given = refl
 -- ---- a post that is answered at once and writes the guest's window: 48h of guest 3, whose window is bytes 99 to 131, with the size 26 at place 4
 
 abbrev lending : Desk
-lending = record { rows = replicate 8 vacantRow; pointer = 0; table = readTable tableBytes 17 .table; arena = 270; store = 0 }
+lending =
+    record { rows = replicate 8 vacantRow; pointer = 0; table = readTable tableBytes 17 .table; arena = 270; store = 0; placed = replicate 8 false; addresses = replicate 8 0 }
 
 abbrev resultCall : Registers
 resultCall = record { ax = 0x4855; bx = 1; cx = 2; dx = 0x80; ds = 0; si = 4; es = 3; carry = true }
@@ -197,7 +199,7 @@ pub post-writes : postNumbers (postVacant lending 3 resultCall (around (26 ∷ 0
     ∷ around (26 ∷ 0 ∷ 2 ∷ 0 ∷ 2 ∷ 0 ∷ 0 ∷ 0 ∷ 16 ∷ 0 ∷ 0 ∷ 0 ∷ 63 ∷ 0 ∷ 0 ∷ 0 ∷ 17 ∷ 0 ∷ 0 ∷ 0 ∷ 0 ∷ 0 ∷ 0 ∷ 0 ∷ 0 ∷ 2 ∷ [])
     ∷ (0 ∷ 0x0055 ∷ 1 ∷ 2 ∷ 0x80 ∷ 0 ∷ 4 ∷ 3 ∷ 0 ∷ [])
     ∷ []
-unfolding postNumbers spanStart spanLength begin steps result isDrive returnedSize parameterBytes blockBytes interfaceBytes pathBytes sum wholeResult resultBytes resultAnswer beginGiven stepsGiven bufferGiven le leBytes inLimits driveOf same busOk interfaceOk geometryFits fieldsOk inStore overlap headerOf headerAt overlapsAny refusal driveStep endStep stepOf stepAt readFrom readTable
+unfolding postNumbers spanStart spanLength begin steps result isDrive returnedSize parameterBytes blockBytes interfaceBytes pathBytes sum wholeResult resultBytes resultAnswer beginGiven stepsGiven bufferGiven le leBytes inLimits driveOf same busOk interfaceOk geometryFits fieldsOk inStore overlap headerOf headerAt overlapsAny refusal recordRefusal withRecord recordStep endStep stepOf stepAt readFrom readTable
 post-writes = refl
 
 -- with no window 02h is 09h, 42h and 48h are 01h, and 08h and 41h still succeed
@@ -208,7 +210,7 @@ abbrev firstNumber : Outcome → ℕ
 firstNumber (Answered r) = r .ax
 firstNumber (Waits j) = 0xFFFF
 
-pub no-window : map (λ (ax : ℕ). firstNumber (begin (fed (readTable tableBytes 17 .table)) (call ax) [] .outcome)) (0x0201 ∷ 0x4200 ∷ 0x4700 ∷ 0x4800 ∷ 0x0800 ∷ 0x4100 ∷ [])
+pub no-window : map (λ (ax : ℕ). firstNumber (begin (fed (readTable tableBytes 17 .table) noPlacement) (call ax) [] .outcome)) (0x0201 ∷ 0x4200 ∷ 0x4700 ∷ 0x4800 ∷ 0x0800 ∷ 0x4100 ∷ [])
     ≡ 0x0900 ∷ 0x0100 ∷ 0x0100 ∷ 0x0100 ∷ 0x0000 ∷ 0x3000 ∷ []
-unfolding begin steps sectors packetPlan seekSteps result parameters extensions isDrive blockOf isValid readPacket le leBytes inLimits driveOf same busOk interfaceOk geometryFits fieldsOk inStore overlap headerOf headerAt overlapsAny refusal driveStep endStep stepOf stepAt readFrom readTable
+unfolding begin steps sectors packetPlan seekSteps result parameters extensions isDrive blockOf isValid readPacket le leBytes inLimits driveOf same busOk interfaceOk geometryFits fieldsOk inStore overlap headerOf headerAt overlapsAny refusal recordRefusal withRecord recordStep endStep stepOf stepAt readFrom readTable
 no-window = refl

@@ -32,11 +32,13 @@ use Rattle.memory.specs.Blocks.{blocks}
 use Rattle.memory.proofs.BlocksLaws.{blocks-length, getD-blocks-outside, part-blocks-same}
 use Rattle.int13.specs.declared.Registers.{Registers}
 use Rattle.int13.specs.declared.Job.{Job}
+use Rattle.int13.specs.declared.Placement.{Placement}
+use Rattle.int13.specs.declared.Shown.{Shown}
 use Rattle.int13.specs.declared.Outcome.{Outcome}
 use Rattle.int13.specs.declared.Outcome.the-variants.{Answered, Waits}
 use Rattle.int13.specs.declared.Plan.{Plan}
 use Rattle.int13.specs.Answers.{ah, al, dl, isSectors, isWrite, posted, succeed}
-use Rattle.int13.specs.Steps.{Checked, fed, isDrive, driveCount, driveNamed, packetPlace, verifyOk, packetTests, packetRead, packetPlan, packetJob, carryOut, extended, seekRead, seek, sectorBuffer, sectorJob, sectorRun, sectors, parameters, extensions, resultGiven, result, steps, begin}
+use Rattle.int13.specs.Steps.{Checked, fed, isDrive, driveCount, driveNamed, shownOf, packetPlace, verifyOk, packetTests, packetRead, packetPlan, packetJob, carryOut, extended, seekRead, seek, sectorBuffer, sectorJob, sectorRun, sectors, parameters, extensions, resultGiven, result, steps, begin}
 use Rattle.int13.specs.Alone.{Memory, Served, asked, namedFrom, storeBlock, moves, finish, alone}
 use Rattle.int13.specs.AloneBytes.{askedBuffer, ReadBytes, WrittenBytes, PostedWell, AloneMoves}
 use Rattle.int13.proofs.StepsLaws.{isDrive-true}
@@ -168,9 +170,9 @@ module _ (b : Table) (r : Registers) (w : List ℕ) where
       by-packet (NoPacket code) = tt
       by-packet (Whole p) = pick-cases Tells (ltb (p .size) 16) _ _ (λ e. tt) (λ e. pick-cases Tells (leb (driveNamed b r .blocks) (p .start)) _ _ (λ e. tt) (λ e. tt))
 
-  result-tell : TellsAll (result known (driveNamed b r) r w)
+  result-tell : (s : Shown) → TellsAll (result known (driveNamed b r) s r w)
   unfolding result
-  result-tell =
+  result-tell s =
       pick-cases TellsAll (not known) _ _ (λ e. tt) (λ e.
       pick-cases TellsAll (ltb (length w) (packetPlace r + 2)) _ _ (λ e. tt) (λ e.
       by-answer (resultAnswer (driveNamed b r) (le 2 w (packetPlace r)) (length (drop (packetPlace r) w)))))
@@ -183,23 +185,23 @@ module _ (b : Table) (r : Registers) (w : List ℕ) where
   unfolding parameters
   parameters-tell = pick-cases Tells known _ _ (λ e. tt) (λ e. tt)
 
-  extensions-tell : Tells (extensions known r)
+  extensions-tell : (s : Shown) → Tells (extensions known s r)
   unfolding extensions
-  extensions-tell = pick-cases Tells (both known (eqb (r .bx) 0x55AA)) _ _ (λ e. tt) (λ e. tt)
+  extensions-tell s = pick-cases Tells (both known (eqb (r .bx) 0x55AA)) _ _ (λ e. tt) (λ e. tt)
 
-  begin-tell : TellsAll (begin (fed b) r w)
+  begin-tell : (p : Placement) → TellsAll (begin (fed b p) r w)
   unfolding begin steps
-  begin-tell =
+  begin-tell p =
       pick-cases TellsAll (either (eqb (ah r) 0x02) (eqb (ah r) 0x03)) _ _ (λ e. sectors-tell e) (λ e₁.
       pick-cases TellsAll (eqb (ah r) 0x08) _ _ (λ e. parameters-tell) (λ e₂.
-      pick-cases TellsAll (eqb (ah r) 0x41) _ _ (λ e. extensions-tell) (λ e₃.
+      pick-cases TellsAll (eqb (ah r) 0x41) _ _ (λ e. extensions-tell (shownOf b p (dl r))) (λ e₃.
       pick-cases TellsAll Extended _ _ (λ e. extended-tell e₁ e) (λ e₄.
       pick-cases TellsAll (eqb (ah r) 0x47) _ _ (λ e. seek-tell) (λ e₅.
-      pick-cases TellsAll (eqb (ah r) 0x48) _ _ (λ e. result-tell) (λ e₆.
+      pick-cases TellsAll (eqb (ah r) 0x48) _ _ (λ e. result-tell (shownOf b p (dl r))) (λ e₆.
       tt))))))
 
-  pub waits-asks : (j : Job) → begin (fed b) r w .outcome ≡ Waits j → Asks j
-  waits-asks j e = subst Tells e begin-tell
+  pub waits-asks : (p : Placement) (j : Job) → begin (fed b p) r w .outcome ≡ Waits j → Asks j
+  waits-asks p j e = subst Tells e (begin-tell p)
 
   -- the blocks lie in the store that the table was read for
   waits-inside : (j : Job) (store : ℕ) → Good b store → Asks j → storeBlock b j + j .count ≤ store
@@ -259,22 +261,23 @@ module _ (j : Job) (first : ℕ) (m : Memory) (room : j .buffer + 512 * j .count
 posted-well : (r : Registers) → PostedWell r (succeed (posted r))
 posted-well r = record { ax = omega arith; bx = refl; cx = refl; dx = refl; ds = refl; si = refl; es = refl; carry = refl }
 
-alone-is : (t : List ℕ) (r : Registers) (m : Memory) (j : Job) → begin (fed (readTable t (length (m .store) / 512) .table)) r (m .window) .outcome ≡ Waits j
-    → record { registers = succeed (j .registers); memory = moves j (storeBlock (readTable t (length (m .store) / 512) .table) j) 0 (j .count) m } ≡ alone (fed t) r m
+alone-is : (t : List ℕ) (p : Placement) (r : Registers) (m : Memory) (j : Job)
+    → begin (fed (readTable t (length (m .store) / 512) .table) p) r (m .window) .outcome ≡ Waits j
+    → record { registers = succeed (j .registers); memory = moves j (storeBlock (readTable t (length (m .store) / 512) .table) j) 0 (j .count) m } ≡ alone (fed t p) r m
 unfolding alone
-alone-is t r m j e =
+alone-is t p r m j e =
     let b : Table = readTable t (length (m .store) / 512) .table in
-    sym (ap (λ (o : Outcome). finish b o (begin (fed b) r (m .window) .window) m) e)
+    sym (ap (λ (o : Outcome). finish b o (begin (fed b p) r (m .window) .window) m) e)
 
 pub alone-moves : AloneMoves
-alone-moves t r m j acc e =
+alone-moves t p r m j acc e =
     let w : List ℕ = m .window in
     let b : Table = readTable t (length (m .store) / 512) .table in
-    let s : Served = alone (fed t) r m in
-    let a : Asks b r w j = waits-asks b r w j e in
+    let s : Served = alone (fed t p) r m in
+    let a : Asks b r w j = waits-asks b r w p j e in
     let low : storeBlock b j + j .count ≤ length (m .store) / 512 = waits-inside b r w j (length (m .store) / 512) (accepted-good t (length (m .store) / 512) acc) a in
     let inside : 512 * (storeBlock b j + j .count) ≤ length (m .store) = omega arith in
-    let is = alone-is t r m j e in
+    let is = alone-is t p r m j e in
     -- what holds of the job's numbers holds of those that were asked
     let outside : (P : ℕ → ℕ → ℕ → Memory → Type 0) → P (j .count) (storeBlock b j) (j .buffer) (moves j (storeBlock b j) 0 (j .count) m)
     → P (asked r w) (namedFrom b r w) (askedBuffer r w) (s .memory)

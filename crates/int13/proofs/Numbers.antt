@@ -22,12 +22,15 @@ use Rattle.layout.specs.declared.ResultAnswer.{ResultAnswer}
 use Rattle.layout.specs.Packet.{packetAt, readPacket}
 use Rattle.layout.specs.ResultBuffer.{returnedSize, resultAnswer}
 use Rattle.int13.specs.declared.Registers.{Registers}
+use Rattle.int13.specs.declared.Placement.{Placement}
+use Rattle.int13.specs.declared.Shown.{Shown}
 use Rattle.int13.specs.declared.Outcome.{Outcome}
 use Rattle.int13.specs.declared.Outcome.the-variants.{Answered, Waits}
 use Rattle.int13.specs.declared.Plan.{Plan}
 use Rattle.int13.specs.Answers.{ah, al, dl, isWrite, succeed, refuse, posted, registerNumbers, outcomeNumbers}
-use Rattle.int13.specs.Steps.{Checked, fed, verifyOk, packetTests, packetRead, packetPlan, carryOut, seekRead, seek, sectorRun, sectors, geometryGiven, parameters, extensionsGiven, extensions, resultGiven, result, steps, begin}
+use Rattle.int13.specs.Steps.{Checked, fed, isDrive, driveCount, driveNamed, shownOf, verifyOk, packetTests, packetRead, packetPlan, carryOut, seekRead, seek, sectorRun, sectors, geometryGiven, parameters, extensionsGiven, extensions, resultGiven, result, steps, begin}
 use Rattle.int13.specs.Numbers.{refusedNumbers, doneNumbers, waitsNumbers, runGiven, sectorsGiven, parametersGiven, checkGiven, packetTestsGiven, packetNumbersAt, extendedGiven, seekGiven, bufferGiven, stepsGiven, beginGiven}
+use Rattle.int13.proofs.PlacementLaws.{shown-table}
 
 carry-apart : (a b : Bool) → _≡_ {A = ℕ} (pick a 1 0) (pick b 1 0) → a ≡ b
 carry-apart true true e = refl
@@ -111,9 +114,9 @@ parameters-numbers : (known : Bool) (count : ℕ) (d : Drive) (r : Registers) �
 unfolding parameters parametersGiven
 parameters-numbers known count d r = through outcomeNumbers known (given (geometryGiven d count r)) (refused 0x07 r)
 
-extensions-numbers : (known : Bool) (r : Registers) → outcomeNumbers (extensions known r) ≡ checkGiven known r
+extensions-numbers : (known : Bool) (s : Shown) (r : Registers) → outcomeNumbers (extensions known s r) ≡ checkGiven known (s .table) r
 unfolding extensions checkGiven
-extensions-numbers known r = through outcomeNumbers (both known (eqb (r .bx) 0x55AA)) (given (extensionsGiven r)) (refused 0x01 r)
+extensions-numbers known s r = through outcomeNumbers (both known (eqb (r .bx) 0x55AA)) (given (extensionsGiven s r)) (refused 0x01 r)
 
 -- the numbers of a plan carried out
 abbrev planned : Registers → List ℕ → Plan → List ℕ
@@ -156,36 +159,42 @@ seek-numbers known d r w =
 abbrev checked : Checked → List ℕ
 checked c = outcomeNumbers (c .outcome)
 
-result-numbers : (known : Bool) (d : Drive) (r : Registers) (w : List ℕ) → checked (result known d r w) ≡ bufferGiven known d r w
+result-numbers : (known : Bool) (d : Drive) (s : Shown) (r : Registers) (w : List ℕ) → checked (result known d s r w) ≡ bufferGiven known d r w
 unfolding result bufferGiven resultAnswer
-result-numbers known d r w =
+result-numbers known d s r w =
     let asked = le 2 w (16 * r .ds + r .si) in
     through checked (not known) (refused 0x01 r)
     (through checked (ltb (length w) (16 * r .ds + r .si + 2)) (refused 0x01 r)
     (through (λ (x : ResultAnswer). outcomeNumbers (resultGiven x r)) (both (leb 26 asked) (leb (returnedSize asked) (length (drop (16 * r .ds + r .si) w))))
     (finished r) (refused 0x01 r)))
 
-steps-numbers : (known : Bool) (count : ℕ) (d : Drive) (r : Registers) (w : List ℕ) → checked (steps known count d r w) ≡ stepsGiven known count d r w
+steps-numbers : (known : Bool) (count : ℕ) (d : Drive) (s : Shown) (r : Registers) (w : List ℕ)
+    → checked (steps known count d s r w) ≡ stepsGiven known count d (s .table) r w
 unfolding steps stepsGiven
-steps-numbers known count d r w =
+steps-numbers known count d s r w =
     through checked (either (eqb (ah r) 0x02) (eqb (ah r) 0x03)) (sectors-numbers known d r (length w))
     (through checked (eqb (ah r) 0x08) (parameters-numbers known count d r)
-    (through checked (eqb (ah r) 0x41) (extensions-numbers known r)
+    (through checked (eqb (ah r) 0x41) (extensions-numbers known s r)
     (through checked (either (eqb (ah r) 0x42) (either (eqb (ah r) 0x43) (eqb (ah r) 0x44))) (extended-numbers known d r w)
     (through checked (eqb (ah r) 0x47) (seek-numbers known d r w)
-    (through checked (eqb (ah r) 0x48) (result-numbers known d r w)
+    (through checked (eqb (ah r) 0x48) (result-numbers known d s r w)
     (refused 0x01 r))))))
 
 -- whoever answers with the definition answers with the paper's numbers
 
-pub steps-answered : {o : Outcome} {v : List ℕ} {k : Checked} (known : Bool) (count : ℕ) (d : Drive) (r : Registers) (w : List ℕ)
-    → steps known count d r w ≡ k → o ≡ k .outcome → v ≡ k .window
-    → (o ≡ steps known count d r w .outcome) × (v ≡ steps known count d r w .window) × (outcomeNumbers o ≡ stepsGiven known count d r w)
-steps-answered known count d r w s e f =
-    let outcome = e ∙ ap (λ (k : Checked). k .outcome) (sym s) in
-    (outcome, f ∙ ap (λ (k : Checked). k .window) (sym s), ap outcomeNumbers outcome ∙ steps-numbers known count d r w)
+pub steps-answered : {o : Outcome} {v : List ℕ} {k : Checked} (known : Bool) (count : ℕ) (d : Drive) (s : Shown) (r : Registers) (w : List ℕ)
+    → steps known count d s r w ≡ k → o ≡ k .outcome → v ≡ k .window
+    → (o ≡ steps known count d s r w .outcome) × (v ≡ steps known count d s r w .window) × (outcomeNumbers o ≡ stepsGiven known count d (s .table) r w)
+steps-answered known count d s r w q e f =
+    let outcome = e ∙ ap (λ (k : Checked). k .outcome) (sym q) in
+    (outcome, f ∙ ap (λ (k : Checked). k .window) (sym q), ap outcomeNumbers outcome ∙ steps-numbers known count d s r w)
 
-pub begin-answered : {o : Outcome} {v : List ℕ} (b : Table) (r : Registers) (w : List ℕ) → o ≡ begin (fed b) r w .outcome → v ≡ begin (fed b) r w .window
-    → (o ≡ begin (fed b) r w .outcome) × (v ≡ begin (fed b) r w .window) × (outcomeNumbers o ≡ beginGiven b r w)
+pub begin-answered : {o : Outcome} {v : List ℕ} (b : Table) (p : Placement) (r : Registers) (w : List ℕ) → o ≡ begin (fed b p) r w .outcome
+    → v ≡ begin (fed b p) r w .window
+    → (o ≡ begin (fed b p) r w .outcome) × (v ≡ begin (fed b p) r w .window) × (outcomeNumbers o ≡ beginGiven b (p .placed) r w)
 unfolding begin beginGiven
-begin-answered b r w e f = (e, f, ap outcomeNumbers e ∙ steps-numbers _ _ _ r w)
+begin-answered b p r w e f =
+    let known = isDrive b (dl r) in
+    let d = driveNamed b r in
+    let numbers = steps-numbers known (driveCount b) d (shownOf b p (dl r)) r w in
+    (e, f, ap outcomeNumbers e ∙ numbers ∙ ap (λ (t : Bool). stepsGiven known (driveCount b) d t r w) (shown-table b p (dl r)))

@@ -18,10 +18,12 @@ use Rattle.table.specs.Table.{noDrive}
 use Rattle.layout.specs.declared.PacketRead.the-variants.{Whole, Refused as NoPacket}
 use Rattle.layout.specs.Packet.{badParameter, packetLength, packetAt, readPacket}
 use Rattle.int13.specs.declared.Registers.{Registers}
+use Rattle.int13.specs.declared.Placement.{Placement}
+use Rattle.int13.specs.declared.Shown.{Shown}
 use Rattle.int13.specs.declared.Outcome.the-variants.{Answered}
 use Rattle.int13.specs.declared.Plan.the-variants.{Refuse, Clear}
 use Rattle.int13.specs.Answers.{ah, al, dl, isSectors, isWrite, refuse}
-use Rattle.int13.specs.Steps.{unchanged, fed, firstDrive, driveCount, isDrive, driveAt, driveIn, driveNamed, packetPlace, verifyOk, packetRead, packetPlan, extended, seek, sectors, parameters, extensions, result, steps, begin}
+use Rattle.int13.specs.Steps.{unchanged, fed, firstDrive, driveCount, isDrive, driveAt, driveIn, driveNamed, shownOf, packetPlace, verifyOk, packetRead, packetPlan, extended, seek, sectors, parameters, extensions, result, steps, begin}
 
 -- ---- drives
 
@@ -77,48 +79,49 @@ put-rest w out place = rw (drop-of-length-le (drop place w) {i = length w - plac
 
 -- ---- every function by its number
 
-module _ (known : Bool) (count : ℕ) (d : Drive) (r : Registers) (w : List ℕ) {f : ℕ} (q : f ≡ ah r) where
-  pub steps-02-03 : isSectors f ≡ true → steps known count d r w ≡ unchanged w (sectors known d r (length w))
+module _ (known : Bool) (count : ℕ) (d : Drive) (s : Shown) (r : Registers) (w : List ℕ) {f : ℕ} (q : f ≡ ah r) where
+  pub steps-02-03 : isSectors f ≡ true → steps known count d s r w ≡ unchanged w (sectors known d r (length w))
   unfolding steps
   steps-02-03 e = rw (← q, e)
 
-  pub steps-08 : f ≡ 0x08 → steps known count d r w ≡ unchanged w (parameters known count d r)
+  pub steps-08 : f ≡ 0x08 → steps known count d s r w ≡ unchanged w (parameters known count d r)
   unfolding steps
   steps-08 e = rw (sym q ∙ e)
 
-  pub steps-41 : f ≡ 0x41 → steps known count d r w ≡ unchanged w (extensions known r)
+  pub steps-41 : f ≡ 0x41 → steps known count d s r w ≡ unchanged w (extensions known s r)
   unfolding steps
   steps-41 e = rw (sym q ∙ e)
 
-  pub steps-42-43-44 : either (eqb f 0x42) (either (eqb f 0x43) (eqb f 0x44)) ≡ true → steps known count d r w ≡ extended known d r w
+  pub steps-42-43-44 : either (eqb f 0x42) (either (eqb f 0x43) (eqb f 0x44)) ≡ true → steps known count d s r w ≡ extended known d r w
   unfolding steps
   steps-42-43-44 e =
       ⊎-elim (λ x. rw (sym q ∙ eqb-true f 0x42 x))
       (λ y. ⊎-elim (λ x. rw (sym q ∙ eqb-true f 0x43 x)) (λ x. rw (sym q ∙ eqb-true f 0x44 x)) (either-true (eqb f 0x43) (eqb f 0x44) y))
       (either-true (eqb f 0x42) (either (eqb f 0x43) (eqb f 0x44)) e)
 
-  pub steps-47 : f ≡ 0x47 → steps known count d r w ≡ unchanged w (seek known d r w)
+  pub steps-47 : f ≡ 0x47 → steps known count d s r w ≡ unchanged w (seek known d r w)
   unfolding steps
   steps-47 e = rw (sym q ∙ e)
 
-  pub steps-48 : f ≡ 0x48 → steps known count d r w ≡ result known d r w
+  pub steps-48 : f ≡ 0x48 → steps known count d s r w ≡ result known d s r w
   unfolding steps
   steps-48 e = rw (sym q ∙ e)
 
   pub steps-other : isSectors f ≡ false → (f ≡ 0x08 → ⊥) → (f ≡ 0x41 → ⊥) → either (eqb f 0x42) (either (eqb f 0x43) (eqb f 0x44)) ≡ false
-      → (f ≡ 0x47 → ⊥) → (f ≡ 0x48 → ⊥) → steps known count d r w ≡ unchanged w (Answered (refuse badParameter r))
+      → (f ≡ 0x47 → ⊥) → (f ≡ 0x48 → ⊥) → steps known count d s r w ≡ unchanged w (Answered (refuse badParameter r))
   unfolding steps
   steps-other e₁ n₂ n₃ e₄ n₅ n₆ = rw (← q, e₁, ne-eqb f 0x08 n₂, ne-eqb f 0x41 n₃, e₄, ne-eqb f 0x47 n₅, ne-eqb f 0x48 n₆)
 
 -- ---- the drive is not looked at where it is not known
 
-pub steps-drive : (known : Bool) (count : ℕ) (d e : Drive) (r : Registers) (w : List ℕ) → (known ≡ true → d ≡ e) → steps known count d r w ≡ steps known count e r w
+pub steps-drive : (known : Bool) (count : ℕ) (d e : Drive) (s : Shown) (r : Registers) (w : List ℕ) → (known ≡ true → d ≡ e)
+    → steps known count d s r w ≡ steps known count e s r w
 unfolding steps sectors parameters extensions packetPlan seek result
-steps-drive true count d e r w h = ap (λ (x : Drive). steps true count x r w) (h refl)
-steps-drive false count d e r w h = refl
+steps-drive true count d e s r w h = ap (λ (x : Drive). steps true count x s r w) (h refl)
+steps-drive false count d e s r w h = refl
 
 -- the steps over any drive that is the one which DL names, if it names one
-pub begin-steps : {known : Bool} {count : ℕ} {d : Drive} (b : Table) (r : Registers) (w : List ℕ) → known ≡ isDrive b (dl r) → count ≡ driveCount b
-    → (isDrive b (dl r) ≡ true → d ≡ driveNamed b r) → steps known count d r w ≡ begin (fed b) r w
+pub begin-steps : {known : Bool} {count : ℕ} {d : Drive} {s : Shown} (b : Table) (p : Placement) (r : Registers) (w : List ℕ) → known ≡ isDrive b (dl r)
+    → count ≡ driveCount b → (isDrive b (dl r) ≡ true → d ≡ driveNamed b r) → s ≡ shownOf b p (dl r) → steps known count d s r w ≡ begin (fed b p) r w
 unfolding begin
-begin-steps {known} {count} {d} b r w k n h = steps-drive known count d (driveNamed b r) r w (λ e. h (sym k ∙ e)) ∙ cc
+begin-steps {known} {count} {d} {s} b p r w k n h e = steps-drive known count d (driveNamed b r) s r w (λ t. h (sym k ∙ t)) ∙ cc

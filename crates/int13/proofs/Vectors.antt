@@ -4,7 +4,7 @@
 use mathlib.Core.Path.{_≡_, refl}
 use mathlib.Core.Bool.{Bool, true, false}
 use mathlib.Core.List.{List, [], _∷_, _++_, map}
-use Prim.Native.Nat.{ℕ, _+_}
+use Prim.Native.Nat.{ℕ, _+_, _-_}
 use lib.ListN.{length, getD, take, drop, replicate}
 use lib.Seq.{sets}
 use lib.Dec.{eqb}
@@ -14,18 +14,22 @@ use Rattle.chs.specs.Chs.{inLimits, isValid, blockOf}
 use Rattle.drive.specs.declared.Drive.{Drive}
 use Rattle.drive.specs.Drive.{driveOf as driveRead, same, busOk, interfaceOk, geometryFits, fieldsOk, inStore, overlap}
 use Rattle.table.specs.declared.Table.{Table}
-use Rattle.table.specs.Table.{headerOf, headerAt, overlapsAny, refusal, driveStep, endStep, stepOf, stepAt, zeroDrive, emptyTable, readFrom, readTable}
+use Rattle.table.specs.Table.{headerOf, headerAt, overlapsAny, refusal, parametersRefusal, recordRefusal, withRecord, recordStep, endStep, stepOf, stepAt, zeroDrive, emptyTable, readFrom, readTable, parametersTo}
 use Rattle.layout.specs.Packet.{packetAt, readPacket}
+use Rattle.layout.specs.ParameterTable.{placedBytes, parameterTable}
 use Rattle.layout.specs.ResultBuffer.{returnedSize, parameterBytes, blockBytes, interfaceBytes, pathBytes, sum, wholeResult, resultBytes, resultAnswer}
 use Rattle.memory.specs.Blocks.{blocks}
 use Rattle.int13.specs.declared.Registers.{Registers}
 use Rattle.int13.specs.declared.Job.{Job}
+use Rattle.int13.specs.declared.Placement.{Placement}
+use Rattle.int13.specs.declared.Shown.{Shown}
 use Rattle.int13.specs.declared.Outcome.{Outcome}
 use Rattle.int13.specs.declared.Outcome.the-variants.{Answered, Waits}
 use Rattle.int13.specs.declared.Plan.{Plan}
 use Rattle.int13.specs.declared.Plan.the-variants.{Refuse, Clear, Finish, Wait}
 use Rattle.int13.specs.Answers.{dl, succeed, withdraw, posted, outcomeNumbers}
-use Rattle.int13.specs.Steps.{Checked, fed, isDrive, driveAt, driveIn, driveNamed, verifyOk, packetTests, packetPlan, seek, sectors, parameters, extensions, result, steps, begin}
+use Rattle.int13.specs.Placement.{noPlacement, placedAt, tablesTo, tablesOf, tableCount, tableAddress, notShown, pointerOf}
+use Rattle.int13.specs.Steps.{Checked, fed, isDrive, shownOf, driveAt, driveIn, driveNamed, verifyOk, packetTests, packetPlan, seek, sectors, parameters, extensions, result, steps, begin}
 use Rattle.int13.specs.Numbers.{sectorsGiven, parametersGiven, checkGiven, packetTestsGiven, packetNumbersAt, extendedGiven, seekGiven, bufferGiven, stepsGiven, beginGiven}
 use Rattle.int13.specs.Alone.{asked, namedFrom, Memory, storeBlock, moves, Served, alone}
 use Rattle.int13.specs.AloneBytes.{askedBuffer}
@@ -51,8 +55,12 @@ drive first flags protection = record {
   device = replicate 8 0;
 }
 
+-- so many of eight drives, none with parameters
+abbrev table : List Drive → ℕ → Table
+table drives count = record { drives = drives; count = count; present = emptyTable .present; parameters = emptyTable .parameters }
+
 abbrev one : Drive → Table
-one d = record { drives = d ∷ replicate 7 zeroDrive; count = 1 }
+one d = table (d ∷ replicate 7 zeroDrive) 1
 
 abbrev plain : Table
 plain = one (drive 0 2 0)
@@ -65,14 +73,11 @@ abbrev verifying : Table
 verifying = one (drive 0 10 0)
 
 abbrev three : Table
-three = record { drives = drive 0 2 0 ∷ drive 2048 2 0 ∷ drive 4096 2 0 ∷ replicate 5 zeroDrive; count = 3 }
+three = table (drive 0 2 0 ∷ drive 2048 2 0 ∷ drive 4096 2 0 ∷ replicate 5 zeroDrive) 3
 
 abbrev eight : Table
 eight =
-    record {
-      drives = drive 0 2 0 ∷ drive 2048 2 0 ∷ drive 4096 2 0 ∷ drive 6144 2 0 ∷ drive 8192 2 0 ∷ drive 10240 2 0 ∷ drive 12288 2 0 ∷ drive 14336 2 0 ∷ [];
-      count = 8;
-    }
+    table (drive 0 2 0 ∷ drive 2048 2 0 ∷ drive 4096 2 0 ∷ drive 6144 2 0 ∷ drive 8192 2 0 ∷ drive 10240 2 0 ∷ drive 12288 2 0 ∷ drive 14336 2 0 ∷ []) 8
 
 -- the largest geometry
 abbrev largest : Table
@@ -101,7 +106,7 @@ bytes = 68 ∷ 0 ∷ 1 ∷ 0 ∷ 2 ∷ 0 ∷ 0 ∷ 0 ∷ 16 ∷ 0 ∷ 0 ∷ 0 �
 
 -- they are read as the drive above
 pub worked-table : readTable bytes 4294967296 .table ≡ plain
-unfolding le leBytes inLimits driveRead same busOk interfaceOk geometryFits fieldsOk inStore overlap headerOf headerAt overlapsAny refusal driveStep endStep stepOf stepAt readFrom readTable
+unfolding le leBytes inLimits driveRead same busOk interfaceOk geometryFits fieldsOk inStore overlap headerOf headerAt overlapsAny refusal recordRefusal withRecord recordStep endStep stepOf stepAt readFrom readTable
 worked-table = refl
 
 -- ---- calls
@@ -127,12 +132,15 @@ pub record Called (A : Type 0) : Type 0 where
   pub made : A
   pub numbers : List ℕ
 
--- a call at a table, and over one drive
+-- a call at a table, of a guest without placement and of one with it; and over one drive
+abbrev by : Placement → Table → Registers → List ℕ → Called Checked
+by p b r w = record { made = begin (fed b p) r w; numbers = beginGiven b (p .placed) r w }
+
 abbrev at : Table → Registers → List ℕ → Called Checked
-at b r w = record { made = begin (fed b) r w; numbers = beginGiven b r w }
+at b r w = by noPlacement b r w
 
 abbrev over : Bool → ℕ → Drive → Registers → List ℕ → Called Checked
-over known n d r w = record { made = steps known n d r w; numbers = stepsGiven known n d r w }
+over known n d r w = record { made = steps known n d notShown r w; numbers = stepsGiven known n d false r w }
 
 -- 02h and 03h at a table, in a window of that many bytes
 abbrev sectorsOf : Table → Registers → ℕ → Called Outcome
@@ -547,7 +555,7 @@ pub record Vectors : Type 0 where
       ∷ [])
 
 pub vectors : Vectors
-unfolding le leBytes inLimits isValid blockOf readPacket packetAt returnedSize parameterBytes blockBytes interfaceBytes pathBytes sum wholeResult resultBytes resultAnswer isDrive verifyOk packetTests packetPlan seek sectors parameters extensions result steps begin outcomeNumbers sectorsGiven parametersGiven checkGiven packetTestsGiven packetNumbersAt extendedGiven seekGiven bufferGiven stepsGiven beginGiven
+unfolding le leBytes inLimits isValid blockOf readPacket packetAt returnedSize parameterBytes blockBytes interfaceBytes pathBytes sum wholeResult resultBytes resultAnswer isDrive shownOf verifyOk packetTests packetPlan seek sectors parameters extensions result steps begin outcomeNumbers sectorsGiven parametersGiven checkGiven packetTestsGiven packetNumbersAt extendedGiven seekGiven bufferGiven stepsGiven beginGiven
 vectors =
     record {
       registers-sectors = refl;
@@ -636,7 +644,7 @@ drive82 = record {
 }
 
 abbrev apart : Table
-apart = record { drives = drive80 ∷ drive81 ∷ drive82 ∷ replicate 5 zeroDrive; count = 3 }
+apart = table (drive80 ∷ drive81 ∷ drive82 ∷ replicate 5 zeroDrive) 3
 
 -- AX, BX, CX and DX; DS:SI is place 19, ES:0005h place 37, and carry was given
 abbrev own : ℕ → ℕ → ℕ → ℕ → Registers
@@ -756,7 +764,7 @@ pub record Apart : Type 0 where
       ≡ 2 ∷ 37 ∷ 7551 ∷ 1 ∷ 57 ∷ 9041 ∷ 9005 ∷ []
 
 pub apart-vectors : Apart
-unfolding le leBytes inLimits isValid blockOf readPacket packetAt returnedSize parameterBytes blockBytes interfaceBytes pathBytes sum wholeResult resultBytes resultAnswer isDrive verifyOk packetTests packetPlan seek sectors parameters extensions result steps begin outcomeNumbers sectorsGiven parametersGiven checkGiven packetTestsGiven packetNumbersAt extendedGiven seekGiven bufferGiven stepsGiven beginGiven
+unfolding le leBytes inLimits isValid blockOf readPacket packetAt returnedSize parameterBytes blockBytes interfaceBytes pathBytes sum wholeResult resultBytes resultAnswer isDrive shownOf verifyOk packetTests packetPlan seek sectors parameters extensions result steps begin outcomeNumbers sectorsGiven parametersGiven checkGiven packetTestsGiven packetNumbersAt extendedGiven seekGiven bufferGiven stepsGiven beginGiven
 apart-vectors =
     record {
       drive-places = refl;
@@ -770,10 +778,127 @@ apart-vectors =
       own-words = refl;
     }
 
+-- ---- three drives of which 80h and 82h have parameters
+
+-- every byte another value; in byte 4 bits 6 and 4 of the one, and bit 7 alone of the upper three of the other
+abbrev given80 : List ℕ
+given80 = 0xD1 ∷ 0xD2 ∷ 0xD3 ∷ 0xD4 ∷ 0x53 ∷ 0xD6 ∷ 0xD7 ∷ 0xD8 ∷ 0xD9 ∷ 0xDA ∷ 0xDB ∷ 0xDC ∷ 0xDD ∷ 0xDE ∷ []
+
+abbrev given82 : List ℕ
+given82 = 0x31 ∷ 0x32 ∷ 0x33 ∷ 0x34 ∷ 0x8A ∷ 0x36 ∷ 0x37 ∷ 0x38 ∷ 0x39 ∷ 0x3A ∷ 0x3B ∷ 0x3C ∷ 0x3D ∷ 0x3E ∷ []
+
+abbrev tabled : Table
+tabled = record {
+  drives = apart .drives;
+  count = 3;
+  present = true ∷ false ∷ true ∷ replicate 5 false;
+  parameters = given80 ++ (replicate 14 0 ++ (given82 ++ replicate 70 0));
+}
+
+-- placed from 7B40h on; 80h's table has the segment 07B4h and 82h's, right behind it, 07B5h
+abbrev here : Placement
+here = placedAt 0x7B40
+
+-- a size of a result at place 19, with room for n bytes
+abbrev sized : ℕ → List ℕ
+sized n = placed (n ∷ 0 ∷ []) (n - 2)
+
+-- bytes 0 to 25 of the results of 80h, 81h and 82h, of n bytes
+abbrev front80 : ℕ → List ℕ
+front80 n = n ∷ 0 ∷ 2 ∷ 0 ∷ 6 ∷ 0 ∷ 0 ∷ 0 ∷ 8 ∷ 0 ∷ 0 ∷ 0 ∷ 12 ∷ 0 ∷ 0 ∷ 0 ∷ 0x88 ∷ 0x13 ∷ 0 ∷ 0 ∷ 0 ∷ 0 ∷ 0 ∷ 0 ∷ 0 ∷ 2 ∷ []
+
+abbrev front81 : ℕ → List ℕ
+front81 n = n ∷ 0 ∷ 10 ∷ 0 ∷ 0x2D ∷ 1 ∷ 0 ∷ 0 ∷ 9 ∷ 0 ∷ 0 ∷ 0 ∷ 13 ∷ 0 ∷ 0 ∷ 0 ∷ 0xB8 ∷ 0x0B ∷ 0 ∷ 0 ∷ 0 ∷ 0 ∷ 0 ∷ 0 ∷ 0 ∷ 2 ∷ []
+
+abbrev front82 : ℕ → List ℕ
+front82 n = n ∷ 0 ∷ 4 ∷ 0 ∷ 7 ∷ 4 ∷ 0 ∷ 0 ∷ 10 ∷ 0 ∷ 0 ∷ 0 ∷ 14 ∷ 0 ∷ 0 ∷ 0 ∷ 41 ∷ 0 ∷ 0 ∷ 0 ∷ 0 ∷ 0 ∷ 0 ∷ 0 ∷ 0 ∷ 2 ∷ []
+
+-- bytes 30 to 65 of 80h's
+abbrev paths80 : List ℕ
+paths80 = 0xDD ∷ 0xBE ∷ 0x24 ∷ 0 ∷ 0 ∷ 0 ∷ 80 ∷ 67 ∷ 73 ∷ 0 ∷ 65 ∷ 84 ∷ 65 ∷ 0 ∷ 0 ∷ 0 ∷ 0 ∷ 0 ∷ 0 ∷ 31 ∷ 1 ∷ 0 ∷ 0 ∷ 0 ∷ 0 ∷ 0 ∷ (replicate 9 0 ++ (0x6F ∷ []))
+
+-- what a guest is shown, as numbers
+abbrev shown : Table → Placement → ℕ → List ℕ
+shown b p n = bit (shownOf b p n .table) ∷ shownOf b p n .segment ∷ []
+
+-- 48h of a drive for a result of n bytes, which must be l
+abbrev result19 : Placement → ℕ → ℕ → List ℕ → Case
+result19 p dx n l = both-ways (by p tabled (own 0x4877 5 0x0242 dx) (sized n)) (0 ∷ kept19 0x0077 5 0x0242 dx 0) (placed l 0)
+
+-- 41h of a drive, with the CX that must come
+abbrev support : Placement → ℕ → ℕ → Case
+support p dx cx = numbers (by p tabled (own 0x4177 0x55AA 0x0242 dx) []) (0 ∷ kept19 0x3000 0xAA55 cx dx 0)
+
+pub record Tabled : Type 0 where
+  -- the tables one after another in drive order, each with its flags, 11h and its checksum; of drives without records there is none
+  --   80h: 53h becomes F3h; the fifteen bytes sum to 3064
+  --   82h: 8Ah becomes AAh; the fifteen bytes sum to 911
+  pub tables : tablesOf tabled
+      ≡ 0xD1 ∷ 0xD2 ∷ 0xD3 ∷ 0xD4 ∷ 0xF3 ∷ 0xD6 ∷ 0xD7 ∷ 0xD8 ∷ 0xD9 ∷ 0xDA ∷ 0xDB ∷ 0xDC ∷ 0xDD ∷ 0xDE ∷ 0x11 ∷ 0x08
+      ∷ 0x31 ∷ 0x32 ∷ 0x33 ∷ 0x34 ∷ 0xAA ∷ 0x36 ∷ 0x37 ∷ 0x38 ∷ 0x39 ∷ 0x3A ∷ 0x3B ∷ 0x3C ∷ 0x3D ∷ 0x3E ∷ 0x11 ∷ 0x71 ∷ []
+  pub no-tables : tablesOf apart ≡ []
+  -- how many there are, in all and before each slot, and where the two stand
+  pub counts : tableCount tabled ∷ tableCount apart ∷ map (λ (n : ℕ). parametersTo n tabled) (0 ∷ 1 ∷ 2 ∷ 3 ∷ []) ≡ 2 ∷ 0 ∷ 0 ∷ 1 ∷ 1 ∷ 2 ∷ []
+  pub table-addresses : map (tableAddress tabled 0x7B40) (0 ∷ 2 ∷ []) ≡ 0x7B40 ∷ 0x7B50 ∷ []
+  -- of the drives 80h, 81h, 82h, and of numbers that are no drive's
+  pub shown-here : map (shown tabled here) (0x80 ∷ 0x81 ∷ 0x82 ∷ 0x83 ∷ 0x00 ∷ []) ≡ (1 ∷ 0x7B4 ∷ []) ∷ (0 ∷ 0 ∷ []) ∷ (1 ∷ 0x7B5 ∷ []) ∷ (0 ∷ 0 ∷ []) ∷ (0 ∷ 0 ∷ []) ∷ []
+  -- 80h, 82h: without placement; placed at 0; in a place whose segments have more than sixteen bits; and 80h of a table without records
+  pub shown-elsewhere : map (shown tabled noPlacement) (0x80 ∷ 0x82 ∷ []) ++ (map (shown tabled (placedAt 0)) (0x80 ∷ 0x82 ∷ [])
+      ++ (map (shown tabled (placedAt 0x1234560)) (0x80 ∷ 0x82 ∷ []) ++ (shown apart here 0x80 ∷ [])))
+      ≡ (0 ∷ 0 ∷ []) ∷ (0 ∷ 0 ∷ []) ∷ (1 ∷ 0 ∷ []) ∷ (1 ∷ 1 ∷ []) ∷ (1 ∷ 0x3456 ∷ []) ∷ (1 ∷ 0x3457 ∷ []) ∷ (0 ∷ 0 ∷ []) ∷ []
+  -- 41h
+  --   80h and 82h, placed: CX 0005h
+  --   81h, placed: CX 0001h
+  --   80h, placed at 0: CX 0005h
+  --   80h, without placement: CX 0001h
+  --   83h, placed: 01h
+  --   00h, placed, whose number less 80h is none: 01h
+  pub support-given : Hold
+      ((support here 0x0180 0x0005)
+      ∷ (support here 0x0182 0x0005)
+      ∷ (support here 0x0181 0x0001)
+      ∷ (support (placedAt 0) 0x0180 0x0005)
+      ∷ (support noPlacement 0x0180 0x0001)
+      ∷ (numbers (by here tabled (own 0x4177 0x55AA 0x0242 0x0183) []) (0 ∷ kept19 0x0177 0x55AA 0x0242 0x0183 1))
+      ∷ (numbers (by here tabled (own 0x4177 0x55AA 0x0242 0x0100) []) (0 ∷ kept19 0x0177 0x55AA 0x0242 0x0100 1))
+      ∷ [])
+  -- 48h, bytes 26 to 29
+  --   80h, 26 bytes: none
+  --   80h, 30 and 66 bytes: 0000h, 07B4h
+  --   81h: FFFFh, FFFFh
+  --   82h: 0000h, 07B5h
+  --   placed at 0: 80h 0000h, 0000h; 82h 0000h, 0001h
+  --   without placement: FFFFh, FFFFh
+  pub pointers : Hold
+      ((result19 here 0x0180 26 (front80 26))
+      ∷ (result19 here 0x0180 30 (front80 30 ++ (0 ∷ 0 ∷ 0xB4 ∷ 0x07 ∷ [])))
+      ∷ (result19 here 0x0180 66 (front80 66 ++ (0 ∷ 0 ∷ 0xB4 ∷ 0x07 ∷ paths80)))
+      ∷ (result19 here 0x0181 30 (front81 30 ++ (0xFF ∷ 0xFF ∷ 0xFF ∷ 0xFF ∷ [])))
+      ∷ (result19 here 0x0182 30 (front82 30 ++ (0 ∷ 0 ∷ 0xB5 ∷ 0x07 ∷ [])))
+      ∷ (result19 (placedAt 0) 0x0180 30 (front80 30 ++ (0 ∷ 0 ∷ 0 ∷ 0 ∷ [])))
+      ∷ (result19 (placedAt 0) 0x0182 30 (front82 30 ++ (0 ∷ 0 ∷ 1 ∷ 0 ∷ [])))
+      ∷ (result19 noPlacement 0x0180 30 (front80 30 ++ (0xFF ∷ 0xFF ∷ 0xFF ∷ 0xFF ∷ [])))
+      ∷ (result19 noPlacement 0x0182 30 (front82 30 ++ (0xFF ∷ 0xFF ∷ 0xFF ∷ 0xFF ∷ [])))
+      ∷ [])
+
+pub tabled-vectors : Tabled
+unfolding le leBytes placedBytes parameterTable parametersTo tablesTo returnedSize parameterBytes blockBytes interfaceBytes pathBytes sum wholeResult resultBytes resultAnswer isDrive shownOf extensions result steps begin outcomeNumbers checkGiven bufferGiven stepsGiven beginGiven
+tabled-vectors =
+    record {
+      tables = refl;
+      no-tables = refl;
+      counts = refl;
+      table-addresses = refl;
+      shown-here = refl;
+      shown-elsewhere = refl;
+      support-given = refl;
+      pointers = refl;
+    }
+
 -- functions that there are not, on a drive and with an address and a packet that would do: 04h, 07h, 15h, 40h, 45h, 46h and 49h
-pub no-functions : map (λ (ax : ℕ). outcomeNumbers (begin (fed apart) (own ax 5 0x0242 0x0181) (one57 1 2999) .outcome)) (0x0401 ∷ 0x0701 ∷ 0x1501 ∷ 0x4001 ∷ 0x4501 ∷ 0x4601 ∷ 0x4901 ∷ [])
+pub no-functions : map (λ (ax : ℕ). outcomeNumbers (begin (fed apart noPlacement) (own ax 5 0x0242 0x0181) (one57 1 2999) .outcome)) (0x0401 ∷ 0x0701 ∷ 0x1501 ∷ 0x4001 ∷ 0x4501 ∷ 0x4601 ∷ 0x4901 ∷ [])
     ≡ replicate 7 (0 ∷ kept19 0x0101 5 0x0242 0x0181 1)
-unfolding le leBytes inLimits isValid blockOf readPacket packetAt isDrive verifyOk packetTests packetPlan seek sectors parameters extensions result steps begin outcomeNumbers
+unfolding le leBytes inLimits isValid blockOf readPacket packetAt isDrive shownOf verifyOk packetTests packetPlan seek sectors parameters extensions result steps begin outcomeNumbers
 no-functions = refl
 
 -- each of eight drives at its place, and a number below 80h
@@ -800,9 +925,13 @@ blocks-moved m = refl
 abbrev small : List ℕ
 small = sets bytes 16 (leBytes 8 3 ++ leBytes 8 1 ++ leBytes 2 2 ++ leBytes 2 1 ++ leBytes 2 1 ++ (3 ∷ []))
 
+-- the same with a record of parameters behind the drive's: length 20, kind 4, drive 0
+abbrev smallTabled : List ℕ
+smallTabled = take 68 small ++ (20 ∷ 0 ∷ 4 ∷ 0 ∷ 0 ∷ 0 ∷ (given80 ++ drop 68 small))
+
 -- by AX; CX is 0/0/2, the buffer at ES:BX place 37, the packet at DS:SI place 19
 abbrev served : ℕ → List ℕ → List ℕ → Served
-served ax window store = alone (fed small) (own ax 5 2 0x80) (record { window = window; store = store })
+served ax window store = alone (fed small noPlacement) (own ax 5 2 0x80) (record { window = window; store = store })
 
 abbrev leaving : ℕ → Bool → List ℕ → List ℕ → Served
 leaving ax carry window store = record {
@@ -819,9 +948,26 @@ module _ (window store : List ℕ) (lw : length window ≡ 1061) where
       ∷ leaving 0x0002 false window (blocks store 1024 window 37 2)
       ∷ leaving 0x0177 true (placed (packet 16 0 9 3 1) 0) store
       ∷ []
-  unfolding alone moves le leBytes inLimits isValid blockOf driveRead same busOk interfaceOk geometryFits fieldsOk inStore overlap headerOf headerAt overlapsAny refusal driveStep endStep stepOf stepAt readFrom readTable readPacket packetAt isDrive packetTests packetPlan sectors steps begin
+  unfolding alone moves le leBytes inLimits isValid blockOf driveRead same busOk interfaceOk geometryFits fieldsOk inStore overlap headerOf headerAt overlapsAny refusal recordRefusal withRecord recordStep endStep stepOf stepAt readFrom readTable readPacket packetAt isDrive shownOf packetTests packetPlan sectors steps begin
   served-alone ls = rw (lw, ls)
 
   pub served-short : length store ≡ 2047 → served 0x0202 window store ≡ leaving 0x0100 true window store
-  unfolding alone moves le leBytes inLimits isValid blockOf driveRead same busOk interfaceOk geometryFits fieldsOk inStore overlap headerOf headerAt overlapsAny refusal driveStep endStep stepOf stepAt readFrom readTable isDrive sectors steps begin
+  unfolding alone moves le leBytes inLimits isValid blockOf driveRead same busOk interfaceOk geometryFits fieldsOk inStore overlap headerOf headerAt overlapsAny refusal recordRefusal withRecord recordStep endStep stepOf stepAt readFrom readTable isDrive shownOf sectors steps begin
   served-short ls = rw (lw, ls)
+
+-- 41h, with the table's bytes and the placement; it changes neither window nor store
+module _ (window store : List ℕ) where
+  abbrev served41 : List ℕ → Placement → Served
+  served41 t p = alone (fed t p) (own 0x4177 0x55AA 2 0x80) (record { window = window; store = store })
+
+  abbrev leaving41 : ℕ → Served
+  leaving41 cx = record {
+    registers = record { ax = 0x3000; bx = 0xAA55; cx = cx; dx = 0x80; ds = 1; si = 3; es = 2; carry = false };
+    memory = record { window = window; store = store };
+  }
+
+  -- the drive with a record of parameters, with placement and without it; and without the record
+  pub served-placed : length store ≡ 2048 → served41 smallTabled here ∷ served41 smallTabled noPlacement ∷ served41 small here ∷ []
+      ≡ leaving41 0x0005 ∷ leaving41 0x0001 ∷ leaving41 0x0001 ∷ []
+  unfolding alone le leBytes inLimits driveRead same busOk interfaceOk geometryFits fieldsOk inStore overlap headerOf headerAt overlapsAny refusal parametersRefusal recordRefusal withRecord recordStep endStep stepOf stepAt readFrom readTable isDrive shownOf extensions steps begin
+  served-placed ls = rw ls

@@ -252,11 +252,10 @@ fn tables_before(b: Table, n: usize) -> u8
     requires { ⌜ n ≤ 8 ⌝ }
     ensures { λ r. ⌜ (r ≡ parametersTo n b) × (r ≤ n) ⌝ }
 {
-    let present = b.present;
     let mut count = 0u8;
     let mut i = 0;
     while i < n {
-        if present[i] {
+        if b.present[i] {
             count += 1;
         }
         i += 1;
@@ -288,24 +287,25 @@ pub fn shown_of(b: Table, placement: Placement, n: u8) -> Shown
     if !is_drive(b, n) {
         return NOT_SHOWN;
     }
-    let i = (n - FIRST_DRIVE) as usize;
+    let slot = n - FIRST_DRIVE;
+    let i = slot as usize;
     let present = b.present;
-    if logic::and(placement.placed, present[i]) {
-        return shown_at(placement.address, tables_before(b, i));
+    if !logic::and(placement.placed, present[i]) {
+        return NOT_SHOWN;
     }
-    NOT_SHOWN
+    let before = tables_before(b, i);
+    shown_at(placement.address, before)
 }
 
 // All tables, one after another in drive order, and zeros behind them.
 pub fn tables_of(b: Table) -> [u8; 128]
     ensures { λ r. ⌜ (r ≡ sets (replicate 128 0) 0 (tablesOf b)) × (length (tablesOf b) ≡ 16 * tableCount b) ⌝ }
 {
-    let present = b.present;
     let mut out = [0u8; 128];
     let mut at: usize = 0;
     let mut i = 0;
     while i < 8 {
-        if present[i] {
+        if b.present[i] {
             let r = layout::parameter_table(table::parameters_at(b, i));
             words::store(&mut out, at, &r);
             at += PARAMETER_SIZE;

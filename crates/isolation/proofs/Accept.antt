@@ -1,71 +1,99 @@
 -- An acceptable desk, as facts, both ways; and what each waiting row of it has room for.
 -- Assumes nothing.
 use Prim.Native.Nat.{ℕ, zero, suc, _+_, _*_, _/_, _%_, _≤_, _<_}
-use mathlib.Core.Path.{_≡_, refl, sym, ap, subst, _∙_}
+use mathlib.Core.Path.{_≡_, refl, sym, ap, ap₂, subst, _∙_}
 use mathlib.Core.Logic.{⊎-elim, _↔_}
-use mathlib.Core.Bool.{true}
+use mathlib.Core.Bool.{Bool, true, false}
 use mathlib.Core.List.{List}
 use native.Mathlib.Omega.{arith}
 use lib.ListN.{length, replicate, getD-replicate, List·getD-eq-default}
 use lib.Dec.{ltb}
-use borrow.Author.Tests.{ltb-true, lt-ltb}
+use borrow.Author.Tests.{lt-ltb}
 use Rattle.logic.specs.Logic.{both}
-use Rattle.logic.proofs.LogicLaws.{both-true, both-intro, lt-or-le, impossible}
+use Rattle.logic.proofs.LogicLaws.{both-intro, all-intro, all-at, lt-or-le, impossible}
 use Rattle.table.specs.declared.Table.{Table}
 use Rattle.table.specs.declared.Answer.{Answer}
 use Rattle.table.specs.declared.Answer.the-variants.{Accepted, Refused as TableRefused}
 use Rattle.table.specs.Table.{isSound, readTable}
 use Rattle.memory.specs.Window.{guests}
 use Rattle.memory.specs.Blocks.{blockLength}
+use Rattle.int13.specs.declared.Placement.{Placement}
 use Rattle.int13.specs.Answers.{ah}
+use Rattle.int13.specs.Placement.{noPlacement, tableCount}
 use Rattle.int13.specs.Alone.{storeBlock}
 use Rattle.desk.specs.declared.Request.{Request}
 use Rattle.desk.specs.declared.Stage.the-variants.{Vacant, Waiting}
 use Rattle.desk.specs.declared.Row.{Row}
 use Rattle.desk.specs.declared.Desk.{Desk}
 use Rattle.desk.specs.declared.OpenAnswer.the-variants.{Opened}
-use Rattle.desk.specs.Parts.{windowSize, storeBlocks, vacantRow, stageIn, stageAt}
-use Rattle.desk.specs.Acceptable.{turnBlocks, packetOk, jobOk, stageOk, rowsOk, accept}
+use Rattle.desk.specs.Parts.{windowSize, storeBlocks, vacantRow, stageIn, stageAt, placementAt}
+use Rattle.desk.specs.Acceptable.{turnBlocks, packetOk, jobOk, stageOk, rowsOk, placementOk, placementsOk, accept}
 use Rattle.desk.specs.Calls.{opened, openDesk, openAnswer, openOf}
 use Rattle.table.proofs.Sound.{Good, accepted-good}
-use Rattle.desk.proofs.AcceptableLaws.{job-facts, rowsOk-at, Waits, waits-facts}
+use Rattle.desk.proofs.AcceptableLaws.{accept-true, job-facts, rowsOk-at, Waits, waits-facts}
 use Rattle.isolation.proofs.Check.{known}
 
 -- ---- acceptable, as facts
+
+-- the place of a guest's tables is good, for the desk's tables and windows
+abbrev pub PlaceGood : Desk → Placement → Type 0
+PlaceGood d p = placementOk (tableCount (d .table)) (windowSize d) p ≡ true
 
 pub record Facts (d : Desk) : Type 0 where
   pub sound : isSound (d .table) (storeBlocks d) ≡ true
   pub pointer : d .pointer < guests
   pub stages : (g : ℕ) → g < guests → stageOk (d .table) (windowSize d) (stageAt d g) ≡ true
+  pub places : (g : ℕ) → g < guests → PlaceGood d (placementAt d g)
 
 rows-ok : (n : ℕ) (rows : List Row) (b : Table) (M : ℕ) → ((g : ℕ) → g < n → stageOk b M (stageIn rows g) ≡ true) → rowsOk n rows b M ≡ true
 unfolding rowsOk
 rows-ok zero rows b M f = refl
 rows-ok (suc n) rows b M f = both-intro _ _ (f n (omega arith)) (rows-ok n rows b M (λ g h. f g (omega arith)))
 
+-- the test of all placements is that of each
+abbrev placesOk : Desk → Bool
+placesOk d = placementsOk guests (tableCount (d .table)) (windowSize d) d
+
+places-ok : (d : Desk) → (placesOk d ≡ true) ↔ ((g : ℕ) → g < guests → PlaceGood d (placementAt d g))
+unfolding placementsOk
+places-ok d = (
+  (λ e g h. all-at guests g (λ g. placementOk (tableCount (d .table)) (windowSize d) (placementAt d g)) e h),
+  (λ f. all-intro guests (λ g. placementOk (tableCount (d .table)) (windowSize d) (placementAt d g)) f),
+)
+
 pub accept-facts : (d : Desk) → (accept d ≡ true) ↔ Facts d
 unfolding accept
 accept-facts d = (there, back)
   where
-    there : both (isSound (d .table) (storeBlocks d)) (both (ltb (d .pointer) guests) (rowsOk guests (d .rows) (d .table) (windowSize d))) ≡ true → Facts d
+    there : accept d ≡ true → Facts d
     there e =
-        let p = both-true (isSound (d .table) (storeBlocks d)) (both (ltb (d .pointer) guests) (rowsOk guests (d .rows) (d .table) (windowSize d))) e in
-        let q = both-true (ltb (d .pointer) guests) (rowsOk guests (d .rows) (d .table) (windowSize d)) (p .1) in
-        record { sound = p .0; pointer = ltb-true (d .pointer) guests (q .0); stages = λ g h. rowsOk-at guests (d .rows) (d .table) (windowSize d) g h (q .1) }
+        let p = accept-true d e in
+        record {
+          sound = p .sound;
+          pointer = p .pointer;
+          stages = λ g h. rowsOk-at guests (d .rows) (d .table) (windowSize d) g h (p .rows);
+          places = places-ok d .0 (p .placements);
+        }
 
-    back : Facts d → both (isSound (d .table) (storeBlocks d)) (both (ltb (d .pointer) guests) (rowsOk guests (d .rows) (d .table) (windowSize d))) ≡ true
-    back f = both-intro _ _ (f .sound) (both-intro _ _ (lt-ltb _ _ (f .pointer)) (rows-ok guests (d .rows) (d .table) (windowSize d) (f .stages)))
+    back : Facts d → both (isSound (d .table) (storeBlocks d)) (both (ltb (d .pointer) guests) (both (rowsOk guests (d .rows) (d .table) (windowSize d)) (placesOk d))) ≡ true
+    back f =
+        both-intro _ _ (f .sound)
+        (both-intro _ _ (lt-ltb _ _ (f .pointer)) (both-intro _ _ (rows-ok guests (d .rows) (d .table) (windowSize d) (f .stages)) (places-ok d .1 (f .places))))
 
--- ---- what holds of every desk of a list: acceptable, with eight rows, eight places for drives, and names of their lengths
+-- ---- what holds of every desk of a list: acceptable, with eight rows, eight slots for drives, names of their lengths, and a mark and an address
+-- for each guest
 
 pub record Inv (d : Desk) : Type 0 where
   pub rows : length (d .rows) ≡ guests
   pub table : Good (d .table) (storeBlocks d)
   pub pointer : d .pointer < guests
   pub stages : (g : ℕ) → stageOk (d .table) (windowSize d) (stageAt d g) ≡ true
+  pub placed : length (d .placed) ≡ guests
+  pub addresses : length (d .addresses) ≡ guests
+  pub places : (g : ℕ) → PlaceGood d (placementAt d g)
 
 pub inv-accept : (d : Desk) → Inv d → accept d ≡ true
-inv-accept d inv = accept-facts d .1 (record { sound = inv .table .sound; pointer = inv .pointer; stages = λ g h. inv .stages g })
+inv-accept d inv = accept-facts d .1 (record { sound = inv .table .sound; pointer = inv .pointer; stages = λ g h. inv .stages g; places = λ g h. inv .places g })
 
 pub all-vacant : (g : ℕ) → stageIn (replicate guests vacantRow) g ≡ Vacant
 all-vacant g =
@@ -74,9 +102,20 @@ all-vacant g =
     (λ x. ap (λ (r : Row). r .stage) (List·getD-eq-default (replicate guests vacantRow) vacantRow x))
     (lt-or-le g guests)
 
+-- no guest has a placement
+pub none-placed : (b : Table) (arena store g : ℕ) → placementAt (opened b arena store) g ≡ noPlacement
+none-placed b arena store g =
+    ⊎-elim
+    (λ x. ap₂ placement (getD-replicate guests g false false x) (getD-replicate guests g 0 0 x))
+    (λ x. ap₂ placement (List·getD-eq-default (replicate guests false) false x) (List·getD-eq-default (replicate guests 0) 0 x))
+    (lt-or-le g guests)
+  where
+    placement : Bool → ℕ → Placement
+    placement m a = record { placed = m; address = a }
+
 passed : (x : Answer) → openAnswer x ≡ Opened → x ≡ Accepted
 passed Accepted e = refl
-passed (TableRefused n place) e = impossible (cc)
+passed (TableRefused n at) e = impossible (cc)
 
 -- an opening that passed gives such a desk
 pub opened-desk : (t : List ℕ) (arena store : ℕ) → openOf t arena store .answer ≡ Opened → openOf t arena store .desk ≡ opened (readTable t (store / blockLength) .table) arena store
@@ -97,6 +136,10 @@ inv-opened t arena store e =
       table = accepted-good t (store / blockLength) (opened-table t arena store e);
       pointer = omega arith;
       stages = λ g. ap (stageOk (readTable t (store / blockLength) .table) (arena / guests)) (all-vacant g);
+      placed = refl;
+      addresses = refl;
+      places = λ g.
+          subst (PlaceGood (opened (readTable t (store / blockLength) .table) arena store)) (sym (none-placed (readTable t (store / blockLength) .table) arena store g)) refl;
     })
 
 -- ---- a waiting row

@@ -23,16 +23,18 @@ use Rattle.layout.specs.Packet.{badParameter, readPacket}
 use Rattle.layout.specs.ResultBuffer.{resultAnswer}
 use Rattle.memory.specs.Blocks.{blockLength}
 use Rattle.int13.specs.declared.Registers.{Registers}
+use Rattle.int13.specs.declared.Placement.{Placement}
+use Rattle.int13.specs.declared.Shown.{Shown}
 use Rattle.int13.specs.declared.Outcome.{Outcome}
 use Rattle.int13.specs.declared.Outcome.the-variants.{Answered}
 use Rattle.int13.specs.declared.Plan.{Plan}
 use Rattle.int13.specs.declared.Plan.the-variants.{Refuse, Clear, Finish, Wait}
 use Rattle.int13.specs.Answers.{badBuffer, writeProtected, ah, al, dl, isWrite, refuse, posted}
-use Rattle.int13.specs.Steps.{Checked, unchanged, fed, isDrive, driveCount, driveNamed, packetPlace, verifyOk, mostRun, packetTests, packetRead, packetPlan, carryOut, extended, seekRead, seek, sectorRun, sectors, parameters, extensions, resultGiven, resultSteps, result, steps, begin}
+use Rattle.int13.specs.Steps.{Checked, unchanged, fed, isDrive, driveCount, driveNamed, shownOf, packetPlace, verifyOk, mostRun, packetTests, packetRead, packetPlan, carryOut, extended, seekRead, seek, sectorRun, sectors, parameters, extensions, resultGiven, resultSteps, result, steps, begin}
 use Rattle.int13.specs.Alone.{finish, alone}
 use Rattle.isolation.specs.Exported.{CarryUnread}
 
-module _ (known : Bool) (count : ℕ) (d : Drive) (r : Registers) (w : List ℕ) where
+module _ (known : Bool) (count : ℕ) (d : Drive) (s : Shown) (r : Registers) (w : List ℕ) where
   run : (M : ℕ) (x : ToBlock) → sectorRun d r M x ≡ sectorRun d (posted r) M x
   run M (NoBlock code) = refl
   run M (Block n) = refl
@@ -76,27 +78,27 @@ module _ (known : Bool) (count : ℕ) (d : Drive) (r : Registers) (w : List ℕ)
   given (NoResult code) = refl
   given (Written n) = refl
 
-  by-result : result known d r w ≡ result known d (posted r) w
+  by-result : result known d s r w ≡ result known d s (posted r) w
   unfolding result
   by-result =
       ap (λ (o : Outcome). pick (not known) (unchanged w (Answered (refuse badParameter r)))
       (pick (ltb (length w) (packetPlace r + 2)) (unchanged w (Answered (refuse badParameter r)))
-      (record { outcome = o; window = resultSteps d r w (packetPlace r) .window })))
+      (record { outcome = o; window = resultSteps d s r w (packetPlace r) .window })))
       (given (resultAnswer d (le 2 w (packetPlace r)) (length (drop (packetPlace r) w))))
 
-  by-steps : steps known count d r w ≡ steps known count d (posted r) w
+  by-steps : steps known count d s r w ≡ steps known count d s (posted r) w
   unfolding steps parameters extensions
   by-steps =
       ap (λ (o : Outcome). pick (either (eqb (ah r) 0x02) (eqb (ah r) 0x03)) (unchanged w o) (rest r)) by-sectors
       ∙ ap (λ (x : Checked). pick (either (eqb (ah r) 0x02) (eqb (ah r) 0x03)) (unchanged w (sectors known d (posted r) (length w)))
       (pick (eqb (ah r) 0x08) (unchanged w (parameters known count d r))
-      (pick (eqb (ah r) 0x41) (unchanged w (extensions known r))
+      (pick (eqb (ah r) 0x41) (unchanged w (extensions known s r))
       (pick (either (eqb (ah r) 0x42) (either (eqb (ah r) 0x43) (eqb (ah r) 0x44))) x
-      (pick (eqb (ah r) 0x47) (unchanged w (seek known d r w)) (pick (eqb (ah r) 0x48) (result known d r w) (unchanged w (Answered (refuse badParameter r)))))))))
+      (pick (eqb (ah r) 0x47) (unchanged w (seek known d r w)) (pick (eqb (ah r) 0x48) (result known d s r w) (unchanged w (Answered (refuse badParameter r)))))))))
       (carried (packetPlan known d r w) ∙ ap (λ (p : Plan). carryOut p (posted r) w) by-plan)
       ∙ ap₂ (λ (o : Outcome) (x : Checked). pick (either (eqb (ah r) 0x02) (eqb (ah r) 0x03)) (unchanged w (sectors known d (posted r) (length w)))
       (pick (eqb (ah r) 0x08) (unchanged w (parameters known count d r))
-      (pick (eqb (ah r) 0x41) (unchanged w (extensions known r))
+      (pick (eqb (ah r) 0x41) (unchanged w (extensions known s r))
       (pick (either (eqb (ah r) 0x42) (either (eqb (ah r) 0x43) (eqb (ah r) 0x44))) (extended known d (posted r) w)
       (pick (eqb (ah r) 0x47) (unchanged w o) (pick (eqb (ah r) 0x48) x (unchanged w (Answered (refuse badParameter r)))))))))
       by-seek by-result
@@ -104,18 +106,18 @@ module _ (known : Bool) (count : ℕ) (d : Drive) (r : Registers) (w : List ℕ)
       rest : Registers → Checked
       rest r =
           pick (eqb (ah r) 0x08) (unchanged w (parameters known count d r))
-          (pick (eqb (ah r) 0x41) (unchanged w (extensions known r))
+          (pick (eqb (ah r) 0x41) (unchanged w (extensions known s r))
           (pick (either (eqb (ah r) 0x42) (either (eqb (ah r) 0x43) (eqb (ah r) 0x44))) (extended known d r w)
           (pick (eqb (ah r) 0x47) (unchanged w (seek known d r w))
-          (pick (eqb (ah r) 0x48) (result known d r w)
+          (pick (eqb (ah r) 0x48) (result known d s r w)
           (unchanged w (Answered (refuse badParameter r)))))))
 
-by-begin : (b : Table) (r : Registers) (w : List ℕ) → begin (fed b) r w ≡ begin (fed b) (posted r) w
+by-begin : (b : Table) (p : Placement) (r : Registers) (w : List ℕ) → begin (fed b p) r w ≡ begin (fed b p) (posted r) w
 unfolding begin
-by-begin b r w = by-steps (isDrive b (dl r)) (driveCount b) (driveNamed b r) r w
+by-begin b p r w = by-steps (isDrive b (dl r)) (driveCount b) (driveNamed b r) (shownOf b p (dl r)) r w
 
 pub alone-carry : CarryUnread
 unfolding alone
-alone-carry t r m =
+alone-carry t p r m =
     ap (λ (x : Checked). finish (readTable t (length (m .store) / blockLength) .table) (x .outcome) (x .window) m)
-    (by-begin (readTable t (length (m .store) / blockLength) .table) r (m .window))
+    (by-begin (readTable t (length (m .store) / blockLength) .table) p r (m .window))

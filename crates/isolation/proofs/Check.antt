@@ -25,17 +25,20 @@ use Rattle.layout.specs.declared.PacketRead.the-variants.{Whole, Refused as NoP
 use Rattle.layout.specs.declared.ResultAnswer.{ResultAnswer}
 use Rattle.layout.specs.declared.ResultAnswer.the-variants.{Written, Refused as NoResult}
 use Rattle.layout.specs.Packet.{packetAt, readPacket}
-use Rattle.layout.specs.ResultBuffer.{noPointer, resultAnswer, resultOut}
+use Rattle.layout.specs.ResultBuffer.{resultAnswer, resultOut}
 use Rattle.layout.proofs.ResultBufferLaws.{length-out}
 use Rattle.memory.specs.Blocks.{blockLength}
 use Rattle.int13.specs.declared.Registers.{Registers}
+use Rattle.int13.specs.declared.Placement.{Placement}
+use Rattle.int13.specs.declared.Shown.{Shown}
 use Rattle.int13.specs.declared.Job.{Job}
 use Rattle.int13.specs.declared.Outcome.{Outcome}
 use Rattle.int13.specs.declared.Outcome.the-variants.{Answered, Waits}
 use Rattle.int13.specs.declared.Plan.{Plan}
 use Rattle.int13.specs.declared.Plan.the-variants.{Clear}
+use Rattle.int13.specs.Placement.{pointerOf}
 use Rattle.int13.specs.Answers.{ah, al, dl, isSectors, isWrite, posted}
-use Rattle.int13.specs.Steps.{Checked, isDrive, driveAt, driveNamed, packetPlace, verifyOk, packetTests, packetRead, packetPlan, packetJob, carryOut, extended, seekRead, seek, sectorBuffer, sectorJob, sectorRun, sectors, parameters, extensions, resultGiven, result, fed, driveCount, steps, begin}
+use Rattle.int13.specs.Steps.{Checked, isDrive, driveAt, driveNamed, packetPlace, verifyOk, packetTests, packetRead, packetPlan, packetJob, carryOut, extended, seekRead, seek, sectorBuffer, sectorJob, sectorRun, sectors, parameters, extensions, resultGiven, result, fed, driveCount, shownOf, steps, begin}
 use Rattle.int13.specs.Alone.{asked, namedFrom, storeBlock}
 use Rattle.desk.specs.Acceptable.{jobOk}
 use Rattle.table.proofs.Sound.{Obeys, Good, good-obeys}
@@ -184,13 +187,13 @@ module _ (b : Table) (store : ℕ) (g : Good b store) (r : Registers) (w : List 
   unfolding parameters
   parameters-says = pick-cases Stays (isDrive b (dl r)) _ _ (λ e. refl) (λ e. refl)
 
-  extensions-says : Stays (extensions (isDrive b (dl r)) r)
+  extensions-says : (s : Shown) → Stays (extensions (isDrive b (dl r)) s r)
   unfolding extensions
-  extensions-says = pick-cases Stays (both (isDrive b (dl r)) (eqb (r .bx) 0x55AA)) _ _ (λ e. refl) (λ e. refl)
+  extensions-says s = pick-cases Stays (both (isDrive b (dl r)) (eqb (r .bx) 0x55AA)) _ _ (λ e. refl) (λ e. refl)
 
-  result-says : After (result (isDrive b (dl r)) (driveNamed b r) r w)
+  result-says : (s : Shown) → After (result (isDrive b (dl r)) (driveNamed b r) s r w)
   unfolding result
-  result-says =
+  result-says s =
       pick-cases After (not (isDrive b (dl r))) _ _ (λ e. refl) (λ e₁.
       pick-cases After (ltb (length w) (packetPlace r + 2)) _ _ (λ e. refl) (λ e₂.
       by-answer (resultAnswer (driveNamed b r) (le 2 w (packetPlace r)) (length (drop (packetPlace r) w))) (whole (not-false _ e₁) e₂)))
@@ -198,27 +201,27 @@ module _ (b : Table) (store : ℕ) (g : Good b store) (r : Registers) (w : List 
       place : ℕ
       place = packetPlace r
 
-      whole : isDrive b (dl r) ≡ true → ltb (length w) (place + 2) ≡ false → length (take place w ++ resultOut (driveNamed b r) noPointer (le 2 w place) (drop place w)) ≡ length w
+      whole : isDrive b (dl r) ≡ true → ltb (length w) (place + 2) ≡ false → length (take place w ++ resultOut (driveNamed b r) (pointerOf s) (le 2 w place) (drop place w)) ≡ length w
       whole d e =
           let l : place + 2 ≤ length w = ltb-false (length w) (place + 2) e in
-          let n : length (resultOut (driveNamed b r) noPointer (le 2 w place) (drop place w)) ≡ length w - place
-          = length-out (driveNamed b r) noPointer (le 2 w place) (drop place w) (known b store (dl r) g d .arrays) ∙ length-drop place w in
-          length-append (take place w) (resultOut (driveNamed b r) noPointer (le 2 w place) (drop place w)) ∙ omega (arith, l, n, length-take place w)
+          let n : length (resultOut (driveNamed b r) (pointerOf s) (le 2 w place) (drop place w)) ≡ length w - place
+          = length-out (driveNamed b r) (pointerOf s) (le 2 w place) (drop place w) (known b store (dl r) g d .arrays) ∙ length-drop place w in
+          length-append (take place w) (resultOut (driveNamed b r) (pointerOf s) (le 2 w place) (drop place w)) ∙ omega (arith, l, n, length-take place w)
 
-      by-answer : (x : ResultAnswer) → length (take place w ++ resultOut (driveNamed b r) noPointer (le 2 w place) (drop place w)) ≡ length w
-          → Says b r w (resultGiven x r) (take place w ++ resultOut (driveNamed b r) noPointer (le 2 w place) (drop place w))
+      by-answer : (x : ResultAnswer) → length (take place w ++ resultOut (driveNamed b r) (pointerOf s) (le 2 w place) (drop place w)) ≡ length w
+          → Says b r w (resultGiven x r) (take place w ++ resultOut (driveNamed b r) (pointerOf s) (le 2 w place) (drop place w))
       by-answer (NoResult code) e = e
       by-answer (Written n) e = e
 
   -- ---- every function
 
-  pub check-says : After (begin (fed b) r w)
+  pub check-says : (p : Placement) → After (begin (fed b p) r w)
   unfolding begin steps
-  check-says =
+  check-says p =
       pick-cases After (either (eqb (ah r) 0x02) (eqb (ah r) 0x03)) _ _ (λ e. sectors-says e) (λ e₁.
       pick-cases After (eqb (ah r) 0x08) _ _ (λ e. parameters-says) (λ e₂.
-      pick-cases After (eqb (ah r) 0x41) _ _ (λ e. extensions-says) (λ e₃.
+      pick-cases After (eqb (ah r) 0x41) _ _ (λ e. extensions-says (shownOf b p (dl r))) (λ e₃.
       pick-cases After Extended _ _ (λ e. extended-says e₁ e) (λ e₄.
       pick-cases After (eqb (ah r) 0x47) _ _ (λ e. seek-says) (λ e₅.
-      pick-cases After (eqb (ah r) 0x48) _ _ (λ e. result-says) (λ e₆.
+      pick-cases After (eqb (ah r) 0x48) _ _ (λ e. result-says (shownOf b p (dl r))) (λ e₆.
       refl))))))

@@ -1,7 +1,7 @@
 -- Demand 3 holds at a desk block: the calls at the image of a desk are the calls at the desk.
 -- Assumes nothing.
 use Prim.Native.Nat.{ℕ, _<_}
-use mathlib.Core.Path.{_≡_, refl, sym, ap, ap₂, subst, _∙_}
+use mathlib.Core.Path.{_≡_, refl, sym, ap, ap₂, subst, subst₂, _∙_}
 use mathlib.Core.Bool.{Bool, true, false}
 use mathlib.Core.Logic.{⊎-elim}
 use mathlib.Core.List.{List, [], _∷_, _++_, map}
@@ -19,17 +19,17 @@ use Rattle.desk.specs.declared.Row.{Row}
 use Rattle.desk.specs.declared.Desk.{Desk}
 use Rattle.desk.specs.declared.OpenAnswer.{OpenAnswer}
 use Rattle.desk.specs.declared.OpenAnswer.the-variants.{Opened, Refused as OpenRefused}
-use Rattle.desk.specs.Parts.{windowSize, storeBlocks, vacantRow, stageAt}
+use Rattle.desk.specs.Parts.{windowSize, storeBlocks, vacantRow, stageAt, placementAt}
 use Rattle.desk.specs.Acceptable.{stageOk, accept}
 use Rattle.desk.proofs.AcceptableLaws.{closed-refused}
-use Rattle.desk.specs.Calls.{openOf, writtenOf, writtenOut, postOf, turnOf, collectOf, withdrawOf}
+use Rattle.desk.specs.Calls.{openOf, writtenOf, writtenOut, postOf, turnOf, collectOf, withdrawOf, placeOf}
 use Rattle.image.specs.Image.{image, deskSize, isImage, deskOf, accepted, laid, FitsDesk}
 use Rattle.image.proofs.ImageLaws.{length-image, desk-image, exact}
-use Rattle.isolation.specs.Lists.{Op, openTable, post, turn, collect, withdraw, write, Call, Answer, opening, Out, openedDesk, stepOf, step, Event, run, after}
+use Rattle.isolation.specs.Lists.{Op, openTable, post, turn, collect, withdraw, write, place, Call, Answer, opening, Out, openedDesk, stepOf, step, Event, run, after}
 use Rattle.isolation.specs.Words.{Marks, opens, kindOf, houseNumber, NoneOpens}
 use Rattle.isolation.specs.DeskBlocks.{FitsOp, FitsCalls, AtBlocks, OutBlock, blockAfter, outBlock, numberOf, left25, stepBlockOf, stepBlock, EventBlock, runBlock, afterBlock, NoneOpensBlock, imageOut, imageEvent, ClaimBlock, DemandBlock}
-use Rattle.isolation.proofs.Accept.{Facts, accept-facts, Inv, inv-accept, inv-opened}
-use Rattle.isolation.proofs.View.{Did, same, idle, answer, accepting, serving, giving, withdrawing, quiet-marks, view}
+use Rattle.isolation.proofs.Accept.{PlaceGood, Facts, accept-facts, Inv, inv-accept, inv-opened}
+use Rattle.isolation.proofs.View.{Did, same, idle, answer, accepting, serving, giving, withdrawing, placing, quiet-marks, view}
 use Rattle.isolation.proofs.Keep.{inv-step}
 use Rattle.isolation.proofs.Bound.{opens-front}
 use Rattle.isolation.proofs.Posts.{never as never-did}
@@ -51,6 +51,7 @@ step-at b d c l e = by-op (c .op) ∙ ap (λ (x : Desk). outBlock b (stepOf x (c
     by-op (collect g) = refl
     by-op (withdraw g) = refl
     by-op (write out) = refl
+    by-op (place g address) = refl
 
 laid-image : (b : List ℕ) (d : Desk) → length b ≡ deskSize → laid b d ≡ image d
 unfolding laid
@@ -65,6 +66,7 @@ block-did d c o l (accepting g r j e b t v ko kw f) = laid-image (image d) _ l
 block-did d c o l (serving g q e b t v f) = laid-image (image d) _ l
 block-did d c o l (giving g x e b v) = laid-image (image d) _ l
 block-did d c o l (withdrawing g q e b t v) = laid-image (image d) _ l
+block-did d c o l (placing g address e b t v k) = laid-image (image d) _ l
 
 -- an opening that passes, at any block: the block becomes the image of the desk that was opened
 record Opens (t : List ℕ) (a s : ℕ) (o : OutBlock) : Type 0 where
@@ -93,7 +95,7 @@ opens-first b t a s c e =
 -- at a block that is not accepted, and for an opening has another size
 is-25 : (b : List ℕ) (c : Call) → accepted b ≡ false → ((t : List ℕ) (a s : ℕ) → c .op ≡ openTable t a s → length b ≡ deskSize → ⊥)
     → stepBlock b c ≡ left25 b (c .op) (c .arena) (c .store)
-unfolding stepBlock accepted postOf turnOf collectOf withdrawOf writtenOf writtenOut
+unfolding stepBlock accepted postOf turnOf collectOf withdrawOf placeOf writtenOf writtenOut
 is-25 b c e n = by-op (c .op) n
   where
     by-op : (o : Op) → ((t : List ℕ) (a s : ℕ) → o ≡ openTable t a s → length b ≡ deskSize → ⊥) → stepBlockOf b o (c .arena) (c .store) ≡ left25 b o (c .arena) (c .store)
@@ -103,6 +105,7 @@ is-25 b c e n = by-op (c .op) n
     by-op (collect g) n = rw e
     by-op (withdraw g) n = rw e
     by-op (write out) n = rw e
+    by-op (place g address) n = rw e
 
 -- every call but an opening is 25 at a block that is not accepted
 pub not-accepted : (b : List ℕ) (c : Call) → accepted b ≡ false → ((t : List ℕ) (a s : ℕ) → c .op ≡ openTable t a s → ⊥)
@@ -117,7 +120,7 @@ other-size b c n = is-25 b c (rw (ne-eqb (length b) deskSize n) (closed-refused 
 -- a table's number is none
 low-25 : (y : OpenAnswer) → LowOpening y → numberOf (opening y) ≡ 25 → ⊥
 low-25 Opened l x = omega arith
-low-25 (OpenRefused n place) l x = omega arith
+low-25 (OpenRefused n at) l x = omega arith
 
 -- a call at a desk that is no 25 by its house number is none
 never-25 : (d : Desk) (c : Call) → (houseNumber (step d c .answer) ≡ 25 → ⊥) → numberOf (step d c .answer) ≡ 25 → ⊥
@@ -131,6 +134,7 @@ never-25 d c n x = by-op (c .op) n x
     by-op (collect g) n x = n x
     by-op (withdraw g) n x = n x
     by-op (write out) n x = n x
+    by-op (place g address) n x = n x
 
 -- ---- a list of calls
 
@@ -256,9 +260,18 @@ held-accepted d e f =
       inv =
           record {
             rows = f .eight;
-            table = record { sound = k .sound; eight = f .table .eight; arrays = λ i h. arrays i (k .sound) h };
+            table = record {
+              sound = k .sound;
+              eight = f .table .eight;
+              arrays = λ i h. arrays i (k .sound) h;
+              marks = f .table .present;
+              bytes = f .table .parameters;
+            };
             pointer = k .pointer;
             stages = stages k;
+            placed = f .placed;
+            addresses = f .addresses;
+            places = places k;
           };
       fits = f;
     }
@@ -273,6 +286,14 @@ held-accepted d e f =
     stages k g =
         ⊎-elim (λ l. k .stages g l)
         (λ l. ap (λ (r : Row). stageOk (d .table) (windowSize d) (r .stage)) (List·getD-eq-default (d .rows) vacantRow (omega (arith, f .eight))))
+        (lt-or-le g guests)
+
+    -- past the guests there is no placement
+    places : Facts d → (g : ℕ) → PlaceGood d (placementAt d g)
+    places k g =
+        ⊎-elim (λ l. k .places g l)
+        (λ l. subst₂ (λ (x : Bool) (a : ℕ). PlaceGood d (record { placed = x; address = a }))
+        (sym (List·getD-eq-default (d .placed) false {n = g} (omega (arith, f .placed)))) (sym (List·getD-eq-default (d .addresses) 0 {n = g} (omega (arith, f .addresses)))) refl)
         (lt-or-le g guests)
 
 -- an accepted block is the image of such a desk

@@ -27,7 +27,7 @@ use Rattle.isolation.specs.Words.{Marks, Kind, serves, withdraws, opens,
 use Rattle.isolation.proofs.Turn.{vacant≢waiting, finished≢waiting}
 use Rattle.isolation.proofs.Moves.{Agree, Alike, Off, SameSize, moves-size, moves-add, moves-alike, moves-off}
 use Rattle.isolation.proofs.Accept.{Inv, Ready, ready}
-use Rattle.isolation.proofs.View.{Lent, Did, same, idle, answer, accepting, serving, giving, withdrawing, view, still, postedOut, servedOut, collectedOut, withdrawnOut, windowIn, window-length, span-lent, quiet-marks}
+use Rattle.isolation.proofs.View.{Lent, Did, same, idle, answer, accepting, serving, giving, withdrawing, placing, view, still, postedOut, servedOut, collectedOut, withdrawnOut, placedOut, windowIn, window-length, span-lent, quiet-marks}
 use Rattle.isolation.proofs.Keep.{stage-same, stage-other, waiting-below, inv-step, fixed-step, served-size, withdrawn-size, same-guest}
 use Rattle.isolation.proofs.Fate.{other-guest, same-request, rest, after-cases}
 
@@ -201,6 +201,8 @@ module _ (lo : ℕ) (d : Desk) (inv : Inv d) (c : Call) (g : ℕ) (j : Job) (n :
       let gh : g ≢ h = λ y. finished≢waiting (sym v ∙ (rw y at (mid .here))) in
       stay (collectedOut d c h r) (stage-other d h g Vacant gh) refl refl refl refl w s refl refl (λ k a z. refl) i
   goes o (withdrawing h p t b l v) i u = withdraw-next h p b l i (ℕ-discrete h g)
+  -- a placement is not among the calls of the condition: the window and the store are those of the call before it
+  goes o (placing h address t b l v k) i u = stay (placedOut d c h address) refl refl refl refl refl w s refl refl (λ k a z. refl) i
 
 -- ---- along the list
 

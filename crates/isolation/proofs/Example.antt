@@ -9,6 +9,8 @@ use lib.ListN.{length, replicate, length-replicate}
 use Rattle.chs.specs.Chs.{inLimits, isValid, blockOf}
 use Rattle.memory.specs.Window.{windowOf}
 use Rattle.int13.specs.declared.Registers.{Registers}
+use Rattle.int13.specs.declared.Placement.{Placement}
+use Rattle.int13.specs.Placement.{noPlacement}
 use Rattle.int13.specs.declared.Job.{Job}
 use Rattle.int13.specs.declared.Outcome.the-variants.{Waits}
 use Rattle.int13.specs.Answers.{succeed, posted as postedRegisters}
@@ -30,9 +32,9 @@ read = record { ax = 0x0211; bx = 0x15; cx = 0x0103; dx = 0x0281; ds = 0x5555; s
 abbrev pub readJob : Job
 readJob = record { registers = postedRegisters read; drive = 0x81; start = 32; count = 17; buffer = 53; packet = 0 }
 
-check-read : (w : List ℕ) → length w ≡ M → begin (fed table) read w ≡ unchanged w (Waits readJob)
+check-read : (p : Placement) (w : List ℕ) → length w ≡ M → begin (fed table p) read w ≡ unchanged w (Waits readJob)
 unfolding begin steps sectors isDrive blockOf inLimits isValid
-check-read w l = by-sectors read readJob w l refl refl
+check-read p w l = by-sectors p read readJob w l refl refl
 
 abbrev pub between : List Line
 between =
@@ -53,8 +55,8 @@ module _ (a s : List ℕ) (la : length a ≡ arenaLength) (ls : length s ≡ sto
   pub lines : All p₀ (waiting 2 read readJob ∷ (between ++ last ∷ []))
   unfolding firstWaiting stageAfter
   lines =
-      (refl, refl, check-read (windowOf a 2 M) (window-lent d₀ a 2 la (omega arith)))
-      also (refl, refl, check-write (windowOf a 5 M) (window-lent d₀ a 5 la (omega arith)))
+      (refl, refl, check-read noPlacement (windowOf a 2 M) (window-lent d₀ a 2 la (omega arith)))
+      also (refl, refl, check-write noPlacement (windowOf a 5 M) (window-lent d₀ a 5 la (omega arith)))
       also (refl, refl, refl)
       also (refl, refl, refl)
       also (refl, refl, refl)
@@ -72,8 +74,8 @@ module _ (a s : List ℕ) (la : length a ≡ arenaLength) (ls : length s ≡ sto
 
   -- after the third turn, guest 2's registers, window and store blocks 56 to 72 are those of its read served alone
   pub example : Same M 2 (firstBy table M (posting story) 2 read) 17 (step (after (step d₀ (posting story) .desk) (meanwhile story)) (finishing story))
-      (alone (fed tableBytes) read (foundBy M (posting story) 2))
-  example = equal story z₀ M 17 56 refl start (refl, omega arith) refl tableBytes (claimed (calls story) (closed story z₀)) refl refl
+      (alone (fed tableBytes noPlacement) read (foundBy M (posting story) 2))
+  example = equal story z₀ M 17 56 refl start (refl, omega arith) refl refl refl refl tableBytes (claimed (calls story) (closed story z₀))
 
 -- and with bytes: an arena of zeros, a store of sevens
 pub zeros : List ℕ
@@ -88,5 +90,5 @@ storyOfBytes = story zeros sevens long-arena length-sevens
 
 pub example-bytes : Same M 2 (firstBy table M (posting storyOfBytes) 2 read) 17
     (step (after (step d₀ (posting storyOfBytes) .desk) (meanwhile storyOfBytes)) (finishing storyOfBytes))
-    (alone (fed tableBytes) read (foundBy M (posting storyOfBytes) 2))
+    (alone (fed tableBytes noPlacement) read (foundBy M (posting storyOfBytes) 2))
 example-bytes = example zeros sevens long-arena length-sevens

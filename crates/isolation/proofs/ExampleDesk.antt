@@ -1,8 +1,9 @@
--- The desk of the instances: two drives that differ in every field, windows with room beside 17 blocks, bytes at the arena's end that are nobody's.
+-- The desk of the instances: two drives that differ in every field, each with parameters, windows with room beside 17 blocks, bytes at the arena's end that are nobody's.
 -- Assumes nothing.
 use Prim.Native.Nat.{ℕ, zero, suc, _≤_, _<_}
 use mathlib.Core.Path.{_≡_, refl, sym, ap, subst, _∙_}
 use mathlib.Core.Logic.{⊎-elim}
+use mathlib.Core.Bool.{true, false}
 use mathlib.Core.List.{List, [], _∷_, _++_}
 use native.Mathlib.Omega.{arith}
 use native.Mathlib.Decide.{ℕ-discrete}
@@ -13,7 +14,7 @@ use Rattle.chs.specs.Chs.{inLimits}
 use Rattle.drive.specs.declared.Drive.{Drive}
 use Rattle.drive.specs.Drive.{driveOf, same, busOk, interfaceOk, geometryFits, fieldsOk, inStore, overlap}
 use Rattle.table.specs.declared.Table.{Table}
-use Rattle.table.specs.Table.{zeroDrive, headerOf, headerAt, overlapsAny, refusal, driveStep, endStep, stepOf, stepAt, readFrom, readTable}
+use Rattle.table.specs.Table.{zeroDrive, headerOf, headerAt, overlapsAny, refusal, parametersRefusal, recordRefusal, withRecord, recordStep, endStep, stepOf, stepAt, readFrom, readTable}
 use Rattle.layout.specs.declared.Packet.{Packet}
 use Rattle.layout.specs.declared.PacketRead.the-variants.{Whole}
 use Rattle.layout.specs.Packet.{packetLength, packetAt, readPacket}
@@ -30,10 +31,13 @@ use Rattle.isolation.proofs.Accept.{Inv, inv-opened}
 use Rattle.isolation.proofs.Theorem.{demand}
 
 -- drive 80h: 19 blocks from store block 2, 1/2/9, protected; drive 81h: 61 blocks from store block 24, 3/4/5, flags 8 (it can verify)
+-- each is followed by its parameters
 abbrev pub tableBytes : List ℕ
 tableBytes =
     68 ∷ 0 ∷ 1 ∷ 0 ∷ 1 ∷ 0 ∷ 0 ∷ 0 ∷ 2 ∷ 0 ∷ 0 ∷ 0 ∷ 9 ∷ 0 ∷ 0 ∷ 0 ∷ 19 ∷ 0 ∷ 0 ∷ 0 ∷ 0 ∷ 0 ∷ 0 ∷ 0 ∷ 2 ∷ 0 ∷ 0 ∷ 0 ∷ 0 ∷ 0 ∷ 0 ∷ 0 ∷ 0 ∷ 0 ∷ 1 ∷ 0 ∷ 2 ∷ 0 ∷ 9 ∷ 1 ∷ 73 ∷ 83 ∷ 65 ∷ 0 ∷ 65 ∷ 84 ∷ 65 ∷ 80 ∷ 73 ∷ 0 ∷ 0 ∷ 0 ∷ 1 ∷ 2 ∷ 3 ∷ 4 ∷ 5 ∷ 6 ∷ 7 ∷ 8 ∷ 9 ∷ 10 ∷ 11 ∷ 12 ∷ 13 ∷ 14 ∷ 15 ∷ 16
+    ∷ 20 ∷ 0 ∷ 4 ∷ 0 ∷ 0 ∷ 0 ∷ 41 ∷ 42 ∷ 43 ∷ 44 ∷ 45 ∷ 46 ∷ 47 ∷ 48 ∷ 49 ∷ 50 ∷ 51 ∷ 52 ∷ 53 ∷ 54
     ∷ 68 ∷ 0 ∷ 1 ∷ 0 ∷ 7 ∷ 0 ∷ 0 ∷ 0 ∷ 11 ∷ 0 ∷ 0 ∷ 0 ∷ 13 ∷ 0 ∷ 0 ∷ 0 ∷ 61 ∷ 0 ∷ 0 ∷ 0 ∷ 0 ∷ 0 ∷ 0 ∷ 0 ∷ 24 ∷ 0 ∷ 0 ∷ 0 ∷ 0 ∷ 0 ∷ 0 ∷ 0 ∷ 8 ∷ 0 ∷ 3 ∷ 0 ∷ 4 ∷ 0 ∷ 5 ∷ 0 ∷ 80 ∷ 67 ∷ 73 ∷ 0 ∷ 83 ∷ 67 ∷ 83 ∷ 73 ∷ 0 ∷ 0 ∷ 0 ∷ 0 ∷ 21 ∷ 22 ∷ 23 ∷ 24 ∷ 25 ∷ 26 ∷ 27 ∷ 28 ∷ 31 ∷ 32 ∷ 33 ∷ 34 ∷ 35 ∷ 36 ∷ 37 ∷ 38
+    ∷ 20 ∷ 0 ∷ 4 ∷ 0 ∷ 1 ∷ 0 ∷ 61 ∷ 62 ∷ 63 ∷ 64 ∷ 65 ∷ 66 ∷ 67 ∷ 68 ∷ 69 ∷ 70 ∷ 71 ∷ 72 ∷ 73 ∷ 74
     ∷ 4 ∷ 0 ∷ 0 ∷ 0 ∷ []
 
 -- 8 windows of 8960 bytes, and five more
@@ -85,14 +89,20 @@ plain =
       device = 31 ∷ 32 ∷ 33 ∷ 34 ∷ 35 ∷ 36 ∷ 37 ∷ 38 ∷ [];
     }
 
+abbrev pub given : List ℕ
+given =
+    41 ∷ 42 ∷ 43 ∷ 44 ∷ 45 ∷ 46 ∷ 47 ∷ 48 ∷ 49 ∷ 50 ∷ 51 ∷ 52 ∷ 53 ∷ 54
+    ∷ 61 ∷ 62 ∷ 63 ∷ 64 ∷ 65 ∷ 66 ∷ 67 ∷ 68 ∷ 69 ∷ 70 ∷ 71 ∷ 72 ∷ 73 ∷ 74
+    ∷ replicate 84 0
+
 abbrev pub table : Table
-table = record { drives = guarded ∷ plain ∷ replicate 6 zeroDrive; count = 2 }
+table = record { drives = guarded ∷ plain ∷ replicate 6 zeroDrive; count = 2; present = true ∷ true ∷ replicate 6 false; parameters = given }
 
 abbrev pub d₀ : Desk
 d₀ = opened table arenaLength storeLength
 
 pub opening : openOf tableBytes arenaLength storeLength ≡ record { desk = d₀; answer = Opened }
-unfolding openOf le leBytes inLimits driveOf same busOk interfaceOk geometryFits fieldsOk inStore overlap headerOf headerAt overlapsAny refusal driveStep endStep stepOf stepAt readFrom readTable
+unfolding openOf le leBytes inLimits driveOf same busOk interfaceOk geometryFits fieldsOk inStore overlap headerOf headerAt overlapsAny refusal parametersRefusal recordRefusal withRecord recordStep endStep stepOf stepAt readFrom readTable
 opening = refl
 
 pub inv₀ : Inv d₀
@@ -160,9 +170,12 @@ module _ (packet : ℕ → List ℕ) (whole : (g : ℕ) → length (packet g) �
   unfolding arenaOf
   length-arena = length-filled guests
 
-  pub held-arena : (g : ℕ) → g < guests → packetAt (windowOf arenaOf g M) 24 ≡ packetAt (windowWith (packet g)) 24
+  pub window-arena : (g : ℕ) → g < guests → windowOf arenaOf g M ≡ windowWith (packet g)
   unfolding arenaOf
-  held-arena g b = ap (λ (w : List ℕ). packetAt w 24) (window-filled guests g (omega arith) b)
+  window-arena g b = window-filled guests g (omega arith) b
+
+  pub held-arena : (g : ℕ) → g < guests → packetAt (windowOf arenaOf g M) 24 ≡ packetAt (windowWith (packet g)) 24
+  held-arena g b = ap (λ (w : List ℕ). packetAt w 24) (window-arena g b)
 
 pub sevens : List ℕ
 sevens = replicate storeLength 7

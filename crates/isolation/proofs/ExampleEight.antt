@@ -15,6 +15,7 @@ use Rattle.layout.specs.declared.PacketRead.the-variants.{Whole}
 use Rattle.layout.specs.Packet.{packetAt, readPacket}
 use Rattle.memory.specs.Window.{guests, windowOf}
 use Rattle.int13.specs.declared.Registers.{Registers}
+use Rattle.int13.specs.Placement.{noPlacement}
 use Rattle.int13.specs.declared.Job.{Job}
 use Rattle.int13.specs.declared.Outcome.the-variants.{Waits}
 use Rattle.int13.specs.declared.Plan.{Plan}
@@ -65,8 +66,8 @@ abbrev pub job : Registers → ℕ → Job
 job r g = packetJob r (packet g)
 
 by-packet : (r : Registers) (p : Packet) (w : List ℕ) → length w ≡ M → packetAt w 24 ≡ p
-    → begin (fed table) r w ≡ carryOut (packetRead plain r (length w) (readPacket w 24)) r w → packetRead plain r M (Whole p) ≡ Wait (packetJob r p)
-    → begin (fed table) r w ≡ unchanged w (Waits (packetJob r p))
+    → begin (fed table noPlacement) r w ≡ carryOut (packetRead plain r (length w) (readPacket w 24)) r w → packetRead plain r M (Whole p) ≡ Wait (packetJob r p)
+    → begin (fed table noPlacement) r w ≡ unchanged w (Waits (packetJob r p))
 by-packet r p w l e f g =
     f
     ∙ ap (λ (x : PacketRead). carryOut (packetRead plain r (length w) x) r w) (read-packet w p l e)
@@ -106,8 +107,8 @@ module _ (a s : List ℕ) (la : length a ≡ arenaLength) (ls : length s ≡ sto
   p₀ = place d₀ a s
 
   checks : (r : Registers) (g : ℕ) → g < guests
-      → begin (fed table) r (windowOf a g M) ≡ carryOut (packetRead plain r (length (windowOf a g M)) (readPacket (windowOf a g M) 24)) r (windowOf a g M)
-      → packetRead plain r M (Whole (packet g)) ≡ Wait (job r g) → begin (fed table) r (windowOf a g M) ≡ unchanged (windowOf a g M) (Waits (job r g))
+      → begin (fed table noPlacement) r (windowOf a g M) ≡ carryOut (packetRead plain r (length (windowOf a g M)) (readPacket (windowOf a g M) 24)) r (windowOf a g M)
+      → packetRead plain r M (Whole (packet g)) ≡ Wait (job r g) → begin (fed table noPlacement) r (windowOf a g M) ≡ unchanged (windowOf a g M) (Waits (job r g))
   checks r g b = by-packet r (packet g) (windowOf a g M) (window-lent d₀ a g la b) (held g b)
 
   pub lines : All p₀ (asks verifies 2 ∷ ((posts ++ stretch) ++ last ∷ idle))
@@ -147,8 +148,8 @@ module _ (a s : List ℕ) (la : length a ≡ arenaLength) (ls : length s ≡ sto
 
   -- guests 0 and 5 write the blocks on either side of 29 to 45
   pub example : Same M 2 (firstBy table M (posting story) 2 verifies) (askedBy M (posting story) 2 verifies)
-      (step (after (step d₀ (posting story) .desk) (meanwhile story)) (finishing story)) (alone (fed tableBytes) verifies (foundBy M (posting story) 2))
-  example = equal story z₀ M 17 29 count-is start-is (refl, omega arith) refl tableBytes claim refl refl
+      (step (after (step d₀ (posting story) .desk) (meanwhile story)) (finishing story)) (alone (fed tableBytes noPlacement) verifies (foundBy M (posting story) 2))
+  example = equal story z₀ M 17 29 count-is start-is (refl, omega arith) refl refl refl refl tableBytes claim
 
   waits₂ : WaitsOn 2 (askedBy M (posting story) 2 verifies) (run (step d₀ (posting story) .desk) (meanwhile story))
   waits₂ = waits story z₀ M 17 29 count-is start-is (refl, omega arith) refl
@@ -225,5 +226,5 @@ storyOfBytes = story someArena sevens long-arena length-sevens held-there
 
 pub example-bytes : Same M 2 (firstBy table M (posting storyOfBytes) 2 verifies) (askedBy M (posting storyOfBytes) 2 verifies)
     (step (after (step d₀ (posting storyOfBytes) .desk) (meanwhile storyOfBytes)) (finishing storyOfBytes))
-    (alone (fed tableBytes) verifies (foundBy M (posting storyOfBytes) 2))
+    (alone (fed tableBytes noPlacement) verifies (foundBy M (posting storyOfBytes) 2))
 example-bytes = example someArena sevens long-arena length-sevens held-there

@@ -2,7 +2,7 @@
 -- between. Every condition of `equal`, `handed` and `atOnce` is met.
 -- Assumes nothing.
 use Prim.Native.Nat.{ℕ, _<_}
-use mathlib.Core.Path.{_≡_, refl, sym, ap, subst, _∙_}
+use mathlib.Core.Path.{_≡_, refl, sym, ap, subst₂, _∙_}
 use mathlib.Core.Bool.{true, false}
 use mathlib.Core.List.{List, [], _∷_, _++_}
 use native.Mathlib.Omega.{arith}
@@ -16,6 +16,8 @@ use Rattle.layout.specs.Packet.{packetAt}
 use Rattle.memory.specs.Window.{guests, windowOf, withWindow}
 use Rattle.memory.proofs.WindowLaws.{length-with-window}
 use Rattle.int13.specs.declared.Registers.{Registers}
+use Rattle.int13.specs.declared.Placement.{Placement}
+use Rattle.int13.specs.Placement.{noPlacement}
 use Rattle.int13.specs.declared.Job.{Job}
 use Rattle.int13.specs.declared.Outcome.the-variants.{Answered, Waits}
 use Rattle.int13.specs.Answers.{writeProtected, succeed, refuse, posted as postedRegisters}
@@ -27,7 +29,7 @@ use Rattle.desk.specs.declared.Desk.{Desk}
 use Rattle.desk.specs.declared.CollectAnswer.the-variants.{Given as CollectGiven}
 use Rattle.desk.specs.Calls.{firstWaiting, stageAfter}
 use Rattle.isolation.specs.Lists.{collected, Out, step, run, after}
-use Rattle.isolation.specs.Words.{refused, hands, kindOf, Finishes, collects}
+use Rattle.isolation.specs.Words.{refused, hands, kindOf, Finishes, collects, placementIn}
 use Rattle.isolation.specs.Demand.{foundBy, firstBy, Same, SameAtOnce, Claim}
 use Rattle.isolation.proofs.Equal.{request}
 use Rattle.isolation.proofs.Trace.{Place, place, Line, waiting, answering, serving, idling, unlent, withdrawing, collecting, misopening, leaves, callOf, outAt, placeAfter, callsOf, All, _also_, Sized, window-lent, step-line, sized-line, sized, followed, arrives, all-split, Story, middle, posting, meanwhile, finishing, calls, split, at-middle, since-at, closed, taken, finishes, equal}
@@ -39,7 +41,7 @@ use Rattle.isolation.proofs.ExampleDesk.{tableBytes, arenaLength, M, st
 abbrev pub saved : Registers
 saved = record { ax = 0x0311; bx = 7; cx = 0x0103; dx = 0x0281; ds = 0x1111; si = 0x2222; es = 3; carry = true }
 
-abbrev saveJob : Job
+abbrev pub saveJob : Job
 saveJob = record { registers = postedRegisters saved; drive = 0x81; start = 32; count = 17; buffer = 55; packet = 0 }
 
 -- guest 5: 03h, the sector 2/1/5 of drive 81h, store block 73, the first that guest 2 does not name; buffer 0004:0009
@@ -56,22 +58,22 @@ spoiled = record { ax = 0x4301; bx = 0x5555; cx = 0x6666; dx = 0x0080; ds = 1; s
 abbrev pub packet : Packet
 packet = record { size = 16; count = 3; buffer = 101; start = 4 }
 
-pub by-sectors : (r : Registers) (j : Job) (w : List ℕ) → length w ≡ M → sectors true plain r M ≡ Waits j
-    → begin (fed table) r w ≡ unchanged w (sectors true plain r (length w)) → begin (fed table) r w ≡ unchanged w (Waits j)
-by-sectors r j w l e f = f ∙ ap (λ (n : ℕ). unchanged w (sectors true plain r n)) l ∙ ap (unchanged w) e
+pub by-sectors : (p : Placement) (r : Registers) (j : Job) (w : List ℕ) → length w ≡ M → sectors true plain r M ≡ Waits j
+    → begin (fed table p) r w ≡ unchanged w (sectors true plain r (length w)) → begin (fed table p) r w ≡ unchanged w (Waits j)
+by-sectors p r j w l e f = f ∙ ap (λ (n : ℕ). unchanged w (sectors true plain r n)) l ∙ ap (unchanged w) e
 
-check-save : (w : List ℕ) → length w ≡ M → begin (fed table) saved w ≡ unchanged w (Waits saveJob)
+pub check-save : (p : Placement) (w : List ℕ) → length w ≡ M → begin (fed table p) saved w ≡ unchanged w (Waits saveJob)
 unfolding begin steps sectors isDrive blockOf inLimits isValid
-check-save w l = by-sectors saved saveJob w l refl refl
+check-save p w l = by-sectors p saved saveJob w l refl refl
 
-pub check-write : (w : List ℕ) → length w ≡ M → begin (fed table) wrote w ≡ unchanged w (Waits writeJob)
+pub check-write : (p : Placement) (w : List ℕ) → length w ≡ M → begin (fed table p) wrote w ≡ unchanged w (Waits writeJob)
 unfolding begin steps sectors isDrive blockOf inLimits isValid
-check-write w l = by-sectors wrote writeJob w l refl refl
+check-write p w l = by-sectors p wrote writeJob w l refl refl
 
-check-spoiled : (w : List ℕ) → length w ≡ M → packetAt w 24 ≡ packet
-    → begin (fed table) spoiled w ≡ record { outcome = Answered (refuse writeProtected spoiled); window = withCount w 24 0 }
+check-spoiled : (p : Placement) (w : List ℕ) → length w ≡ M → packetAt w 24 ≡ packet
+    → begin (fed table p) spoiled w ≡ record { outcome = Answered (refuse writeProtected spoiled); window = withCount w 24 0 }
 unfolding begin steps packetPlan verifyOk isDrive packetTests
-check-spoiled w l e = ap (λ (x : PacketRead). carryOut (packetRead guarded spoiled (length w) x) spoiled w) (read-packet w packet l e)
+check-spoiled p w l e = ap (λ (x : PacketRead). carryOut (packetRead guarded spoiled (length w) x) spoiled w) (read-packet w packet l e)
 
 -- ---- the lines
 
@@ -121,14 +123,14 @@ module _ (a s : List ℕ) (la : length a ≡ arenaLength) (ls : length s ≡ sto
   pub lines : All p₀ (waiting 2 saved saveJob ∷ (between ++ last ∷ later))
   unfolding firstWaiting stageAfter
   lines =
-      (refl, refl, check-save (windowOf a 2 M) (long-window a la 2 (omega arith)))
-      also (refl, refl, check-write (windowOf a 5 M) (long-window a la 5 (omega arith)))
+      (refl, refl, check-save noPlacement (windowOf a 2 M) (long-window a la 2 (omega arith)))
+      also (refl, refl, check-write noPlacement (windowOf a 5 M) (long-window a la 5 (omega arith)))
       also (refl, refl, refl)
       also refl
       also (refl, refl, refl)
       also tt
-      also (refl, refl, check-spoiled (windowOf a 6 M) (long-window a la 6 (omega arith)) held)
-      also (refl, refl, check-write (windowOf a₇ 5 M) (long-window a₇ (length-with-window a 6 M (spoil (windowOf a 6 M)) ∙ la) 5 (omega arith)))
+      also (refl, refl, check-spoiled noPlacement (windowOf a 6 M) (long-window a la 6 (omega arith)) held)
+      also (refl, refl, check-write noPlacement (windowOf a₇ 5 M) (long-window a₇ (length-with-window a 6 M (spoil (windowOf a 6 M)) ∙ la) 5 (omega arith)))
       also (refl, refl, refl)
       also (refl, refl, refl)
       also (refl, refl)
@@ -151,8 +153,8 @@ module _ (a s : List ℕ) (la : length a ≡ arenaLength) (ls : length s ≡ sto
 
   -- after its last part, guest 2's registers, window and store blocks 56 to 72 are those of its write served alone; guest 5 writes block 73
   pub example : Same M 2 (firstBy table M (posting story) 2 saved) 17 (step (after (step d₀ (posting story) .desk) (meanwhile story)) (finishing story))
-      (alone (fed tableBytes) saved (foundBy M (posting story) 2))
-  example = equal story z₀ M 17 56 refl start (refl, omega arith) refl tableBytes claim refl refl
+      (alone (fed tableBytes noPlacement) saved (foundBy M (posting story) 2))
+  example = equal story z₀ M 17 56 refl start (refl, omega arith) refl refl refl refl tableBytes claim
 
   ends : Finishes 2 17 (step d₀ (posting story) .desk) (meanwhile story) (finishing story)
   ends = finishes story z₀ M 17 56 refl start (refl, omega arith) refl
@@ -182,8 +184,8 @@ module _ (a s : List ℕ) (la : length a ≡ arenaLength) (ls : length s ≡ sto
       ∙ step-line (placeAfter p₁₀ more) (sized (last ∷ more) (middle story) (at-middle story z₀) (tail .0)) collect₂ (tail .1 .0)
 
   pub handed : step (after (step d₀ (posting story) .desk) (meanwhile story ++ finishing story ∷ callsOf p₁₀ more)) (callOf (placeAfter p₁₀ more) collect₂) .answer
-      ≡ collected 2 (CollectGiven (alone (fed tableBytes) saved (foundBy M (posting story) 2) .registers))
-  unfolding after taken
+      ≡ collected 2 (CollectGiven (alone (fed tableBytes noPlacement) saved (foundBy M (posting story) 2) .registers))
+  unfolding after run taken
   handed = claim .handed (taken story z₀) (meanwhile story) (callsOf p₁₀ more) [] (finishing story) (callOf (placeAfter p₁₀ more) collect₂) refl ends no-collect refl
       (λ x. let z : hands 2 (succeed (postedRegisters saved)) ≡ refused = sym (ap (λ (o : Out). kindOf (o .answer)) given) ∙ x in impossible cc)
 
@@ -203,9 +205,10 @@ module _ (a s : List ℕ) (la : length a ≡ arenaLength) (ls : length s ≡ sto
   refused-then : step (after d₀ (callsOf p₀ six)) (callOf p₆ refusing) ≡ outAt p₆ refusing
   refused-then = ap (λ (d : Desk). step d (callOf p₆ refusing)) (arrives six p₀ z₀ (front .0)) ∙ step-line p₆ (sized six p₀ z₀ (front .0)) refusing (front .1 .0)
 
-  pub at-once : SameAtOnce M 6 (outAt p₆ refusing) (refuse writeProtected spoiled) (alone (fed tableBytes) spoiled (foundBy M (callOf p₆ refusing) 6))
+  pub at-once : SameAtOnce M 6 (outAt p₆ refusing) (refuse writeProtected spoiled) (alone (fed tableBytes noPlacement) spoiled (foundBy M (callOf p₆ refusing) 6))
   at-once =
-      subst (λ (o : Out). SameAtOnce M 6 o (refuse writeProtected spoiled) (alone (fed tableBytes) spoiled (foundBy M (callOf p₆ refusing) 6))) refused-then
+      subst₂ (λ (o : Out) (x : Placement). SameAtOnce M 6 o (refuse writeProtected spoiled) (alone (fed tableBytes x) spoiled (foundBy M (callOf p₆ refusing) 6))) refused-then
+      (ap (placementIn 6) (followed six p₀ z₀ (front .0)))
       (claim .atOnce (callsOf p₀ six) (callsOf (leaves p₆ refusing) (waiting 5 wrote writeJob ∷ serving 5 writing (Finished (succeed wrote)) ∷ last ∷ later))
       (callOf p₆ refusing) 6 spoiled (refuse writeProtected spoiled) refl refl (ap (λ (o : Out). o .answer) refused-then))
 
@@ -229,5 +232,5 @@ storyOfBytes = story someArena sevens long-arena length-sevens held-there
 
 pub example-bytes : Same M 2 (firstBy table M (posting storyOfBytes) 2 saved) 17
     (step (after (step d₀ (posting storyOfBytes) .desk) (meanwhile storyOfBytes)) (finishing storyOfBytes))
-    (alone (fed tableBytes) saved (foundBy M (posting storyOfBytes) 2))
+    (alone (fed tableBytes noPlacement) saved (foundBy M (posting storyOfBytes) 2))
 example-bytes = example someArena sevens long-arena length-sevens held-there

@@ -28,14 +28,17 @@ use Rattle.desk.specs.declared.CollectAnswer.{CollectAnswer}
 use Rattle.desk.specs.declared.CollectAnswer.the-variants.{Given as CollectGiven, Refused as CollectRefused}
 use Rattle.desk.specs.declared.WithdrawAnswer.{WithdrawAnswer}
 use Rattle.desk.specs.declared.WithdrawAnswer.the-variants.{Given as WithdrawGiven, Refused as WithdrawRefused}
+use Rattle.desk.specs.declared.PlaceAnswer.{PlaceAnswer}
+use Rattle.desk.specs.declared.PlaceAnswer.the-variants.{Placed, Refused as PlaceRefused}
+use Rattle.int13.specs.Placement.{tableCount}
 use Rattle.int13.specs.Steps.{fed, begin}
-use Rattle.desk.specs.Parts.{windowSize, stageAt}
-use Rattle.desk.specs.Acceptable.{accept}
-use Rattle.desk.specs.Calls.{Done, done, notAcceptable, noGuest, isLent, postChecked, postRow, collectStage, withdrawStage, openOf, writtenOf, writtenOut, postOf, turnOf, collectOf, withdrawOf}
+use Rattle.desk.specs.Parts.{windowSize, stageAt, placementAt}
+use Rattle.desk.specs.Acceptable.{placeOk, accept}
+use Rattle.desk.specs.Calls.{Done, done, notAcceptable, noGuest, isLent, postChecked, postRow, collectStage, withdrawStage, openOf, writtenOf, writtenOut, postOf, turnOf, collectOf, withdrawOf, placeTables, placeStage, placeOf}
 use Rattle.desk.specs.Numbers.{openNumbers, collectNumbers}
 use Rattle.image.specs.Image.{deskSize, deskOf}
-use Rattle.exports.specs.Exports.{effect, over, openBlock, openCall, writeCall, given, changed, postBlock, postEffect, postCall, turnBlock, turnEffect, turnCall, collectBlock, collectEffect, collectCall, withdrawBlock, withdrawEffect, withdrawCall}
-use Rattle.isolation.specs.Lists.{openTable, post, turn, collect, withdraw, write, opening, posted, turned, collected, withdrawn, written, openedDesk}
+use Rattle.exports.specs.Exports.{effect, over, openBlock, openCall, writeCall, given, changed, postBlock, postEffect, postCall, turnBlock, turnEffect, turnCall, collectBlock, collectEffect, collectCall, withdrawBlock, withdrawEffect, withdrawCall, placeBlock, placeEffect, placeCall}
+use Rattle.isolation.specs.Lists.{openTable, post, turn, collect, withdraw, write, place, opening, posted, turned, collected, withdrawn, written, placed, openedDesk}
 use Rattle.isolation.specs.Words.{kindOf}
 use Rattle.isolation.specs.DeskBlocks.{OutBlock, blockAfter, stepBlock}
 use Rattle.isolation.specs.Exported.{numbersOf, does, Exported}
@@ -45,7 +48,7 @@ use Rattle.isolation.specs.Exported.{numbersOf, does, Exported}
 module _ (b : List ℕ) where
   open-block : (d e : Desk) (x : OpenAnswer) → openBlock b e x ≡ blockAfter b (openedDesk d e x) (kindOf (opening x))
   open-block d e Opened = refl
-  open-block d e (OpenRefused n place) = refl
+  open-block d e (OpenRefused n at) = refl
 
   post-block : (g : ℕ) (o : Done PostAnswer) (x : PostAnswer) → postBlock b o x ≡ blockAfter b (o .desk) (kindOf (posted g x))
   post-block g o (Answered r) = refl
@@ -65,6 +68,10 @@ module _ (b : List ℕ) where
   withdraw-block g o (WithdrawGiven r) = refl
   withdraw-block g o (WithdrawRefused n) = refl
 
+  place-block : (g address : ℕ) (o : Done PlaceAnswer) (x : PlaceAnswer) → placeBlock b o x ≡ blockAfter b (o .desk) (kindOf (placed g address x))
+  place-block g address o Placed = refl
+  place-block g address o (PlaceRefused n) = refl
+
 -- ---- what each call leaves as it was
 
 post-store : (d : Desk) (g : ℕ) (r : Registers) (arena store : List ℕ) → postOf d g r arena store .store ≡ store
@@ -82,7 +89,9 @@ post-store d g r arena store =
     checked (OutcomeWaits j) w = refl
 
     row : (x : Stage) → postRow d g r arena store x .store ≡ store
-    row Vacant = checked (begin (fed (d .table)) r (windowOf arena g (windowSize d)) .outcome) (begin (fed (d .table)) r (windowOf arena g (windowSize d)) .window)
+    row Vacant =
+        checked (begin (fed (d .table) (placementAt d g)) r (windowOf arena g (windowSize d)) .outcome)
+        (begin (fed (d .table) (placementAt d g)) r (windowOf arena g (windowSize d)) .window)
     row (Waiting q) = refl
     row (Finished y) = refl
 
@@ -100,6 +109,24 @@ withdraw-store d g arena store =
     row Vacant = refl
     row (Waiting q) = refl
     row (Finished y) = refl
+
+place-store : (d : Desk) (g address : ℕ) (arena store : List ℕ) → placeOf d g address arena store .store ≡ store
+unfolding placeOf
+place-store d g address arena store =
+    pick-cases P (not (accept d)) _ _ (λ e. refl)
+    (λ e. pick-cases P (not (isLent d arena store)) _ _ (λ e. refl)
+    (λ e. pick-cases P (not (ltb g guests)) _ _ (λ e. refl) (λ e. row (stageAt d g))))
+  where
+    P : Done PlaceAnswer → Type 0
+    P o = o .store ≡ store
+
+    tables : placeTables d g address arena store .store ≡ store
+    tables = pick-cases P (placeOk (tableCount (d .table)) (windowSize d) address) _ _ (λ e. refl) (λ e. refl)
+
+    row : (x : Stage) → placeStage d g address x arena store .store ≡ store
+    row Vacant = tables
+    row (Waiting q) = refl
+    row (Finished y) = tables
 
 collect-memory : (d : Desk) (g : ℕ) (arena store : List ℕ) → (collectOf d g arena store .arena ≡ arena) × (collectOf d g arena store .store ≡ store)
 unfolding collectOf
@@ -135,17 +162,17 @@ collect-alike d g a s a' s' = go (not (accept d)) (not (ltb g guests)) (stageAt 
     go false false (Finished y) = record { desk = refl; answer = refl }
 
 module _ (b arena store : List ℕ) where
-  at-open : (t : List ℕ) (a s place : ℕ) → length b ≡ deskSize
-      → openCall b t a s place ≡ effect (over (numbersOf (does b arena store (openTable t a s) .answer)) (0 ∷ place ∷ [])) (does b arena store (openTable t a s) .block ∷ [])
+  at-open : (t : List ℕ) (a s at : ℕ) → length b ≡ deskSize
+      → openCall b t a s at ≡ effect (over (numbersOf (does b arena store (openTable t a s) .answer)) (0 ∷ at ∷ [])) (does b arena store (openTable t a s) .block ∷ [])
   unfolding openCall stepBlock
-  at-open t a s place l =
+  at-open t a s at l =
       rw (eq-eqb (length b) deskSize l)
-      (ap (λ (y : List ℕ). effect (over (openNumbers (openOf t a s .answer)) (0 ∷ place ∷ [])) (y ∷ []))
+      (ap (λ (y : List ℕ). effect (over (openNumbers (openOf t a s .answer)) (0 ∷ at ∷ [])) (y ∷ []))
       (open-block b (deskOf b) (openOf t a s .desk) (openOf t a s .answer)))
 
-  at-other : (t : List ℕ) (a s place : ℕ) → (length b ≡ deskSize → ⊥) → openCall b t a s place ≡ effect (notAcceptable ∷ place ∷ []) (does b arena store (openTable t a s) .block ∷ [])
+  at-other : (t : List ℕ) (a s at : ℕ) → (length b ≡ deskSize → ⊥) → openCall b t a s at ≡ effect (notAcceptable ∷ at ∷ []) (does b arena store (openTable t a s) .block ∷ [])
   unfolding openCall stepBlock
-  at-other t a s place n = rw (ne-eqb (length b) deskSize n)
+  at-other t a s at n = rw (ne-eqb (length b) deskSize n)
 
   at-post : (g ax bx cx dx ds si es carry : ℕ)
       → postCall b arena store g ax bx cx dx ds si es carry
@@ -182,6 +209,14 @@ module _ (b arena store : List ℕ) where
       let o = withdrawOf (deskOf b) g arena store in
       ap (λ (y : List ℕ). effect (withdrawEffect b o stood .numbers) (y ∷ o .arena ∷ [])) (withdraw-block b g o (o .answer))
 
+  at-place : (g address : ℕ)
+      → placeCall b arena store g address
+      ≡ effect (numbersOf (does b arena store (place g address) .answer)) (does b arena store (place g address) .block ∷ does b arena store (place g address) .arena ∷ [])
+  unfolding placeCall stepBlock
+  at-place g address =
+      let o = placeOf (deskOf b) g address arena store in
+      ap (λ (y : List ℕ). effect (placeEffect b o .numbers) (y ∷ o .arena ∷ [])) (place-block b g address o (o .answer))
+
   open-leaves : (t : List ℕ) (a s : ℕ) → (does b arena store (openTable t a s) .arena ≡ arena) × (does b arena store (openTable t a s) .store ≡ store)
   unfolding stepBlock
   open-leaves t a s =
@@ -206,9 +241,11 @@ module _ (b arena store : List ℕ) where
         turnAt = at-turn;
         collectAt = at-collect;
         withdrawAt = at-withdraw;
+        placeAt = at-place;
         openLeaves = open-leaves;
         writeLeaves = λ out. (write-block out, refl, refl);
         postLeaves = λ g r. post-store (deskOf b) g r arena store;
         collectLeaves = λ g. collect-memory (deskOf b) g arena store;
         withdrawLeaves = λ g. withdraw-store (deskOf b) g arena store;
+        placeLeaves = λ g address. place-store (deskOf b) g address arena store;
       }

@@ -21,7 +21,7 @@ use Rattle.isolation.specs.Words.{Marks, line, marks, Kind, withdraws, o
 use Rattle.isolation.proofs.Turn.{dist, dist-less, vacant≢waiting, finished≢waiting}
 use Rattle.logic.proofs.LogicLaws.{pick-cases}
 use Rattle.isolation.proofs.Accept.{Inv, ready}
-use Rattle.isolation.proofs.View.{Did, same, idle, answer, accepting, serving, giving, withdrawing, view, servedOut, withdrawnOut, quiet-marks}
+use Rattle.isolation.proofs.View.{Did, same, idle, answer, accepting, serving, giving, withdrawing, placing, view, servedOut, withdrawnOut, quiet-marks}
 use Rattle.isolation.proofs.Keep.{stage-same, stage-other, waiting-below, same-guest}
 
 -- the numbers of one call: turns, and withdrawals, blocks and services of g
@@ -114,6 +114,7 @@ module _ (d : Desk) (inv : Inv d) (c : Call) (g : ℕ) (q : Request) (e : stageA
   fate o (giving h r t b v) =
       stays (stage-other d h g Vacant (λ y. finished≢waiting (sym v ∙ (rw y at e))) ∙ e) refl (record { turn = refl; withdrawal = refl; moved = refl; service = refl })
   fate o (withdrawing h p t b l v) = withdraw-fate h p (ℕ-discrete h g)
+  fate o (placing h address t b l v k) = stays e refl (record { turn = refl; withdrawal = refl; moved = refl; service = refl })
 
   pub step-fate : (kindOf (step d c .answer) ≡ opens → ⊥) → Fate g q d (step d c)
   step-fate n = fate (step d c) (view d inv c n)

@@ -1,13 +1,13 @@
 -- Every desk that the calls reach fits the widths of its fields.
 -- Assumes nothing.
-use Prim.Native.Nat.{ℕ, zero, suc, _+_, _-_, _/_, _^_, _≤_, _<_}
+use Prim.Native.Nat.{ℕ, zero, suc, _+_, _-_, _*_, _/_, _^_, _≤_, _<_}
 use mathlib.Core.Path.{_≡_, refl, sym, ap, subst, _∙_}
 use mathlib.Core.Bool.{Bool, true, false}
-use mathlib.Core.List.{List}
+use mathlib.Core.List.{List, [], _∷_}
 use native.Mathlib.Omega.{arith}
 use native.Mathlib.Decide.{ℕ-discrete}
 use lib.ListN.{length, getD, set, drop, replicate, length-set, length-drop, length-take, getD-replicate}
-use lib.Seq.{getD-set-same, getD-set-other, length-take-le}
+use lib.Seq.{sets, getD-set-same, getD-set-other, length-sets, length-take-le}
 use lib.Dec.{leb, ltb, eqb}
 use borrow.Author.Tests.{leb-true, ltb-true, eqb-true}
 use Rattle.logic.specs.Logic.{pick}
@@ -17,9 +17,10 @@ use Rattle.words.proofs.WordsLaws.{bytes-part}
 use Rattle.drive.specs.declared.Drive.{Drive}
 use Rattle.drive.specs.Drive.{driveOf}
 use Rattle.drive.proofs.DriveLaws.{fits-drive}
+use Rattle.attached.specs.Parameters.{numberIn, parametersIn}
 use Rattle.table.specs.declared.Table.{Table}
 use Rattle.table.specs.declared.Stepped.{Stepped}
-use Rattle.table.specs.Table.{noDrive, zeroDrive, emptyTable, more, goOn, readFrom, readTable, drivesOf}
+use Rattle.table.specs.Table.{noDrive, zeroDrive, emptyTable, more, withParameters, goOn, readFrom, readTable, drivesOf}
 use Rattle.table.proofs.TableLaws.{stepAt-cases, whole-at, refusal-room}
 use Rattle.memory.specs.Window.{guests}
 use Rattle.memory.specs.Blocks.{blockLength}
@@ -36,17 +37,18 @@ use Rattle.desk.specs.declared.PostAnswer.the-variants.{Answered as PostAnswere
 use Rattle.desk.specs.declared.TurnAnswer.the-variants.{Served, Idle, Refused as TurnRefused}
 use Rattle.desk.specs.declared.CollectAnswer.the-variants.{Given as CollectGiven, Refused as CollectRefused}
 use Rattle.desk.specs.declared.WithdrawAnswer.the-variants.{Given as WithdrawGiven, Refused as WithdrawRefused}
+use Rattle.desk.specs.declared.PlaceAnswer.the-variants.{Placed, Refused as PlaceRefused}
 use Rattle.table.specs.declared.Written.the-variants.{Bytes as WrittenBytes, Refused as WriteRefused}
-use Rattle.desk.specs.Parts.{windowSize, stageAt, withStage, withPointer, next}
+use Rattle.desk.specs.Parts.{windowSize, stageAt, withStage, withPointer, next, withPlacement}
 use Rattle.desk.specs.Acceptable.{packetOk, stageOk}
 use Rattle.desk.specs.Calls.{openOf, quota, later, stageAfter}
 use Rattle.desk.proofs.AcceptableLaws.{waits-facts}
 use Rattle.image.specs.Image.{FitsRegisters, FitsRequest, FitsStage, FitsDrive, FitsTable, FitsDesk}
-use Rattle.isolation.specs.Lists.{Op, openTable, post, turn, collect, withdraw, write, Call, Answer, opening, posted as postedTo, turned, collected, withdrawn, written, Out, openedDesk, stepOf, step}
+use Rattle.isolation.specs.Lists.{Op, openTable, post, turn, collect, withdraw, write, place, Call, Answer, opening, posted as postedTo, turned, collected, withdrawn, written, placed, Out, openedDesk, stepOf, step}
 use Rattle.isolation.specs.Words.{opens, kindOf}
 use Rattle.isolation.specs.DeskBlocks.{FitsOp}
 use Rattle.isolation.proofs.Accept.{Inv, opened-desk, all-vacant}
-use Rattle.isolation.proofs.View.{Did, same, idle, answer, accepting, serving, giving, withdrawing, view}
+use Rattle.isolation.proofs.View.{Did, same, idle, answer, accepting, serving, giving, withdrawing, placing, view}
 use Rattle.isolation.proofs.Keep.{stage-same, stage-other, inv-did}
 
 -- ---- the drives that are read
@@ -63,6 +65,18 @@ fits-record r b l =
       path = bytes-part 8 r 52 b;
       device = bytes-part 8 r 60 b;
     }
+
+-- a number below n set among such numbers, and bytes set among bytes
+below-set : (n : ℕ) (l : List ℕ) (g x : ℕ) → ((i : ℕ) → getD l i 0 < n) → x < n → (i : ℕ) → getD (set l g x) i 0 < n
+below-set n [] g x f h i = f i
+below-set n (y ∷ l) zero x f h zero = h
+below-set n (y ∷ l) zero x f h (suc i) = f (suc i)
+below-set n (y ∷ l) (suc g) x f h zero = f zero
+below-set n (y ∷ l) (suc g) x f h (suc i) = below-set n l g x (λ j. f (suc j)) h i
+
+bytes-sets : (p l : List ℕ) (g : ℕ) → Bytes l → Bytes p → Bytes (sets l g p)
+bytes-sets [] l g y z = y
+bytes-sets (x ∷ p) l g y z = bytes-sets p (set l g x) (suc g) (below-set 256 l g x y (z zero)) (λ i. z (suc i))
 
 zeros : (n : ℕ) → Bytes (replicate n 0)
 zeros zero i = omega arith
@@ -97,15 +111,42 @@ fits-zero =
 -- ---- the table
 
 fits-empty : FitsTable emptyTable
-fits-empty = record { eight = refl; each = λ i h. rw (getD-replicate 8 i zeroDrive noDrive h) fits-zero; count = omega arith }
+fits-empty =
+    record {
+      eight = refl;
+      each = λ i h. rw (getD-replicate 8 i zeroDrive noDrive h) fits-zero;
+      count = omega arith;
+      present = refl;
+      parameters = refl;
+      bytes = zeros 112;
+    }
 
 fits-more : (b : Table) (d : Drive) → FitsTable b → FitsDrive d → b .count < 8 → FitsTable (more b d)
 fits-more b d f e room =
-    record { eight = length-set (b .drives) (b .count) d ∙ f .eight; each = λ i h. at i h (ℕ-discrete i (b .count)); count = omega arith }
+    record {
+      eight = length-set (b .drives) (b .count) d ∙ f .eight;
+      each = λ i h. at i h (ℕ-discrete i (b .count));
+      count = omega arith;
+      present = f .present;
+      parameters = f .parameters;
+      bytes = f .bytes;
+    }
   where
     at : (i : ℕ) → i < 8 → Dec (i ≡ b .count) → FitsDrive (getD (set (b .drives) (b .count) d) i noDrive)
     at i h (yes x) = rw (x, getD-set-same (b .drives) (b .count) d noDrive (omega (arith, f .eight))) e
     at i h (no x) = rw (getD-set-other (b .drives) (b .count) i d noDrive x) (f .each i h)
+
+-- a drive's fourteen bytes among those of the others
+fits-attached : (b : Table) (i : ℕ) (p : List ℕ) → FitsTable b → Bytes p → FitsTable (withParameters b i p)
+fits-attached b i p f y =
+    record {
+      eight = f .eight;
+      each = f .each;
+      count = f .count;
+      present = length-set (b .present) i true ∙ f .present;
+      parameters = length-sets (b .parameters) (14 * i) p ∙ f .parameters;
+      bytes = bytes-sets p (b .parameters) (14 * i) (f .bytes) y;
+    }
 
 fits-from : (k : ℕ) (t : List ℕ) (store at : ℕ) (b : Table) → Bytes t → FitsTable b → FitsTable (readFrom k t store at b .table)
 unfolding readFrom
@@ -118,11 +159,14 @@ fits-from (suc k) t store at b y f =
     let w = whole-at t at 1 68 h in
     let l : length (part 68 t at) ≡ 68 = length-take-le 68 (drop at t) (simp length-drop (omega (arith, w .whole, w .header))) in
     fits-from k t store (at + 68) (more b (driveOf (part 68 t at))) y
-    (fits-more b (driveOf (part 68 t at)) f (fits-record (part 68 t at) (bytes-part 68 t at y) l) (refusal-room b (driveOf (part 68 t at)) store z)))
+    (fits-more b (driveOf (part 68 t at)) f (fits-record (part 68 t at) (bytes-part 68 t at y) l) (refusal-room (b .count) (b .drives) (driveOf (part 68 t at)) store z)))
+    (λ h z.
+    fits-from k t store (at + 20) (withParameters b (numberIn (part 20 t at)) (parametersIn (part 20 t at))) y
+    (fits-attached b (numberIn (part 20 t at)) (parametersIn (part 20 t at)) f (bytes-part 14 (part 20 t at) 6 (bytes-part 20 t at y))))
 
 fits-read : (t : List ℕ) (store : ℕ) → Bytes t → FitsTable (readTable t store .table)
 unfolding readTable
-fits-read t store y = fits-from 9 t store 0 emptyTable y fits-empty
+fits-read t store y = fits-from 17 t store 0 emptyTable y fits-empty
 
 -- ---- an opening that passed
 
@@ -137,17 +181,20 @@ fits-opened t arena store y a s e =
       pointer = omega arith;
       arena = a;
       store = s;
+      placed = refl;
+      addresses = refl;
+      address = λ g. omega (arith, zeros 8 g);
     })
 
 -- ---- rows
 
 -- a waiting row that is acceptable: its numbers are below those of its drive, its window and its function
-packet-fits : (f place M : ℕ) → packetOk f place M ≡ true → place ≤ M
-packet-fits f place M e = by-function (isSectors f) e
+packet-fits : (f at M : ℕ) → packetOk f at M ≡ true → at ≤ M
+packet-fits f at M e = by-function (isSectors f) e
   where
-    by-function : (x : Bool) → pick x (eqb place 0) (leb (place + 16) M) ≡ true → place ≤ M
-    by-function true e = let z : place ≡ 0 = eqb-true place 0 e in omega arith
-    by-function false e = let l : place + 16 ≤ M = leb-true (place + 16) M e in omega arith
+    by-function : (x : Bool) → pick x (eqb at 0) (leb (at + 16) M) ≡ true → at ≤ M
+    by-function true e = let z : at ≡ 0 = eqb-true at 0 e in omega arith
+    by-function false e = let l : at + 16 ≤ M = leb-true (at + 16) M e in omega arith
 
 fits-request : (b : Table) (M : ℕ) (q : Request) → FitsTable b → M < 256 ^ 8 → FitsRegisters (q .job .registers) → stageOk b M (Waiting q) ≡ true → FitsRequest q
 unfolding isDrive
@@ -190,11 +237,29 @@ fits-set d g s p inv f b pb k =
       pointer = omega arith;
       arena = f .arena;
       store = f .store;
+      placed = f .placed;
+      addresses = f .addresses;
+      address = f .address;
     }
   where
     go : (h : ℕ) → h < 8 → Dec (h ≡ g) → FitsStage (stageAt (withStage d g s) h)
     go h l (yes y) = rw y (subst FitsStage (sym (stage-same d g s inv b)) k)
     go h l (no y) = subst FitsStage (sym (stage-other d g h s y)) (f .each h l)
+
+-- a guest's mark and address
+fits-place : (d : Desk) (g address : ℕ) → FitsDesk d → address < 256 ^ 8 → FitsDesk (withPlacement d g address)
+fits-place d g address f a =
+    record {
+      eight = f .eight;
+      each = f .each;
+      table = f .table;
+      pointer = f .pointer;
+      arena = f .arena;
+      store = f .store;
+      placed = length-set (d .placed) g true ∙ f .placed;
+      addresses = length-set (d .addresses) g address ∙ f .addresses;
+      address = below-set (256 ^ 8) (d .addresses) g address (f .address) a;
+    }
 
 -- the registers of a row that waits
 fits-waiting : (d : Desk) (g : ℕ) (q : Request) → FitsDesk d → g < guests → stageAt d g ≡ Waiting q → FitsRegisters (q .job .registers)
@@ -225,11 +290,12 @@ fits-did d c o inv f t (serving g q e b l v n) i =
     (fits-after (d .table) (windowSize d) q (f .table) (window-fits d f) (fits-waiting d g q f b v) (ok-set d g (stageAfter q) (next g) inv b i))
 fits-did d c o inv f t (giving g x e b v) i = fits-set d g Vacant (d .pointer) inv f b (inv .pointer) tt
 fits-did d c o inv f t (withdrawing g q e b l v) i = fits-set d g Vacant (d .pointer) inv f b (inv .pointer) tt
+fits-did d c o inv f t (placing g address e b l v k) i = fits-place d g address f (subst FitsOp e t)
 
 -- an answer is that of an opening that passed, or none such
 pub by-opening : {A : Type 0} (x : Answer) → (x ≡ opening Opened → A) → ((kindOf x ≡ opens → ⊥) → A) → A
 by-opening (opening Opened) f g = f refl
-by-opening (opening (OpenRefused n place)) f g = g (λ e. impossible cc)
+by-opening (opening (OpenRefused n at)) f g = g (λ e. impossible cc)
 by-opening (postedTo h (PostAnswered r)) f g = g (λ e. impossible cc)
 by-opening (postedTo h PostWaits) f g = g (λ e. impossible cc)
 by-opening (postedTo h (PostRefused n)) f g = g (λ e. impossible cc)
@@ -242,6 +308,8 @@ by-opening (withdrawn h (WithdrawGiven r)) f g = g (λ e. impossible cc)
 by-opening (withdrawn h (WithdrawRefused n)) f g = g (λ e. impossible cc)
 by-opening (written (WrittenBytes n) out) f g = g (λ e. impossible cc)
 by-opening (written (WriteRefused n) out) f g = g (λ e. impossible cc)
+by-opening (placed h address Placed) f g = g (λ e. impossible cc)
+by-opening (placed h address (PlaceRefused n)) f g = g (λ e. impossible cc)
 
 -- a call that is answered as an opening that passed leaves the desk of that opening
 pub opening-case : (P : Desk → Type 0) (d : Desk) (o : Op) (arena store : List ℕ)
@@ -255,6 +323,7 @@ opening-case P d turn arena store f e = impossible cc
 opening-case P d (collect g) arena store f e = impossible cc
 opening-case P d (withdraw g) arena store f e = impossible cc
 opening-case P d (write out) arena store f e = impossible cc
+opening-case P d (place g address) arena store f e = impossible cc
 
 -- every call leaves a desk that fits
 pub fits-step : (d : Desk) → Inv d → FitsDesk d → (c : Call) → FitsOp (c .op) → FitsDesk (step d c .desk)

@@ -1,13 +1,13 @@
 -- The desk stays acceptable after every call; and what one call leaves alone.
 -- Assumes nothing.
 use Prim.Native.Nat.{ℕ, _+_, _-_, _%_, _<_, min}
-use mathlib.Core.Path.{_≡_, refl, sym, ap, _∙_}
+use mathlib.Core.Path.{_≡_, refl, sym, ap, ap₂, subst, _∙_}
 use mathlib.Core.Logic.{⊎-elim, _≢_}
-use mathlib.Core.Bool.{true}
+use mathlib.Core.Bool.{Bool, true, false}
 use mathlib.Core.List.{List, [], _∷_}
 use native.Mathlib.Omega.{arith}
 use native.Mathlib.Decide.{ℕ-discrete}
-use borrow.Author.Tests.{ltb-true, lt-ltb, eq-eqb}
+use borrow.Author.Tests.{ltb-true, lt-ltb, eq-eqb, ne-eqb}
 use lib.Dec.{ltb, eqb}
 use lib.ListN.{length, length-set, List·getD-eq-default}
 use lib.Seq.{getD-set-same, getD-set-other, length-sets}
@@ -16,25 +16,27 @@ use Rattle.memory.specs.Window.{guests, windowOf, spanLength}
 use Rattle.memory.proofs.WindowLaws.{window-with-other}
 use Rattle.table.specs.declared.Table.{Table}
 use Rattle.int13.specs.declared.Registers.{Registers}
+use Rattle.int13.specs.declared.Placement.{Placement}
 use Rattle.int13.specs.Answers.{ah, isSectors}
+use Rattle.int13.specs.Placement.{placedAt, tableCount, tablesOf}
 use Rattle.int13.specs.Alone.{storeBlock}
 use Rattle.desk.specs.declared.Request.{Request}
 use Rattle.desk.specs.declared.Stage.{Stage}
 use Rattle.desk.specs.declared.Stage.the-variants.{Vacant, Waiting}
 use Rattle.desk.specs.declared.Row.{Row}
 use Rattle.desk.specs.declared.Desk.{Desk}
-use Rattle.desk.specs.Parts.{windowSize, vacantRow, stageAt, withStage, withPointer, next}
-use Rattle.desk.specs.Acceptable.{turnBlocks, jobOk, stageOk}
-use Rattle.desk.specs.Calls.{quota, later, stageAfter, memoryOf, movedBy, withdrawnWindow}
-use Rattle.isolation.specs.Lists.{post, turn, collect, withdraw, Call, Out, step, run, after}
-use Rattle.isolation.specs.Words.{opens, kindOf, NoneOpens, serviceIn, ifSame}
+use Rattle.desk.specs.Parts.{windowSize, vacantRow, stageAt, isWaiting, withStage, withPointer, next, placementAt, withPlacement}
+use Rattle.desk.specs.Acceptable.{turnBlocks, jobOk, stageOk, placeOk}
+use Rattle.desk.specs.Calls.{quota, later, stageAfter, memoryOf, movedBy, withdrawnWindow, tablesIn}
+use Rattle.isolation.specs.Lists.{post, turn, collect, withdraw, place, Call, Out, step, run, after}
+use Rattle.isolation.specs.Words.{Kind, opens, places, kindOf, NoneOpens, serviceIn, ifSame, placedBy, placementAfter}
 use Rattle.desk.proofs.AcceptableLaws.{waiting-ok}
 use Rattle.isolation.proofs.Turn.{next-lt, vacant≢waiting}
 use Rattle.isolation.proofs.Moves.{moves-size}
-use Rattle.logic.proofs.LogicLaws.{pick-cases, both-intro, lt-or-le, impossible}
+use Rattle.logic.proofs.LogicLaws.{pick-cases, both-intro, lt-or-le, true≢false, impossible}
 use Rattle.isolation.proofs.Check.{Fresh}
-use Rattle.isolation.proofs.Accept.{Inv, Ready, ready, waiting-job}
-use Rattle.isolation.proofs.View.{Lent, Did, same, idle, answer, accepting, serving, giving, withdrawing, view, windowIn, window-length, span-lent}
+use Rattle.isolation.proofs.Accept.{PlaceGood, Inv, Ready, ready, waiting-job}
+use Rattle.isolation.proofs.View.{Lent, Did, same, idle, answer, accepting, serving, giving, withdrawing, placing, Quiet, refusing, writing, view, placedOut, windowIn, window-length, span-lent}
 
 -- ---- rows
 
@@ -60,11 +62,45 @@ inv-set d g s p inv b pb ok =
       table = inv .table;
       pointer = pb;
       stages = λ h. go h (ℕ-discrete h g);
+      placed = inv .placed;
+      addresses = inv .addresses;
+      places = inv .places;
     }
   where
     go : (h : ℕ) → Dec (h ≡ g) → stageOk (d .table) (windowSize d) (stageAt (withStage d g s) h) ≡ true
     go h (yes y) = rw y (ap (stageOk (d .table) (windowSize d)) (stage-same d g s inv b) ∙ ok)
     go h (no y) = ap (stageOk (d .table) (windowSize d)) (stage-other d g h s y) ∙ inv .stages h
+
+-- ---- placements
+
+abbrev placementOf : Bool → ℕ → Placement
+placementOf m a = record { placed = m; address = a }
+
+pub placement-same : (d : Desk) (g address : ℕ) → Inv d → g < guests → placementAt (withPlacement d g address) g ≡ placedAt address
+placement-same d g address inv b =
+    ap₂ placementOf (getD-set-same (d .placed) g true false (omega (arith, inv .placed))) (getD-set-same (d .addresses) g address 0 (omega (arith, inv .addresses)))
+
+pub placement-other : (d : Desk) (g h address : ℕ) → h ≢ g → placementAt (withPlacement d g address) h ≡ placementAt d h
+placement-other d g h address ne =
+    ap₂ placementOf (getD-set-other (d .placed) g h true false ne) (getD-set-other (d .addresses) g h address 0 ne)
+
+inv-place : (d : Desk) (g address : ℕ) → Inv d → g < guests → placeOk (tableCount (d .table)) (windowSize d) address ≡ true → Inv (withPlacement d g address)
+inv-place d g address inv b ok =
+    record {
+      rows = inv .rows;
+      table = inv .table;
+      pointer = inv .pointer;
+      stages = inv .stages;
+      placed = length-set (d .placed) g true ∙ inv .placed;
+      addresses = length-set (d .addresses) g address ∙ inv .addresses;
+      places = λ h. go h (ℕ-discrete h g);
+    }
+  where
+    go : (h : ℕ) → Dec (h ≡ g) → PlaceGood d (placementAt (withPlacement d g address) h)
+    go h (yes y) = subst (λ (k : ℕ). PlaceGood d (placementAt (withPlacement d g address) k)) (sym y) (subst (PlaceGood d) (sym (placement-same d g address inv b)) ok)
+    go h (no y) = subst (PlaceGood d) (sym (placement-other d g h address y)) (inv .places h)
+
+-- ---- each call
 
 -- sixteen more leave a multiple of sixteen
 next-whole : (n m : ℕ) → m % turnBlocks ≡ 0 → m + min turnBlocks (n - m) < n → (m + min turnBlocks (n - m)) % turnBlocks ≡ 0
@@ -95,6 +131,7 @@ inv-did d c o inv (serving g q e b l v f) =
     inv-set d g (stageAfter q) (next g) inv b (next-lt g) (after-ok (d .table) (windowSize d) (d .store) q (waiting-job d g q inv v) (ready d g q inv v))
 inv-did d c o inv (giving g x e b v) = inv-set d g Vacant (d .pointer) inv b (inv .pointer) refl
 inv-did d c o inv (withdrawing g q e b l v) = inv-set d g Vacant (d .pointer) inv b (inv .pointer) refl
+inv-did d c o inv (placing g address e b l v k) = inv-place d g address inv b k
 
 pub inv-step : (d : Desk) (c : Call) → Inv d → (kindOf (step d c .answer) ≡ opens → ⊥) → Inv (step d c .desk)
 inv-step d c inv n = inv-did d c (step d c) inv (view d inv c n)
@@ -114,6 +151,7 @@ fixed-did d c o (accepting g r j e b l v ko kw f) = record { table = refl; arena
 fixed-did d c o (serving g q e b l v f) = record { table = refl; arena = refl; store = refl }
 fixed-did d c o (giving g x e b v) = record { table = refl; arena = refl; store = refl }
 fixed-did d c o (withdrawing g q e b l v) = record { table = refl; arena = refl; store = refl }
+fixed-did d c o (placing g address e b l v k) = record { table = refl; arena = refl; store = refl }
 
 pub fixed-step : (d : Desk) (c : Call) → Inv d → (kindOf (step d c .answer) ≡ opens → ⊥) → Fixed d (step d c .desk)
 fixed-step d c inv n = fixed-did d c (step d c) (view d inv c n)
@@ -134,6 +172,33 @@ reached (c ∷ cs) d inv n =
       fixed = record { table = r .fixed .table ∙ f .table; arena = r .fixed .arena ∙ f .arena; store = r .fixed .store ∙ f .store };
     }
 
+-- ---- the desk's placement of a guest is the one that the answers tell
+
+quiet-placed : {k : Kind} (g : ℕ) (p : Placement) → Quiet k → placedBy g k p ≡ p
+quiet-placed g p refusing = refl
+quiet-placed g p writing = refl
+
+placed-did : (d : Desk) (c : Call) (o : Out) (g : ℕ) → Inv d → Did d c o → placementAt (o .desk) g ≡ placedBy g (kindOf (o .answer)) (placementAt d g)
+placed-did d c o g inv (same x p n) = sym (quiet-placed g (placementAt d g) p)
+placed-did d c o g inv (idle e f) = refl
+placed-did d c o g inv (answer h r x w e b l v ko kw k) = refl
+placed-did d c o g inv (accepting h r j e b l v ko kw f) = refl
+placed-did d c o g inv (serving h q e b l v f) = refl
+placed-did d c o g inv (giving h x e b v) = refl
+placed-did d c o g inv (withdrawing h q e b l v) = refl
+placed-did d c o g inv (placing h address e b l v k) = go (ℕ-discrete h g)
+  where
+    go : Dec (h ≡ g) → placementAt (withPlacement d h address) g ≡ placedBy g (places h address) (placementAt d g)
+    go (yes y) = rw (eq-eqb h g y) (rw (← y) (placement-same d h address inv b))
+    go (no y) = rw (ne-eqb h g y) (placement-other d h g address (λ z. y (sym z)))
+
+pub placed-after : (cs : List Call) (d : Desk) → Inv d → NoneOpens (run d cs) → (g : ℕ) → placementAt (after d cs) g ≡ placementAfter g (placementAt d g) (run d cs)
+unfolding run after
+placed-after [] d inv n g = refl
+placed-after (c ∷ cs) d inv n g =
+    placed-after cs (step d c .desk) (inv-step d c inv (n .0)) (n .1) g
+    ∙ ap (λ (p : Placement). placementAfter g p (run (step d c .desk) cs)) (placed-did d c (step d c) g inv (view d inv c (n .0)))
+
 -- ---- lengths of the windows that calls leave
 
 pub served-size : (d : Desk) (c : Call) (g : ℕ) (q : Request) → Lent d c → g < guests
@@ -146,6 +211,9 @@ pub withdrawn-size : (q : Request) (w : List ℕ) → length (withdrawnWindow q 
 withdrawn-size q w =
     pick-cases (λ (v : List ℕ). length v ≡ length w) (isSectors (ah (q .job .registers))) _ _ (λ e. refl)
     (λ e. length-sets w (q .job .packet + 2) (leBytes 2 (q .moved)))
+
+pub tables-size : (b : Table) (address : ℕ) (w : List ℕ) → length (tablesIn b address w) ≡ length w
+tables-size b address w = length-sets w address (tablesOf b)
 
 -- ---- a turn changes no other guest's row or window
 
@@ -161,6 +229,9 @@ turn≢collect e = impossible (cc)
 
 turn≢withdraw : {A : Type 0} {g : ℕ} → turn ≡ withdraw g → A
 turn≢withdraw e = impossible (cc)
+
+turn≢place : {A : Type 0} {g a : ℕ} → turn ≡ place g a → A
+turn≢place e = impossible (cc)
 
 pub same-guest : (g n : ℕ) → ifSame g g n ≡ n
 same-guest g n = rw (eq-eqb g g refl)
@@ -178,3 +249,34 @@ turn-spares d c o t h z (serving g q e b l v f) =
     }
 turn-spares d c o t h z (giving g x e b v) = turn≢collect (sym t ∙ e)
 turn-spares d c o t h z (withdrawing g q e b l v) = turn≢withdraw (sym t ∙ e)
+turn-spares d c o t h z (placing g address e b l v k) = turn≢place (sym t ∙ e)
+
+-- ---- a placement changes no row, and no window but its guest's; that one only where the guest does not wait
+
+pub record Kept (d : Desk) (c : Call) (o : Out) (g h : ℕ) : Type 0 where
+  pub row : stageAt (o .desk) h ≡ stageAt d h
+  pub other : h ≢ g → windowOf (o .arena) h (windowSize d) ≡ windowOf (c .arena) h (windowSize d)
+  pub waiting : isWaiting (stageAt d h) ≡ true → windowOf (o .arena) h (windowSize d) ≡ windowOf (c .arena) h (windowSize d)
+
+pub same-place : {g h a b : ℕ} → place g a ≡ place h b → g ≡ h
+same-place e = cc
+
+pub place-spares : (d : Desk) (c : Call) (o : Out) (g address h : ℕ) → c .op ≡ place g address → Did d c o → Kept d c o g h
+place-spares d c o g address h t (same x p n) = record { row = refl; other = λ y. refl; waiting = λ y. refl }
+place-spares d c o g address h t (idle e f) = turn≢place (sym e ∙ t)
+place-spares d c o g address h t (answer k r x w e b l v ko kw s) = impossible cc
+place-spares d c o g address h t (accepting k r j e b l v ko kw f) = impossible cc
+place-spares d c o g address h t (serving k q e b l v f) = turn≢place (sym e ∙ t)
+place-spares d c o g address h t (giving k x e b v) = impossible cc
+place-spares d c o g address h t (withdrawing k q e b l v) = impossible cc
+place-spares d c o g address h t (placing k a e b l v s) =
+    record {
+      row = refl;
+      other = λ y. off (λ z. y (sym z ∙ same-place (sym e ∙ t)));
+      waiting = λ y. off (λ z. true≢false (isWaiting (stageAt d h)) y (ap (λ (i : ℕ). isWaiting (stageAt d i)) (sym z) ∙ v));
+    }
+  where
+    off : k ≢ h → windowOf (placedOut d c k a .arena) h (windowSize d) ≡ windowOf (c .arena) h (windowSize d)
+    off ne =
+        window-with-other (c .arena) k h (windowSize d) (tablesIn (d .table) a (windowIn d c k)) ne
+        (tables-size (d .table) a (windowIn d c k) ∙ window-length d c k b l ∙ sym (span-lent d c k b l))

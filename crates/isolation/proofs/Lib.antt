@@ -24,6 +24,7 @@ pub mod ExampleBlock
 pub mod ExampleDesk
 pub mod ExampleWrite
 pub mod ExampleEight
+pub mod ExamplePlaced
 pub mod Carry
 pub mod Exported
 pub mod Single

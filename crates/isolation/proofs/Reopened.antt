@@ -20,7 +20,7 @@ use Rattle.image.proofs.ImageLaws.{exact}
 use Rattle.isolation.specs.Reopened.{ReopenedAll}
 use Rattle.isolation.proofs.Accept.{Facts, accept-facts}
 
--- each place in use fits its fields
+-- each slot in use fits its fields
 each : (d : Desk) → FitsDesk d → Facts d → (i : ℕ) → i < d .table .count → Fits (getD (d .table .drives) i noDrive)
 unfolding isSound
 each d f k i h =
@@ -32,7 +32,7 @@ unfolding openOf writtenOf writtenOut writeAnswer writeOut
 reopened b h e =
     let i = exact .only b h e in
     let k = accept-facts (deskOf b) .0 (i .acceptable) in
-    let w : Widths (deskOf b .table) = record { eight = i .fits .table .eight; each = each (deskOf b) (i .fits) k } in
+    let w : Widths (deskOf b .table) = record { eight = i .fits .table .eight; marks = i .fits .table .present; bytes = i .fits .table .parameters; each = each (deskOf b) (i .fits) k } in
     let r = read-written (deskOf b .table) (storeBlocks (deskOf b)) w (k .sound) in
     record {
       written = λ out l. (

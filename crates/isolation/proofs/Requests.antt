@@ -1,7 +1,7 @@
 -- One request, accepted at a desk: served in one of eight turns, bounded, ended, equal to served alone, and handed out.
 -- Assumes nothing.
 use Prim.Native.Nat.{ℕ, _+_, _*_, _/_, _≤_, _<_}
-use mathlib.Core.Path.{_≡_, refl, sym, ap, subst, _∙_}
+use mathlib.Core.Path.{_≡_, refl, sym, ap, ap₂, subst, _∙_}
 use mathlib.Core.Logic.{⊎-elim}
 use mathlib.Core.List.{List, [], _∷_, _++_}
 use native.Mathlib.Omega.{arith}
@@ -13,6 +13,7 @@ use Rattle.memory.specs.Blocks.{blockLength}
 use Rattle.table.specs.declared.Table.{Table}
 use Rattle.table.specs.Table.{readTable}
 use Rattle.int13.specs.declared.Registers.{Registers}
+use Rattle.int13.specs.declared.Placement.{Placement}
 use Rattle.int13.specs.declared.Job.{Job}
 use Rattle.int13.specs.declared.Outcome.{Outcome}
 use Rattle.int13.specs.declared.Outcome.the-variants.{Waits as JobWaits}
@@ -22,10 +23,10 @@ use Rattle.int13.specs.Alone.{Memory, Served, storeBlock, moves, finish, served
 use Rattle.desk.specs.declared.Stage.the-variants.{Finished}
 use Rattle.desk.specs.declared.Desk.{Desk}
 use Rattle.desk.specs.declared.CollectAnswer.the-variants.{Given}
-use Rattle.desk.specs.Parts.{windowSize, stageAt}
+use Rattle.desk.specs.Parts.{windowSize, stageAt, placementAt}
 use Rattle.desk.specs.Acceptable.{jobOk}
 use Rattle.isolation.specs.Lists.{collect, Call, collected, step, run, after}
-use Rattle.isolation.specs.Words.{Kind, refused, plain, opens, answers, accepts, serves, idles, hands, withdraws, kindOf, NoneOpens, total, turnIn, turns, services, movedIn, moved, withdrawalIn, withdrawals, collects, Accepted, Waits, Finishes, turnsEach, turnsFor, Unwritten, Left}
+use Rattle.isolation.specs.Words.{Kind, refused, plain, opens, answers, accepts, serves, idles, hands, withdraws, places, kindOf, NoneOpens, total, turnIn, turns, services, movedIn, moved, withdrawalIn, withdrawals, collects, Accepted, Waits, Finishes, turnsEach, turnsFor, Unwritten, Left}
 use Rattle.isolation.specs.Demand.{Ends, finishing as endsFinishing, withdrawing as endsWithdrawing, Same}
 use Rattle.isolation.proofs.Turn.{dist-lt}
 use Rattle.isolation.proofs.Moves.{Alike, part-agree, moves-size, moves-none}
@@ -35,7 +36,7 @@ use Rattle.isolation.proofs.Keep.{inv-step, Fixed, fixed-step, reached}
 use Rattle.isolation.proofs.Fate.{Fate, stays, passes, parts, ends, leaves, step-fate}
 use Rattle.isolation.proofs.Bound.{total-append, total-at, after-append, opens-front, opens-rest, opens-cons, opens-upto, near, waitFor, wait-start, Track, Course, waiting, finishing, leaving, course, track}
 use Rattle.isolation.proofs.Equal.{memory, request, Mid, Ended, equal-run}
-use Rattle.isolation.proofs.Posts.{Took, took}
+use Rattle.isolation.proofs.Posts.{Feeds, Took, took}
 use Rattle.isolation.proofs.Finished.{still-finished, handed-over}
 
 -- ---- numbers at the last call
@@ -58,6 +59,7 @@ turn-keeps g (serves h k) e = refl
 turn-keeps g idles e = refl
 turn-keeps g (hands h r) e = refl
 turn-keeps g (withdraws h) e = absurd (omega arith)
+turn-keeps g (places h address) e = refl
 
 -- ---- one request
 
@@ -177,12 +179,13 @@ module _ (d : Desk) (inv : Inv d) (c : Call) (g : ℕ) (r : Registers) (acc : Ac
   abbrev lo : ℕ
   lo = storeBlock (d .table) job
 
-  alone-is : (t : List ℕ) → readTable t (d .store / blockLength) .table ≡ d .table → alone (fed t) r found ≡ finish (d .table) (JobWaits job) (begin (fed (d .table)) r (windowIn d c g) .window) found
+  alone-is : (t : List ℕ) (p : Placement) → Feeds d g t p
+      → alone (fed t p) r found ≡ finish (d .table) (JobWaits job) (begin (fed (d .table) (placementAt d g)) r (windowIn d c g) .window) found
   unfolding alone
-  alone-is t e =
-      ap (λ (s : ℕ). servedBy (fed (readTable t (s / blockLength) .table)) r found) (accepted .lent .store)
-      ∙ ap (λ (b : Table). servedBy (fed b) r found) e
-      ∙ ap (λ (o : Outcome). finish (d .table) o (begin (fed (d .table)) r (windowIn d c g) .window) found) (accepted .outcome)
+  alone-is t p e =
+      ap (λ (s : ℕ). servedBy (fed (readTable t (s / blockLength) .table) p) r found) (accepted .lent .store)
+      ∙ ap₂ (λ (b : Table) (x : Placement). servedBy (fed b x) r found) (e .table) (sym (e .placement))
+      ∙ ap (λ (o : Outcome). finish (d .table) o (begin (fed (d .table) (placementAt d g)) r (windowIn d c g) .window) found) (accepted .outcome)
 
   mid₀ : Mid lo d₁ g job 0 found (windowIn d c g) (c .store)
   mid₀ =
@@ -200,12 +203,12 @@ module _ (d : Desk) (inv : Inv d) (c : Call) (g : ℕ) (r : Registers) (acc : Ac
       (ap (λ (m : ℕ). jobOk (d .table) m job) (sym (window-length d c g (accepted .below) (accepted .lent))) ∙ accepted .fresh .ok)
       (accepted .fresh .some) refl
 
-  pub equal′ : (t : List ℕ) → readTable t (d .store / blockLength) .table ≡ d .table → (mid : List Call) (last : Call) → NoneOpens (run d₁ (mid ++ last ∷ []))
+  pub equal′ : (t : List ℕ) (p : Placement) → Feeds d g t p → (mid : List Call) (last : Call) → NoneOpens (run d₁ (mid ++ last ∷ []))
       → Finishes g n d₁ mid last
       → Left (windowSize d) g (windowOf (step d c .arena) g (windowSize d)) (step d c .store) (run d₁ (mid ++ last ∷ []))
       → Unwritten g lo n (run d₁ (mid ++ last ∷ []))
-      → Same (windowSize d) g lo n (step (after d₁ mid) last) (alone (fed t) r found)
-  equal′ t te mid last no-open f l u =
+      → Same (windowSize d) g lo n (step (after d₁ mid) last) (alone (fed t p) r found)
+  equal′ t p te mid last no-open f l u =
       let l₁ : Left (windowSize d) g (windowIn d c g) (c .store) (run d₁ (mid ++ last ∷ []))
       = subst (λ (s : List ℕ). Left (windowSize d) g (windowIn d c g) s (run d₁ (mid ++ last ∷ []))) (accepted .store)
       (subst (λ (a : List ℕ). Left (windowSize d) g (windowOf a g (windowSize d)) (step d c .store) (run d₁ (mid ++ last ∷ []))) (accepted .arena) l) in
@@ -215,7 +218,7 @@ module _ (d : Desk) (inv : Inv d) (c : Call) (g : ℕ) (r : Registers) (acc : Ac
       = equal-run lo mid last d₁ inv₁ no-open g job 0 found (windowIn d c g) (c .store) mid₀ (f .waited .0) (omega (arith, f .waited .1)) (omega (arith, f .reached)) l₂ u in
       let fx = reached mid d₁ inv₁ (opens-front mid (last ∷ []) d₁ no-open) .fixed in
       let size : windowSize (after d₁ mid) ≡ windowSize d = ap windowLength (fx .arena ∙ fixed₁ .arena) in
-      let al = alone-is t te in
+      let al = alone-is t p te in
       let len : length (step (after d₁ mid) last .store) ≡ d .store
       = e .alike .length ∙ moves-size job lo 0 n found .store ∙ accepted .lent .store in
       record {
@@ -227,18 +230,18 @@ module _ (d : Desk) (inv : Inv d) (c : Call) (g : ℕ) (r : Registers) (acc : Ac
             ∙ ap (λ (x : Served). part blockLength (x .memory .store) (blockLength * b)) (sym al);
       }
 
-  pub finished′ : (t : List ℕ) → readTable t (d .store / blockLength) .table ≡ d .table → (mid : List Call) (last : Call) → NoneOpens (run d₁ (mid ++ last ∷ []))
-      → Finishes g n d₁ mid last → stageAt (step (after d₁ mid) last .desk) g ≡ Finished (alone (fed t) r found .registers)
-  finished′ t te mid last no-open f = finished mid last no-open f ∙ ap (λ (x : Served). Finished (x .registers)) (sym (alone-is t te))
+  pub finished′ : (t : List ℕ) (p : Placement) → Feeds d g t p → (mid : List Call) (last : Call) → NoneOpens (run d₁ (mid ++ last ∷ []))
+      → Finishes g n d₁ mid last → stageAt (step (after d₁ mid) last .desk) g ≡ Finished (alone (fed t p) r found .registers)
+  finished′ t p te mid last no-open f = finished mid last no-open f ∙ ap (λ (x : Served). Finished (x .registers)) (sym (alone-is t p te))
 
-  pub handed′ : (t : List ℕ) → readTable t (d .store / blockLength) .table ≡ d .table → (mid after₁ : List Call) (last x : Call)
+  pub handed′ : (t : List ℕ) (p : Placement) → Feeds d g t p → (mid after₁ : List Call) (last x : Call)
       → NoneOpens (run d₁ (mid ++ last ∷ (after₁ ++ x ∷ [])))
       → Finishes g n d₁ mid last
       → collects g (run (step (after d₁ mid) last .desk) after₁) ≡ 0
       → x .op ≡ collect g
       → (kindOf (step (after (step (after d₁ mid) last .desk) after₁) x .answer) ≡ refused → ⊥)
-      → step (after (step (after d₁ mid) last .desk) after₁) x .answer ≡ collected g (Given (alone (fed t) r found .registers))
-  handed′ t te mid after₁ last x no-open f z op u =
+      → step (after (step (after d₁ mid) last .desk) after₁) x .answer ≡ collected g (Given (alone (fed t p) r found .registers))
+  handed′ t p te mid after₁ last x no-open f z op u =
       let d₂ : Desk = step (after d₁ mid) last .desk in
       let o₁ : NoneOpens (run d₁ mid) = opens-front mid (last ∷ (after₁ ++ x ∷ [])) d₁ no-open in
       let o₂ = opens-cons (after d₁ mid) last (after₁ ++ x ∷ []) (opens-rest mid (last ∷ (after₁ ++ x ∷ [])) d₁ no-open) in
@@ -248,4 +251,4 @@ module _ (d : Desk) (inv : Inv d) (c : Call) (g : ℕ) (r : Registers) (acc : Ac
       let e : stageAt (after d₂ after₁) g ≡ Finished (succeed (job .registers))
       = still-finished after₁ d₂ inv₂ o₃ g (succeed (job .registers)) (finished mid last (opens-upto mid (after₁ ++ x ∷ []) last d₁ no-open) f) z in
       handed-over (after d₂ after₁) (reached after₁ d₂ inv₂ o₃ .inv) x g (succeed (job .registers)) (o₄ .0) e op u
-      ∙ ap (λ (s : Served). collected g (Given (s .registers))) (sym (alone-is t te))
+      ∙ ap (λ (s : Served). collected g (Given (s .registers))) (sym (alone-is t p te))

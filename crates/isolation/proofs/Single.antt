@@ -25,11 +25,13 @@ use Rattle.layout.specs.declared.ResultAnswer.the-variants.{Written, Refused as
 use Rattle.layout.specs.Packet.{packetLength, readPacket}
 use Rattle.layout.specs.ResultBuffer.{resultAnswer}
 use Rattle.int13.specs.declared.Registers.{Registers}
+use Rattle.int13.specs.declared.Placement.{Placement}
+use Rattle.int13.specs.declared.Shown.{Shown}
 use Rattle.int13.specs.declared.Outcome.{Outcome}
 use Rattle.int13.specs.declared.Plan.{Plan}
 use Rattle.int13.specs.declared.Plan.the-variants.{Refuse, Clear, Finish, Wait}
 use Rattle.int13.specs.Answers.{ah, al, dl, isWrite}
-use Rattle.int13.specs.Steps.{Checked, mostRun, mostBlocks, isDrive, driveNamed, packetPlace, verifyOk, packetTests, packetRead, packetPlan, carryOut, seekRead, seek, sectorBuffer, sectorRun, sectors, parameters, extensions, resultGiven, result, fed, driveCount, steps, begin}
+use Rattle.int13.specs.Steps.{Checked, mostRun, mostBlocks, isDrive, driveNamed, packetPlace, verifyOk, packetTests, packetRead, packetPlan, carryOut, seekRead, seek, sectorBuffer, sectorRun, sectors, parameters, extensions, resultGiven, result, fed, driveCount, shownOf, steps, begin}
 use Rattle.desk.specs.declared.Request.{Request}
 use Rattle.desk.specs.declared.Stage.the-variants.{Waiting}
 use Rattle.desk.specs.declared.Desk.{Desk}
@@ -70,9 +72,9 @@ module _ (b : Table) (r : Registers) (w : List ℕ) where
   unfolding parameters
   by-parameters = pick-cases Keeps (isDrive b (dl r)) _ _ (λ e. record { ds = refl; si = refl; es = refl }) (λ e. record { ds = refl; si = refl; es = refl })
 
-  by-extensions : Keeps (extensions (isDrive b (dl r)) r)
+  by-extensions : (s : Shown) → Keeps (extensions (isDrive b (dl r)) s r)
   unfolding extensions
-  by-extensions = pick-cases Keeps (both (isDrive b (dl r)) (eqb (r .bx) 0x55AA)) _ _ (λ e. record { ds = refl; si = refl; es = refl }) (λ e. record { ds = refl; si = refl; es = refl })
+  by-extensions s = pick-cases Keeps (both (isDrive b (dl r)) (eqb (r .bx) 0x55AA)) _ _ (λ e. record { ds = refl; si = refl; es = refl }) (λ e. record { ds = refl; si = refl; es = refl })
 
   -- a plan that waits does so with the registers as posted
   abbrev Plans : Plan → Type 0
@@ -117,9 +119,9 @@ module _ (b : Table) (r : Registers) (w : List ℕ) where
           pick-cases Keeps (ltb (p .size) packetLength) _ _ (λ e. record { ds = refl; si = refl; es = refl })
           (λ e. pick-cases Keeps (leb (driveNamed b r .blocks) (p .start)) _ _ (λ e. record { ds = refl; si = refl; es = refl }) (λ e. record { ds = refl; si = refl; es = refl }))
 
-  by-result : KeepsChecked (result (isDrive b (dl r)) (driveNamed b r) r w)
+  by-result : (s : Shown) → KeepsChecked (result (isDrive b (dl r)) (driveNamed b r) s r w)
   unfolding result
-  by-result =
+  by-result s =
       pick-cases KeepsChecked (not (isDrive b (dl r))) _ _ (λ e. record { ds = refl; si = refl; es = refl })
       (λ e. pick-cases KeepsChecked (ltb (length w) (packetPlace r + 2)) _ _ (λ e. record { ds = refl; si = refl; es = refl })
       (λ e. go (resultAnswer (driveNamed b r) (le 2 w (packetPlace r)) (length (drop (packetPlace r) w)))))
@@ -128,15 +130,15 @@ module _ (b : Table) (r : Registers) (w : List ℕ) where
       go (NoResult code) = record { ds = refl; si = refl; es = refl }
       go (Written n) = record { ds = refl; si = refl; es = refl }
 
-  by-function : KeepsChecked (begin (fed b) r w)
+  by-function : (p : Placement) → KeepsChecked (begin (fed b p) r w)
   unfolding begin steps
-  by-function =
+  by-function p =
       pick-cases KeepsChecked (either (eqb (ah r) 0x02) (eqb (ah r) 0x03)) _ _ (λ e. by-sectors (length w))
       (λ e. pick-cases KeepsChecked (eqb (ah r) 0x08) _ _ (λ e. by-parameters)
-      (λ e. pick-cases KeepsChecked (eqb (ah r) 0x41) _ _ (λ e. by-extensions)
+      (λ e. pick-cases KeepsChecked (eqb (ah r) 0x41) _ _ (λ e. by-extensions (shownOf b p (dl r)))
       (λ e. pick-cases KeepsChecked (either (eqb (ah r) 0x42) (either (eqb (ah r) 0x43) (eqb (ah r) 0x44))) _ _ (λ e. carried (packetPlan (isDrive b (dl r)) (driveNamed b r) r w) by-plan)
       (λ e. pick-cases KeepsChecked (eqb (ah r) 0x47) _ _ (λ e. by-seek)
-      (λ e. pick-cases KeepsChecked (eqb (ah r) 0x48) _ _ (λ e. by-result) (λ e. record { ds = refl; si = refl; es = refl }))))))
+      (λ e. pick-cases KeepsChecked (eqb (ah r) 0x48) _ _ (λ e. by-result (shownOf b p (dl r))) (λ e. record { ds = refl; si = refl; es = refl }))))))
 
 -- ---- a turn
 
@@ -157,7 +159,7 @@ served d arena store g q a l b e = rw (a, l) (go (seekRow (d .rows) guests (d .p
 pub single : Single
 single =
     record {
-      posted = by-function;
+      posted = λ b p r w. by-function b r w p;
       finished = λ r. record { ds = refl; si = refl; es = refl };
       withdrawn = λ n r. record { ds = refl; si = refl; es = refl };
       served = served;

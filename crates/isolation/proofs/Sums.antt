@@ -4,7 +4,7 @@
 -- Assumes nothing.
 use Prim.Native.Nat.{ℕ, zero, suc, _+_, _/_}
 use mathlib.Core.Path.{_≡_, refl, sym, ap, ap₂, subst, _∙_}
-use mathlib.Core.Bool.{true}
+use mathlib.Core.Bool.{true, false}
 use mathlib.Core.List.{List, [], _∷_, _++_, map}
 use lib.ListN.{length, getD, replicate}
 use lib.Dec.{ltb}
@@ -17,13 +17,15 @@ use Rattle.drive.specs.Drive.{driveOf, same, pci, ata, busOk, interfaceOk, geom
 use Rattle.layout.specs.ResultBuffer.{returnedSize, parameterBytes, blockBytes, interfaceBytes, pathBytes, sum, wholeResult, resultBytes, resultAnswer}
 use Rattle.memory.specs.Window.{guests, windowLength, windowOf}
 use Rattle.table.specs.declared.Table.{Table}
-use Rattle.table.specs.Table.{zeroDrive, headerOf, headerAt, overlapsAny, refusal, driveStep, endStep, stepOf, stepAt, readFrom, readTable}
+use Rattle.table.specs.Table.{zeroDrive, headerOf, headerAt, overlapsAny, refusal, recordRefusal, withRecord, recordStep, endStep, stepOf, stepAt, readFrom, readTable}
 use Rattle.int13.specs.declared.Registers.{Registers}
+use Rattle.int13.specs.declared.Placement.{Placement}
+use Rattle.int13.specs.Placement.{noPlacement}
 use Rattle.int13.specs.declared.Job.{Job}
 use Rattle.int13.specs.declared.Outcome.{Outcome}
 use Rattle.int13.specs.declared.Outcome.the-variants.{Answered, Waits}
 use Rattle.int13.specs.Answers.{ah, posted as postedRegisters}
-use Rattle.int13.specs.Steps.{Checked, unchanged, isDrive, sectors, parameters, result, fed, steps, begin}
+use Rattle.int13.specs.Steps.{Checked, unchanged, isDrive, sectors, parameters, result, fed, shownOf, steps, begin}
 use Rattle.desk.specs.declared.Stage.{Stage}
 use Rattle.desk.specs.declared.Stage.the-variants.{Vacant, Waiting, Finished}
 use Rattle.desk.specs.declared.Desk.{Desk}
@@ -33,7 +35,7 @@ use Rattle.desk.specs.declared.Next.the-variants.{Guest, Nobody}
 use Rattle.desk.specs.declared.OpenAnswer.the-variants.{Opened}
 use Rattle.desk.specs.declared.TurnAnswer.{TurnAnswer}
 use Rattle.desk.specs.declared.TurnAnswer.the-variants.{Served, Idle, Refused as TurnRefused}
-use Rattle.desk.specs.Parts.{windowSize, stageAt, withStage, withPointer}
+use Rattle.desk.specs.Parts.{windowSize, stageAt, withStage, withPointer, placementAt}
 use Rattle.desk.specs.Calls.{Done, isLent, opened, openOf, firstWaiting, stageAfter, serveStage, turnNext, turnOf}
 use Rattle.desk.specs.Numbers.{turnNumbers}
 use Rattle.isolation.specs.Lists.{post, turn, Call, turned, Out, step, after}
@@ -64,7 +66,7 @@ geometryIn (Answered r) = ah r ∷ r .cx ∷ r .dx / 256 ∷ []
 geometryIn (Waits j) = []
 
 abbrev pub parametersOf : Table → List ℕ
-parametersOf b = geometryIn (begin (fed b) (asking 0x0800) [] .outcome)
+parametersOf b = geometryIn (begin (fed b noPlacement) (asking 0x0800) [] .outcome)
 
 -- P6: a table of one drive with C 1024, H 255, S 63
 abbrev pub wide : Table
@@ -72,6 +74,8 @@ wide =
     record {
       drives = record { cylinders = 0; heads = 0; sectors = 0; blocks = 16450560; first = 0; flags = 0; c = 1024; h = 255; s = 63; protection = 0; bus = pci; interface = ata; path = replicate 8 0; device = replicate 8 0 } ∷ replicate 7 zeroDrive;
       count = 1;
+      present = replicate 8 false;
+      parameters = replicate 112 0;
     }
 
 -- P7: the table of document 01, in the store of its example
@@ -88,7 +92,7 @@ table = readTable tableBytes 4294967296 .table
 
 -- 48h with a buffer at 0001:0008 that says a size
 abbrev pub resultOf : ℕ → Checked
-resultOf asked = begin (fed table) (asking 0x4800) (replicate 24 0 ++ (leBytes 2 asked ++ replicate 64 0))
+resultOf asked = begin (fed table noPlacement) (asking 0x4800) (replicate 24 0 ++ (leBytes 2 asked ++ replicate 64 0))
 
 abbrev pub codeIn : Outcome → ℕ
 codeIn (Answered r) = ah r
@@ -157,13 +161,13 @@ drive =
     }
 
 abbrev tableRead : Table
-tableRead = record { drives = drive ∷ replicate 7 zeroDrive; count = 1 }
+tableRead = record { drives = drive ∷ replicate 7 zeroDrive; count = 1; present = replicate 8 false; parameters = replicate 112 0 }
 
 abbrev d₀ : Desk
 d₀ = opened tableRead arenaLength storeLength
 
 opening : openOf tableBytes arenaLength storeLength ≡ record { desk = d₀; answer = Opened }
-unfolding openOf le leBytes inLimits driveOf same busOk interfaceOk geometryFits fieldsOk inStore overlap headerOf headerAt overlapsAny refusal driveStep endStep stepOf stepAt readFrom readTable
+unfolding openOf le leBytes inLimits driveOf same busOk interfaceOk geometryFits fieldsOk inStore overlap headerOf headerAt overlapsAny refusal recordRefusal withRecord recordStep endStep stepOf stepAt readFrom readTable
 opening = refl
 
 inv₀ : Inv d₀
@@ -179,9 +183,9 @@ sectors-reads : (n : ℕ) → n ≡ 20480 → sectors true drive reads n ≡ Wai
 unfolding sectors blockOf inLimits isValid
 sectors-reads n e = rw e
 
-check-reads : (w : List ℕ) → length w ≡ 20480 → begin (fed tableRead) reads w ≡ unchanged w (Waits job)
+check-reads : (p : Placement) (w : List ℕ) → length w ≡ 20480 → begin (fed tableRead p) reads w ≡ unchanged w (Waits job)
 unfolding begin steps isDrive
-check-reads w e = ap (unchanged w) (sectors-reads (length w) e)
+check-reads p w e = ap (unchanged w) (sectors-reads (length w) e)
 
 -- ---- a turn's answer and the desk that it leaves are not of the arena's and the store's bytes
 
@@ -226,7 +230,16 @@ fixed-turn d arena store inv = fixed-step d (call turn arena store) inv (turn-no
 -- ---- the desks
 
 abbrev rowsOf : List Stage → ℕ → Desk
-rowsOf stages pointer = record { rows = map (λ x. record { stage = x }) stages; pointer = pointer; table = tableRead; arena = arenaLength; store = storeLength }
+rowsOf stages pointer =
+    record {
+      rows = map (λ x. record { stage = x }) stages;
+      pointer = pointer;
+      table = tableRead;
+      arena = arenaLength;
+      store = storeLength;
+      placed = replicate 8 false;
+      addresses = replicate 8 0;
+    }
 
 abbrev at9 : Desk
 at9 = rowsOf (Vacant ∷ Vacant ∷ waits ∷ Vacant ∷ Vacant ∷ waits ∷ Vacant ∷ Vacant ∷ []) 0
@@ -275,8 +288,8 @@ module _ (a s : ℕ → List ℕ) (la : (i : ℕ) → length (a i) ≡ arenaLeng
   holds d i g t f = (
     f .0,
     f .1,
-    subst (λ (x : Table). begin (fed x) reads (windowOf (a i) g (windowSize d)) ≡ unchanged (windowOf (a i) g (windowSize d)) (Waits job)) (sym (t .table))
-        (check-reads (windowOf (a i) g (windowSize d)) (window-lent d (a i) g (la i ∙ sym (t .arena)) (ltb-true g guests (f .0)) ∙ ap windowLength (t .arena))),
+    subst (λ (x : Table). begin (fed x (placementAt d g)) reads (windowOf (a i) g (windowSize d)) ≡ unchanged (windowOf (a i) g (windowSize d)) (Waits job)) (sym (t .table))
+        (check-reads (placementAt d g) (windowOf (a i) g (windowSize d)) (window-lent d (a i) g (la i ∙ sym (t .arena)) (ltb-true g guests (f .0)) ∙ ap windowLength (t .arena))),
   )
 
   all-post : (gs : List ℕ) (i : ℕ) (d : Desk) → At d → Free d gs → (after d (postings i gs) ≡ asked d gs) × At (asked d gs)
@@ -368,7 +381,7 @@ module _ (a s : ℕ → List ℕ) (la : (i : ℕ) → length (a i) ≡ arenaLeng
       ∷ (0 ∷ 2 ∷ 16 ∷ 0 ∷ 5 ∷ 16 ∷ 0 ∷ 2 ∷ 16 ∷ 0 ∷ 5 ∷ 16 ∷ 0 ∷ 2 ∷ 8 ∷ 0 ∷ 5 ∷ 8 ∷ [])
       ∷ (0 ∷ 1 ∷ 16 ∷ 0 ∷ 2 ∷ 16 ∷ 0 ∷ 3 ∷ 16 ∷ 0 ∷ 4 ∷ 16 ∷ 0 ∷ 5 ∷ 16 ∷ 0 ∷ 6 ∷ 16 ∷ 0 ∷ 7 ∷ 16 ∷ 0 ∷ 0 ∷ 16 ∷ [])
       ∷ []
-  unfolding blockNumbers blockOf inLimits isValid le leBytes driveOf same busOk interfaceOk geometryFits fieldsOk inStore overlap headerOf headerAt overlapsAny refusal driveStep endStep stepOf stepAt readFrom readTable isDrive parameters result steps begin resultAnswer returnedSize resultBytes wholeResult parameterBytes blockBytes interfaceBytes pathBytes sum
+  unfolding blockNumbers blockOf inLimits isValid le leBytes driveOf same busOk interfaceOk geometryFits fieldsOk inStore overlap headerOf headerAt overlapsAny refusal recordRefusal withRecord recordStep endStep stepOf stepAt readFrom readTable isDrive shownOf parameters result steps begin resultAnswer returnedSize resultBytes wholeResult parameterBytes blockBytes interfaceBytes pathBytes sum
   sums =
       ap₂ (λ (x y : List ℕ).
       block 0 0 1

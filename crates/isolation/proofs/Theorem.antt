@@ -9,22 +9,24 @@ use Rattle.memory.specs.Blocks.{blockLength}
 use Rattle.table.specs.declared.Table.{Table}
 use Rattle.table.specs.Table.{readTable}
 use Rattle.int13.specs.declared.Registers.{Registers}
+use Rattle.int13.specs.declared.Placement.{Placement}
+use Rattle.int13.specs.Placement.{noPlacement}
 use Rattle.int13.specs.Steps.{fed}
 use Rattle.int13.specs.Alone.{storeBlock, alone}
 use Rattle.desk.specs.declared.Stage.the-variants.{Finished}
 use Rattle.desk.specs.declared.Desk.{Desk}
 use Rattle.desk.specs.declared.OpenAnswer.the-variants.{Opened}
 use Rattle.desk.specs.declared.CollectAnswer.the-variants.{Given}
-use Rattle.desk.specs.Parts.{windowSize, stageAt}
+use Rattle.desk.specs.Parts.{windowSize, stageAt, placementAt}
 use Rattle.desk.specs.Calls.{openOf}
 use Rattle.isolation.specs.Lists.{Call, collected, step, Event, run, after}
-use Rattle.isolation.specs.Words.{refused, opens, kindOf, NoneOpens, turns, collects, Accepted, Waits, Finishes, turnsFor, Unwritten, Left}
+use Rattle.isolation.specs.Words.{refused, opens, kindOf, NoneOpens, turns, collects, Accepted, Waits, Finishes, turnsFor, Unwritten, Left, placementAfter, placementIn}
 use Rattle.isolation.specs.Demand.{outAfter, foundBy, askedBy, firstBy, Taken, outOn, countOf, firstOf, aloneOf, Ends, Same, SameAtOnce, Claim, Demand}
-use Rattle.isolation.proofs.Accept.{Inv, inv-accept, inv-opened, opened-desk}
+use Rattle.isolation.proofs.Accept.{Inv, none-placed, inv-accept, inv-opened, opened-desk}
 use Rattle.isolation.proofs.View.{same, answer, view}
-use Rattle.isolation.proofs.Keep.{reached, turn-spares}
+use Rattle.isolation.proofs.Keep.{reached, placed-after, turn-spares, place-spares}
 use Rattle.isolation.proofs.Bound.{opens-front, opens-rest, opens-cons, opens-upto, after-at, after-none}
-use Rattle.isolation.proofs.Posts.{at-once, never}
+use Rattle.isolation.proofs.Posts.{Feeds, at-once, never}
 use Rattle.isolation.proofs.Requests.{accepted, bounded′, finishes′, within′, equal′, finished′, handed′}
 
 module _ (t : List ℕ) (arena store : ℕ) (calls : List Call) (passed : openOf t arena store .answer ≡ Opened)
@@ -36,27 +38,36 @@ module _ (t : List ℕ) (arena store : ℕ) (calls : List Call) (passed : openOf
   m = windowLength arena
 
   -- what every call of the list finds
-  record At (c : Call) (d : Desk) (rest : List Call) : Type 0 where
+  record At (pre : List Call) (c : Call) (d : Desk) (rest : List Call) : Type 0 where
     pub inv : Inv d
     pub size : windowSize d ≡ m
     pub same : d .table ≡ d₀ .table
     pub table : readTable t (d .store / blockLength) .table ≡ d .table
+    pub placement : (g : ℕ) → placementAt d g ≡ placementIn g (run d₀ pre)
     pub here : kindOf (step d c .answer) ≡ opens → ⊥
     pub later : NoneOpens (run (step d c .desk) rest)
 
   opened-sizes : (d₀ .arena ≡ arena) × (d₀ .store ≡ store) × (d₀ .table ≡ readTable t (store / blockLength) .table)
   opened-sizes = let e = opened-desk t arena store passed in (ap (λ (d : Desk). d .arena) e, ap (λ (d : Desk). d .store) e, ap (λ (d : Desk). d .table) e)
 
-  at : (pre rest : List Call) (c : Call) → calls ≡ pre ++ c ∷ rest → At c (after d₀ pre) rest
+  -- no guest has a placement at first
+  opened-nowhere : (g : ℕ) → placementAt d₀ g ≡ noPlacement
+  opened-nowhere g =
+      ap (λ (d : Desk). placementAt d g) (opened-desk t arena store passed) ∙ none-placed (readTable t (store / blockLength) .table) arena store g
+
+  at : (pre rest : List Call) (c : Call) → calls ≡ pre ++ c ∷ rest → At pre c (after d₀ pre) rest
   at pre rest c e =
       let n : NoneOpens (run d₀ (pre ++ c ∷ rest)) = subst (λ (l : List Call). NoneOpens (run d₀ l)) e closed in
-      let r = reached pre d₀ (inv-opened t arena store passed) (opens-front pre (c ∷ rest) d₀ n) in
+      let inv₀ = inv-opened t arena store passed in
+      let r = reached pre d₀ inv₀ (opens-front pre (c ∷ rest) d₀ n) in
       let o = opens-cons (after d₀ pre) c rest (opens-rest pre (c ∷ rest) d₀ n) in
       record {
         inv = r .inv;
         size = ap windowLength (r .fixed .arena ∙ opened-sizes .0);
         same = r .fixed .table;
         table = ap (λ (s : ℕ). readTable t (s / blockLength) .table) (r .fixed .store ∙ opened-sizes .1) ∙ sym (opened-sizes .2) ∙ sym (r .fixed .table);
+        placement = λ g.
+            placed-after pre d₀ inv₀ (opens-front pre (c ∷ rest) d₀ n) g ∙ ap (λ (p : Placement). placementAfter g p (run d₀ pre)) (opened-nowhere g);
         here = o .0;
         later = o .1;
       }
@@ -72,12 +83,17 @@ module _ (t : List ℕ) (arena store : ℕ) (calls : List Call) (passed : openOf
       accepted d inv c g r acc no-open .fresh .first ∙ ap (λ (k : ℕ). firstBy (d .table) k c g r) e ∙ ap (λ (b : Table). firstBy b m c g r) f
 
   -- a request of the list: what its post found, and the calls since
-  placed : (q : Taken d₀ calls) (rest : List Call) → q .since ≡ rest → At (q .call) (after d₀ (q .before)) rest
+  placed : (q : Taken d₀ calls) (rest : List Call) → q .since ≡ rest → At (q .before) (q .call) (after d₀ (q .before)) rest
   placed q rest e = at (q .before) rest (q .call) (q .place ∙ ap (λ (l : List Call). q .before ++ q .call ∷ l) e)
 
-  counts : (q : Taken d₀ calls) (rest : List Call) (a : At (q .call) (after d₀ (q .before)) rest)
+  counts : (q : Taken d₀ calls) (rest : List Call) (a : At (q .before) (q .call) (after d₀ (q .before)) rest)
       → accepted (after d₀ (q .before)) (a .inv) (q .call) (q .guest) (q .registers) (q .accepted) (a .here) .job .count ≡ countOf q m
   counts q rest a = asks (after d₀ (q .before)) (a .inv) (q .call) (q .guest) (q .registers) (q .accepted) (a .here) (a .size)
+
+  -- what the demand feeds served alone is what the desk has
+  feeds : (q : Taken d₀ calls) (rest : List Call) (a : At (q .before) (q .call) (after d₀ (q .before)) rest)
+      → Feeds (after d₀ (q .before)) (q .guest) t (placementIn (q .guest) (run d₀ (q .before)))
+  feeds q rest a = record { table = a .table; placement = a .placement (q .guest) }
 
   claim : Claim t d₀ m calls
   claim =
@@ -119,7 +135,8 @@ module _ (t : List ℕ) (arena store : ℕ) (calls : List Call) (passed : openOf
             → Left (windowSize d) (q .guest) (windowOf (outOn q .arena) (q .guest) (windowSize d)) (outOn q .store) es
             → Unwritten (q .guest) lo k es
             → Same (windowSize d) (q .guest) lo k (outAfter d₁ mid last) (aloneOf q t (windowSize d))) (counts q _ a) f
-            (equal′ d (a .inv) (q .call) (q .guest) (q .registers) (q .accepted) (a .here) t (a .table) mid last (opens-upto mid rest last d₁ (a .later))));
+            (equal′ d (a .inv) (q .call) (q .guest) (q .registers) (q .accepted) (a .here) t (placementIn (q .guest) (run d₀ (q .before))) (feeds q _ a) mid last
+            (opens-upto mid rest last d₁ (a .later))));
         handed = λ q mid more rest last x e f z op u.
             let d₁ : Desk = outOn q .desk in
             let d₂ : Desk = outAfter d₁ mid last .desk in
@@ -135,18 +152,26 @@ module _ (t : List ℕ) (arena store : ℕ) (calls : List Call) (passed : openOf
             (sym (after-at mid more last d₁))
             (subst (λ (k : ℕ). (kindOf (step (after d₂ more) x .answer) ≡ refused → ⊥)
             → step (after d₂ more) x .answer ≡ collected (q .guest) (Given (aloneOf q t k .registers))) (a .size)
-            (handed′ (after d₀ (q .before)) (a .inv) (q .call) (q .guest) (q .registers) (q .accepted) (a .here) t (a .table) mid more last x o
+            (handed′ (after d₀ (q .before)) (a .inv) (q .call) (q .guest) (q .registers) (q .accepted) (a .here) t (placementIn (q .guest) (run d₀ (q .before))) (feeds q _ a) mid more last x o
             (subst (λ (k : ℕ). Finishes (q .guest) k d₁ mid last) (sym (counts q _ a)) f) z′ op)) u;
         finished = λ q mid rest last e f.
             let d₁ : Desk = outOn q .desk in
             let a = placed q (mid ++ last ∷ rest) e in
             subst (λ (k : ℕ). stageAt (outAfter d₁ mid last .desk) (q .guest) ≡ Finished (aloneOf q t k .registers)) (a .size)
-            (finished′ (after d₀ (q .before)) (a .inv) (q .call) (q .guest) (q .registers) (q .accepted) (a .here) t (a .table) mid last (opens-upto mid rest last d₁ (a .later))
+            (finished′ (after d₀ (q .before)) (a .inv) (q .call) (q .guest) (q .registers) (q .accepted) (a .here) t (placementIn (q .guest) (run d₀ (q .before))) (feeds q _ a) mid last
+            (opens-upto mid rest last d₁ (a .later))
             (subst (λ (k : ℕ). Finishes (q .guest) k d₁ mid last) (sym (counts q _ a)) f));
         atOnce = λ pre rest c g r x e op p.
             let a = at pre rest c e in
-            subst (λ (k : ℕ). SameAtOnce k g (outAfter d₀ pre c) x (alone (fed t) r (foundBy k c g))) (a .size)
-            (at-once t (after d₀ pre) c g r x (outAfter d₀ pre c) (a .table) op p (view (after d₀ pre) (a .inv) c (a .here)));
+            subst (λ (k : ℕ). SameAtOnce k g (outAfter d₀ pre c) x (alone (fed t (placementIn g (run d₀ pre))) r (foundBy k c g))) (a .size)
+            (at-once t (placementIn g (run d₀ pre)) (after d₀ pre) c g r x (outAfter d₀ pre c) (record { table = a .table; placement = a .placement g }) op p (view (after d₀ pre) (a .inv) c (a .here)));
+        placing = λ pre rest c g address h e op.
+            let a = at pre rest c e in
+            let s = place-spares (after d₀ pre) c (step (after d₀ pre) c) g address h op (view (after d₀ pre) (a .inv) c (a .here)) in (
+              s .row,
+              (λ y. subst (λ (k : ℕ). windowOf (step (after d₀ pre) c .arena) h k ≡ windowOf (c .arena) h k) (a .size) (s .other y)),
+              (λ y. subst (λ (k : ℕ). windowOf (step (after d₀ pre) c .arena) h k ≡ windowOf (c .arena) h k) (a .size) (s .waiting y)),
+            );
         acceptable = λ pre rest e.
             inv-accept (after d₀ pre)
             (reached pre d₀ (inv-opened t arena store passed) (opens-front pre rest d₀ (subst (λ (l : List Call). NoneOpens (run d₀ l)) e closed)) .inv);

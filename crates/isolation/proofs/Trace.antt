@@ -9,17 +9,19 @@ use mathlib.Core.List.{List, [], _∷_, _++_, append-nil}
 use native.Mathlib.Omega.{arith}
 use lib.ListN.{length}
 use lib.Dec.{eqb, leb, ltb}
-use borrow.Author.Tests.{eq-eqb, eqb-true, leb-true, not-true}
+use borrow.Author.Tests.{eq-eqb, eqb-true, eqb-false, leb-true, not-true}
 use Rattle.logic.specs.Logic.{pick, both, either}
 use Rattle.logic.proofs.LogicLaws.{impossible, both-true, both-intro, either-true, pick-cases, true≢false}
 use Rattle.memory.specs.Window.{guests, windowLength, windowOf, withWindow}
-use Rattle.memory.proofs.WindowLaws.{span-in, length-window, length-with-window, with-window-same}
+use Rattle.memory.proofs.WindowLaws.{span-in, length-window, length-with-window, with-window-same, window-with-other}
 use Rattle.table.specs.declared.Table.{Table}
 use Rattle.table.specs.Table.{headerOf, headerAt, stepOf as tableStepOf, stepAt, readFrom, readTable}
 use Rattle.int13.specs.declared.Registers.{Registers}
+use Rattle.int13.specs.declared.Placement.{Placement}
 use Rattle.int13.specs.declared.Job.{Job}
 use Rattle.int13.specs.declared.Outcome.the-variants.{Answered, Waits}
 use Rattle.int13.specs.Answers.{ah, isSectors, isWrite, withdraw as withdrawnRegisters}
+use Rattle.int13.specs.Placement.{noPlacement, tableCount}
 use Rattle.int13.specs.Steps.{Checked, unchanged, fed, begin}
 use Rattle.int13.specs.Alone.{Memory, storeBlock, moves, alone}
 use Rattle.desk.specs.declared.Request.{Request}
@@ -33,14 +35,17 @@ use Rattle.desk.specs.declared.PostAnswer.the-variants.{Answered as PostAnswere
 use Rattle.desk.specs.declared.TurnAnswer.the-variants.{Served, Idle, Refused as TurnRefused}
 use Rattle.desk.specs.declared.CollectAnswer.the-variants.{Given as CollectGiven}
 use Rattle.desk.specs.declared.WithdrawAnswer.the-variants.{Given as WithdrawGiven}
-use Rattle.desk.specs.Parts.{windowSize, stageAt, withStage, next, withPointer}
-use Rattle.desk.specs.Calls.{otherLength, isLent, openOf, postChecked, postRow, postOf, firstWaiting, quota, stageAfter, memoryOf, movedBy, serve, serveStage, turnNext, turnOf, collectStage, collectOf, withdrawnWindow, withdrawStage, withdrawOf}
-use Rattle.isolation.specs.Lists.{Op, openTable, post, turn, collect, withdraw, Call, Answer, opening, posted, turned, collected, withdrawn, Out, outOf, step, Event, run, after}
-use Rattle.isolation.specs.Words.{Kind, opens, serves, kindOf, NoneOpens, Waits as WaitsOn, Finishes, moved, Named, Writes, Unwritten, Left}
+use Rattle.desk.specs.declared.PlaceAnswer.{PlaceAnswer}
+use Rattle.desk.specs.declared.PlaceAnswer.the-variants.{Placed, Refused as PlaceRefused}
+use Rattle.desk.specs.Parts.{windowSize, stageAt, isWaiting, withStage, next, withPointer, placementAt, withPlacement}
+use Rattle.desk.specs.Acceptable.{placeOk}
+use Rattle.desk.specs.Calls.{otherLength, notVacant, badPlace, Done, done, isLent, openOf, postChecked, postRow, postOf, firstWaiting, quota, stageAfter, memoryOf, movedBy, serve, serveStage, turnNext, turnOf, collectStage, collectOf, withdrawnWindow, withdrawStage, withdrawOf, tablesIn, placeTables, placeStage, placeOf}
+use Rattle.isolation.specs.Lists.{Op, openTable, post, turn, collect, withdraw, place as placeAt, Call, Answer, opening, posted, turned, collected, withdrawn, placed, Out, outOf, step, Event, run, after}
+use Rattle.isolation.specs.Words.{Kind, opens, serves, kindOf, NoneOpens, Waits as WaitsOn, Finishes, moved, Named, Writes, Unwritten, Left, placementIn}
 use Rattle.isolation.specs.Demand.{foundBy, askedBy, firstBy, Taken, Same, Claim}
 use Rattle.isolation.proofs.Moves.{moves-size}
 use Rattle.isolation.proofs.Accept.{Inv, inv-accept}
-use Rattle.isolation.proofs.Keep.{inv-step, fixed-step}
+use Rattle.isolation.proofs.Keep.{inv-step, Fixed, fixed-step, tables-size}
 use Rattle.isolation.proofs.Fate.{same-request}
 use Rattle.isolation.proofs.Equal.{request}
 
@@ -76,6 +81,10 @@ pub data Line : Type 0 where
   collecting : ℕ → Registers → Line
   -- an opening with no table
   misopening : Line
+  -- a guest's tables placed from an address on; for a guest that waits, which is 21; at a bad place, which is 26
+  placing : ℕ → ℕ → Line
+  barred : ℕ → ℕ → Line
+  misplacing : ℕ → ℕ → Line
 
 abbrev opOf : Line → Op
 opOf (waiting g r j) = post g r
@@ -86,6 +95,9 @@ opOf unlent = turn
 opOf (withdrawing g q) = withdraw g
 opOf (collecting g r) = collect g
 opOf misopening = openTable [] 0 0
+opOf (placing g address) = placeAt g address
+opOf (barred g address) = placeAt g address
+opOf (misplacing g address) = placeAt g address
 
 abbrev answerTo : Line → Answer
 answerTo (waiting g r j) = posted g PostWaits
@@ -96,6 +108,9 @@ answerTo unlent = turned (TurnRefused otherLength)
 answerTo (withdrawing g q) = withdrawn g (WithdrawGiven (withdrawnRegisters (q .moved) (q .job .registers)))
 answerTo (collecting g r) = collected g (CollectGiven r)
 answerTo misopening = opening (OpenRefused 1 0)
+answerTo (placing g address) = placed g address Placed
+answerTo (barred g address) = placed g address (PlaceRefused notVacant)
+answerTo (misplacing g address) = placed g address (PlaceRefused badPlace)
 
 -- whether it is lent arena and store
 abbrev isGiven : Line → Bool
@@ -107,6 +122,9 @@ isGiven unlent = false
 isGiven (withdrawing g q) = true
 isGiven (collecting g r) = false
 isGiven misopening = false
+isGiven (placing g address) = true
+isGiven (barred g address) = true
+isGiven (misplacing g address) = true
 
 abbrev isWriting : Request → Bool
 isWriting q = isWrite (ah (q .job .registers))
@@ -127,6 +145,10 @@ leaves p unlent = p
 leaves p (withdrawing g q) = place (withStage (p .desk) g Vacant) (p .arena) (p .store)
 leaves p (collecting g r) = place (withStage (p .desk) g Vacant) (p .arena) (p .store)
 leaves p misopening = p
+leaves p (placing g address) =
+    place (withPlacement (p .desk) g address) (withWindow (p .arena) g (windowSize (p .desk)) (tablesIn (p .desk .table) address (windowAt p g))) (p .store)
+leaves p (barred g address) = p
+leaves p (misplacing g address) = p
 
 abbrev pub callOf : Place → Line → Call
 callOf p l = call (opOf l) (pick (isGiven l) (p .arena) []) (pick (isGiven l) (p .store) [])
@@ -143,15 +165,20 @@ outAt p l =
 -- what a line asks for
 abbrev pub Holds : Place → Line → Type 0
 Holds p (waiting g r j) =
-    (ltb g guests ≡ true) × (stageAt (p .desk) g ≡ Vacant) × (begin (fed (p .desk .table)) r (windowAt p g) ≡ unchanged (windowAt p g) (Waits j))
+    (ltb g guests ≡ true) × (stageAt (p .desk) g ≡ Vacant) × (begin (fed (p .desk .table) (placementAt (p .desk) g)) r (windowAt p g) ≡ unchanged (windowAt p g) (Waits j))
 Holds p (answering g r x f) =
-    (ltb g guests ≡ true) × (stageAt (p .desk) g ≡ Vacant) × (begin (fed (p .desk .table)) r (windowAt p g) ≡ record { outcome = Answered x; window = f (windowAt p g) })
+    (ltb g guests ≡ true) × (stageAt (p .desk) g ≡ Vacant) × (begin (fed (p .desk .table) (placementAt (p .desk) g)) r (windowAt p g) ≡ record { outcome = Answered x; window = f (windowAt p g) })
 Holds p (serving g q st) = (firstWaiting (p .desk .rows) guests (p .desk .pointer) ≡ Guest g) × (stageAt (p .desk) g ≡ Waiting q) × (stageAfter q ≡ st)
 Holds p idling = firstWaiting (p .desk .rows) guests (p .desk .pointer) ≡ Nobody
 Holds p unlent = isLent (p .desk) [] [] ≡ false
 Holds p (withdrawing g q) = (ltb g guests ≡ true) × (stageAt (p .desk) g ≡ Waiting q) × (isSectors (ah (q .job .registers)) ≡ true)
 Holds p (collecting g r) = (ltb g guests ≡ true) × (stageAt (p .desk) g ≡ Finished r)
 Holds p misopening = Unit
+Holds p (placing g address) =
+    (ltb g guests ≡ true) × (isWaiting (stageAt (p .desk) g) ≡ false) × (placeOk (tableCount (p .desk .table)) (windowSize (p .desk)) address ≡ true)
+Holds p (barred g address) = (ltb g guests ≡ true) × (isWaiting (stageAt (p .desk) g) ≡ true)
+Holds p (misplacing g address) =
+    (ltb g guests ≡ true) × (isWaiting (stageAt (p .desk) g) ≡ false) × (placeOk (tableCount (p .desk .table)) (windowSize (p .desk)) address ≡ false)
 
 -- ---- a list of lines
 
@@ -196,7 +223,7 @@ window-lent d a g e b =
 
 module _ (d : Desk) (inv : Inv d) (a s : List ℕ) (l : isLent d a s ≡ true) where
   pub post-checked : (g : ℕ) (r : Registers) → ltb g guests ≡ true → stageAt d g ≡ Vacant → (k : Checked)
-      → begin (fed (d .table)) r (windowOf a g (windowSize d)) ≡ k → step d (call (post g r) a s) ≡ outOf (posted g) (postChecked d g a s (k .outcome) (k .window))
+      → begin (fed (d .table) (placementAt d g)) r (windowOf a g (windowSize d)) ≡ k → step d (call (post g r) a s) ≡ outOf (posted g) (postChecked d g a s (k .outcome) (k .window))
   unfolding step postOf
   post-checked g r b v k e =
       rw (inv-accept d inv, l, b)
@@ -235,6 +262,24 @@ module _ (p : Place) (z : Sized p) where
       by true e = same-arena (λ a. left st a (to .store)) g (to .window) (rw e)
       by false e = ap (left st (withWindow (p .arena) g (windowSize (p .desk)) (to .window))) (rw e)
 
+  -- a placement, by whether its guest waits
+  placed-by : (g address : ℕ) → ltb g guests ≡ true → (o : Done PlaceAnswer)
+      → ((x : Stage) → isWaiting x ≡ isWaiting (stageAt (p .desk) g) → placeStage (p .desk) g address x (p .arena) (p .store) ≡ o)
+      → step (p .desk) (call (placeAt g address) (p .arena) (p .store)) ≡ outOf (placed g address) o
+  unfolding step placeOf
+  placed-by g address b o f = rw (inv-accept (p .desk) (z .inv), given, b) (ap (outOf (placed g address)) (f (stageAt (p .desk) g) refl))
+
+  not-waiting : (g address : ℕ) (x : Stage) → isWaiting x ≡ false → placeStage (p .desk) g address x (p .arena) (p .store) ≡ placeTables (p .desk) g address (p .arena) (p .store)
+  not-waiting g address Vacant e = refl
+  not-waiting g address (Waiting q) e = true≢false true refl e
+  not-waiting g address (Finished r) e = refl
+
+  is-waiting : (g address : ℕ) (x : Stage) → isWaiting x ≡ true
+      → placeStage (p .desk) g address x (p .arena) (p .store) ≡ done (p .desk) (PlaceRefused notVacant) (p .arena) (p .store)
+  is-waiting g address Vacant e = true≢false false e refl
+  is-waiting g address (Waiting q) e = refl
+  is-waiting g address (Finished r) e = true≢false false e refl
+
   pub step-line : (l : Line) → Holds p l → step (p .desk) (callOf p l) ≡ outAt p l
   unfolding step turnOf collectOf withdrawOf openOf readTable readFrom stepAt tableStepOf headerAt headerOf
   step-line (waiting g r j) h =
@@ -253,6 +298,12 @@ module _ (p : Place) (z : Sized p) where
   step-line (collecting g r) h =
       rw (inv-accept (p .desk) (z .inv), h .0) (ap (λ (x : Stage). outOf (collected g) (collectStage (p .desk) g x [] [])) (h .1))
   step-line misopening h = refl
+  step-line (placing g address) h =
+      placed-by g address (h .0) (placeTables (p .desk) g address (p .arena) (p .store)) (λ x e. not-waiting g address x (e ∙ h .1)) ∙ rw (h .2)
+  step-line (barred g address) h =
+      placed-by g address (h .0) (done (p .desk) (PlaceRefused notVacant) (p .arena) (p .store)) (λ x e. is-waiting g address x (e ∙ h .1))
+  step-line (misplacing g address) h =
+      placed-by g address (h .0) (placeTables (p .desk) g address (p .arena) (p .store)) (λ x e. not-waiting g address x (e ∙ h .1)) ∙ rw (h .2)
 
 pub no-opening : (l : Line) → kindOf (answerTo l) ≡ opens → ⊥
 no-opening (waiting g r j) e = impossible cc
@@ -263,6 +314,9 @@ no-opening unlent e = impossible cc
 no-opening (withdrawing g q) e = impossible cc
 no-opening (collecting g r) e = impossible cc
 no-opening misopening e = impossible cc
+no-opening (placing g address) e = impossible cc
+no-opening (barred g address) e = impossible cc
+no-opening (misplacing g address) e = impossible cc
 
 -- arena and store keep their lengths
 lengths-line : (p : Place) (l : Line) → Sized p → (length (leaves p l .arena) ≡ leaves p l .desk .arena) × (length (leaves p l .store) ≡ leaves p l .desk .store)
@@ -279,6 +333,9 @@ lengths-line p unlent z = (z .arena, z .store)
 lengths-line p (withdrawing g q) z = (z .arena, z .store)
 lengths-line p (collecting g r) z = (z .arena, z .store)
 lengths-line p misopening z = (z .arena, z .store)
+lengths-line p (placing g address) z = (length-with-window (p .arena) g (windowSize (p .desk)) (tablesIn (p .desk .table) address (windowAt p g)) ∙ z .arena, z .store)
+lengths-line p (barred g address) z = (z .arena, z .store)
+lengths-line p (misplacing g address) z = (z .arena, z .store)
 
 pub sized-line : (p : Place) (l : Line) → Sized p → Holds p l → Sized (leaves p l)
 sized-line p l z h =
@@ -326,20 +383,7 @@ none-opens (l ∷ ls) p es n = (no-opening l, none-opens ls (leaves p l) es n)
 
 -- ---- the conditions of `equal`
 
--- each call of the list is lent what the one before left
-pub left : (ls : List Line) (p : Place) (m g : ℕ) (es : List Event) → Left m g (windowOf (placeAfter p ls .arena) g m) (placeAfter p ls .store) es
-    → Left m g (windowOf (p .arena) g m) (p .store) (events p ls ++ es)
-left [] p m g es h = h
-left (waiting h r j ∷ ls) p m g es k = (refl, refl, left ls _ m g es k)
-left (answering h r x f ∷ ls) p m g es k = (refl, refl, left ls _ m g es k)
-left (serving h q st ∷ ls) p m g es k = (refl, refl, left ls _ m g es k)
-left (idling ∷ ls) p m g es k = (refl, refl, left ls p m g es k)
-left (unlent ∷ ls) p m g es k = left ls p m g es k
-left (withdrawing h q ∷ ls) p m g es k = (refl, refl, left ls _ m g es k)
-left (collecting h r ∷ ls) p m g es k = left ls _ m g es k
-left (misopening ∷ ls) p m g es k = left ls p m g es k
-
--- a turn of another guest that writes ends below the first of n blocks or begins past them
+-- a turn of another guest that writes ends below the first of n blocks or begins past them, and a placement is another guest's
 abbrev pub isApart : ℕ → ℕ → ℕ → Table → Line → Bool
 isApart g first n b (waiting h r j) = true
 isApart g first n b (answering h r x f) = true
@@ -351,10 +395,40 @@ isApart g first n b unlent = true
 isApart g first n b (withdrawing h q) = true
 isApart g first n b (collecting h r) = true
 isApart g first n b misopening = true
+isApart g first n b (placing h address) = not (eqb h g)
+isApart g first n b (barred h address) = true
+isApart g first n b (misplacing h address) = true
 
 abbrev pub areApart : ℕ → ℕ → ℕ → Table → List Line → Bool
 areApart g first n b [] = true
 areApart g first n b (l ∷ ls) = both (isApart g first n b l) (areApart g first n b ls)
+
+-- each call of the list is lent what the one before left; another guest's placement leaves the window
+module _ (m g first n : ℕ) (b : Table) where
+  spared : (p : Place) (h address : ℕ) → windowSize (p .desk) ≡ m → not (eqb h g) ≡ true → windowOf (leaves p (placing h address) .arena) g m ≡ windowOf (p .arena) g m
+  spared p h address e t =
+      subst (λ (k : ℕ). windowOf (leaves p (placing h address) .arena) g k ≡ windowOf (p .arena) g k) e
+      (window-with-other (p .arena) h g (windowSize (p .desk)) (tablesIn (p .desk .table) address (windowAt p h)) (eqb-false h g (not-true (eqb h g) t))
+      (tables-size (p .desk .table) address (windowAt p h) ∙ length-window (p .arena) h (windowSize (p .desk))))
+
+  pub left : (ls : List Line) (p : Place) (es : List Event) → windowSize (p .desk) ≡ m → areApart g first n b ls ≡ true
+      → Left m g (windowOf (placeAfter p ls .arena) g m) (placeAfter p ls .store) es
+      → Left m g (windowOf (p .arena) g m) (p .store) (events p ls ++ es)
+  left [] p es e t h = h
+  left (waiting h r j ∷ ls) p es e t k = (refl, refl, left ls _ es e t k)
+  left (answering h r x f ∷ ls) p es e t k = (refl, refl, left ls _ es e t k)
+  left (serving h q st ∷ ls) p es e t k = (refl, refl, left ls _ es e (both-true (isApart g first n b (serving h q st)) (areApart g first n b ls) t .1) k)
+  left (idling ∷ ls) p es e t k = (refl, refl, left ls p es e t k)
+  left (unlent ∷ ls) p es e t k = left ls p es e t k
+  left (withdrawing h q ∷ ls) p es e t k = (refl, refl, left ls _ es e t k)
+  left (collecting h r ∷ ls) p es e t k = left ls _ es e t k
+  left (misopening ∷ ls) p es e t k = left ls p es e t k
+  left (placing h address ∷ ls) p es e t k =
+      let f = both-true (not (eqb h g)) (areApart g first n b ls) t in
+      subst (λ (w : List ℕ). Left m g w (p .store) (events (leaves p (placing h address)) ls ++ es)) (spared p h address e (f .0))
+      (left ls (leaves p (placing h address)) es e (f .1) k)
+  left (barred h address ∷ ls) p es e t k = left ls p es e t k
+  left (misplacing h address ∷ ls) p es e t k = left ls p es e t k
 
 abbrev Spares : ℕ → ℕ → ℕ → Desk → Kind → Type 0
 Spares g first n d kind = (h k b : ℕ) (q : Request) → kind ≡ serves h k → (h ≡ g → ⊥) → stageAt d h ≡ Waiting q → Writes (d .table) q k b → Named first n b → ⊥
@@ -395,18 +469,26 @@ line-apart g first n p unlent a t h′ k b q e = impossible cc
 line-apart g first n p (withdrawing h q) a t h′ k b q′ e = impossible cc
 line-apart g first n p (collecting h r) a t h′ k b q e = impossible cc
 line-apart g first n p misopening a t h′ k b q e = impossible cc
+line-apart g first n p (placing h address) a t h′ k b q e = impossible cc
+line-apart g first n p (barred h address) a t h′ k b q e = impossible cc
+line-apart g first n p (misplacing h address) a t h′ k b q e = impossible cc
 
-same-table : (p : Place) (l : Line) → Sized p → Holds p l → leaves p l .desk .table ≡ p .desk .table
-same-table p l z h =
+same-fixed : (p : Place) (l : Line) → Sized p → Holds p l → Fixed (p .desk) (leaves p l .desk)
+same-fixed p l z h =
     let e = step-line p z l h in
-    ap (λ (o : Out). o .desk .table) (sym e) ∙ fixed-step (p .desk) (callOf p l) (z .inv) (subst (λ (o : Out). kindOf (o .answer) ≡ opens → ⊥) (sym e) (no-opening l)) .table
+    subst (λ (o : Out). Fixed (p .desk) (o .desk)) e
+    (fixed-step (p .desk) (callOf p l) (z .inv) (subst (λ (o : Out). kindOf (o .answer) ≡ opens → ⊥) (sym e) (no-opening l)))
+
+pub size-after : (ls : List Line) (p : Place) → Sized p → All p ls → windowSize (placeAfter p ls .desk) ≡ windowSize (p .desk)
+size-after [] p z h = refl
+size-after (l ∷ ls) p z h = size-after ls (leaves p l) (sized-line p l z (h .0)) (h .1) ∙ ap windowLength (same-fixed p l z (h .0) .arena)
 
 pub unwritten : (ls : List Line) (p : Place) → Sized p → (g first n : ℕ) (es : List Event) → All p ls → areApart g first n (p .desk .table) ls ≡ true
     → Unwritten g first n es → Unwritten g first n (events p ls ++ es)
 unwritten [] p z g first n es h t u = u
 unwritten (l ∷ ls) p z g first n es h t u =
     let b = both-true (isApart g first n (p .desk .table) l) (areApart g first n (p .desk .table) ls) t in
-    (line-apart g first n p l (h .0) (b .0), unwritten ls (leaves p l) (sized-line p l z (h .0)) g first n es (h .1) (rw (same-table p l z (h .0)) (b .1)) u)
+    (line-apart g first n p l (h .0) (b .0), unwritten ls (leaves p l) (sized-line p l z (h .0)) g first n es (h .1) (rw (same-fixed p l z (h .0) .table) (b .1)) u)
 
 -- ---- a request of a list: the lines between its post and its finishing turn, that turn, and the lines after it
 
@@ -424,7 +506,7 @@ pub record Story (p : Place) : Type 0 where
   pub lines : All p (waiting guest registers job ∷ (between ++ last ∷ rest))
 
 module _ {p : Place} (y : Story p) where
-  abbrev first : Line
+  abbrev pub first : Line
   first = waiting (y .guest) (y .registers) (y .job)
 
   abbrev pub middle : Place
@@ -507,16 +589,88 @@ module _ {p : Place} (y : Story p) where
       pub finishes : Finishes (y .guest) (askedBy m posting (y .guest) (y .registers)) (step (p .desk) posting .desk) meanwhile finishing
       finishes = record { waited = waits; reached = ap (moved (y .guest)) upto ∙ reached ∙ sym count }
 
-      pub equal : (bytes : List ℕ) → Claim bytes (p .desk) m calls
-          → areApart (y .guest) lo n (leaves p first .desk .table) (y .between) ≡ true → areApart (y .guest) lo n (middle .desk .table) (y .last ∷ []) ≡ true
-          → Same m (y .guest) (firstBy (p .desk .table) m posting (y .guest) (y .registers)) (askedBy m posting (y .guest) (y .registers))
-          (step (after (step (p .desk) posting .desk) meanwhile) finishing) (alone (fed bytes) (y .registers) (foundBy m posting (y .guest)))
-      unfolding after taken
-      equal bytes claim b e =
-          claim .equal taken meanwhile afterwards finishing refl finishes
-          (subst (λ (o : Out). Left m (y .guest) (windowOf (o .arena) (y .guest) m) (o .store) (run (step (p .desk) posting .desk) (meanwhile ++ finishing ∷ []))) (sym posts)
-          (subst (Left m (y .guest) (windowOf (p .arena) (y .guest) m) (p .store)) (sym upto)
-          (left (y .between) (leaves p first) m (y .guest) _ (left (y .last ∷ []) middle m (y .guest) [] tt))))
-          (subst₂ (λ (f k : ℕ). Unwritten (y .guest) f k (run (step (p .desk) posting .desk) (meanwhile ++ finishing ∷ []))) (sym start) (sym count)
-          (subst (Unwritten (y .guest) lo n) (sym upto)
-          (unwritten (y .between) (leaves p first) at-first (y .guest) lo n _ (split .0) b (unwritten (y .last ∷ []) middle at-middle (y .guest) lo n [] (split .1 .0, tt) e tt))))
+      -- the conditions of `equal`
+      module _ (size : windowSize (p .desk) ≡ m) (b : areApart (y .guest) lo n (leaves p first .desk .table) (y .between) ≡ true)
+          (e : areApart (y .guest) lo n (middle .desk .table) (y .last ∷ []) ≡ true) where
+        pub is-left : Left m (y .guest) (windowOf (step (p .desk) posting .arena) (y .guest) m) (step (p .desk) posting .store)
+            (run (step (p .desk) posting .desk) (meanwhile ++ finishing ∷ []))
+        is-left =
+            subst (λ (o : Out). Left m (y .guest) (windowOf (o .arena) (y .guest) m) (o .store) (run (step (p .desk) posting .desk) (meanwhile ++ finishing ∷ []))) (sym posts)
+            (subst (Left m (y .guest) (windowOf (p .arena) (y .guest) m) (p .store)) (sym upto)
+            (left m (y .guest) lo n (leaves p first .desk .table) (y .between) (leaves p first) _ size b
+            (left m (y .guest) lo n (middle .desk .table) (y .last ∷ []) middle [] (size-after (y .between) (leaves p first) at-first (split .0) ∙ size) e tt)))
+
+        pub is-unwritten : Unwritten (y .guest) lo n (run (step (p .desk) posting .desk) (meanwhile ++ finishing ∷ []))
+        is-unwritten =
+            subst (Unwritten (y .guest) lo n) (sym upto)
+            (unwritten (y .between) (leaves p first) at-first (y .guest) lo n _ (split .0) b (unwritten (y .last ∷ []) middle at-middle (y .guest) lo n [] (split .1 .0, tt) e tt))
+
+        pub equal : (bytes : List ℕ) → Claim bytes (p .desk) m calls
+            → Same m (y .guest) (firstBy (p .desk .table) m posting (y .guest) (y .registers)) (askedBy m posting (y .guest) (y .registers))
+            (step (after (step (p .desk) posting .desk) meanwhile) finishing) (alone (fed bytes noPlacement) (y .registers) (foundBy m posting (y .guest)))
+        unfolding after run taken
+        equal bytes claim =
+            claim .equal taken meanwhile afterwards finishing refl finishes is-left
+            (subst₂ (λ (f k : ℕ). Unwritten (y .guest) f k (run (step (p .desk) posting .desk) (meanwhile ++ finishing ∷ []))) (sym start) (sym count) is-unwritten)
+
+-- ---- a request with lines before its post
+
+module _ (q : Place) (ahead : List Line) (y : Story (placeAfter q ahead)) (zq : Sized q) (h : All q ahead) where
+  abbrev pub p : Place
+  p = placeAfter q ahead
+
+  pub z : Sized p
+  z = sized ahead q zq h
+
+  abbrev pub calls-later : List Call
+  calls-later = callsOf q ahead ++ calls y
+
+  pub arrived : after (q .desk) (callsOf q ahead) ≡ p .desk
+  arrived = arrives ahead q zq h
+
+  pub closed-later : NoneOpens (run (q .desk) calls-later)
+  closed-later = subst NoneOpens (sym (follow ahead q zq h (calls y) (run (p .desk) (calls y)) refl)) (none-opens ahead q (run (p .desk) (calls y)) (closed y z))
+
+  unfoldable pub taken-later : Taken (q .desk) calls-later
+  taken-later =
+      record {
+        before = callsOf q ahead;
+        call = posting y;
+        guest = y .guest;
+        registers = y .registers;
+        since = meanwhile y ++ finishing y ∷ afterwards y;
+        place = refl;
+        accepted = record { posts = refl; waits = ap (λ (d : Desk). step d (posting y) .answer) arrived ∙ ap (λ (o : Out). o .answer) (posts y z) };
+      }
+
+  -- the placement that the lines tell
+  pub told : (g : ℕ) → placementIn g (run (q .desk) (callsOf q ahead)) ≡ placementIn g (events q ahead)
+  told g = ap (placementIn g) (followed ahead q zq h)
+
+  module _ (m n lo : ℕ) (count : askedBy m (posting y) (y .guest) (y .registers) ≡ n) (start : firstBy (q .desk .table) m (posting y) (y .guest) (y .registers) ≡ lo)
+      (same : q .desk .table ≡ p .desk .table)
+      (waited : WaitsOn (y .guest) n (events (leaves p (first y)) (y .between)))
+      (reached : moved (y .guest) (events (leaves p (first y)) (y .between) ++ entry (middle y) (y .last) ∷ []) ≡ n) where
+    begins : firstBy (p .desk .table) m (posting y) (y .guest) (y .registers) ≡ lo
+    begins = ap (λ (b : Table). firstBy b m (posting y) (y .guest) (y .registers)) (sym same) ∙ start
+
+    pub equal-later : (bytes : List ℕ) → Claim bytes (q .desk) m calls-later → windowSize (p .desk) ≡ m
+        → areApart (y .guest) lo n (leaves p (first y) .desk .table) (y .between) ≡ true → areApart (y .guest) lo n (middle y .desk .table) (y .last ∷ []) ≡ true
+        → Same m (y .guest) (firstBy (q .desk .table) m (posting y) (y .guest) (y .registers)) (askedBy m (posting y) (y .guest) (y .registers))
+        (step (after (step (after (q .desk) (callsOf q ahead)) (posting y) .desk) (meanwhile y)) (finishing y))
+        (alone (fed bytes (placementIn (y .guest) (events q ahead))) (y .registers) (foundBy m (posting y) (y .guest)))
+    unfolding taken-later
+    equal-later bytes claim size b e =
+        subst (λ (x : Placement). Same m (y .guest) (firstBy (q .desk .table) m (posting y) (y .guest) (y .registers)) (askedBy m (posting y) (y .guest) (y .registers))
+        (step (after (step (after (q .desk) (callsOf q ahead)) (posting y) .desk) (meanwhile y)) (finishing y))
+        (alone (fed bytes x) (y .registers) (foundBy m (posting y) (y .guest)))) (told (y .guest))
+        (claim .equal taken-later (meanwhile y) (afterwards y) (finishing y) refl
+        (subst (λ (d : Desk). Finishes (y .guest) (askedBy m (posting y) (y .guest) (y .registers)) (step d (posting y) .desk) (meanwhile y) (finishing y)) (sym arrived)
+        (finishes y z m n lo count begins waited reached))
+        (subst (λ (d : Desk). Left m (y .guest) (windowOf (step d (posting y) .arena) (y .guest) m) (step d (posting y) .store)
+        (run (step d (posting y) .desk) (meanwhile y ++ finishing y ∷ []))) (sym arrived)
+        (is-left y z m n lo count begins waited reached size b e))
+        (subst (λ (d : Desk). Unwritten (y .guest) (firstBy (q .desk .table) m (posting y) (y .guest) (y .registers)) (askedBy m (posting y) (y .guest) (y .registers))
+        (run (step d (posting y) .desk) (meanwhile y ++ finishing y ∷ []))) (sym arrived)
+        (subst₂ (λ (f k : ℕ). Unwritten (y .guest) f k (run (step (p .desk) (posting y) .desk) (meanwhile y ++ finishing y ∷ []))) (sym start) (sym count)
+        (is-unwritten y z m n lo count begins waited reached size b e))))

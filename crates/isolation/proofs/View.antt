@@ -1,15 +1,15 @@
 -- What one call does, by cases: each with the facts that hold there, and no test left.
 -- Assumes nothing.
 use Prim.Native.Nat.{ℕ, _/_, _≤_, _<_}
-use mathlib.Core.Path.{_≡_, refl, sym, _∙_}
-use mathlib.Core.Bool.{true, not}
+use mathlib.Core.Path.{_≡_, refl, sym, ap, _∙_}
+use mathlib.Core.Bool.{true, false, not}
 use mathlib.Core.List.{List}
 use native.Mathlib.Omega.{arith}
 use lib.Dec.{ltb, eqb}
 use borrow.Author.Tests.{ltb-true, eqb-true, not-true, not-false}
 use lib.ListN.{length}
 use Rattle.logic.proofs.LogicLaws.{both-true, pick-cases, true≢false}
-use Rattle.memory.specs.Window.{guests, windowLength, spanLength, windowOf}
+use Rattle.memory.specs.Window.{guests, windowLength, spanLength, windowOf, withWindow}
 use Rattle.memory.proofs.WindowLaws.{span-in, length-window}
 use Rattle.table.specs.declared.Written.{Written}
 use Rattle.table.specs.declared.Written.the-variants.{Bytes, Refused as WriteRefused}
@@ -18,6 +18,7 @@ use Rattle.int13.specs.declared.Registers.{Registers}
 use Rattle.int13.specs.declared.Job.{Job}
 use Rattle.int13.specs.declared.Outcome.{Outcome}
 use Rattle.int13.specs.declared.Outcome.the-variants.{Answered, Waits}
+use Rattle.int13.specs.Placement.{tableCount}
 use Rattle.int13.specs.Steps.{fed, begin}
 use Rattle.desk.specs.declared.Request.{Request}
 use Rattle.desk.specs.declared.Stage.{Stage}
@@ -35,10 +36,12 @@ use Rattle.desk.specs.declared.CollectAnswer.{CollectAnswer}
 use Rattle.desk.specs.declared.CollectAnswer.the-variants.{Refused as CollectRefused}
 use Rattle.desk.specs.declared.WithdrawAnswer.{WithdrawAnswer}
 use Rattle.desk.specs.declared.WithdrawAnswer.the-variants.{Refused as WithdrawRefused}
-use Rattle.desk.specs.Parts.{windowSize, stageAt}
-use Rattle.desk.specs.Acceptable.{accept}
-use Rattle.desk.specs.Calls.{isLent, Done, openOf, writtenOf, writtenOut, postChecked, postRow, postOf, firstWaiting, serve, serveStage, turnNext, turnOf, collectStage, collectOf, withdrawStage, withdrawOf}
-use Rattle.isolation.specs.Lists.{Op, openTable, post, turn, collect, withdraw, write, Call, Answer, opening, posted, turned, collected, withdrawn, written, Out, openedDesk, outOf, stepOf, step}
+use Rattle.desk.specs.declared.PlaceAnswer.{PlaceAnswer}
+use Rattle.desk.specs.declared.PlaceAnswer.the-variants.{Placed, Refused as PlaceRefused}
+use Rattle.desk.specs.Parts.{windowSize, stageAt, isWaiting, placementAt, withPlacement}
+use Rattle.desk.specs.Acceptable.{placeOk, accept}
+use Rattle.desk.specs.Calls.{isLent, Done, openOf, writtenOf, writtenOut, postChecked, postRow, postOf, firstWaiting, serve, serveStage, turnNext, turnOf, collectStage, collectOf, withdrawStage, withdrawOf, tablesIn, placeTables, placeStage, placeOf}
+use Rattle.isolation.specs.Lists.{Op, openTable, post, turn, collect, withdraw, write, place, Call, Answer, opening, posted, turned, collected, withdrawn, written, placed, Out, openedDesk, outOf, stepOf, step}
 use Rattle.isolation.specs.Words.{Kind, refused, plain, opens, kindOf, houseNumber, line, marks}
 use Rattle.isolation.proofs.Turn.{dist, dist-lt, Found, seek-guest, seek-nobody, vacant≢waiting, finished≢waiting}
 use Rattle.isolation.proofs.Check.{Fresh, Says, check-says}
@@ -77,19 +80,31 @@ collectedOut d c g x = outOf (collected g) (collectStage d g (Finished x) (c .ar
 abbrev pub withdrawnOut : Desk → Call → ℕ → Request → Out
 withdrawnOut d c g q = outOf (withdrawn g) (withdrawStage d g (Waiting q) (c .arena) (c .store))
 
+-- the tables stand in the window of g, and in no other
+abbrev pub placedOut : Desk → Call → ℕ → ℕ → Out
+placedOut d c g address =
+    record {
+      desk = withPlacement d g address;
+      answer = placed g address Placed;
+      arena = withWindow (c .arena) g (windowSize d) (tablesIn (d .table) address (windowIn d c g));
+      store = c .store;
+    }
+
 pub data Did (d : Desk) (c : Call) : Out → Type 0 where
   same : (x : Answer) → Quiet (kindOf x) → (houseNumber x ≡ 25 → ⊥) → Did d c (still d c x)
   idle : c .op ≡ turn → ((h : ℕ) (q : Request) → h < guests → stageAt d h ≡ Waiting q → ⊥) → Did d c (still d c (turned Idle))
   answer : (g : ℕ) (r x : Registers) (w : List ℕ) → c .op ≡ post g r → g < guests → Lent d c → stageAt d g ≡ Vacant
-      → begin (fed (d .table)) r (windowIn d c g) .outcome ≡ Answered x → begin (fed (d .table)) r (windowIn d c g) .window ≡ w → length w ≡ windowSize d
+      → begin (fed (d .table) (placementAt d g)) r (windowIn d c g) .outcome ≡ Answered x → begin (fed (d .table) (placementAt d g)) r (windowIn d c g) .window ≡ w → length w ≡ windowSize d
       → Did d c (postedOut d c g (Answered x) w)
   accepting : (g : ℕ) (r : Registers) (j : Job) → c .op ≡ post g r → g < guests → Lent d c → stageAt d g ≡ Vacant
-      → begin (fed (d .table)) r (windowIn d c g) .outcome ≡ Waits j → begin (fed (d .table)) r (windowIn d c g) .window ≡ windowIn d c g → Fresh (d .table) r (windowIn d c g) j
+      → begin (fed (d .table) (placementAt d g)) r (windowIn d c g) .outcome ≡ Waits j → begin (fed (d .table) (placementAt d g)) r (windowIn d c g) .window ≡ windowIn d c g → Fresh (d .table) r (windowIn d c g) j
       → Did d c (postedOut d c g (Waits j) (windowIn d c g))
   serving : (g : ℕ) (q : Request) → c .op ≡ turn → g < guests → Lent d c → stageAt d g ≡ Waiting q
       → ((h : ℕ) (q′ : Request) → h < guests → stageAt d h ≡ Waiting q′ → dist (d .pointer) g ≤ dist (d .pointer) h) → Did d c (servedOut d c g q)
   giving : (g : ℕ) (x : Registers) → c .op ≡ collect g → g < guests → stageAt d g ≡ Finished x → Did d c (collectedOut d c g x)
   withdrawing : (g : ℕ) (q : Request) → c .op ≡ withdraw g → g < guests → Lent d c → stageAt d g ≡ Waiting q → Did d c (withdrawnOut d c g q)
+  placing : (g address : ℕ) → c .op ≡ place g address → g < guests → Lent d c → isWaiting (stageAt d g) ≡ false
+      → placeOk (tableCount (d .table)) (windowSize d) address ≡ true → Did d c (placedOut d c g address)
 
 -- ---- the tests
 
@@ -115,7 +130,7 @@ module _ (d : Desk) (inv : Inv d) (c : Call) where
 
   view-open : (new : Desk) (x : OpenAnswer) → (kindOf (opening x) ≡ opens → ⊥) → Did d c (record { desk = openedDesk d new x; answer = opening x; arena = c .arena; store = c .store })
   view-open new Opened n = absurd (n refl)
-  view-open new (OpenRefused n place) k = same (opening (OpenRefused n place)) refusing (λ e. absurd (omega arith))
+  view-open new (OpenRefused n at) k = same (opening (OpenRefused n at)) refusing (λ e. absurd (omega arith))
 
   -- ---- post
 
@@ -123,7 +138,7 @@ module _ (d : Desk) (inv : Inv d) (c : Call) where
   Posts g o = Did d c (outOf (posted g) o)
 
   view-checked : (g : ℕ) (r : Registers) → c .op ≡ post g r → g < guests → Lent d c → stageAt d g ≡ Vacant → (o : Outcome) (w : List ℕ)
-      → begin (fed (d .table)) r (windowIn d c g) .outcome ≡ o → begin (fed (d .table)) r (windowIn d c g) .window ≡ w → Says (d .table) r (windowIn d c g) o w
+      → begin (fed (d .table) (placementAt d g)) r (windowIn d c g) .outcome ≡ o → begin (fed (d .table) (placementAt d g)) r (windowIn d c g) .window ≡ w → Says (d .table) r (windowIn d c g) o w
       → Posts g (postChecked d g (c .arena) (c .store) o w)
   view-checked g r e b l v (Answered x) w ko kw s = answer g r x w e b l v ko kw (s ∙ window-length d c g b l)
   view-checked g r e b l v (Waits j) w ko kw s =
@@ -131,8 +146,8 @@ module _ (d : Desk) (inv : Inv d) (c : Call) where
 
   view-vacant : (g : ℕ) (r : Registers) → c .op ≡ post g r → g < guests → Lent d c → (s : Stage) → stageAt d g ≡ s → Posts g (postRow d g r (c .arena) (c .store) s)
   view-vacant g r e b l Vacant v =
-      view-checked g r e b l v (begin (fed (d .table)) r (windowIn d c g) .outcome) (begin (fed (d .table)) r (windowIn d c g) .window) refl refl
-      (check-says (d .table) (d .store / 512) (inv .table) r (windowIn d c g))
+      view-checked g r e b l v (begin (fed (d .table) (placementAt d g)) r (windowIn d c g) .outcome) (begin (fed (d .table) (placementAt d g)) r (windowIn d c g) .window) refl refl
+      (check-says (d .table) (d .store / 512) (inv .table) r (windowIn d c g) (placementAt d g))
   view-vacant g r e b l (Waiting q) v = same (posted g (PostRefused 21)) refusing (λ e. absurd (omega arith))
   view-vacant g r e b l (Finished x) v = same (posted g (PostRefused 21)) refusing (λ e. absurd (omega arith))
 
@@ -200,6 +215,29 @@ module _ (d : Desk) (inv : Inv d) (c : Call) where
       pick-cases (Withdraws g) (not (ltb g guests)) _ _ (λ e. same (withdrawn g (WithdrawRefused 20)) refusing (λ e. absurd (omega arith))) (λ e₂.
       view-waiting g o (ltb-true g guests (not-false _ e₂)) (lent-facts d c (not-false _ e₁)) (stageAt d g) refl)))
 
+  -- ---- place
+
+  abbrev Places : ℕ → ℕ → Done PlaceAnswer → Type 0
+  Places g address o = Did d c (outOf (placed g address) o)
+
+  view-tables : (g address : ℕ) → c .op ≡ place g address → g < guests → Lent d c → isWaiting (stageAt d g) ≡ false → Places g address (placeTables d g address (c .arena) (c .store))
+  view-tables g address e b l v =
+      pick-cases (Places g address) (placeOk (tableCount (d .table)) (windowSize d) address) _ _ (λ k. placing g address e b l v k)
+      (λ k. same (placed g address (PlaceRefused 26)) refusing (λ e. absurd (omega arith)))
+
+  view-idle : (g address : ℕ) → c .op ≡ place g address → g < guests → Lent d c → (s : Stage) → stageAt d g ≡ s → Places g address (placeStage d g address s (c .arena) (c .store))
+  view-idle g address e b l Vacant v = view-tables g address e b l (ap isWaiting v)
+  view-idle g address e b l (Waiting q) v = same (placed g address (PlaceRefused 21)) refusing (λ e. absurd (omega arith))
+  view-idle g address e b l (Finished x) v = view-tables g address e b l (ap isWaiting v)
+
+  view-place : (g address : ℕ) → c .op ≡ place g address → Places g address (placeOf d g address (c .arena) (c .store))
+  unfolding placeOf
+  view-place g address o =
+      pick-cases (Places g address) (not (accept d)) _ _ (λ e. accepted e) (λ e.
+      pick-cases (Places g address) (not (isLent d (c .arena) (c .store))) _ _ (λ e. same (placed g address (PlaceRefused 24)) refusing (λ e. absurd (omega arith))) (λ e₁.
+      pick-cases (Places g address) (not (ltb g guests)) _ _ (λ e. same (placed g address (PlaceRefused 20)) refusing (λ e. absurd (omega arith))) (λ e₂.
+      view-idle g address o (ltb-true g guests (not-false _ e₂)) (lent-facts d c (not-false _ e₁)) (stageAt d g) refl)))
+
   -- ---- write
 
   abbrev Writes : List ℕ → Written → Type 0
@@ -222,6 +260,7 @@ module _ (d : Desk) (inv : Inv d) (c : Call) where
   view-op (collect g) e n = view-collect g e
   view-op (withdraw g) e n = view-withdraw g e
   view-op (write out) e n = view-write (length out) (writtenOut d out)
+  view-op (place g address) e n = view-place g address e
 
   pub view : (kindOf (step d c .answer) ≡ opens → ⊥) → Did d c (step d c)
   unfolding step

@@ -16,10 +16,10 @@ use Rattle.desk.specs.declared.Desk.{Desk}
 use Rattle.desk.specs.declared.OpenAnswer.the-variants.{Opened}
 use Rattle.desk.specs.declared.PostAnswer.the-variants.{Answered}
 use Rattle.desk.specs.declared.CollectAnswer.the-variants.{Given}
-use Rattle.desk.specs.Parts.{stageAt}
+use Rattle.desk.specs.Parts.{stageAt, isWaiting}
 use Rattle.desk.specs.Acceptable.{accept}
 use Rattle.desk.specs.Calls.{notAcceptable, openOf}
-use Rattle.isolation.specs.Lists.{post, turn, collect, Call, posted, collected, Out, step, Event, run, after}
+use Rattle.isolation.specs.Lists.{post, turn, collect, place, Call, posted, collected, Out, step, Event, run, after}
 use Rattle.isolation.specs.Words.{refused, kindOf, houseNumber, NoneOpens, turns, serviceIn, services, collects, Accepted, Waits, Finishes, Withdraws, turnsEach, turnsFor, Named, Unwritten, Left, placementIn}
 
 -- ---- "The words of demand 3", the calls of a list after those of a prefix
@@ -143,6 +143,12 @@ pub record Claim (t : List ℕ) (d₀ : Desk) (m : ℕ) (calls : List Call) : Ty
       → c .op ≡ post g r
       → outAfter d₀ pre c .answer ≡ posted g (Answered x)
       → SameAtOnce m g (outAfter d₀ pre c) x (alone (fed t (placementIn g (run d₀ pre))) r (foundBy m c g))
+  -- a placement changes no row, and no window but its guest's; a guest that waits keeps its window
+  pub placing : (pre rest : List Call) (c : Call) (g address h : ℕ) → calls ≡ pre ++ c ∷ rest
+      → c .op ≡ place g address
+      → (stageAt (outAfter d₀ pre c .desk) h ≡ stageAt (after d₀ pre) h)
+      × ((h ≡ g → ⊥) → windowOf (outAfter d₀ pre c .arena) h m ≡ windowOf (c .arena) h m)
+      × (isWaiting (stageAt (after d₀ pre) h) ≡ true → windowOf (outAfter d₀ pre c .arena) h m ≡ windowOf (c .arena) h m)
   -- every call gets an acceptable desk and leaves one: none is answered 25
   pub acceptable : (pre rest : List Call) → calls ≡ pre ++ rest → accept (after d₀ pre) ≡ true
   pub never25 : (pre rest : List Call) (c : Call) → calls ≡ pre ++ c ∷ rest

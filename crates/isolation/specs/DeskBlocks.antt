@@ -70,7 +70,7 @@ answer25 (place g address) = placed g address (PlaceRefused notAcceptable)
 -- the number of a refusal, else 0; a refused opening's is a table's number, or 25
 abbrev pub numberOf : Answer → ℕ
 numberOf (opening Opened) = 0
-numberOf (opening (OpenRefused n place)) = n
+numberOf (opening (OpenRefused n at)) = n
 numberOf (posted g x) = houseNumber (posted g x)
 numberOf (turned x) = houseNumber (turned x)
 numberOf (collected g x) = houseNumber (collected g x)

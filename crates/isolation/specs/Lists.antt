@@ -55,7 +55,7 @@ pub record Out : Type 0 where
 -- an opening that passed leaves its own desk; "Refused, it changes nothing"
 abbrev pub openedDesk : Desk → Desk → OpenAnswer → Desk
 openedDesk d new Opened = new
-openedDesk d new (OpenRefused n place) = d
+openedDesk d new (OpenRefused n at) = d
 
 -- a desk call's result, its answer among those of the list
 abbrev pub outOf : {A : Type 0} → (A → Answer) → Done A → Out

@@ -1,14 +1,15 @@
--- The packet and the 48h result by number, each field with a value of its own: a definition in which two of them change places, one is not
+-- The packet, the 48h result and the parameter table by number, each field with a value of its own: a definition in which two of them change places, one is not
 -- read, or a number of the paper is another, gives other numbers here.
 -- Assumes nothing.
 use mathlib.Core.Path.{_≡_, refl}
 use mathlib.Core.List.{List, [], _∷_, _++_, map}
 use Prim.Native.Nat.{ℕ}
-use lib.ListN.{replicate}
+use lib.ListN.{length, replicate}
 use Rattle.words.specs.Words.{le, leBytes}
 use Rattle.drive.specs.declared.Drive.{Drive}
 use Rattle.layout.specs.declared.Pointer.{Pointer}
 use Rattle.layout.specs.Packet.{linear, packetAt, readPacket, packetNumbers, packetGiven}
+use Rattle.layout.specs.ParameterTable.{parameterSize, driveFlags, placedBytes, parameterTable}
 use Rattle.layout.specs.ResultBuffer.{noPointer, returnedSize, parameterBytes, blockBytes, interfaceBytes, pathBytes, sum, wholeResult, resultBytes, resultAnswer, resultOut, sizeGiven}
 
 -- ---- addresses: 16 times 1234h plus 5678h
@@ -90,7 +91,7 @@ pub results-short : map (λ asked. resultOut drive pointer asked (replicate 29 9
 unfolding leBytes returnedSize parameterBytes blockBytes interfaceBytes pathBytes sum wholeResult resultBytes resultAnswer
 results-short = refl
 
--- the pointer of today: FFFFh:FFFFh
+-- no pointer: FFFFh:FFFFh
 pub none : leBytes 2 (noPointer .offset) ++ leBytes 2 (noPointer .segment) ≡ 0xFF ∷ 0xFF ∷ 0xFF ∷ 0xFF ∷ []
 unfolding leBytes
 none = refl
@@ -102,3 +103,32 @@ pub sizes-given : map (sizeGiven 65) (29 ∷ 30 ∷ []) ∷ map (λ asked. sizeG
     ∷ []
 unfolding sizeGiven returnedSize
 sizes-given = refl
+
+-- ---- the parameter table
+
+-- byte 4: bits 6, 4, 1 and 0; none; all; those alone that are set in any case; all but those
+pub drive-flags : map driveFlags (0x53 ∷ 0 ∷ 0xFF ∷ 0xA0 ∷ 0x5F ∷ []) ≡ 0xF3 ∷ 0xA0 ∷ 0xFF ∷ 0xA0 ∷ 0xFF ∷ []
+drive-flags = refl
+
+-- every byte another value
+abbrev given : List ℕ
+given = 0xD1 ∷ 0xD2 ∷ 0xD3 ∷ 0xD4 ∷ 0x53 ∷ 0xD6 ∷ 0xD7 ∷ 0xD8 ∷ 0xD9 ∷ 0xDA ∷ 0xDB ∷ 0xDC ∷ 0xDD ∷ 0xDE ∷ []
+
+-- 4 D0h + 10 and 9 D0h + 90 are 2804; with F3h and 11h 3064, 8 short of 12 times 256
+pub table : parameterTable given
+    ≡ 0xD1 ∷ 0xD2 ∷ 0xD3 ∷ 0xD4 ∷ 0xF3 ∷ 0xD6 ∷ 0xD7 ∷ 0xD8 ∷ 0xD9 ∷ 0xDA ∷ 0xDB ∷ 0xDC ∷ 0xDD ∷ 0xDE ∷ 0x11 ∷ 0x08 ∷ []
+unfolding parameterTable placedBytes sum
+table = refl
+
+pub table-size : length (parameterTable given) ≡ parameterSize
+unfolding parameterTable placedBytes sum
+table-size = refl
+
+-- all bytes zero, all FFh, and the sum 256, to which the checksum adds nothing: A0h + 11h, 14 FFh + 11h, 4Fh + A0h + 11h
+pub tables : map parameterTable (replicate 14 0 ∷ replicate 14 0xFF ∷ (0x4F ∷ replicate 13 0) ∷ [])
+    ≡ (0 ∷ 0 ∷ 0 ∷ 0 ∷ 0xA0 ∷ (replicate 9 0 ++ (0x11 ∷ 0x4F ∷ [])))
+    ∷ (replicate 14 0xFF ++ (0x11 ∷ 0xFD ∷ []))
+    ∷ (0x4F ∷ 0 ∷ 0 ∷ 0 ∷ 0xA0 ∷ (replicate 9 0 ++ (0x11 ∷ 0 ∷ [])))
+    ∷ []
+unfolding parameterTable placedBytes sum
+tables = refl

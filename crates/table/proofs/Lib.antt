@@ -1,5 +1,6 @@
 pub mod TableLaws
-pub mod Nine
+pub mod Slots
+pub mod Enough
 pub mod WriteRead
 pub mod Sound
 pub mod ReadWrite

@@ -1,4 +1,4 @@
--- The reader needs the first 612 bytes, nine records of 68, and no byte past them.
+-- The reader needs the first 772 bytes, eight drives with a record of parameters each and one record more, and no byte past them.
 -- Assumes nothing.
 use mathlib.Core.Path.{_≡_, refl, sym, ap, _∙_}
 use mathlib.Core.Bool.{Bool, true, false, not}
@@ -6,7 +6,7 @@ use mathlib.Core.List.{List, [], _∷_}
 use Prim.Native.Nat.{ℕ, zero, suc, _+_, _-_, _*_, _≤_, _<_, min}
 use native.Mathlib.Nat.{zero-add, suc-add}
 use native.Mathlib.Omega.{arith}
-use lib.ListN.{length, take, drop, getD, length-take}
+use lib.ListN.{length, take, drop, getD, length-take, length-set}
 use lib.Seq.{take-take, getD-take, take-nil}
 use lib.Dec.{ltb}
 use Rattle.logic.specs.Logic.{pick}
@@ -14,12 +14,15 @@ use Rattle.logic.proofs.LogicLaws.{leb-iff}
 use Rattle.words.specs.Words.{le, part}
 use Rattle.words.proofs.WordsLaws.{le-ext}
 use Rattle.drive.specs.Drive.{driveOf}
+use Rattle.attached.specs.Parameters.{numberIn, parametersIn}
+use Rattle.attached.proofs.AttachedLaws.{length-parametersIn}
 use Rattle.table.specs.declared.Table.{Table}
 use Rattle.table.specs.declared.Header.{Header}
 use Rattle.table.specs.declared.Header.the-variants.{Whole, Bad}
 use Rattle.table.specs.declared.Stepped.{Stepped}
-use Rattle.table.specs.Table.{isKind, lengthOk, headerAt, headerOf, more, goOn, endStep, stepOf, stepAt, readFrom, readTable, emptyTable}
-use Rattle.table.proofs.TableLaws.{stepAt-cases, whole-at, lengthOk-most}
+use Rattle.table.specs.Table.{isKind, lengthOk, headerAt, headerOf, more, withParameters, goOn, endStep, stepOf, stepAt, mostRecords, readFrom, readTable, emptyTable, parametersTo}
+use Rattle.table.proofs.TableLaws.{stepAt-cases, whole-at, length-whole, lengthOk-most, refusal-room, parameters-room}
+use Rattle.table.proofs.Slots.{count-most, count-ext, count-attach}
 
 -- a part of the first n + m bytes
 drop-take : (n m : ℕ) (l : List ℕ) → drop n (take (n + m) l) ≡ take m (drop n l)
@@ -71,20 +74,32 @@ module _ (n : ℕ) (t u : List ℕ) (same : take n t ≡ take n u) where
       by-header (Bad m) q = refl
       by-header (Whole k m) q = rw (after (at + 4) (omega arith), body at m (omega (arith, lengthOk-most k m (whole-at u at k m q .right))))
 
-  -- k records need 68 bytes each
-  reads : (k store at : ℕ) (b : Table) → at + 68 * k ≤ n → readFrom k t store at b ≡ readFrom k u store at b
+  -- from a place on the reader needs the bytes of the records that there is room for, and of one more
+  reads : (k store at : ℕ) (b : Table) → b .count ≤ 8 → length (b .present) ≡ 8 → at + 772 ≤ n + (68 * b .count + 20 * parametersTo 8 b)
+      → readFrom k t store at b ≡ readFrom k u store at b
   unfolding readFrom
-  reads zero store at b h = refl
-  reads (suc k) store at b h =
-      rw (step at b store (omega arith))
+  reads zero store at b l m h = refl
+  reads (suc k) store at b l m h =
+      rw (step at b store (omega (arith, l, h, count-most 8 b)))
       (stepAt-cases (λ (s : Stepped). goOn (s .step) (s .table) (readFrom k t store) ≡ goOn (s .step) (s .table) (readFrom k u store)) u at b store
-      (λ m p. refl) (λ e l. refl) (λ e z. reads k store (at + 68) (more b (driveOf (part 68 u at))) (omega arith)))
+      (λ m p. refl)
+      (λ e l. refl)
+      (λ e z.
+      let d = driveOf (part 68 u at) in
+      let r = refusal-room (b .count) (b .drives) d store z in
+      reads k store (at + 68) (more b d) (omega arith) m (omega (arith, h, count-ext 8 (more b d) b (λ i q. refl))))
+      (λ e z.
+      let i = numberIn (part 20 u at) in
+      let p = parametersIn (part 20 u at) in
+      let r = parameters-room b i z in
+      let given = length-parametersIn (part 20 u at) (omega (arith, length-whole u at 4 20 e)) in
+      reads k store (at + 20) (withParameters b i p) l (length-set (b .present) i true ∙ m) (omega (arith, h, count-attach 8 b i p given m (r .0) (r .2) (r .0)))))
 
--- two inputs with the same first 612 bytes are read alike
-pub needed : (t u : List ℕ) (store : ℕ) → take 612 t ≡ take 612 u → readTable t store ≡ readTable u store
+-- two inputs with the same first 772 bytes are read alike
+pub needed : (t u : List ℕ) (store : ℕ) → take 772 t ≡ take 772 u → readTable t store ≡ readTable u store
 unfolding readTable
-needed t u store e = reads 612 t u e 9 store 0 emptyTable (omega arith)
+needed t u store e = reads 772 t u e mostRecords store 0 emptyTable (omega arith) refl (omega arith)
 
--- so a buffer of at least 612 bytes answers for input of any length
-pub buffer-enough : (n : ℕ) (t : List ℕ) (store : ℕ) → 612 ≤ n → readTable (take n t) store ≡ readTable t store
-buffer-enough n t store h = needed (take n t) t store (take-take 612 n t h)
+-- so a buffer of at least 772 bytes answers for input of any length
+pub buffer-enough : (n : ℕ) (t : List ℕ) (store : ℕ) → 772 ≤ n → readTable (take n t) store ≡ readTable t store
+buffer-enough n t store h = needed (take n t) t store (take-take 772 n t h)

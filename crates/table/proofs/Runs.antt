@@ -1,31 +1,28 @@
--- The runs of blocks that a reading keeps beside its drives say the same as the drives, and a reading by what was found is the reading.
+-- The runs of blocks that a reading keeps beside its drives say the same as the drives, and the loop that goes by them is the reading.
 -- Assumes nothing.
 use mathlib.Core.Path.{_≡_, refl, sym, _∙_}
 use mathlib.Core.Logic.{⊎-elim}
-use mathlib.Core.Bool.{Bool, true, false}
+use mathlib.Core.Bool.{Bool, true, false, not}
 use mathlib.Core.List.{List}
-use Prim.Native.Nat.{ℕ, _+_, _-_, _≤_, _<_}
+use Prim.Native.Nat.{ℕ, _+_, _-_, _*_, _<_}
 use native.Mathlib.Omega.{arith}
 use native.Mathlib.Decide.{ℕ-discrete}
 use lib.ListN.{length, getD, set, length-set}
-use lib.Seq.{getD-set-same, getD-set-other}
+use lib.Seq.{sets, length-sets, getD-set-same, getD-set-other}
 use lib.Dec.{ltb, eqb}
-use borrow.Author.Tests.{eqb-true, eqb-false, eq-eqb, ne-eqb, le-leb, lt-ltb, le-ltb}
-use Rattle.logic.specs.Logic.{pick}
-use Rattle.logic.proofs.LogicLaws.{lt-or-le, some-ext}
+use borrow.Author.Tests.{le-leb, ltb-true, ltb-false}
+use Rattle.logic.specs.Logic.{both}
+use Rattle.logic.proofs.LogicLaws.{lt-or-le, some-ext, both-true}
 use Rattle.words.specs.Words.{part}
 use Rattle.drive.specs.declared.Drive.{Drive}
 use Rattle.drive.specs.Drive.{driveOf, overlap}
+use Rattle.attached.specs.Parameters.{numberIn, parametersIn}
 use Rattle.table.specs.declared.Table.{Table}
-use Rattle.table.specs.declared.Header.{Header}
 use Rattle.table.specs.declared.Header.the-variants.{Whole, Bad}
-use Rattle.table.specs.declared.Step.{Step}
-use Rattle.table.specs.declared.Step.the-variants.{Next, Done, Refused}
-use Rattle.table.specs.declared.Stepped.{Stepped}
-use Rattle.table.specs.declared.Found.{Found}
+use Rattle.table.specs.declared.Answer.{Answer}
 use Rattle.table.specs.declared.Answer.the-variants.{Accepted, Refused as AnswerRefused}
-use Rattle.table.specs.Table.{noDrive, zeroDrive, emptyTable, headerAt, overlapsAny, refusal, more, stepped, driveStep, endStep, driveRecord, stepOf, stepAt, reading, goOn, readFrom, mostRecords, readTable, Reads, foundEnd, foundOf, foundAt, overlapRuns, overlapsRun, refusalAmong}
-use Rattle.table.proofs.TableLaws.{whole-at, lengthOk-end, lengthOk-drive, room, refusal-room, readFrom-on, readFrom-zero, reads-is}
+use Rattle.table.specs.Table.{noDrive, emptyTable, headerAt, overlapsAny, refusal, more, hasParameters, parametersRefusal, withParameters, reading, readFrom, mostRecords, readTable, Reads, endAnswer, overlapRuns, overlapsRun, refusalAmong}
+use Rattle.table.proofs.TableLaws.{whole-at, length-whole, lengthOk-end, drive-whole, parameters-whole, room, parameters-none, parameters-nine, stepAt-bad, stepAt-end, endStep-byte, endStep-done, drive-next, drive-refused, stepAt-drive, parameters-next, parameters-refused, stepAt-parameters, reads-first, reads-next, reads-done, reads-refused}
 
 -- ---- runs beside drives
 
@@ -56,65 +53,17 @@ unfolding Beside
 beside-more n l l′ firsts sizes d hf hs e same b =
     (along-more (λ x. x .first) n l l′ firsts d hf e same (b .0), along-more (λ x. x .blocks) n l l′ sizes d hs e same (b .1))
 
-among-is : (b : Table) (firsts sizes : List ℕ) (d : Drive) (store : ℕ) → Beside (b .count) (b .drives) firsts sizes → refusalAmong (b .count) firsts sizes d store ≡ refusal b d store
+among-is : (b : Table) (firsts sizes : List ℕ) (d : Drive) (store : ℕ) → Beside (b .count) (b .drives) firsts sizes
+    → refusalAmong (b .count) firsts sizes d store ≡ refusal (b .count) (b .drives) d store
 unfolding Beside Along refusalAmong refusal overlapsRun overlapsAny overlapRuns overlap
 among-is b firsts sizes d store h = rw (some-ext (b .count) (λ i. overlapRuns (d .first) (d .blocks) (getD firsts i 0) (getD sizes i 0)) (λ i. overlap d (getD (b .drives) i noDrive)) (λ i l. rw (h .0 i l, h .1 i l)))
 
 -- the runs of all eight slots are enough, whatever the count
-pub among-eight : {k : ℕ} (b : Table) (firsts sizes : List ℕ) (d : Drive) (store : ℕ) → Beside 8 (b .drives) firsts sizes → k ≡ refusalAmong (b .count) firsts sizes d store → k ≡ refusal b d store
+pub among-eight : {k : ℕ} (b : Table) (firsts sizes : List ℕ) (d : Drive) (store : ℕ) → Beside 8 (b .drives) firsts sizes → k ≡ refusalAmong (b .count) firsts sizes d store
+    → k ≡ refusal (b .count) (b .drives) d store
 unfolding Beside Along refusalAmong refusal
 among-eight b firsts sizes d store h e =
     e ∙ ⊎-elim (λ l. among-is b firsts sizes d store (λ i q. h .0 i (omega arith), λ i q. h .1 i (omega arith))) (λ l. rw (le-leb 8 (b .count) l)) (lt-or-le (b .count) 8)
-
--- ---- what was found, by the tests of the code
-
-module _ (t : List ℕ) (at : ℕ) where
-  pub found-bad : (n : ℕ) → headerAt t at ≡ Bad n → foundEnd (Refused n at) ≡ foundAt t at
-  unfolding foundAt foundOf
-  found-bad n e = rw e
-
-  module _ (k n : ℕ) (e : headerAt t at ≡ Whole k n) where
-    pub found-drive : (k ≡ 0 → ⊥) → record { step = Next (at + n); drive = driveOf (part n t at) } ≡ foundAt t at
-    unfolding foundAt foundOf
-    found-drive z = rw (e, ne-eqb k 0 z)
-
-    pub found-follows : k ≡ 0 → at + n < length t → foundEnd (Refused 8 (at + n)) ≡ foundAt t at
-    unfolding foundAt foundOf
-    found-follows z l = rw (e, eq-eqb k 0 z, lt-ltb (at + n) (length t) l)
-
-    pub found-end : k ≡ 0 → length t ≤ at + n → foundEnd Done ≡ foundAt t at
-    unfolding foundAt foundOf
-    found-end z l = rw (e, eq-eqb k 0 z, le-ltb (at + n) (length t) l)
-
--- ---- a step from what was found
-
-stepFound : Step → Drive → Table → ℕ → ℕ → Stepped
-stepFound (Next n) d b at store = pick (eqb (refusal b d store) 0) (stepped (Next n) (more b d)) (stepped (Refused (refusal b d store) at) b)
-stepFound Done d b at store = stepped Done b
-stepFound (Refused n place) d b at store = stepped (Refused n place) b
-
-step-is : (t : List ℕ) (at : ℕ) (b : Table) (store : ℕ) → stepAt t at b store ≡ stepFound (foundAt t at .step) (foundAt t at .drive) b at store
-unfolding stepAt foundAt stepOf foundOf endStep driveStep stepFound
-step-is t at b store = by-header (headerAt t at) refl
-  where
-    by-end : (x : Bool) → pick x (stepped (Refused 8 (at + 4)) b) (stepped Done b) ≡ stepFound (pick x (Refused 8 (at + 4)) Done) zeroDrive b at store
-    by-end true = refl
-    by-end false = refl
-
-    -- what was found of a whole record, by whether it ends the table
-    found : ℕ → Bool → Found
-    found size k = pick k (foundEnd (pick (ltb (at + size) (length t)) (Refused 8 (at + size)) Done)) (record { step = Next (at + size); drive = driveOf (part size t at) })
-
-    by-kind : (size : ℕ) (k : Bool) → (k ≡ true → size ≡ 4) → (k ≡ false → size ≡ 68)
-        → pick k (endStep t at b) (driveRecord (part size t at) b at store) ≡ stepFound (found size k .step) (found size k .drive) b at store
-    by-kind size true e f = rw (e refl) (by-end (ltb (at + 4) (length t)))
-    by-kind size false e f = rw (f refl)
-
-    by-header : (h : Header) → headerAt t at ≡ h → stepOf h t at b store ≡ stepFound (foundOf h t at .step) (foundOf h t at .drive) b at store
-    by-header (Bad n) e = refl
-    by-header (Whole kind size) e =
-        let w = whole-at t at kind size e in
-        by-kind size (eqb kind 0) (λ x. lengthOk-end kind size (w .right) (eqb-true kind 0 x)) (λ x. lengthOk-drive kind size (w .right) (eqb-false kind 0 x) .1)
 
 -- ---- the loop of a reading
 
@@ -122,53 +71,73 @@ step-is t at b store = by-header (headerAt t at) refl
 pub record Stands (t : List ℕ) (store left at : ℕ) (b : Table) (firsts sizes : List ℕ) : Type 0 where
   pub reads : readFrom left t store at b ≡ readTable t store
   pub eight : (length (b .drives) ≡ 8) × (length firsts ≡ 8) × (length sizes ≡ 8)
+  pub marks : length (b .present) ≡ 8
+  pub bytes : length (b .parameters) ≡ 112
   pub beside : Beside (b .count) (b .drives) firsts sizes
 
 pub stands-first : {b : Table} (t : List ℕ) (store : ℕ) (firsts sizes : List ℕ) → b ≡ emptyTable → length firsts ≡ 8 → length sizes ≡ 8 → Stands t store mostRecords 0 b firsts sizes
-unfolding readTable
 stands-first {b} t store firsts sizes e f s =
-    record { reads = rw e; eight = (rw e, f, s); beside = beside-none (b .count) (b .drives) firsts sizes (rw e) }
+    record { reads = reads-first t store e; eight = (rw e, f, s); marks = rw e; bytes = rw e; beside = beside-none (b .count) (b .drives) firsts sizes (rw e) }
 
--- a drive that is taken has a slot
+-- a drive that is taken has a slot, and so have parameters that are taken
 pub slot-left : {k : ℕ} (n : ℕ) (firsts sizes : List ℕ) (d : Drive) (store : ℕ) → k ≡ refusalAmong n firsts sizes d store → k ≡ 0 → n < 8
 unfolding refusalAmong
 slot-left n firsts sizes d store e z = room n _ (sym e ∙ z)
 
-pub reads-end : {t : List ℕ} {store left at : ℕ} {b : Table} {firsts sizes : List ℕ} → Stands t store left at b firsts sizes → left ≡ 0 → Reads t store (reading (AnswerRefused 4 at) b)
-reads-end {t} {store} {left} {at} {b} s z = reads-is t store (readFrom-zero left t store at b z ∙ s .reads)
+pub slot-named : {a : Bool} (i : ℕ) (x : Bool) → a ≡ both (ltb i 8) x → a ≡ true → i < 8
+slot-named i x e z = ltb-true i 8 (both-true (ltb i 8) x (sym e ∙ z) .0)
 
-module _ {t : List ℕ} {store left at : ℕ} {b : Table} {firsts sizes : List ℕ} {f : Found} (s : Stands t store left at b firsts sizes) (l : 0 < left) (e : f ≡ foundAt t at) where
-  on : (x : Step) → f .step ≡ x
-      → goOn (stepFound x (f .drive) b at store .step) (stepFound x (f .drive) b at store .table) (readFrom (left - 1) t store) ≡ readTable t store
-  on x q =
-      let p : stepFound x (f .drive) b at store ≡ stepAt t at b store = rw (← q, e) (sym (step-is t at b store)) in
-      rw p (readFrom-on left t store at b l ∙ s .reads)
+module _ {t : List ℕ} {store left at : ℕ} {b : Table} {firsts sizes : List ℕ} (s : Stands t store left at b firsts sizes) (l : 0 < left) where
+  pub header-reads : {n : ℕ} → headerAt t at ≡ Bad n → Reads t store (reading (AnswerRefused n at) b)
+  header-reads {n} h = reads-refused left t store at b l (stepAt-bad t at n b store h) refl (s .reads)
 
-  pub reads-done : f .step ≡ Done → Reads t store (reading Accepted b)
-  unfolding stepFound
-  reads-done q = reads-is t store (on Done q)
+  module _ {k n : ℕ} (h : headerAt t at ≡ Whole k n) where
+    pub end-reads : {a : Answer} → k ≡ 0 → a ≡ endAnswer (at + n) (length t) → Reads t store (reading a b)
+    unfolding endAnswer
+    end-reads z e =
+        let four : n ≡ 4 = lengthOk-end k n (whole-at t at k n h .right) z in
+        rw (e, four) (by-byte (ltb (at + 4) (length t)) refl)
+      where
+        by-byte : (x : Bool) → ltb (at + 4) (length t) ≡ x → Reads t store (reading (endAnswer (at + 4) (length t)) b)
+        by-byte true q = rw q (reads-refused left t store at b l (endStep-byte t at b (ltb-true (at + 4) (length t) q) ∙ stepAt-end t at k n b store h z) refl (s .reads))
+        by-byte false q = rw q (reads-done left t store at b l (endStep-done t at b (ltb-false (at + 4) (length t) q) ∙ stepAt-end t at k n b store h z) refl (s .reads))
 
-  pub reads-refused : (n place : ℕ) → f .step ≡ Refused n place → Reads t store (reading (AnswerRefused n place) b)
-  unfolding stepFound
-  reads-refused n place q = reads-is t store (on (Refused n place) q)
+    module _ {d : Drive} {m : ℕ} (z : k ≡ 1) (e : d ≡ driveOf (part n t at)) (q : m ≡ refusalAmong (b .count) firsts sizes d store) where
+      among : m ≡ refusal (b .count) (b .drives) d store
+      among = q ∙ among-is b firsts sizes d store (s .beside)
 
-  module _ {k : ℕ} (n : ℕ) (q : f .step ≡ Next n) (r : k ≡ refusalAmong (b .count) firsts sizes (f .drive) store) where
-    refused : refusal b (f .drive) store ≡ k
-    refused = sym (r ∙ among-is b firsts sizes (f .drive) store (s .beside))
+      pub drive-reads : (m ≡ 0 → ⊥) → Reads t store (reading (AnswerRefused m at) b)
+      drive-reads x = reads-refused left t store at b l (drive-refused (part n t at) at b store e among x ∙ stepAt-drive t at k n b store h z) refl (s .reads)
 
-    pub reads-bad : (k ≡ 0 → ⊥) → Reads t store (reading (AnswerRefused k at) b)
-    unfolding stepFound
-    reads-bad z = reads-is t store (rw (refused, ne-eqb k 0 z) at (on (Next n) q))
+      pub drive-stands : m ≡ 0 → Stands t store (left - 1) (at + n) (more b d) (set firsts (b .count) (d .first)) (set sizes (b .count) (d .blocks))
+      drive-stands x =
+          let slot : b .count < 8 = slot-left (b .count) firsts sizes d store q x in
+          let eight = s .eight in
+          let next = drive-next (part n t at) at b store (drive-whole t at k n h z .0) e among x refl ∙ stepAt-drive t at k n b store h z in
+          record {
+            reads = rw (length-whole t at k n h) at (reads-next left t store at b l next refl (s .reads));
+            eight = (length-set (b .drives) (b .count) d ∙ eight .0, length-set firsts (b .count) (d .first) ∙ eight .1, length-set sizes (b .count) (d .blocks) ∙ eight .2);
+            marks = s .marks;
+            bytes = s .bytes;
+            beside = beside-more (b .count) (b .drives) (set (b .drives) (b .count) d) firsts sizes d (omega (arith, slot, eight .1)) (omega (arith, slot, eight .2))
+                (getD-set-same (b .drives) (b .count) d noDrive (omega (arith, slot, eight .0))) (λ i y. getD-set-other (b .drives) (b .count) i d noDrive (λ w. omega arith)) (s .beside);
+          }
 
-    pub stands-more : k ≡ 0 → Stands t store (left - 1) n (more b (f .drive)) (set firsts (b .count) (f .drive .first)) (set sizes (b .count) (f .drive .blocks))
-    unfolding stepFound
-    stands-more z =
-        let d : Drive = f .drive in
-        let room : b .count < 8 = refusal-room b d store (refused ∙ z) in
-        let eight = s .eight in
-        record {
-          reads = rw (refused, eq-eqb k 0 z) at (on (Next n) q);
-          eight = (length-set (b .drives) (b .count) d ∙ eight .0, length-set firsts (b .count) (d .first) ∙ eight .1, length-set sizes (b .count) (d .blocks) ∙ eight .2);
-          beside = beside-more (b .count) (b .drives) (set (b .drives) (b .count) d) firsts sizes d (omega (arith, eight .1)) (omega (arith, eight .2))
-              (getD-set-same (b .drives) (b .count) d noDrive (omega (arith, eight .0))) (λ i h. getD-set-other (b .drives) (b .count) i d noDrive (λ x. omega arith)) (s .beside);
-        }
+    module _ {i : ℕ} {a : Bool} (z : k ≡ 0 → ⊥) (z′ : k ≡ 1 → ⊥) (e : i ≡ numberIn (part n t at)) (q : a ≡ both (ltb i 8) (both (eqb (i + 1) (b .count)) (not (hasParameters b i)))) where
+      pub parameters-reads : a ≡ false → Reads t store (reading (AnswerRefused 9 at) b)
+      parameters-reads x =
+          let nine : 9 ≡ parametersRefusal b i = parameters-nine b i q x in
+          reads-refused left t store at b l (parameters-refused (part n t at) at b store e nine (λ y. omega arith) ∙ stepAt-parameters t at k n b store h z z′) refl (s .reads)
+
+      pub parameters-stands : {y p : List ℕ} → a ≡ true → y ≡ parametersIn (part n t at) → p ≡ sets (b .parameters) (14 * i) y
+          → Stands t store (left - 1) (at + n) (record { drives = b .drives; count = b .count; present = set (b .present) i true; parameters = p }) firsts sizes
+      parameters-stands {y} {p} x w o =
+          let none : 0 ≡ parametersRefusal b i = parameters-none b i q x in
+          let next = parameters-next (part n t at) at b store (parameters-whole t at k n h z z′ .0) e w none refl refl ∙ stepAt-parameters t at k n b store h z z′ in
+          rw o record {
+            reads = rw (length-whole t at k n h) at (reads-next left t store at b l next refl (s .reads));
+            eight = s .eight;
+            marks = length-set (b .present) i true ∙ s .marks;
+            bytes = length-sets (b .parameters) (14 * i) y ∙ s .bytes;
+            beside = s .beside;
+          }

@@ -1,27 +1,30 @@
 -- What the rules of the drive table say of each drive, and that a table which was accepted obeys them.
 -- Assumes nothing.
-use Prim.Native.Nat.{ℕ, _+_, _≤_, _<_}
-use mathlib.Core.Path.{_≡_, refl, ap, _∙_}
+use Prim.Native.Nat.{ℕ, _+_, _*_, _≤_, _<_}
+use mathlib.Core.Path.{_≡_, refl, sym, ap, _∙_}
 use mathlib.Core.Logic.{⊎-elim, _≢_}
-use mathlib.Core.Bool.{true}
+use mathlib.Core.Bool.{Bool, true, false}
 use mathlib.Core.List.{List}
 use native.Mathlib.Omega.{arith}
 use native.Mathlib.Numerals.{add-one}
 use native.Mathlib.Decide.{ℕ-discrete}
 use lib.ListN.{length, getD, set, length-set, getD-replicate}
-use lib.Seq.{getD-set-same, getD-set-other}
+use lib.Seq.{length-sets, getD-set-same, getD-set-other}
 use lib.Dec.{leb, ltb, eqb}
 use borrow.Author.Tests.{leb-true, lt-ltb, le-ltb, le-leb, eqb-true, eq-eqb}
 use Rattle.logic.specs.Logic.{both}
-use Rattle.logic.proofs.LogicLaws.{both-true, both-intro, either-left, either-right, lt-or-le, all-at, all-intro, all-ext, some-ext}
+use Rattle.logic.proofs.LogicLaws.{both-true, both-intro, either-left, either-right, lt-or-le, all-at, all-intro, all-ext, some-ext, true≢false}
 use Rattle.words.specs.Words.{part}
 use Rattle.drive.specs.declared.Drive.{Drive}
 use Rattle.drive.specs.Drive.{driveOf, fieldsOk, inStore, overlap, same, isBlank, blankNumbers, blankNames}
 use Rattle.drive.proofs.DriveLaws.{Arrays, arrays-drive}
+use Rattle.attached.specs.Parameters.{numberIn, parametersIn}
+use Rattle.attached.proofs.AttachedLaws.{length-parametersIn}
 use Rattle.table.specs.declared.Table.{Table}
 use Rattle.table.specs.declared.Answer.the-variants.{Accepted}
-use Rattle.table.specs.Table.{noDrive, zeroDrive, emptyTable, overlapsAny, refusal, more, readFrom, readTable, firstDrives, takenAt, soundTo, blankAt, blankTo, isSound}
-use Rattle.table.proofs.TableLaws.{refusal-room, refusal-taken, length-whole, read-keeps}
+use Rattle.table.specs.Table.{noDrive, zeroDrive, emptyTable, overlapsAny, refusal, more, hasParameters, parametersRefusal, withParameters, mostRecords, readFrom, readTable, takenAt, soundTo, blankAt, blankTo, attachedAt, attachedTo, isSound}
+use Rattle.table.proofs.TableLaws.{refusal-room, refusal-taken, parameters-room, length-whole, read-keeps}
+use Rattle.table.proofs.Slots.{marked, marked-other, bytes-other, attached-drive, attached-zero, attached-intro}
 
 -- ---- a drive that is taken
 
@@ -29,37 +32,43 @@ pub record Obeys (d : Drive) (store : ℕ) : Type 0 where
   pub fields : fieldsOk d ≡ true
   pub inside : d .first + d .blocks ≤ store
 
-refusal-obeys : (b : Table) (d : Drive) (store : ℕ) → refusal b d store ≡ 0 → Obeys d store
+refusal-obeys : (n : ℕ) (l : List Drive) (d : Drive) (store : ℕ) → refusal n l d store ≡ 0 → Obeys d store
 unfolding inStore
-refusal-obeys b d store h = let t = refusal-taken b d store h in record { fields = t .0; inside = leb-true (d .first + d .blocks) store (t .1) }
+refusal-obeys n l d store h = let t = refusal-taken n l d store h in record { fields = t .0; inside = leb-true (d .first + d .blocks) store (t .1) }
 
 -- ---- a sound table
 
 -- what soundness says, part by part
 pub record Rules (b : Table) (store : ℕ) : Type 0 where
   pub most : b .count ≤ 8
-  pub taken : (i : ℕ) → i < b .count → refusal (firstDrives (b .drives) i) (getD (b .drives) i noDrive) store ≡ 0
+  pub taken : (i : ℕ) → i < b .count → refusal i (b .drives) (getD (b .drives) i noDrive) store ≡ 0
   pub blank : (i : ℕ) → b .count ≤ i → i < 8 → isBlank (getD (b .drives) i noDrive) ≡ true
+  pub attached : (i : ℕ) → i < 8 → attachedAt b i ≡ true
 
 pub sound-rules : (b : Table) (store : ℕ) → isSound b store ≡ true → Rules b store
-unfolding isSound soundTo blankTo
+unfolding isSound soundTo blankTo attachedTo
 sound-rules b store e =
-    let p = both-true (leb (b .count) 8) (both (soundTo (b .count) (b .drives) store) (blankTo 8 (b .drives) (b .count))) e in
-    let q = both-true (soundTo (b .count) (b .drives) store) (blankTo 8 (b .drives) (b .count)) (p .1) in
+    let rest : Bool = both (blankTo 8 (b .drives) (b .count)) (attachedTo 8 b) in
+    let p = both-true (leb (b .count) 8) (both (soundTo (b .count) (b .drives) store) rest) e in
+    let q = both-true (soundTo (b .count) (b .drives) store) rest (p .1) in
+    let r = both-true (blankTo 8 (b .drives) (b .count)) (attachedTo 8 b) (q .1) in
     record {
       most = leb-true (b .count) 8 (p .0);
       taken = λ i h. eqb-true _ _ (all-at (b .count) i (takenAt (b .drives) store) (q .0) h);
-      blank = λ i l h. rw (le-ltb i (b .count) l) at (all-at 8 i (blankAt (b .drives) (b .count)) (q .1) h);
+      blank = λ i l h. rw (le-ltb i (b .count) l) at (all-at 8 i (blankAt (b .drives) (b .count)) (r .0) h);
+      attached = λ i h. all-at 8 i (attachedAt b) (r .1) h;
     }
 
--- what a desk's table obeys: the rules, eight slots, and the lengths that the types of the names say
+-- what a desk's table obeys: the rules, eight slots, and the lengths that the types of the names and of the parameters say
 pub record Good (b : Table) (store : ℕ) : Type 0 where
   pub sound : isSound b store ≡ true
   pub eight : length (b .drives) ≡ 8
+  pub marks : length (b .present) ≡ 8
+  pub bytes : length (b .parameters) ≡ 112
   pub arrays : (i : ℕ) → i < b .count → Arrays (getD (b .drives) i noDrive)
 
 pub good-obeys : (b : Table) (store i : ℕ) → isSound b store ≡ true → i < b .count → Obeys (getD (b .drives) i noDrive) store
-good-obeys b store i e h = refusal-obeys (firstDrives (b .drives) i) (getD (b .drives) i noDrive) store (sound-rules b store e .taken i h)
+good-obeys b store i e h = refusal-obeys i (b .drives) (getD (b .drives) i noDrive) store (sound-rules b store e .taken i h)
 
 -- ---- what was accepted is sound
 
@@ -68,7 +77,7 @@ unfolding overlapsAny
 overlaps-ext n l l′ d f = some-ext n (λ (i : ℕ). overlap d (getD l i noDrive)) (λ (i : ℕ). overlap d (getD l′ i noDrive)) (λ i h. ap (overlap d) (f i h))
 
 pub refusal-ext : (n : ℕ) (l l′ : List Drive) (d : Drive) (store : ℕ) → ((i : ℕ) → i < n → getD l i noDrive ≡ getD l′ i noDrive)
-    → refusal (firstDrives l n) d store ≡ refusal (firstDrives l′ n) d store
+    → refusal n l d store ≡ refusal n l′ d store
 unfolding refusal
 refusal-ext n l l′ d store f = rw (overlaps-ext n l l′ d f)
 
@@ -90,44 +99,87 @@ each-more P b d eight room f p i h = at (ℕ-discrete i (b .count))
 pub record So (store : ℕ) (b : Table) : Type 0 where
   pub most : b .count ≤ 8
   pub eight : length (b .drives) ≡ 8
+  pub marks : length (b .present) ≡ 8
+  pub bytes : length (b .parameters) ≡ 112
   pub sound : soundTo (b .count) (b .drives) store ≡ true
   pub blank : (i : ℕ) → b .count ≤ i → i < 8 → getD (b .drives) i noDrive ≡ zeroDrive
   pub arrays : (i : ℕ) → i < b .count → Arrays (getD (b .drives) i noDrive)
+  pub attached : (i : ℕ) → i < 8 → attachedAt b i ≡ true
 
 pub so-empty : (store : ℕ) → So store emptyTable
 unfolding soundTo
 so-empty store =
-    record { most = omega arith; eight = refl; sound = refl; blank = λ i l h. getD-replicate 8 i zeroDrive noDrive h; arrays = λ i h. absurd (omega arith) }
+    record {
+      most = omega arith;
+      eight = refl;
+      marks = refl;
+      bytes = refl;
+      sound = refl;
+      blank = λ i l h. getD-replicate 8 i zeroDrive noDrive h;
+      arrays = λ i h. absurd (omega arith);
+      attached = λ i h.
+          attached-intro emptyTable i (λ e. true≢false (hasParameters emptyTable i) e (getD-replicate 8 i false false h))
+          (λ e j l. getD-replicate 112 (14 * i + j) 0 0 (omega arith));
+    }
 
-pub so-more : (store : ℕ) (b : Table) (d : Drive) → So store b → Arrays d → refusal b d store ≡ 0 → So store (more b d)
+pub so-more : (store : ℕ) (b : Table) (d : Drive) → So store b → Arrays d → refusal (b .count) (b .drives) d store ≡ 0 → So store (more b d)
 unfolding soundTo
 so-more store b d s a z =
-    let room : b .count < 8 = refusal-room b d store z in
+    let room : b .count < 8 = refusal-room (b .count) (b .drives) d store z in
     let here : getD (set (b .drives) (b .count) d) (b .count) noDrive ≡ d = getD-set-same (b .drives) (b .count) d noDrive (omega (arith, s .eight)) in
     let other : (i : ℕ) → i ≢ b .count → getD (set (b .drives) (b .count) d) i noDrive ≡ getD (b .drives) i noDrive
     = λ i. getD-set-other (b .drives) (b .count) i d noDrive in
     record {
       most = omega arith;
       eight = length-set (b .drives) (b .count) d ∙ s .eight;
+      marks = s .marks;
+      bytes = s .bytes;
       sound = rw add-one (both-intro
-          (eqb (refusal (firstDrives (set (b .drives) (b .count) d) (b .count)) (getD (set (b .drives) (b .count) d) (b .count) noDrive) store) 0)
+          (eqb (refusal (b .count) (set (b .drives) (b .count) d) (getD (set (b .drives) (b .count) d) (b .count) noDrive) store) 0)
           (soundTo (b .count) (set (b .drives) (b .count) d) store)
           (rw here (eq-eqb _ _ (refusal-ext (b .count) (set (b .drives) (b .count) d) (b .drives) d store (λ i h. other i (λ x. omega arith)) ∙ z)))
           (sound-ext (b .count) (set (b .drives) (b .count) d) (b .drives) store (λ i h. other i (λ x. omega arith)) ∙ s .sound));
       blank = λ i l h. other i (λ x. omega arith) ∙ s .blank i (omega arith) h;
       arrays = each-more Arrays b d (s .eight) room (s .arrays) a;
+      attached = λ i h. attached-intro (more b d) i (λ e. omega (arith, attached-drive b i (s .attached i h) e)) (λ e. attached-zero b i (s .attached i h) e);
     }
+
+pub so-attach : (store : ℕ) (b : Table) (i : ℕ) (p : List ℕ) → So store b → length p ≡ 14 → parametersRefusal b i ≡ 0 → So store (withParameters b i p)
+so-attach store b i p s n z =
+    let r = parameters-room b i z in
+    record {
+      most = s .most;
+      eight = s .eight;
+      marks = length-set (b .present) i true ∙ s .marks;
+      bytes = length-sets (b .parameters) (14 * i) p ∙ s .bytes;
+      sound = s .sound;
+      blank = s .blank;
+      arrays = s .arrays;
+      attached = λ k h. at k h (ℕ-discrete k i);
+    }
+  where
+    at : (k : ℕ) → k < 8 → Dec (k ≡ i) → attachedAt (withParameters b i p) k ≡ true
+    at k h (yes x) =
+        let r = parameters-room b i z in
+        attached-intro (withParameters b i p) k (λ e. omega (arith, r .1, x))
+        (λ e. true≢false (hasParameters (withParameters b i p) k) (rw x (marked b i p n (s .marks) (r .0))) e)
+    at k h (no x) =
+        let m = marked-other b i p n k x in
+        attached-intro (withParameters b i p) k (λ e. attached-drive b k (s .attached k h) (sym m ∙ e))
+        (λ e j l. bytes-other (b .parameters) i p k j n x l ∙ attached-zero b k (s .attached k h) (sym m ∙ e) j l)
 
 blank-zero : isBlank zeroDrive ≡ true
 unfolding isBlank blankNumbers blankNames same
 blank-zero = refl
 
 pub so-good : (store : ℕ) (b : Table) → So store b → Good b store
-unfolding isSound blankTo
+unfolding isSound blankTo attachedTo
 so-good store b s =
     record {
-      sound = both-intro _ _ (le-leb _ _ (s .most)) (both-intro _ _ (s .sound) (all-intro 8 (blankAt (b .drives) (b .count)) at));
+      sound = both-intro _ _ (le-leb _ _ (s .most)) (both-intro _ _ (s .sound) (both-intro _ _ (all-intro 8 (blankAt (b .drives) (b .count)) at) (all-intro 8 (attachedAt b) (s .attached))));
       eight = s .eight;
+      marks = s .marks;
+      bytes = s .bytes;
       arrays = s .arrays;
     }
   where
@@ -142,5 +194,8 @@ so-good store b s =
 pub accepted-good : (t : List ℕ) (store : ℕ) → readTable t store .answer ≡ Accepted → Good (readTable t store .table) store
 unfolding readTable
 accepted-good t store e =
-    let r = read-keeps (λ at. So store) t store (λ at b s h z. so-more store b (driveOf (part 68 t at)) s (arrays-drive (part 68 t at) (length-whole t at 1 68 h)) z) 9 0 emptyTable (so-empty store) in
-    so-good store (readFrom 9 t store 0 emptyTable .table) (r .1 .0)
+    let r = read-keeps (λ at. So store) t store
+    (λ at b s h z. so-more store b (driveOf (part 68 t at)) s (arrays-drive (part 68 t at) (length-whole t at 1 68 h)) z)
+    (λ at b s h z. so-attach store b (numberIn (part 20 t at)) (parametersIn (part 20 t at)) s (length-parametersIn (part 20 t at) (omega (arith, length-whole t at 4 20 h))) z)
+    mostRecords 0 emptyTable (so-empty store) in
+    so-good store (readFrom mostRecords t store 0 emptyTable .table) (r .1 .0)

@@ -3,21 +3,23 @@
 use mathlib.Core.Path.{_≡_, refl, sym, ap, _∙_}
 use mathlib.Core.Logic.{_⊎_, inl, inr, ⊎-elim}
 use mathlib.Core.Bool.{Bool, true, false, not}
-use mathlib.Core.List.{List, [], _∷_, _++_}
-use Prim.Native.Nat.{ℕ, zero, suc, _+_, _-_, _≤_, _<_, min}
-use native.Mathlib.Nat.{zero-add}
+use mathlib.Core.List.{List, [], _∷_, _++_, append-nil}
+use Prim.Native.Nat.{ℕ, zero, suc, _+_, _-_, _*_, _≤_, _<_, min}
+use native.Mathlib.Nat.{zero-add, add-assoc}
 use native.Mathlib.Numerals.{add-one, sub-one}
 use native.Mathlib.Omega.{arith}
 use lib.ListN.{length, getD, drop, length-append, length-take, length-drop}
-use lib.Seq.{sets, length-take-le}
+use lib.Seq.{sets, length-take-le, getD-take, getD-drop}
 use lib.Dec.{ltb, leb, eqb}
 use borrow.Author.Tests.{leb-false, lt-leb, ltb-true, ltb-false, lt-ltb, le-ltb, eq-eqb, ne-eqb, eqb-true, eqb-false}
-use Rattle.logic.specs.Logic.{pick, both}
-use Rattle.logic.proofs.LogicLaws.{impossible, both-true, either-true}
+use Rattle.logic.specs.Logic.{pick, both, either}
+use Rattle.logic.proofs.LogicLaws.{impossible, both-true, either-true, lt-or-le}
 use Rattle.words.specs.Words.{le, leBytes, part}
-use Rattle.words.proofs.WordsLaws.{sets-append, sets-front, length-leBytes}
+use Rattle.words.proofs.WordsLaws.{sets-append, sets-front, length-leBytes, le-ext}
 use Rattle.drive.specs.declared.Drive.{Drive}
-use Rattle.drive.specs.Drive.{driveOf, fieldsOk, inStore}
+use Rattle.drive.specs.Drive.{driveOf, recordOf, fieldsOk, inStore}
+use Rattle.attached.specs.Parameters.{numberIn, parametersIn, parametersRecord}
+use Rattle.attached.proofs.AttachedLaws.{length-parametersRecord}
 use Rattle.table.specs.declared.Table.{Table}
 use Rattle.table.specs.declared.Header.{Header}
 use Rattle.table.specs.declared.Header.the-variants.{Whole, Bad}
@@ -30,7 +32,7 @@ use Rattle.table.specs.declared.Answer.the-variants.{Accepted, Refused a
 use Rattle.table.specs.declared.Reading.{Reading}
 use Rattle.table.specs.declared.Written.{Written}
 use Rattle.table.specs.declared.Written.the-variants.{Bytes, Refused as WriteRefused}
-use Rattle.table.specs.Table.{emptyTable, badField, pastStore, overlapping, isKind, lengthOk, headerOf, headerAt, noDrive, overlapsAny, refusal, more, stepped, driveStep, endStep, driveRecord, stepOf, stepAt, placeAfter, advanced, Advances, begun, reading, goOn, stepNumbers, answerNumbers, writtenNumbers, wholeNumbers, recordNumbers, onward, numbersFrom, tableNumbers, writeNumbers, readTable, Reads, readFrom, slotRecords, recordsOf, endRecord, bytesOf, drivesOf, tableOf, writeAnswer, writeOut, firstDrives}
+use Rattle.table.specs.Table.{emptyTable, mostRecords, badField, pastStore, overlapping, isKind, lengthOk, headerOf, headerAt, overlapsAny, refusal, noDrive, more, hasParameters, parametersAt, parametersRefusal, withParameters, stepped, recordRefusal, withRecord, recordStep, endStep, stepOf, stepAt, placeAfter, advanced, Advances, begun, reading, goOn, stepNumbers, answerNumbers, writtenNumbers, takenNumbers, wholeNumbers, recordNumbers, onward, numbersFrom, tableNumbers, writeNumbers, readTable, Reads, readFrom, slotRecords, recordsOf, endRecord, bytesOf, drivesOf, tableOf, writeAnswer, writeOut}
 
 -- ---- the header
 
@@ -78,29 +80,45 @@ unfolding headerAt headerOf
 header-is t at e s q k l = rw (k, l, e, s, q)
 
 -- the kinds with their lengths
-lengthOk-cases : (k n : ℕ) → lengthOk k n ≡ true → ((k ≡ 0) × (n ≡ 4)) ⊎ ((k ≡ 1) × (n ≡ 68))
+lengthOk-cases : (k n : ℕ) → lengthOk k n ≡ true → ((k ≡ 0) × (n ≡ 4)) ⊎ (((k ≡ 1) × (n ≡ 68)) ⊎ ((k ≡ 4) × (n ≡ 20)))
 lengthOk-cases k n h =
-    ⊎-elim (λ x. let p = both-true (eqb k 0) (eqb n 4) x in inl (eqb-true k 0 (p .0), eqb-true n 4 (p .1)))
-    (λ x. let p = both-true (eqb k 1) (eqb n 68) x in inr (eqb-true k 1 (p .0), eqb-true n 68 (p .1)))
-    (either-true (both (eqb k 0) (eqb n 4)) (both (eqb k 1) (eqb n 68)) h)
+    ⊎-elim (λ x. inl (of 0 4 x))
+    (λ y. inr (⊎-elim (λ x. inl (of 1 68 x)) (λ x. inr (of 4 20 x)) (either-true (both (eqb k 1) (eqb n 68)) (both (eqb k 4) (eqb n 20)) y)))
+    (either-true (both (eqb k 0) (eqb n 4)) (either (both (eqb k 1) (eqb n 68)) (both (eqb k 4) (eqb n 20))) h)
+  where
+    of : (kind size : ℕ) → both (eqb k kind) (eqb n size) ≡ true → (k ≡ kind) × (n ≡ size)
+    of kind size x = let p = both-true (eqb k kind) (eqb n size) x in (eqb-true k kind (p .0), eqb-true n size (p .1))
 
 pub lengthOk-end : (k n : ℕ) → lengthOk k n ≡ true → k ≡ 0 → n ≡ 4
-lengthOk-end k n h e = ⊎-elim (λ x. x .1) (λ x. absurd (omega (arith, x .0))) (lengthOk-cases k n h)
+lengthOk-end k n h e = ⊎-elim (λ x. x .1) (λ y. ⊎-elim (λ x. absurd (omega (arith, x .0))) (λ x. absurd (omega (arith, x .0))) y) (lengthOk-cases k n h)
 
--- a kind that does not end the table is a drive's
-pub lengthOk-drive : (k n : ℕ) → lengthOk k n ≡ true → (k ≡ 0 → ⊥) → (k ≡ 1) × (n ≡ 68)
-lengthOk-drive k n h e = ⊎-elim (λ x. absurd (e (x .0))) (λ x. x) (lengthOk-cases k n h)
+pub lengthOk-drive : (k n : ℕ) → lengthOk k n ≡ true → k ≡ 1 → n ≡ 68
+lengthOk-drive k n h e = ⊎-elim (λ x. absurd (omega (arith, x .0))) (λ y. ⊎-elim (λ x. x .1) (λ x. absurd (omega (arith, x .0))) y) (lengthOk-cases k n h)
 
--- a whole record of another kind than the end's has the bytes of a drive's
-pub drive-whole : (t : List ℕ) (at k n : ℕ) → headerAt t at ≡ Whole k n → (k ≡ 0 → ⊥) → (length (part n t at) ≡ 68) × (at + 68 ≤ length t)
-drive-whole t at k n h e =
-    let w = whole-at t at k n h in
-    let z = lengthOk-drive k n (w .right) e in
-    (length-whole t at k n h ∙ z .1, omega (arith, w .whole, w .header, z .1))
+-- a kind that neither ends the table nor is a drive's is that of parameters
+pub lengthOk-parameters : (k n : ℕ) → lengthOk k n ≡ true → (k ≡ 0 → ⊥) → (k ≡ 1 → ⊥) → (k ≡ 4) × (n ≡ 20)
+lengthOk-parameters k n h e f = ⊎-elim (λ x. absurd (e (x .0))) (λ y. ⊎-elim (λ x. absurd (f (x .0))) (λ x. x) y) (lengthOk-cases k n h)
+
+-- the bytes of a whole record of a length
+size-whole : (t : List ℕ) (at k n m : ℕ) → headerAt t at ≡ Whole k n → n ≡ m → (length (part n t at) ≡ m) × (at + m ≤ length t)
+size-whole t at k n m h e = let w = whole-at t at k n h in (length-whole t at k n h ∙ e, omega (arith, w .whole, w .header, e))
+
+pub drive-whole : (t : List ℕ) (at k n : ℕ) → headerAt t at ≡ Whole k n → k ≡ 1 → (length (part n t at) ≡ 68) × (at + 68 ≤ length t)
+drive-whole t at k n h e = size-whole t at k n 68 h (lengthOk-drive k n (whole-at t at k n h .right) e)
+
+pub parameters-whole : (t : List ℕ) (at k n : ℕ) → headerAt t at ≡ Whole k n → (k ≡ 0 → ⊥) → (k ≡ 1 → ⊥) → (length (part n t at) ≡ 20) × (at + 20 ≤ length t)
+parameters-whole t at k n h e f = size-whole t at k n 20 h (lengthOk-parameters k n (whole-at t at k n h .right) e f .1)
 
 -- no record is longer than a drive's
 pub lengthOk-most : (k n : ℕ) → lengthOk k n ≡ true → n ≤ 68
-lengthOk-most k n h = ⊎-elim (λ x. omega (arith, x .1)) (λ x. omega (arith, x .1)) (lengthOk-cases k n h)
+lengthOk-most k n h =
+    ⊎-elim (λ x. omega (arith, x .1)) (λ y. ⊎-elim (λ x. omega (arith, x .1)) (λ x. omega (arith, x .1)) y) (lengthOk-cases k n h)
+
+-- a word of a part is the word
+pub le-part : (k n : ℕ) (s : List ℕ) (at i : ℕ) → i + k ≤ n → le k (part n s at) i ≡ le k s (at + i)
+le-part k n s at i h = le-ext k (part n s at) s i (at + i) (λ j l.
+    let q : i + j < n = omega arith in
+    rw (getD-take n (drop at s) (i + j) 0 q, getD-drop at s (i + j) 0, ← add-assoc at i j))
 
 -- ---- a drive among those before it
 
@@ -112,40 +130,84 @@ room n m h = leb-false 8 n (by-test (leb 8 n) h)
     by-test true h = absurd (omega arith)
     by-test false h = refl
 
-pub refusal-room : (b : Table) (d : Drive) (store : ℕ) → refusal b d store ≡ 0 → b .count < 8
+pub refusal-room : (n : ℕ) (l : List Drive) (d : Drive) (store : ℕ) → refusal n l d store ≡ 0 → n < 8
 unfolding refusal
-refusal-room b d store h = room (b .count) _ h
+refusal-room n l d store h = room n _ h
 
 -- and its fields and its blocks are good
-pub refusal-taken : (b : Table) (d : Drive) (store : ℕ) → refusal b d store ≡ 0 → (fieldsOk d ≡ true) × (inStore d store ≡ true)
+pub refusal-taken : (n : ℕ) (l : List Drive) (d : Drive) (store : ℕ) → refusal n l d store ≡ 0 → (fieldsOk d ≡ true) × (inStore d store ≡ true)
 unfolding refusal
-refusal-taken b d store h = by-tests (leb 8 (b .count)) (fieldsOk d) (inStore d store) refl refl h
+refusal-taken n l d store h = by-tests (leb 8 n) (fieldsOk d) (inStore d store) refl refl h
   where
     by-tests : (a f i : Bool) → fieldsOk d ≡ f → inStore d store ≡ i
-        → _≡_ {A = ℕ} (pick a 4 (pick (not f) 5 (pick (not i) 6 (pick (overlapsAny (b .count) (b .drives) d) 7 0)))) 0 → (fieldsOk d ≡ true) × (inStore d store ≡ true)
+        → _≡_ {A = ℕ} (pick a 4 (pick (not f) 5 (pick (not i) 6 (pick (overlapsAny n l d) 7 0)))) 0 → (fieldsOk d ≡ true) × (inStore d store ≡ true)
     by-tests true f i p q e = absurd (omega arith)
     by-tests false false i p q e = absurd (omega arith)
     by-tests false true false p q e = absurd (omega arith)
     by-tests false true true p q e = (p, q)
 
+-- ---- a drive's parameters among the drives before them
+
+-- those that are taken are of the last drive, which has none
+pub parameters-room : (b : Table) (i : ℕ) → parametersRefusal b i ≡ 0 → (i < 8) × (i + 1 ≡ b .count) × (hasParameters b i ≡ false)
+unfolding parametersRefusal
+parameters-room b i h = by-tests (ltb i 8) (eqb (i + 1) (b .count)) (hasParameters b i) refl refl refl h
+  where
+    by-tests : (x y z : Bool) → ltb i 8 ≡ x → eqb (i + 1) (b .count) ≡ y → hasParameters b i ≡ z → _≡_ {A = ℕ} (pick (both x (both y (not z))) 0 9) 0
+        → (i < 8) × (i + 1 ≡ b .count) × (hasParameters b i ≡ false)
+    by-tests false y z p q r e = absurd (omega arith)
+    by-tests true false z p q r e = absurd (omega arith)
+    by-tests true true true p q r e = absurd (omega arith)
+    by-tests true true false p q r e = (ltb-true i 8 p, eqb-true (i + 1) (b .count) q, r)
+
+pub parameters-taken : (b : Table) (i : ℕ) → i < 8 → i + 1 ≡ b .count → hasParameters b i ≡ false → parametersRefusal b i ≡ 0
+unfolding parametersRefusal
+parameters-taken b i h e m = rw (lt-ltb i 8 h, eq-eqb (i + 1) (b .count) e, m)
+
+-- the refusal from what the code tested
+parameters-is : {a : Bool} (b : Table) (i : ℕ) → a ≡ both (ltb i 8) (both (eqb (i + 1) (b .count)) (not (hasParameters b i))) → pick a 0 9 ≡ parametersRefusal b i
+unfolding parametersRefusal
+parameters-is b i e = rw e
+
+pub parameters-none : {a : Bool} (b : Table) (i : ℕ) → a ≡ both (ltb i 8) (both (eqb (i + 1) (b .count)) (not (hasParameters b i))) → a ≡ true → 0 ≡ parametersRefusal b i
+parameters-none b i e z = rw z at (parameters-is b i e)
+
+pub parameters-nine : {a : Bool} (b : Table) (i : ℕ) → a ≡ both (ltb i 8) (both (eqb (i + 1) (b .count)) (not (hasParameters b i))) → a ≡ false → 9 ≡ parametersRefusal b i
+parameters-nine b i e z = rw z at (parameters-is b i e)
+
 -- ---- a step, by cases
 
-pub driveStep-next : (n : ℕ) (d : Drive) (b : Table) (at : ℕ) → n ≡ 0 → stepped (Next (at + 68)) (more b d) ≡ driveStep n d b at
-unfolding driveStep
-driveStep-next n d b at e = rw (eq-eqb n 0 e)
+recordStep-next : {n : ℕ} (kind size : ℕ) (r : List ℕ) (b : Table) (at store : ℕ) → n ≡ recordRefusal kind r b store → n ≡ 0
+    → stepped (Next (at + size)) (withRecord kind r b) ≡ recordStep kind size r b at store
+unfolding recordStep
+recordStep-next {n} kind size r b at store q z = rw (← q, eq-eqb n 0 z)
 
-pub driveStep-refused : (n : ℕ) (d : Drive) (b : Table) (at : ℕ) → (n ≡ 0 → ⊥) → stepped (Refused n at) b ≡ driveStep n d b at
-unfolding driveStep
-driveStep-refused n d b at e = rw (ne-eqb n 0 e)
+recordStep-refused : {n : ℕ} (kind size : ℕ) (r : List ℕ) (b : Table) (at store : ℕ) → n ≡ recordRefusal kind r b store → (n ≡ 0 → ⊥)
+    → stepped (Refused n at) b ≡ recordStep kind size r b at store
+unfolding recordStep
+recordStep-refused {n} kind size r b at store q z = rw (← q, ne-eqb n 0 z)
 
 -- the step over the bytes of a drive's record, from what its parts answered
-pub record-next : {d : Drive} {n : ℕ} {p : Table} (r : List ℕ) (at : ℕ) (b : Table) (store : ℕ) → length r ≡ 68 → d ≡ driveOf r → n ≡ refusal b d store → n ≡ 0 → p ≡ more b d
-    → stepped (Next (at + length r)) p ≡ driveRecord r b at store
-record-next {d} r at b store l e q z p = rw (l, p, ← e) (driveStep-next (refusal b d store) d b at (sym q ∙ z))
+pub drive-next : {d : Drive} {n : ℕ} {p : Table} (r : List ℕ) (at : ℕ) (b : Table) (store : ℕ) → length r ≡ 68 → d ≡ driveOf r → n ≡ refusal (b .count) (b .drives) d store → n ≡ 0
+    → p ≡ more b d → stepped (Next (at + length r)) p ≡ recordStep 1 68 r b at store
+unfolding recordRefusal withRecord
+drive-next r at b store l e q z p = rw (l, p, e) (recordStep-next 1 68 r b at store (rw (← e) q) z)
 
-pub record-refused : {d : Drive} {n : ℕ} (r : List ℕ) (at : ℕ) (b : Table) (store : ℕ) → d ≡ driveOf r → n ≡ refusal b d store → (n ≡ 0 → ⊥)
-    → stepped (Refused n at) b ≡ driveRecord r b at store
-record-refused {d} {n} r at b store e q z = rw (← e, ← q) (driveStep-refused n d b at z)
+pub drive-refused : {d : Drive} {n : ℕ} (r : List ℕ) (at : ℕ) (b : Table) (store : ℕ) → d ≡ driveOf r → n ≡ refusal (b .count) (b .drives) d store → (n ≡ 0 → ⊥)
+    → stepped (Refused n at) b ≡ recordStep 1 68 r b at store
+unfolding recordRefusal
+drive-refused r at b store e q z = recordStep-refused 1 68 r b at store (rw (← e) q) z
+
+-- and of a record of parameters
+pub parameters-next : {i n : ℕ} {y : List ℕ} {p : Table} (r : List ℕ) (at : ℕ) (b : Table) (store : ℕ) → length r ≡ 20 → i ≡ numberIn r → y ≡ parametersIn r → n ≡ parametersRefusal b i → n ≡ 0
+    → p ≡ withParameters b i y → stepped (Next (at + length r)) p ≡ recordStep 4 20 r b at store
+unfolding recordRefusal withRecord
+parameters-next r at b store l e y q z p = rw (l, p, e, y) (recordStep-next 4 20 r b at store (rw (← e) q) z)
+
+pub parameters-refused : {i n : ℕ} (r : List ℕ) (at : ℕ) (b : Table) (store : ℕ) → i ≡ numberIn r → n ≡ parametersRefusal b i → (n ≡ 0 → ⊥)
+    → stepped (Refused n at) b ≡ recordStep 4 20 r b at store
+unfolding recordRefusal
+parameters-refused r at b store e q z = recordStep-refused 4 20 r b at store (rw (← e) q) z
 
 pub endStep-byte : (t : List ℕ) (at : ℕ) (b : Table) → at + 4 < length t → stepped (Refused 8 (at + 4)) b ≡ endStep t at b
 unfolding endStep
@@ -163,53 +225,101 @@ pub stepAt-end : (t : List ℕ) (at k n : ℕ) (b : Table) (store : ℕ) → hea
 unfolding stepAt stepOf
 stepAt-end t at k n b store h e = rw (h, eq-eqb k 0 e)
 
-pub stepAt-drive : (t : List ℕ) (at k n : ℕ) (b : Table) (store : ℕ) → headerAt t at ≡ Whole k n → (k ≡ 0 → ⊥)
-    → driveRecord (part n t at) b at store ≡ stepAt t at b store
+pub stepAt-record : (t : List ℕ) (at k n : ℕ) (b : Table) (store : ℕ) → headerAt t at ≡ Whole k n → (k ≡ 0 → ⊥)
+    → recordStep k n (part n t at) b at store ≡ stepAt t at b store
 unfolding stepAt stepOf
-stepAt-drive t at k n b store h e = rw (h, ne-eqb k 0 e)
+stepAt-record t at k n b store h e = rw (h, ne-eqb k 0 e)
 
--- what a step can be: a refusal, the end record with nothing after it, or one more drive
+pub stepAt-drive : (t : List ℕ) (at k n : ℕ) (b : Table) (store : ℕ) → headerAt t at ≡ Whole k n → k ≡ 1
+    → recordStep 1 68 (part n t at) b at store ≡ stepAt t at b store
+stepAt-drive t at k n b store h e =
+    let l = lengthOk-drive k n (whole-at t at k n h .right) e in
+    (λ i. recordStep (sym e i) (sym l i) (part n t at) b at store) ∙ stepAt-record t at k n b store h (λ z. omega arith)
+
+pub stepAt-parameters : (t : List ℕ) (at k n : ℕ) (b : Table) (store : ℕ) → headerAt t at ≡ Whole k n → (k ≡ 0 → ⊥) → (k ≡ 1 → ⊥)
+    → recordStep 4 20 (part n t at) b at store ≡ stepAt t at b store
+stepAt-parameters t at k n b store h e f =
+    let l = lengthOk-parameters k n (whole-at t at k n h .right) e f in
+    (λ i. recordStep (sym (l .0) i) (sym (l .1) i) (part n t at) b at store) ∙ stepAt-record t at k n b store h e
+
+-- a whole record that is taken, by what it says
+pub drive-taken : (t : List ℕ) (at : ℕ) (b : Table) (store : ℕ) (d : Drive) → headerAt t at ≡ Whole 1 68 → driveOf (part 68 t at) ≡ d → refusal (b .count) (b .drives) d store ≡ 0
+    → stepped (Next (at + 68)) (more b d) ≡ stepAt t at b store
+drive-taken t at b store d h e z =
+    let l = length-whole t at 1 68 h in
+    rw l at (drive-next (part 68 t at) at b store l (sym e) refl z refl) ∙ stepAt-drive t at 1 68 b store h refl
+
+pub attach-taken : (t : List ℕ) (at : ℕ) (b : Table) (store i : ℕ) (p : List ℕ) → headerAt t at ≡ Whole 4 20 → numberIn (part 20 t at) ≡ i → parametersIn (part 20 t at) ≡ p
+    → parametersRefusal b i ≡ 0 → stepped (Next (at + 20)) (withParameters b i p) ≡ stepAt t at b store
+attach-taken t at b store i p h e q z =
+    let l = length-whole t at 4 20 h in
+    rw l at (parameters-next (part 20 t at) at b store l (sym e) (sym q) refl z refl) ∙ stepAt-parameters t at 4 20 b store h (λ x. omega arith) (λ x. omega arith)
+
+-- what the step of a record that is not the end record can be
+record-cases : (P : Stepped → Type 0) (kind size : ℕ) (r : List ℕ) (b : Table) (at store : ℕ) → P (stepped (Refused (recordRefusal kind r b store) at) b)
+    → (recordRefusal kind r b store ≡ 0 → P (stepped (Next (at + size)) (withRecord kind r b))) → P (recordStep kind size r b at store)
+record-cases P kind size r b at store refuse next = by-refusal (eqb (recordRefusal kind r b store) 0) refl
+  where
+    by-refusal : (x : Bool) → eqb (recordRefusal kind r b store) 0 ≡ x → P (recordStep kind size r b at store)
+    by-refusal true e = let z = eqb-true _ _ e in rw (← recordStep-next kind size r b at store refl z) (next z)
+    by-refusal false e = rw (← recordStep-refused kind size r b at store refl (eqb-false _ _ e)) refuse
+
+-- what a step can be: a refusal, the end record with nothing after it, one more drive, or parameters for the last one
 pub stepAt-cases : (P : Stepped → Type 0) (t : List ℕ) (at : ℕ) (b : Table) (store : ℕ)
     → ((n p : ℕ) → P (stepped (Refused n p) b))
     → (headerAt t at ≡ Whole 0 4 → length t ≤ at + 4 → P (stepped Done b))
-    → (headerAt t at ≡ Whole 1 68 → refusal b (driveOf (part 68 t at)) store ≡ 0 → P (stepped (Next (at + 68)) (more b (driveOf (part 68 t at)))))
+    → (headerAt t at ≡ Whole 1 68 → refusal (b .count) (b .drives) (driveOf (part 68 t at)) store ≡ 0 → P (stepped (Next (at + 68)) (more b (driveOf (part 68 t at)))))
+    → (headerAt t at ≡ Whole 4 20 → parametersRefusal b (numberIn (part 20 t at)) ≡ 0
+    → P (stepped (Next (at + 20)) (withParameters b (numberIn (part 20 t at)) (parametersIn (part 20 t at)))))
     → P (stepAt t at b store)
-stepAt-cases P t at b store refuse finish next = by-header (headerAt t at) refl
+unfolding recordRefusal withRecord
+stepAt-cases P t at b store refuse finish next attach = by-header (headerAt t at) refl
   where
     by-byte : headerAt t at ≡ Whole 0 4 → (x : Bool) → ltb (at + 4) (length t) ≡ x → P (endStep t at b)
     by-byte h true e = rw (← endStep-byte t at b (ltb-true (at + 4) (length t) e)) (refuse 8 (at + 4))
     by-byte h false e = let l = ltb-false (at + 4) (length t) e in rw (← endStep-done t at b l) (finish h l)
 
-    by-refusal : headerAt t at ≡ Whole 1 68 → (x : Bool) → eqb (refusal b (driveOf (part 68 t at)) store) 0 ≡ x → P (driveRecord (part 68 t at) b at store)
-    by-refusal h true e =
-        let z = eqb-true (refusal b (driveOf (part 68 t at)) store) 0 e in
-        rw (← driveStep-next (refusal b (driveOf (part 68 t at)) store) (driveOf (part 68 t at)) b at z) (next h z)
-    by-refusal h false e =
-        rw (← driveStep-refused (refusal b (driveOf (part 68 t at)) store) (driveOf (part 68 t at)) b at (eqb-false _ _ e)) (refuse (refusal b (driveOf (part 68 t at)) store) at)
-
-    by-kind : (k n : ℕ) → headerAt t at ≡ Whole k n → (x : Bool) → eqb k 0 ≡ x → P (stepAt t at b store)
-    by-kind k n h true e =
+    by-kind : (k n : ℕ) → headerAt t at ≡ Whole k n → (x y : Bool) → eqb k 0 ≡ x → eqb k 1 ≡ y → P (stepAt t at b store)
+    by-kind k n h true y e f =
         let z = eqb-true k 0 e in
         let l = lengthOk-end k n (whole-at t at k n h .right) z in
         rw (← stepAt-end t at k n b store h z) (by-byte (rw (z, l) at h) (ltb (at + 4) (length t)) refl)
-    by-kind k n h false e =
-        let z = lengthOk-drive k n (whole-at t at k n h .right) (eqb-false k 0 e) in
-        rw (← stepAt-drive t at k n b store h (eqb-false k 0 e), z .1) (by-refusal (rw (z .0, z .1) at h) (eqb (refusal b (driveOf (part 68 t at)) store) 0) refl)
+    by-kind k n h false true e f =
+        let z = eqb-true k 1 f in
+        let l = lengthOk-drive k n (whole-at t at k n h .right) z in
+        rw (← stepAt-record t at k n b store h (eqb-false k 0 e), z, l) (record-cases P 1 68 (part 68 t at) b at store (refuse _ at) (next (rw (z, l) at h)))
+    by-kind k n h false false e f =
+        let z = lengthOk-parameters k n (whole-at t at k n h .right) (eqb-false k 0 e) (eqb-false k 1 f) in
+        rw (← stepAt-record t at k n b store h (eqb-false k 0 e), z .0, z .1) (record-cases P 4 20 (part 20 t at) b at store (refuse _ at) (attach (rw (z .0, z .1) at h)))
 
     by-header : (h : Header) → headerAt t at ≡ h → P (stepAt t at b store)
     by-header (Bad n) h = rw (← stepAt-bad t at n b store h) (refuse n at)
-    by-header (Whole k n) h = by-kind k n h (eqb k 0) refl
+    by-header (Whole k n) h = by-kind k n h (eqb k 0) (eqb k 1) refl refl
 
 -- ---- a step in numbers
 
+-- a record that is taken or refused
+taken-numbers : {n : ℕ} (kind size : ℕ) (r : List ℕ) (b : Table) (at store : ℕ) → recordRefusal kind r b store ≡ n → stepNumbers (recordStep kind size r b at store .step) ≡ takenNumbers n at size
+unfolding recordStep stepNumbers
+taken-numbers {n} kind size r b at store e = by-test (eqb n 0) refl
+  where
+    by-test : (x : Bool) → eqb n 0 ≡ x → stepNumbers (recordStep kind size r b at store .step) ≡ takenNumbers n at size
+    by-test true q = rw (e, q)
+    by-test false q = rw (e, q)
+
 -- a whole record, by its kind
-whole-numbers : (t : List ℕ) (at : ℕ) (b : Table) (store kind size : ℕ) (e f z : Bool) → eqb kind 0 ≡ e → ltb (at + 4) (length t) ≡ f → eqb (refusal b (driveOf (part size t at)) store) 0 ≡ z
+whole-numbers : (t : List ℕ) (at : ℕ) (b : Table) (store kind size : ℕ) → lengthOk kind size ≡ true
     → stepNumbers (stepOf (Whole kind size) t at b store .step) ≡ wholeNumbers t at b store kind size
-unfolding stepNumbers stepOf endStep driveStep
-whole-numbers t at b store kind size true true z p q r = rw (p, q)
-whole-numbers t at b store kind size true false z p q r = rw (p, q)
-whole-numbers t at b store kind size false f true p q r = rw (p, r)
-whole-numbers t at b store kind size false f false p q r = rw (p, r)
+unfolding stepNumbers stepOf endStep recordRefusal parametersRefusal
+whole-numbers t at b store kind size right =
+    ⊎-elim (λ x. rw (x .0) (by-end (ltb (at + 4) (length t))))
+    (λ y. ⊎-elim (λ x. rw (x .0, x .1) (taken-numbers 1 68 (part 68 t at) b at store refl))
+    (λ x. rw (x .0, x .1) (taken-numbers {n = parametersRefusal b (le 2 t (at + 4))} 4 20 (part 20 t at) b at store (ap (parametersRefusal b) (le-part 2 20 t at 4 (omega arith))))) y)
+    (lengthOk-cases kind size right)
+  where
+    by-end : (x : Bool) → stepNumbers (pick x (stepped (Refused 8 (at + 4)) b) (stepped Done b) .step) ≡ pick x (8 ∷ (at + 4) ∷ []) (0 ∷ [])
+    by-end true = refl
+    by-end false = refl
 
 -- no two answers have the same numbers
 pub step-apart : (x y : Step) → stepNumbers x ≡ stepNumbers y → x ≡ y
@@ -240,16 +350,16 @@ written-apart (WriteRefused m) (WriteRefused n) e = cc
 
 pub step-numbers : (t : List ℕ) (at : ℕ) (b : Table) (store : ℕ) → stepNumbers (stepAt t at b store .step) ≡ recordNumbers t at b store
 unfolding stepAt headerAt headerOf recordNumbers stepNumbers stepOf
-step-numbers t at b store = by-tests (ltb (length t - at) 4) (isKind (le 2 t (at + 2))) (lengthOk (le 2 t (at + 2)) (le 2 t at)) (ltb (length t - at) (le 2 t at))
+step-numbers t at b store = by-tests (ltb (length t - at) 4) (isKind (le 2 t (at + 2))) (lengthOk (le 2 t (at + 2)) (le 2 t at)) (ltb (length t - at) (le 2 t at)) refl
   where
-    by-tests : (a k l c : Bool)
+    by-tests : (a k l c : Bool) → lengthOk (le 2 t (at + 2)) (le 2 t at) ≡ l
         → stepNumbers (stepOf (pick a (Bad 1) (pick (not k) (Bad 3) (pick (not l) (Bad 2) (pick c (Bad 1) (Whole (le 2 t (at + 2)) (le 2 t at)))))) t at b store .step)
         ≡ pick a (1 ∷ at ∷ []) (pick (not k) (3 ∷ at ∷ []) (pick (not l) (2 ∷ at ∷ []) (pick c (1 ∷ at ∷ []) (wholeNumbers t at b store (le 2 t (at + 2)) (le 2 t at)))))
-    by-tests true k l c = refl
-    by-tests false false l c = refl
-    by-tests false true false c = refl
-    by-tests false true true true = refl
-    by-tests false true true false = whole-numbers t at b store (le 2 t (at + 2)) (le 2 t at) (eqb (le 2 t (at + 2)) 0) (ltb (at + 4) (length t)) (eqb (refusal b (driveOf (part (le 2 t at) t at)) store) 0) refl refl refl
+    by-tests true k l c e = refl
+    by-tests false false l c e = refl
+    by-tests false true false c e = refl
+    by-tests false true true true e = refl
+    by-tests false true true false e = whole-numbers t at b store (le 2 t (at + 2)) (le 2 t at) e
 
 -- ---- where the reading stands
 
@@ -279,20 +389,23 @@ pub readFrom-zero : (k : ℕ) (t : List ℕ) (store at : ℕ) (b : Table) → k 
 unfolding readFrom
 readFrom-zero k t store at b e = rw e
 
--- what each drive that is taken keeps holds at the end of a reading, which, where the table was accepted, is its end record
+-- what each record that is taken keeps holds at the end of a reading, which, where the table was accepted, is its end record
 abbrev pub Kept : (ℕ → Table → Type 0) → List ℕ → Reading → Type 0
 Kept I t r = (at : ℕ) × (I at (r .table) × (r .answer ≡ Accepted → (headerAt t at ≡ Whole 0 4) × (length t ≤ at + 4)))
 
 pub read-keeps : (I : ℕ → Table → Type 0) (t : List ℕ) (store : ℕ)
-    → ((at : ℕ) (b : Table) → I at b → headerAt t at ≡ Whole 1 68 → refusal b (driveOf (part 68 t at)) store ≡ 0 → I (at + 68) (more b (driveOf (part 68 t at))))
+    → ((at : ℕ) (b : Table) → I at b → headerAt t at ≡ Whole 1 68 → refusal (b .count) (b .drives) (driveOf (part 68 t at)) store ≡ 0 → I (at + 68) (more b (driveOf (part 68 t at))))
+    → ((at : ℕ) (b : Table) → I at b → headerAt t at ≡ Whole 4 20 → parametersRefusal b (numberIn (part 20 t at)) ≡ 0
+    → I (at + 20) (withParameters b (numberIn (part 20 t at)) (parametersIn (part 20 t at))))
     → (k at : ℕ) (b : Table) → I at b → Kept I t (readFrom k t store at b)
 unfolding readFrom
-read-keeps I t store keep zero at b i = (at, (i, λ q. impossible (cc)))
-read-keeps I t store keep (suc k) at b i =
+read-keeps I t store keep attach zero at b i = (at, (i, λ q. impossible (cc)))
+read-keeps I t store keep attach (suc k) at b i =
     stepAt-cases (λ (s : Stepped). Kept I t (goOn (s .step) (s .table) (readFrom k t store))) t at b store
     (λ n p. (at, (i, λ q. impossible (cc))))
     (λ h l. (at, (i, λ q. (h, l))))
-    (λ h z. read-keeps I t store keep k (at + 68) (more b (driveOf (part 68 t at))) (keep at b i h z))
+    (λ h z. read-keeps I t store keep attach k (at + 68) (more b (driveOf (part 68 t at))) (keep at b i h z))
+    (λ h z. read-keeps I t store keep attach k (at + 20) (withParameters b (numberIn (part 20 t at)) (parametersIn (part 20 t at))) (attach at b i h z))
 
 -- ---- the reading in numbers
 
@@ -313,9 +426,32 @@ from-numbers (suc k) t store at b =
 -- a reading promises its numbers too
 pub reads-is : {r : Reading} (t : List ℕ) (store : ℕ) → r ≡ readTable t store → Reads t store r
 unfolding readTable tableNumbers
-reads-is t store e = record { reading = e; numbers = ap (λ (x : Reading). answerNumbers (x .answer)) e ∙ from-numbers 9 t store 0 emptyTable }
+reads-is t store e = record { reading = e; numbers = ap (λ (x : Reading). answerNumbers (x .answer)) e ∙ from-numbers mostRecords t store 0 emptyTable }
 
--- and a write
+-- ---- the loop of a reading: what is left to read gives the whole reading
+
+pub reads-first : {b : Table} (t : List ℕ) (store : ℕ) → b ≡ emptyTable → readFrom mostRecords t store 0 b ≡ readTable t store
+unfolding readTable
+reads-first t store e = rw e
+
+module _ {r : Stepped} (left : ℕ) (t : List ℕ) (store at : ℕ) (b : Table) (l : 0 < left) (e : r ≡ stepAt t at b store) where
+  step-on : goOn (r .step) (r .table) (readFrom (left - 1) t store) ≡ readFrom left t store at b
+  step-on = rw e (readFrom-on left t store at b l)
+
+  pub reads-next : {n : ℕ} → r .step ≡ Next n → readFrom left t store at b ≡ readTable t store → readFrom (left - 1) t store n (r .table) ≡ readTable t store
+  reads-next q s = rw q at step-on ∙ s
+
+  pub reads-done : r .step ≡ Done → readFrom left t store at b ≡ readTable t store → Reads t store (reading Accepted (r .table))
+  reads-done q s = reads-is t store (rw q at step-on ∙ s)
+
+  pub reads-refused : {n place : ℕ} → r .step ≡ Refused n place → readFrom left t store at b ≡ readTable t store → Reads t store (reading (AnswerRefused n place) (r .table))
+  reads-refused q s = reads-is t store (rw q at step-on ∙ s)
+
+pub reads-end : (left : ℕ) (t : List ℕ) (store at : ℕ) (b : Table) → left ≡ 0 → readFrom left t store at b ≡ readTable t store → Reads t store (reading (AnswerRefused 4 at) b)
+reads-end left t store at b z s = reads-is t store (readFrom-zero left t store at b z ∙ s)
+
+-- ---- the numbers of a write
+
 pub write-numbers : {r : Written} (b : Table) (room : ℕ) → r ≡ writeAnswer b room → writtenNumbers r ≡ writeNumbers b room
 unfolding writeAnswer writtenNumbers writeNumbers
 write-numbers {r} b room e = ap writtenNumbers e ∙ by-test (ltb room (length (tableOf b)))
@@ -334,16 +470,59 @@ recordsOf-more n b = rw add-one
 pub length-more : (n : ℕ) (b : Table) → length (recordsOf (n + 1) b) ≡ length (recordsOf n b) + length (slotRecords b n)
 length-more n b = ap length (recordsOf-more n b) ∙ length-append (recordsOf n b) (slotRecords b n)
 
+-- the records of fewer slots are not longer
+pub length-up : (i n : ℕ) (b : Table) → i < n → length (recordsOf (i + 1) b) ≤ length (recordsOf n b)
+length-up i zero b h = absurd (omega arith)
+length-up i (suc n) b h =
+    let m : length (recordsOf (suc n) b) ≡ length (recordsOf n b) + length (slotRecords b n) = rw add-one at (length-more n b) in
+    ⊎-elim (λ x. omega (arith, m, length-up i n b x)) (λ (x : n ≤ i). let e : i + 1 ≡ suc n = omega arith in rw e (omega arith)) (lt-or-le i n)
+
 -- one slot more in a buffer
 pub sets-slot : (s : List ℕ) (b : Table) (i at : ℕ) → at ≡ length (recordsOf i b)
     → sets (sets s 0 (recordsOf i b)) at (slotRecords b i) ≡ sets s 0 (recordsOf (i + 1) b)
-sets-slot s b i at e = rw (recordsOf-more i b, sets-append, zero-add, e)
+sets-slot s b i at e = rw (recordsOf-more i b, sets-append s 0 (recordsOf i b) (slotRecords b i), zero-add, e)
 
 -- only the first n slots count
-pub recordsOf-ext : (n : ℕ) (b c : Table) → ((i : ℕ) → i < n → getD (b .drives) i noDrive ≡ getD (c .drives) i noDrive) → recordsOf n b ≡ recordsOf n c
+pub recordsOf-ext : (n : ℕ) (b c : Table) → ((i : ℕ) → i < n → slotRecords b i ≡ slotRecords c i) → recordsOf n b ≡ recordsOf n c
 unfolding recordsOf
 recordsOf-ext zero b c f = refl
 recordsOf-ext (suc n) b c f = rw (f n (omega arith), recordsOf-ext n b c (λ i h. f i (omega arith)))
+
+-- the records of a slot, by whether it has parameters
+pub slot-without : (b : Table) (i : ℕ) → hasParameters b i ≡ false → slotRecords b i ≡ recordOf (getD (b .drives) i noDrive)
+slot-without b i e = rw e (append-nil (recordOf (getD (b .drives) i noDrive)))
+
+pub slot-with : (b : Table) (i : ℕ) → hasParameters b i ≡ true → slotRecords b i ≡ recordOf (getD (b .drives) i noDrive) ++ parametersRecord i (parametersAt b i)
+slot-with b i e = rw e
+
+pub length-parametersAt : (b : Table) (i : ℕ) → length (b .parameters) ≡ 112 → i < 8 → length (parametersAt b i) ≡ 14
+length-parametersAt b i l h = length-take-le 14 (drop (14 * i) (b .parameters)) (rw length-drop (omega arith))
+
+pub length-slot : (b : Table) (i : ℕ) → length (b .parameters) ≡ 112 → i < 8
+    → length (slotRecords b i) ≡ length (recordOf (getD (b .drives) i noDrive)) + pick (hasParameters b i) 20 0
+length-slot b i l h =
+    length-append (recordOf (getD (b .drives) i noDrive)) (pick (hasParameters b i) (parametersRecord i (parametersAt b i)) [])
+    ∙ ap (λ (n : ℕ). length (recordOf (getD (b .drives) i noDrive)) + n) (by-mark (hasParameters b i))
+  where
+    by-mark : (x : Bool) → length (pick x (parametersRecord i (parametersAt b i)) []) ≡ pick x 20 0
+    by-mark true = length-parametersRecord i (parametersAt b i) (length-parametersAt b i l h)
+    by-mark false = refl
+
+-- the records of a slot laid from a place on, as the code lays them
+pub slot-laid : {o r : List ℕ} {n : ℕ} (b : Table) (i : ℕ) (s : List ℕ) (at : ℕ) → hasParameters b i ≡ false → r ≡ recordOf (getD (b .drives) i noDrive)
+    → n ≡ length (recordOf (getD (b .drives) i noDrive)) → o ≡ sets s at r → (o ≡ sets s at (slotRecords b i)) × (at + n ≡ at + length (slotRecords b i))
+slot-laid b i s at e r n o =
+    let w = slot-without b i e in
+    (o ∙ ap (sets s at) (r ∙ sym w), ap (λ (x : ℕ). at + x) (n ∙ ap length (sym w)))
+
+pub slot-laid-both : {o o₂ r r₂ p : List ℕ} {n : ℕ} (b : Table) (i : ℕ) (s : List ℕ) (at : ℕ) → hasParameters b i ≡ true → r ≡ recordOf (getD (b .drives) i noDrive)
+    → n ≡ length (recordOf (getD (b .drives) i noDrive)) → o ≡ sets s at r → p ≡ parametersAt b i → r₂ ≡ parametersRecord i p → o₂ ≡ sets o (at + n) r₂ → length r₂ ≡ 20
+    → (o₂ ≡ sets s at (slotRecords b i)) × (at + n + 20 ≡ at + length (slotRecords b i))
+slot-laid-both {o} {o₂} {r} {r₂} {p} {n} b i s at e q m o₁ w y z l =
+    let d : List ℕ = recordOf (getD (b .drives) i noDrive) in
+    let x : List ℕ = parametersRecord i (parametersAt b i) in
+    let k : r₂ ≡ x = y ∙ ap (parametersRecord i) w in
+    (rw (z, o₁, q, k, m, slot-with b i e) (sym (sets-append s at d x)), rw (slot-with b i e) (omega (arith, length-append d x, m, ap length k, l)))
 
 -- a table of eight slots holds as many drives as it counts, and at most eight
 pub length-drives : (b : Table) → length (b .drives) ≡ 8 → length (drivesOf b) ≡ min (b .count) 8
@@ -378,7 +557,7 @@ module _ (b : Table) (out : List ℕ) (n end : ℕ) (eight : length (b .drives) 
 
 -- a drive is taken where it obeys the rules and overlaps none of those before it
 pub taken-is : (i : ℕ) (l : List Drive) (d : Drive) (store : ℕ) → i < 8
-    → both (both (fieldsOk d) (inStore d store)) (not (overlapsAny i l d)) ≡ eqb (refusal (firstDrives l i) d store) 0
+    → both (both (fieldsOk d) (inStore d store)) (not (overlapsAny i l d)) ≡ eqb (refusal i l d store) 0
 unfolding refusal
 taken-is i l d store h = rw (lt-leb 8 i h) (go (fieldsOk d) (inStore d store) (overlapsAny i l d))
   where

@@ -1,7 +1,7 @@
--- Tables by number: document 01's 72 bytes, and tables that fail one check or two adjoining ones.
+-- Tables by number: document 01's 72 bytes, tables that fail one check or two adjoining ones, and tables with parameters.
 -- Assumes nothing.
 use mathlib.Core.Path.{_≡_, refl}
-use mathlib.Core.Bool.{true, false}
+use mathlib.Core.Bool.{Bool, true, false}
 use mathlib.Core.List.{List, [], _∷_, _++_, map}
 use Prim.Native.Nat.{ℕ, zero, suc, _+_, _*_}
 use lib.ListN.{take, replicate}
@@ -10,8 +10,9 @@ use Rattle.words.specs.Words.{le, leBytes}
 use Rattle.chs.specs.Chs.{inLimits}
 use Rattle.drive.specs.declared.Drive.{Drive}
 use Rattle.drive.specs.Drive.{driveOf, recordOf, geometryBytes, sizeBytes, nameBytes, same, busOk, interfaceOk, geometryFits, fieldsOk, inStore, overlap, blankNumbers, blankNames, isBlank}
+use Rattle.attached.specs.Parameters.{parametersRecord}
 use Rattle.table.specs.declared.Table.{Table}
-use Rattle.table.specs.Table.{headerOf, headerAt, overlapsAny, refusal, driveStep, endStep, stepOf, stepAt, zeroDrive, emptyTable, readFrom, readTable, recordsOf, bytesOf, tableOf, writeAnswer, writeOut, soundTo, blankTo, isSound, stepNumbers, answerNumbers, writtenNumbers, recordNumbers, numbersFrom, tableNumbers, writeNumbers}
+use Rattle.table.specs.Table.{headerOf, headerAt, overlapsAny, refusal, parametersRefusal, recordRefusal, withRecord, recordStep, endStep, stepOf, stepAt, zeroDrive, emptyTable, readFrom, readTable, recordsOf, bytesOf, tableOf, writeAnswer, writeOut, soundTo, blankTo, attachedTo, isSound, parametersTo, stepNumbers, answerNumbers, writtenNumbers, recordNumbers, numbersFrom, tableNumbers, writeNumbers}
 
 -- the drive record of document 01's table, and the end record
 abbrev record₁ : List ℕ
@@ -46,7 +47,7 @@ answers = map (λ (t : List ℕ). answerNumbers (readTable t store .answer))
 --   eight drives: 0
 pub passing : answers ((record₁ ++ end) ∷ end ∷ (drives 8 ++ end) ∷ [])
     ≡ (0 ∷ []) ∷ (0 ∷ []) ∷ (0 ∷ []) ∷ []
-unfolding le leBytes inLimits driveOf same busOk interfaceOk geometryFits fieldsOk inStore overlap headerOf headerAt overlapsAny refusal driveStep endStep stepOf stepAt readFrom readTable answerNumbers
+unfolding le leBytes inLimits driveOf same busOk interfaceOk geometryFits fieldsOk inStore overlap headerOf headerAt overlapsAny refusal parametersRefusal recordRefusal withRecord recordStep endStep stepOf stepAt readFrom readTable answerNumbers
 passing = refl
 
 -- the order of the checks, each adjoining pair with both faults
@@ -63,7 +64,7 @@ passing = refl
 --   overlapping, with a byte after the end: 7 at 68
 pub order : answers ([] ∷ (4 ∷ 0 ∷ 9 ∷ []) ∷ (5 ∷ 0 ∷ 9 ∷ 0 ∷ []) ∷ (67 ∷ 0 ∷ 1 ∷ 0 ∷ []) ∷ (5 ∷ 0 ∷ 0 ∷ 0 ∷ 0 ∷ []) ∷ (take 67 (but 39 (2 ∷ []))) ∷ (drives 8 ++ take 67 record₁) ∷ (drives 8 ++ but 39 (2 ∷ []) ++ end) ∷ (but 24 (leBytes 8 store ++ leBytes 2 128) ++ end) ∷ (from 4294965248 ++ from 4294967295 ++ end) ∷ (record₁ ++ record₁ ++ end ++ end) ∷ [])
     ≡ (1 ∷ 0 ∷ []) ∷ (1 ∷ 0 ∷ []) ∷ (3 ∷ 0 ∷ []) ∷ (2 ∷ 0 ∷ []) ∷ (2 ∷ 0 ∷ []) ∷ (1 ∷ 0 ∷ []) ∷ (1 ∷ 544 ∷ []) ∷ (4 ∷ 544 ∷ []) ∷ (5 ∷ 0 ∷ []) ∷ (6 ∷ 68 ∷ []) ∷ (7 ∷ 68 ∷ []) ∷ []
-unfolding le leBytes inLimits driveOf same busOk interfaceOk geometryFits fieldsOk inStore overlap headerOf headerAt overlapsAny refusal driveStep endStep stepOf stepAt readFrom readTable answerNumbers
+unfolding le leBytes inLimits driveOf same busOk interfaceOk geometryFits fieldsOk inStore overlap headerOf headerAt overlapsAny refusal parametersRefusal recordRefusal withRecord recordStep endStep stepOf stepAt readFrom readTable answerNumbers
 order = refl
 
 -- the places of refusals
@@ -73,7 +74,7 @@ order = refl
 --   an unknown kind after a drive: 3 at 68
 pub places : answers (record₁ ∷ (end ++ (0 ∷ [])) ∷ (record₁ ++ end ++ (0 ∷ [])) ∷ (record₁ ++ (4 ∷ 0 ∷ 2 ∷ 0 ∷ [])) ∷ [])
     ≡ (1 ∷ 68 ∷ []) ∷ (8 ∷ 4 ∷ []) ∷ (8 ∷ 72 ∷ []) ∷ (3 ∷ 68 ∷ []) ∷ []
-unfolding le leBytes inLimits driveOf same busOk interfaceOk geometryFits fieldsOk inStore overlap headerOf headerAt overlapsAny refusal driveStep endStep stepOf stepAt readFrom readTable answerNumbers
+unfolding le leBytes inLimits driveOf same busOk interfaceOk geometryFits fieldsOk inStore overlap headerOf headerAt overlapsAny refusal parametersRefusal recordRefusal withRecord recordStep endStep stepOf stepAt readFrom readTable answerNumbers
 places = refl
 
 -- one damaged byte in every field that has a rule
@@ -94,7 +95,7 @@ places = refl
 --   interface type I2O: 5 at 0
 pub fields : answers ((but 16 (leBytes 8 0) ++ end) ∷ (but 16 (leBytes 8 2015) ++ end) ∷ (but 32 (128 ∷ []) ++ end) ∷ (but 33 (128 ∷ []) ++ end) ∷ (but 34 (leBytes 2 0) ++ end) ∷ (but 16 (leBytes 8 2000000 ++ leBytes 8 0 ++ leBytes 2 2 ++ leBytes 2 1025) ++ end) ∷ (but 36 (leBytes 2 0) ++ end) ∷ (but 36 (leBytes 2 256) ++ end) ∷ (but 38 (0 ∷ []) ++ end) ∷ (but 38 (64 ∷ []) ++ end) ∷ (but 39 (2 ∷ []) ++ end) ∷ (but 43 (32 ∷ []) ++ end) ∷ (but 42 (88 ∷ []) ++ end) ∷ (but 51 (1 ∷ []) ++ end) ∷ (but 44 (73 ∷ 50 ∷ 79 ∷ []) ++ end) ∷ [])
     ≡ (5 ∷ 0 ∷ []) ∷ (5 ∷ 0 ∷ []) ∷ (5 ∷ 0 ∷ []) ∷ (5 ∷ 0 ∷ []) ∷ (5 ∷ 0 ∷ []) ∷ (5 ∷ 0 ∷ []) ∷ (5 ∷ 0 ∷ []) ∷ (5 ∷ 0 ∷ []) ∷ (5 ∷ 0 ∷ []) ∷ (5 ∷ 0 ∷ []) ∷ (5 ∷ 0 ∷ []) ∷ (5 ∷ 0 ∷ []) ∷ (5 ∷ 0 ∷ []) ∷ (5 ∷ 0 ∷ []) ∷ (5 ∷ 0 ∷ []) ∷ []
-unfolding le leBytes inLimits driveOf same busOk interfaceOk geometryFits fieldsOk inStore overlap headerOf headerAt overlapsAny refusal driveStep endStep stepOf stepAt readFrom readTable answerNumbers
+unfolding le leBytes inLimits driveOf same busOk interfaceOk geometryFits fieldsOk inStore overlap headerOf headerAt overlapsAny refusal parametersRefusal recordRefusal withRecord recordStep endStep stepOf stepAt readFrom readTable answerNumbers
 fields = refl
 
 -- every permitted value at the edge of its rule
@@ -112,7 +113,7 @@ fields = refl
 --   paths of any bytes: 0
 pub good : answers ((but 16 (leBytes 8 2016) ++ end) ∷ (but 32 (127 ∷ []) ++ end) ∷ (but 16 (leBytes 8 16450560 ++ leBytes 8 0 ++ leBytes 2 2 ++ leBytes 2 1024 ++ leBytes 2 255) ++ end) ∷ (but 34 (leBytes 2 1 ++ leBytes 2 1 ++ (1 ∷ [])) ++ end) ∷ (but 39 (1 ∷ []) ++ end) ∷ (but 40 (73 ∷ 83 ∷ 65 ∷ 0 ∷ []) ++ end) ∷ (but 44 (65 ∷ 84 ∷ 65 ∷ 80 ∷ 73 ∷ []) ++ end) ∷ (but 44 (83 ∷ 67 ∷ 83 ∷ 73 ∷ []) ++ end) ∷ (but 44 (85 ∷ 83 ∷ 66 ∷ []) ++ end) ∷ (but 44 (49 ∷ 51 ∷ 57 ∷ 52 ∷ []) ++ end) ∷ (but 44 (70 ∷ 73 ∷ 66 ∷ 82 ∷ 69 ∷ []) ++ end) ∷ (but 52 (replicate 16 255) ++ end) ∷ [])
     ≡ (0 ∷ []) ∷ (0 ∷ []) ∷ (0 ∷ []) ∷ (0 ∷ []) ∷ (0 ∷ []) ∷ (0 ∷ []) ∷ (0 ∷ []) ∷ (0 ∷ []) ∷ (0 ∷ []) ∷ (0 ∷ []) ∷ (0 ∷ []) ∷ (0 ∷ []) ∷ []
-unfolding le leBytes inLimits driveOf same busOk interfaceOk geometryFits fieldsOk inStore overlap headerOf headerAt overlapsAny refusal driveStep endStep stepOf stepAt readFrom readTable answerNumbers
+unfolding le leBytes inLimits driveOf same busOk interfaceOk geometryFits fieldsOk inStore overlap headerOf headerAt overlapsAny refusal parametersRefusal recordRefusal withRecord recordStep endStep stepOf stepAt readFrom readTable answerNumbers
 good = refl
 
 -- the store's end, with no sum that wraps
@@ -122,7 +123,7 @@ good = refl
 --   first 2^64 - 2048: 6 at 0
 pub store-end : answers ((from 4294965248 ++ end) ∷ (from 4294965249 ++ end) ∷ (from 18446744073709551615 ++ end) ∷ (from 18446744073709549568 ++ end) ∷ [])
     ≡ (0 ∷ []) ∷ (6 ∷ 0 ∷ []) ∷ (6 ∷ 0 ∷ []) ∷ (6 ∷ 0 ∷ []) ∷ []
-unfolding le leBytes inLimits driveOf same busOk interfaceOk geometryFits fieldsOk inStore overlap headerOf headerAt overlapsAny refusal driveStep endStep stepOf stepAt readFrom readTable answerNumbers
+unfolding le leBytes inLimits driveOf same busOk interfaceOk geometryFits fieldsOk inStore overlap headerOf headerAt overlapsAny refusal parametersRefusal recordRefusal withRecord recordStep endStep stepOf stepAt readFrom readTable answerNumbers
 store-end = refl
 
 -- touching is allowed, one shared block is not
@@ -135,18 +136,73 @@ store-end = refl
 --   the first of two earlier ones: 7 at 136
 pub overlaps : answers ((from 0 ++ from 4096 ++ from 2048 ++ end) ∷ (from 2048 ++ from 1 ++ end) ∷ (from 2048 ++ from 4095 ++ end) ∷ (from 2048 ++ from 2048 ++ end) ∷ (from 2048 ++ but 16 (leBytes 8 2016 ++ leBytes 8 2058) ++ end) ∷ (but 16 (leBytes 8 2016 ++ leBytes 8 2058) ++ from 2048 ++ end) ∷ (from 0 ++ from 4096 ++ from 2047 ++ end) ∷ [])
     ≡ (0 ∷ []) ∷ (7 ∷ 68 ∷ []) ∷ (7 ∷ 68 ∷ []) ∷ (7 ∷ 68 ∷ []) ∷ (7 ∷ 68 ∷ []) ∷ (7 ∷ 68 ∷ []) ∷ (7 ∷ 136 ∷ []) ∷ []
-unfolding le leBytes inLimits driveOf same busOk interfaceOk geometryFits fieldsOk inStore overlap headerOf headerAt overlapsAny refusal driveStep endStep stepOf stepAt readFrom readTable answerNumbers
+unfolding le leBytes inLimits driveOf same busOk interfaceOk geometryFits fieldsOk inStore overlap headerOf headerAt overlapsAny refusal parametersRefusal recordRefusal withRecord recordStep endStep stepOf stepAt readFrom readTable answerNumbers
 overlaps = refl
 
 -- the second of two earlier ones: 7 at 136
 pub overlaps-second : answers ((from 0 ++ from 4096 ++ from 4097 ++ end) ∷ []) ≡ (7 ∷ 136 ∷ []) ∷ []
-unfolding le leBytes inLimits driveOf same busOk interfaceOk geometryFits fieldsOk inStore overlap headerOf headerAt overlapsAny refusal driveStep endStep stepOf stepAt readFrom readTable answerNumbers
+unfolding le leBytes inLimits driveOf same busOk interfaceOk geometryFits fieldsOk inStore overlap headerOf headerAt overlapsAny refusal parametersRefusal recordRefusal withRecord recordStep endStep stepOf stepAt readFrom readTable answerNumbers
 overlaps-second = refl
 
 -- a store of no blocks: every drive is past it, and the table with none passes
 pub no-store : map (λ (t : List ℕ). answerNumbers (readTable t 0 .answer)) ((record₁ ++ end) ∷ end ∷ []) ≡ (6 ∷ 0 ∷ []) ∷ (0 ∷ []) ∷ []
-unfolding le leBytes inLimits driveOf same busOk interfaceOk geometryFits fieldsOk inStore overlap headerOf headerAt overlapsAny refusal driveStep endStep stepOf stepAt readFrom readTable answerNumbers
+unfolding le leBytes inLimits driveOf same busOk interfaceOk geometryFits fieldsOk inStore overlap headerOf headerAt overlapsAny refusal parametersRefusal recordRefusal withRecord recordStep endStep stepOf stepAt readFrom readTable answerNumbers
 no-store = refl
+
+-- ---- records of parameters
+
+-- fourteen bytes, each of its own value, and the record that gives them to a drive
+abbrev given-bytes : List ℕ
+given-bytes = 101 ∷ 102 ∷ 103 ∷ 104 ∷ 105 ∷ 106 ∷ 107 ∷ 108 ∷ 109 ∷ 110 ∷ 111 ∷ 112 ∷ 113 ∷ 114 ∷ []
+
+abbrev attach : ℕ → List ℕ
+attach n = 20 ∷ 0 ∷ 4 ∷ 0 ∷ (leBytes 2 n ++ given-bytes)
+
+-- the same under another kind and another length, for number 1
+abbrev kind : ℕ → ℕ → List ℕ
+kind k size = size ∷ 0 ∷ k ∷ 0 ∷ 1 ∷ 0 ∷ given-bytes
+
+-- k drives with a record of parameters each
+abbrev attached : ℕ → List ℕ
+attached zero = []
+attached (suc k) = attached k ++ from (2048 * k) ++ attach k
+
+-- which drive a record of parameters names
+--   no drive read: 9 at 0
+--   for the one drive: 0
+--   for an earlier drive: 9 at 136
+--   for an earlier drive, the last one having its own: 9 at 156
+--   for a later number: 9 at 68
+--   number 8 after eight drives: 9 at 544
+--   number 7 after eight drives: 0
+--   number 256: 9 at 68
+--   repeated: 9 at 88
+--   one each: 0
+--   eight drives with one each: 0
+--   a ninth drive after them: 4 at 704
+pub attach-last : answers ((attach 0 ++ end) ∷ (record₁ ++ attach 0 ++ end) ∷ (from 0 ++ from 2048 ++ attach 0 ++ end) ∷ (from 0 ++ from 2048 ++ attach 1 ++ attach 0 ++ end) ∷ (record₁ ++ attach 1 ++ end) ∷ (drives 8 ++ attach 8 ++ end) ∷ (drives 8 ++ attach 7 ++ end) ∷ (record₁ ++ attach 256 ++ end) ∷ (record₁ ++ attach 0 ++ attach 0 ++ end) ∷ (from 0 ++ attach 0 ++ from 2048 ++ attach 1 ++ end) ∷ (attached 8 ++ end) ∷ (attached 8 ++ record₁ ++ end) ∷ [])
+    ≡ (9 ∷ 0 ∷ []) ∷ (0 ∷ []) ∷ (9 ∷ 136 ∷ []) ∷ (9 ∷ 156 ∷ []) ∷ (9 ∷ 68 ∷ []) ∷ (9 ∷ 544 ∷ []) ∷ (0 ∷ []) ∷ (9 ∷ 68 ∷ []) ∷ (9 ∷ 88 ∷ []) ∷ (0 ∷ []) ∷ (0 ∷ []) ∷ (4 ∷ 704 ∷ []) ∷ []
+unfolding le leBytes inLimits driveOf same busOk interfaceOk geometryFits fieldsOk inStore overlap headerOf headerAt overlapsAny refusal parametersRefusal recordRefusal withRecord recordStep endStep stepOf stepAt readFrom readTable answerNumbers
+attach-last = refl
+
+-- 9 comes after 1, 3, 2 and 1, and before 8
+--   three bytes of it, for a later number: 1 at 68
+--   kind 2 of its length: 3 at 68
+--   kind 3 of its length: 3 at 68
+--   kind 5 of its length: 3 at 68
+--   length 19, for a later number: 2 at 68
+--   length 21, for a later number: 2 at 68
+--   length 68, which is a drive's: 2 at 68
+--   a drive of length 20: 2 at 68
+--   an end record of length 20: 2 at 68
+--   length 19, cut off: 2 at 68
+--   cut off, for a later number: 1 at 68
+--   for a later number, with a byte after the end: 9 at 68
+--   a byte after the end record behind it: 8 at 92
+pub attach-order : answers ((record₁ ++ take 3 (attach 1)) ∷ (record₁ ++ kind 2 20 ++ end) ∷ (record₁ ++ kind 3 20 ++ end) ∷ (record₁ ++ kind 5 20 ++ end) ∷ (record₁ ++ kind 4 19 ++ end) ∷ (record₁ ++ kind 4 21 ++ end) ∷ (record₁ ++ kind 4 68 ++ end) ∷ (record₁ ++ kind 1 20 ++ end) ∷ (record₁ ++ kind 0 20 ++ end) ∷ (record₁ ++ take 6 (kind 4 19)) ∷ (record₁ ++ take 19 (attach 1)) ∷ (record₁ ++ attach 1 ++ end ++ end) ∷ (record₁ ++ attach 0 ++ end ++ (0 ∷ [])) ∷ [])
+    ≡ (1 ∷ 68 ∷ []) ∷ (3 ∷ 68 ∷ []) ∷ (3 ∷ 68 ∷ []) ∷ (3 ∷ 68 ∷ []) ∷ (2 ∷ 68 ∷ []) ∷ (2 ∷ 68 ∷ []) ∷ (2 ∷ 68 ∷ []) ∷ (2 ∷ 68 ∷ []) ∷ (2 ∷ 68 ∷ []) ∷ (2 ∷ 68 ∷ []) ∷ (1 ∷ 68 ∷ []) ∷ (9 ∷ 68 ∷ []) ∷ (8 ∷ 92 ∷ []) ∷ []
+unfolding le leBytes inLimits driveOf same busOk interfaceOk geometryFits fieldsOk inStore overlap headerOf headerAt overlapsAny refusal parametersRefusal recordRefusal withRecord recordStep endStep stepOf stepAt readFrom readTable answerNumbers
+attach-order = refl
 
 -- ---- the same by the second promise of each call: the numbers straight from the bytes
 
@@ -155,19 +211,29 @@ given = map (λ (t : List ℕ). tableNumbers t store)
 
 pub order-given : given ([] ∷ (4 ∷ 0 ∷ 9 ∷ []) ∷ (5 ∷ 0 ∷ 9 ∷ 0 ∷ []) ∷ (67 ∷ 0 ∷ 1 ∷ 0 ∷ []) ∷ (5 ∷ 0 ∷ 0 ∷ 0 ∷ 0 ∷ []) ∷ (take 67 (but 39 (2 ∷ []))) ∷ (drives 8 ++ take 67 record₁) ∷ (drives 8 ++ but 39 (2 ∷ []) ++ end) ∷ (but 24 (leBytes 8 store ++ leBytes 2 128) ++ end) ∷ (from 4294965248 ++ from 4294967295 ++ end) ∷ (record₁ ++ record₁ ++ end ++ end) ∷ [])
     ≡ (1 ∷ 0 ∷ []) ∷ (1 ∷ 0 ∷ []) ∷ (3 ∷ 0 ∷ []) ∷ (2 ∷ 0 ∷ []) ∷ (2 ∷ 0 ∷ []) ∷ (1 ∷ 0 ∷ []) ∷ (1 ∷ 544 ∷ []) ∷ (4 ∷ 544 ∷ []) ∷ (5 ∷ 0 ∷ []) ∷ (6 ∷ 68 ∷ []) ∷ (7 ∷ 68 ∷ []) ∷ []
-unfolding le leBytes inLimits driveOf same busOk interfaceOk geometryFits fieldsOk inStore overlap headerOf headerAt overlapsAny refusal driveStep endStep stepOf stepAt recordNumbers numbersFrom tableNumbers
+unfolding le leBytes inLimits driveOf same busOk interfaceOk geometryFits fieldsOk inStore overlap headerOf headerAt overlapsAny refusal parametersRefusal recordRefusal withRecord recordStep endStep stepOf stepAt recordNumbers numbersFrom tableNumbers
 order-given = refl
 
 pub places-given : given ((record₁ ++ end) ∷ record₁ ∷ (end ++ (0 ∷ [])) ∷ (record₁ ++ end ++ (0 ∷ [])) ∷ (record₁ ++ (4 ∷ 0 ∷ 2 ∷ 0 ∷ [])) ∷ [])
     ≡ (0 ∷ []) ∷ (1 ∷ 68 ∷ []) ∷ (8 ∷ 4 ∷ []) ∷ (8 ∷ 72 ∷ []) ∷ (3 ∷ 68 ∷ []) ∷ []
-unfolding le leBytes inLimits driveOf same busOk interfaceOk geometryFits fieldsOk inStore overlap headerOf headerAt overlapsAny refusal driveStep endStep stepOf stepAt recordNumbers numbersFrom tableNumbers
+unfolding le leBytes inLimits driveOf same busOk interfaceOk geometryFits fieldsOk inStore overlap headerOf headerAt overlapsAny refusal parametersRefusal recordRefusal withRecord recordStep endStep stepOf stepAt recordNumbers numbersFrom tableNumbers
 places-given = refl
+
+pub attach-last-given : given ((attach 0 ++ end) ∷ (record₁ ++ attach 0 ++ end) ∷ (from 0 ++ from 2048 ++ attach 0 ++ end) ∷ (from 0 ++ from 2048 ++ attach 1 ++ attach 0 ++ end) ∷ (record₁ ++ attach 1 ++ end) ∷ (drives 8 ++ attach 8 ++ end) ∷ (drives 8 ++ attach 7 ++ end) ∷ (record₁ ++ attach 256 ++ end) ∷ (record₁ ++ attach 0 ++ attach 0 ++ end) ∷ (from 0 ++ attach 0 ++ from 2048 ++ attach 1 ++ end) ∷ (attached 8 ++ end) ∷ (attached 8 ++ record₁ ++ end) ∷ [])
+    ≡ (9 ∷ 0 ∷ []) ∷ (0 ∷ []) ∷ (9 ∷ 136 ∷ []) ∷ (9 ∷ 156 ∷ []) ∷ (9 ∷ 68 ∷ []) ∷ (9 ∷ 544 ∷ []) ∷ (0 ∷ []) ∷ (9 ∷ 68 ∷ []) ∷ (9 ∷ 88 ∷ []) ∷ (0 ∷ []) ∷ (0 ∷ []) ∷ (4 ∷ 704 ∷ []) ∷ []
+unfolding le leBytes inLimits driveOf same busOk interfaceOk geometryFits fieldsOk inStore overlap headerOf headerAt overlapsAny refusal parametersRefusal recordRefusal withRecord recordStep endStep stepOf stepAt recordNumbers numbersFrom tableNumbers
+attach-last-given = refl
+
+pub attach-order-given : given ((record₁ ++ take 3 (attach 1)) ∷ (record₁ ++ kind 2 20 ++ end) ∷ (record₁ ++ kind 3 20 ++ end) ∷ (record₁ ++ kind 5 20 ++ end) ∷ (record₁ ++ kind 4 19 ++ end) ∷ (record₁ ++ kind 4 21 ++ end) ∷ (record₁ ++ kind 4 68 ++ end) ∷ (record₁ ++ kind 1 20 ++ end) ∷ (record₁ ++ kind 0 20 ++ end) ∷ (record₁ ++ take 6 (kind 4 19)) ∷ (record₁ ++ take 19 (attach 1)) ∷ (record₁ ++ attach 1 ++ end ++ end) ∷ (record₁ ++ attach 0 ++ end ++ (0 ∷ [])) ∷ [])
+    ≡ (1 ∷ 68 ∷ []) ∷ (3 ∷ 68 ∷ []) ∷ (3 ∷ 68 ∷ []) ∷ (3 ∷ 68 ∷ []) ∷ (2 ∷ 68 ∷ []) ∷ (2 ∷ 68 ∷ []) ∷ (2 ∷ 68 ∷ []) ∷ (2 ∷ 68 ∷ []) ∷ (2 ∷ 68 ∷ []) ∷ (2 ∷ 68 ∷ []) ∷ (1 ∷ 68 ∷ []) ∷ (9 ∷ 68 ∷ []) ∷ (8 ∷ 92 ∷ []) ∷ []
+unfolding le leBytes inLimits driveOf same busOk interfaceOk geometryFits fieldsOk inStore overlap headerOf headerAt overlapsAny refusal parametersRefusal recordRefusal withRecord recordStep endStep stepOf stepAt recordNumbers numbersFrom tableNumbers
+attach-order-given = refl
 
 -- one record: a drive with the next place, the end, and fewer than 4 bytes left
 pub steps-given : map (λ (at : ℕ). stepNumbers (stepAt (record₁ ++ end) at emptyTable store .step)) (0 ∷ 68 ∷ 69 ∷ [])
     ++ map (λ (at : ℕ). recordNumbers (record₁ ++ end) at emptyTable store) (0 ∷ 68 ∷ 69 ∷ [])
     ≡ (0 ∷ 1 ∷ 68 ∷ []) ∷ (0 ∷ []) ∷ (1 ∷ 69 ∷ []) ∷ (0 ∷ 1 ∷ 68 ∷ []) ∷ (0 ∷ []) ∷ (1 ∷ 69 ∷ []) ∷ []
-unfolding le leBytes inLimits driveOf same busOk interfaceOk geometryFits fieldsOk inStore overlap headerOf headerAt overlapsAny refusal driveStep endStep stepOf stepAt recordNumbers stepNumbers
+unfolding le leBytes inLimits driveOf same busOk interfaceOk geometryFits fieldsOk inStore overlap headerOf headerAt overlapsAny refusal parametersRefusal recordRefusal withRecord recordStep endStep stepOf stepAt recordNumbers stepNumbers
 steps-given = refl
 
 -- ---- what is read and written, by value
@@ -185,17 +251,21 @@ first-bytes = 68 ∷ 0 ∷ 1 ∷ 0 ∷ 11 ∷ 0 ∷ 0 ∷ 0 ∷ 12 ∷ 0 ∷ 0 �
 abbrev second-bytes : List ℕ
 second-bytes = 68 ∷ 0 ∷ 1 ∷ 0 ∷ 31 ∷ 0 ∷ 0 ∷ 0 ∷ 32 ∷ 0 ∷ 0 ∷ 0 ∷ 33 ∷ 0 ∷ 0 ∷ 0 ∷ 160 ∷ 15 ∷ 0 ∷ 0 ∷ 0 ∷ 0 ∷ 0 ∷ 0 ∷ 100 ∷ 0 ∷ 0 ∷ 0 ∷ 0 ∷ 0 ∷ 0 ∷ 0 ∷ 34 ∷ 0 ∷ 10 ∷ 0 ∷ 11 ∷ 0 ∷ 12 ∷ 0 ∷ 80 ∷ 67 ∷ 73 ∷ 0 ∷ 65 ∷ 84 ∷ 65 ∷ 80 ∷ 73 ∷ 0 ∷ 0 ∷ 0 ∷ 17 ∷ 18 ∷ 19 ∷ 20 ∷ 21 ∷ 22 ∷ 23 ∷ 24 ∷ 25 ∷ 26 ∷ 27 ∷ 28 ∷ 29 ∷ 30 ∷ 31 ∷ 32 ∷ []
 
+-- a table by its drives and its count, with no parameters
+abbrev table : List Drive → ℕ → Table
+table ds n = record { drives = ds; count = n; present = replicate 8 false; parameters = replicate 112 0 }
+
 abbrev two : Table
-two = record { drives = first-drive ∷ second-drive ∷ replicate 6 zeroDrive; count = 2 }
+two = table (first-drive ∷ second-drive ∷ replicate 6 zeroDrive) 2
 
 -- read: each drive in its slot, with its own fields
 pub two-read : readTable (first-bytes ++ second-bytes ++ end) 14000 .table ≡ two
-unfolding le leBytes inLimits driveOf same busOk interfaceOk geometryFits fieldsOk inStore overlap headerOf headerAt overlapsAny refusal driveStep endStep stepOf stepAt readFrom readTable
+unfolding le leBytes inLimits driveOf same busOk interfaceOk geometryFits fieldsOk inStore overlap headerOf headerAt overlapsAny refusal parametersRefusal recordRefusal withRecord recordStep endStep stepOf stepAt readFrom readTable
 two-read = refl
 
 -- refused at the second record, the table has the drive before it
 pub one-read : readTable (first-bytes ++ second-bytes ++ end) 4099 .table .count ∷ readTable (second-bytes ++ first-bytes ++ end) 4100 .table .count ∷ [] ≡ 0 ∷ 1 ∷ []
-unfolding le leBytes inLimits driveOf same busOk interfaceOk geometryFits fieldsOk inStore overlap headerOf headerAt overlapsAny refusal driveStep endStep stepOf stepAt readFrom readTable
+unfolding le leBytes inLimits driveOf same busOk interfaceOk geometryFits fieldsOk inStore overlap headerOf headerAt overlapsAny refusal parametersRefusal recordRefusal withRecord recordStep endStep stepOf stepAt readFrom readTable
 one-read = refl
 
 -- written: the records in the order of the slots, then the end record
@@ -217,11 +287,61 @@ pub laid : map (writeOut two) (replicate 139 7 ∷ replicate 140 7 ∷ replicate
 unfolding leBytes recordOf geometryBytes sizeBytes nameBytes recordsOf bytesOf tableOf writeOut
 laid = refl
 
--- ---- a table that obeys the rules
+-- parameters: only the second drive has them
+abbrev two-attached : Table
+two-attached = record {
+  drives = first-drive ∷ second-drive ∷ replicate 6 zeroDrive;
+  count = 2;
+  present = false ∷ true ∷ replicate 6 false;
+  parameters = replicate 14 0 ++ (given-bytes ++ replicate 84 0);
+}
 
--- a table by its drives and its count
-abbrev table : List Drive → ℕ → Table
-table ds n = record { drives = ds; count = n }
+-- both have them, each its own
+abbrev both-attached : Table
+both-attached = record {
+  drives = first-drive ∷ second-drive ∷ replicate 6 zeroDrive;
+  count = 2;
+  present = true ∷ true ∷ replicate 6 false;
+  parameters = given-bytes ++ (replicate 14 7 ++ replicate 84 0);
+}
+
+abbrev both-bytes : List ℕ
+both-bytes = first-bytes ++ attach 0 ++ second-bytes ++ (20 ∷ 0 ∷ 4 ∷ 0 ∷ 1 ∷ 0 ∷ replicate 14 7) ++ end
+
+-- read: mark and bytes in the slot of their drive, in the record's order
+pub attached-read : readTable (first-bytes ++ second-bytes ++ attach 1 ++ end) 14000 .table ≡ two-attached
+unfolding le leBytes inLimits driveOf same busOk interfaceOk geometryFits fieldsOk inStore overlap headerOf headerAt overlapsAny refusal parametersRefusal recordRefusal withRecord recordStep endStep stepOf stepAt readFrom readTable
+attached-read = refl
+
+pub both-read : readTable both-bytes 14000 .table ≡ both-attached
+unfolding le leBytes inLimits driveOf same busOk interfaceOk geometryFits fieldsOk inStore overlap headerOf headerAt overlapsAny refusal parametersRefusal recordRefusal withRecord recordStep endStep stepOf stepAt readFrom readTable
+both-read = refl
+
+-- refused, the table has the drives and parameters before it
+pub attached-before : readTable (first-bytes ++ second-bytes ++ attach 1 ++ attach 1) 14000 .table ≡ two-attached
+unfolding le leBytes inLimits driveOf same busOk interfaceOk geometryFits fieldsOk inStore overlap headerOf headerAt overlapsAny refusal parametersRefusal recordRefusal withRecord recordStep endStep stepOf stepAt readFrom readTable
+attached-before = refl
+
+-- written: a drive's record and then its parameters', before the next drive
+pub attached-written : tableOf two-attached ≡ first-bytes ++ second-bytes ++ attach 1 ++ end
+unfolding leBytes recordOf geometryBytes sizeBytes nameBytes parametersRecord recordsOf bytesOf tableOf
+attached-written = refl
+
+pub both-written : tableOf both-attached ≡ both-bytes
+unfolding leBytes recordOf geometryBytes sizeBytes nameBytes parametersRecord recordsOf bytesOf tableOf
+both-written = refl
+
+-- into a buffer: 159 bytes are too few, 160 are enough
+pub attached-buffers : map (λ (n : ℕ). writtenNumbers (writeAnswer two-attached n)) (159 ∷ 160 ∷ []) ≡ (19 ∷ []) ∷ (0 ∷ 160 ∷ []) ∷ []
+unfolding leBytes recordOf geometryBytes sizeBytes nameBytes parametersRecord recordsOf bytesOf tableOf writeAnswer writtenNumbers
+attached-buffers = refl
+
+-- the records of parameters of the first 1, 2 and 8 slots
+pub counted : map (λ (n : ℕ). parametersTo n two-attached) (1 ∷ 2 ∷ 8 ∷ []) ++ map (λ (n : ℕ). parametersTo n both-attached) (1 ∷ 2 ∷ 8 ∷ []) ≡ 0 ∷ 1 ∷ 1 ∷ 1 ∷ 2 ∷ 2 ∷ []
+unfolding parametersTo
+counted = refl
+
+-- ---- a table that obeys the rules
 
 -- in a store of 14000 blocks
 --   two drives: true
@@ -241,10 +361,37 @@ pub sound : map (λ (b : Table). isSound b 14000)
     ∷ table (first-drive ∷ second-drive ∷ replicate 6 zeroDrive) 9
     ∷ [])
     ≡ true ∷ true ∷ false ∷ false ∷ true ∷ false ∷ false ∷ []
-unfolding inLimits same busOk interfaceOk geometryFits fieldsOk inStore overlap overlapsAny refusal blankNumbers blankNames isBlank soundTo blankTo isSound
+unfolding inLimits same busOk interfaceOk geometryFits fieldsOk inStore overlap overlapsAny refusal blankNumbers blankNames isBlank soundTo blankTo attachedTo isSound
 sound = refl
 
 -- and in one of 13999: the drive from 9000 ends past it
 pub sound-short : isSound two 13999 ∷ isSound two 14000 ∷ [] ≡ false ∷ true ∷ []
-unfolding inLimits same busOk interfaceOk geometryFits fieldsOk inStore overlap overlapsAny refusal blankNumbers blankNames isBlank soundTo blankTo isSound
+unfolding inLimits same busOk interfaceOk geometryFits fieldsOk inStore overlap overlapsAny refusal blankNumbers blankNames isBlank soundTo blankTo attachedTo isSound
 sound-short = refl
+
+-- the two drives with other marks and bytes
+abbrev marks : List Bool → List ℕ → Table
+marks m p = record { drives = first-drive ∷ second-drive ∷ replicate 6 zeroDrive; count = 2; present = m; parameters = p }
+
+-- parameters, in a store of 14000 blocks
+--   of the second drive: true
+--   of both: true
+--   zeros for both: true
+--   of a slot past the count: false
+--   of the last slot: false
+--   bytes in the first slot, which has none: false
+--   a last byte in the first slot: false
+--   a byte in the last slot, which has none: false
+pub sound-attached : map (λ (b : Table). isSound b 14000)
+    (two-attached
+    ∷ both-attached
+    ∷ marks (true ∷ true ∷ replicate 6 false) (replicate 112 0)
+    ∷ marks (false ∷ true ∷ true ∷ replicate 5 false) (replicate 112 0)
+    ∷ marks (replicate 7 false ++ (true ∷ [])) (replicate 112 0)
+    ∷ marks (replicate 8 false) (given-bytes ++ replicate 98 0)
+    ∷ marks (false ∷ true ∷ replicate 6 false) (replicate 13 0 ++ (1 ∷ replicate 98 0))
+    ∷ marks (replicate 8 false) (replicate 111 0 ++ (1 ∷ []))
+    ∷ [])
+    ≡ true ∷ true ∷ true ∷ false ∷ false ∷ false ∷ false ∷ false ∷ []
+unfolding inLimits same busOk interfaceOk geometryFits fieldsOk inStore overlap overlapsAny refusal blankNumbers blankNames isBlank soundTo blankTo attachedTo isSound
+sound-attached = refl

@@ -1,34 +1,47 @@
 -- A table that is accepted, written back, gives the same bytes.
 -- Assumes nothing.
-use mathlib.Core.Path.{_≡_, refl, sym, ap, _∙_}
-use mathlib.Core.List.{List, _++_}
-use Prim.Native.Nat.{ℕ, _+_, _-_, _≤_, _<_}
+use mathlib.Core.Path.{_≡_, refl, sym, ap, _∙_, subst}
+use mathlib.Core.Bool.{true, false}
+use mathlib.Core.List.{List, _++_, append-assoc}
+use Prim.Native.Nat.{ℕ, _+_, _-_, _*_, _≤_, _<_}
+use native.Mathlib.Nat.{add-zero}
 use native.Mathlib.Omega.{arith}
-use lib.ListN.{length, take, drop, length-drop, length-set, take-append-drop}
-use lib.Seq.{take-all, take-add, getD-take, getD-drop, getD-set-same, getD-set-other, drop-drop}
+use lib.ListN.{length, take, drop, getD, length-drop, length-set, getD-replicate, take-append-drop}
+use lib.Seq.{take-all, take-add, length-sets, getD-set-same, getD-set-other, drop-drop}
 use Rattle.words.specs.Words.{Bytes, le, leBytes, part}
-use Rattle.words.proofs.WordsLaws.{le-ext, write-read, bytes-part}
+use Rattle.words.proofs.WordsLaws.{write-read, bytes-part}
 use Rattle.drive.specs.declared.Drive.{Drive}
 use Rattle.drive.specs.Drive.{driveOf, recordOf}
 use Rattle.drive.proofs.DriveLaws.{record-drive}
+use Rattle.attached.specs.Parameters.{numberIn, parametersIn, parametersRecord}
+use Rattle.attached.proofs.AttachedLaws.{length-parametersIn, record-parameters}
 use Rattle.table.specs.declared.Table.{Table}
 use Rattle.table.specs.declared.Header.the-variants.{Whole}
 use Rattle.table.specs.declared.Answer.the-variants.{Accepted}
-use Rattle.table.specs.Table.{noDrive, headerAt, more, readFrom, readTable, emptyTable, recordsOf, bytesOf, drivesOf, tableOf}
-use Rattle.table.proofs.TableLaws.{whole-at, length-whole, refusal-room, read-keeps, recordsOf-more, recordsOf-ext, length-drives}
+use Rattle.table.specs.Table.{noDrive, headerAt, more, hasParameters, parametersRefusal, withParameters, mostRecords, readFrom, readTable, emptyTable, slotRecords, recordsOf, bytesOf, drivesOf, tableOf}
+use Rattle.table.proofs.TableLaws.{whole-at, length-whole, le-part, refusal-room, parameters-room, read-keeps, recordsOf-more, recordsOf-ext, slot-without, slot-with, length-drives}
+use Rattle.table.proofs.Slots.{marked, marked-other, parameters-same, slot-other}
 
 -- the drives so far are the bytes so far
 record Read (t : List ℕ) (at : ℕ) (b : Table) : Type 0 where
   same : recordsOf (b .count) b ≡ take at t
   eight : length (b .drives) ≡ 8
+  marks : length (b .present) ≡ 8
+  bytes : length (b .parameters) ≡ 112
   most : b .count ≤ 8
   inside : at ≤ length t
+  fresh : (i : ℕ) → b .count ≤ i → i < 8 → hasParameters b i ≡ false
 
--- a word of a part is the word
-pub le-part : (k n : ℕ) (s : List ℕ) (at i : ℕ) → i + k ≤ n → le k (part n s at) i ≡ le k s (at + i)
-le-part k n s at i h = le-ext k (part n s at) s i (at + i) (λ j l.
-    let q : i + j < n = omega arith in
-    rw (getD-take n (drop at s) (i + j) 0 q, getD-drop at s (i + j) 0, ← native.Mathlib.Nat.add-assoc at i j))
+-- a record of parameters for the last slot follows its drive's
+attach-records : (b : Table) (i : ℕ) (p : List ℕ) → length p ≡ 14 → length (b .present) ≡ 8 → length (b .parameters) ≡ 112 → i < 8 → hasParameters b i ≡ false
+    → recordsOf (i + 1) (withParameters b i p) ≡ recordsOf (i + 1) b ++ parametersRecord i p
+attach-records b i p given marks bytes h e =
+    let d : List ℕ = recordOf (getD (b .drives) i noDrive) in
+    let x : List ℕ = parametersRecord i p in
+    let before : recordsOf i (withParameters b i p) ≡ recordsOf i b = recordsOf-ext i (withParameters b i p) b (λ k l. slot-other b i p given k (λ q. omega arith)) in
+    let here : slotRecords (withParameters b i p) i ≡ d ++ x =
+    slot-with (withParameters b i p) i (marked b i p given marks h) ∙ ap (λ (y : List ℕ). d ++ parametersRecord i y) (parameters-same b i p given bytes h) in
+    rw (recordsOf-more i (withParameters b i p), before, here, recordsOf-more i b, slot-without b i e) (sym (append-assoc (recordsOf i b) d x))
 
 module _ (t : List ℕ) (bytes : Bytes t) where
   -- a whole drive record is the record of its drive
@@ -36,7 +49,16 @@ module _ (t : List ℕ) (bytes : Bytes t) where
   whole-record at h =
       let w = whole-at t at 1 68 h in
       let l : at + 68 ≤ length t = omega (arith, w .whole, w .header) in (
-        record-drive (part 68 t at) (bytes-part 68 t at bytes) (length-whole t at 1 68 h) (le-part 2 68 t at 0 (omega arith) ∙ rw native.Mathlib.Nat.add-zero (w .long)) (le-part 2 68 t at 2 (omega arith) ∙ w .same),
+        record-drive (part 68 t at) (bytes-part 68 t at bytes) (length-whole t at 1 68 h) (le-part 2 68 t at 0 (omega arith) ∙ rw add-zero (w .long)) (le-part 2 68 t at 2 (omega arith) ∙ w .same),
+        l,
+      )
+
+  -- and so is a whole record of parameters
+  whole-parameters : (at : ℕ) → headerAt t at ≡ Whole 4 20 → (parametersRecord (numberIn (part 20 t at)) (parametersIn (part 20 t at)) ≡ part 20 t at) × (at + 20 ≤ length t)
+  whole-parameters at h =
+      let w = whole-at t at 4 20 h in
+      let l : at + 20 ≤ length t = omega (arith, w .whole, w .header) in (
+        record-parameters (part 20 t at) (bytes-part 20 t at bytes) (length-whole t at 4 20 h) (le-part 2 20 t at 0 (omega arith) ∙ rw add-zero (w .long)) (le-part 2 20 t at 2 (omega arith) ∙ w .same),
         l,
       )
 
@@ -45,13 +67,38 @@ module _ (t : List ℕ) (bytes : Bytes t) where
       let d : Drive = driveOf (part 68 t at) in
       let w = whole-record at h in
       let i : b .count < length (b .drives) = omega (arith, r .eight) in
+      let before : recordsOf (b .count) (more b d) ≡ recordsOf (b .count) b =
+      recordsOf-ext (b .count) (more b d) b (λ j l. rw (getD-set-other (b .drives) (b .count) j d noDrive (λ x. omega arith))) in
+      let here : slotRecords (more b d) (b .count) ≡ part 68 t at =
+      slot-without (more b d) (b .count) (r .fresh (b .count) (omega arith) room) ∙ ap recordOf (getD-set-same (b .drives) (b .count) d noDrive i) ∙ w .0 in
       record {
-        same = recordsOf-more (b .count) (more b d)
-            ∙ rw (recordsOf-ext (b .count) (more b d) b (λ j l. getD-set-other (b .drives) (b .count) j d noDrive (λ x. omega arith)), getD-set-same (b .drives) (b .count) d noDrive i, w .0, r .same)
-            (sym (take-add at 68 t));
+        same = rw (recordsOf-more (b .count) (more b d), before, here, r .same) (sym (take-add at 68 t));
         eight = rw length-set (r .eight);
+        marks = r .marks;
+        bytes = r .bytes;
         most = omega arith;
         inside = w .1;
+        fresh = λ k l q. r .fresh k (omega arith) q;
+      }
+
+  attach-read : (at : ℕ) (b : Table) → Read t at b → headerAt t at ≡ Whole 4 20 → parametersRefusal b (numberIn (part 20 t at)) ≡ 0
+      → Read t (at + 20) (withParameters b (numberIn (part 20 t at)) (parametersIn (part 20 t at)))
+  attach-read at b r h z =
+      let i : ℕ = numberIn (part 20 t at) in
+      let p : List ℕ = parametersIn (part 20 t at) in
+      let w = whole-parameters at h in
+      let room = parameters-room b i z in
+      let given : length p ≡ 14 = length-parametersIn (part 20 t at) (omega (arith, length-whole t at 4 20 h)) in
+      let records : recordsOf (b .count) (withParameters b i p) ≡ recordsOf (b .count) b ++ parametersRecord i p =
+      subst (λ (n : ℕ). recordsOf n (withParameters b i p) ≡ recordsOf n b ++ parametersRecord i p) (room .1) (attach-records b i p given (r .marks) (r .bytes) (room .0) (room .2)) in
+      record {
+        same = rw (records, r .same, w .0) (sym (take-add at 20 t));
+        eight = r .eight;
+        marks = length-set (b .present) i true ∙ r .marks;
+        bytes = length-sets (b .parameters) (14 * i) p ∙ r .bytes;
+        most = r .most;
+        inside = w .1;
+        fresh = λ k l q. marked-other b i p given k (λ x. omega (arith, room .1, l, x)) ∙ r .fresh k l q;
       }
 
   -- the end record and nothing after it
@@ -71,6 +118,10 @@ module _ (t : List ℕ) (bytes : Bytes t) where
 pub write-read-table : (t : List ℕ) (store : ℕ) → Bytes t → readTable t store .answer ≡ Accepted → tableOf (readTable t store .table) ≡ t
 unfolding readTable recordsOf
 write-read-table t store b e =
-    let r = read-keeps (Read t) t store (λ at b′ r h z. next-read t b at b′ r (refusal-room b′ (driveOf (part 68 t at)) store z) h) 9 0 emptyTable (record { same = refl; eight = refl; most = omega arith; inside = omega arith }) in
+    let first : Read t 0 emptyTable =
+    record { same = refl; eight = refl; marks = refl; bytes = refl; most = omega arith; inside = omega arith; fresh = λ i l h. getD-replicate 8 i false false h } in
+    let r = read-keeps (Read t) t store
+    (λ at b′ r h z. next-read t b at b′ r (refusal-room (b′ .count) (b′ .drives) (driveOf (part 68 t at)) store z) h)
+    (λ at b′ r h z. attach-read t b at b′ r h z) mostRecords 0 emptyTable first in
     let end = r .1 .1 e in
-    last-read t b (r .0) (readFrom 9 t store 0 emptyTable .table) (r .1 .0) (end .0) (end .1)
+    last-read t b (r .0) (readFrom mostRecords t store 0 emptyTable .table) (r .1 .0) (end .0) (end .1)

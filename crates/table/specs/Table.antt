@@ -239,7 +239,11 @@ mostRecords = 17
 unfoldable pub readTable : List ℕ → ℕ → Reading
 readTable t store = readFrom mostRecords t store 0 emptyTable
 
--- ---- "The drive table", a drive among the runs of blocks of those before it
+-- ---- "The drive table", what the reader's loop finds: the answer at the end record, and a drive among the runs of blocks of those before it
+
+-- at the end record, whose bytes end at a place of n: 8 if a byte follows, at that byte
+unfoldable pub endAnswer : ℕ → ℕ → Answer
+endAnswer next n = pick (ltb next n) (AnswerRefused byteFollows next) Accepted
 
 -- two runs of blocks share one, as two drives do
 unfoldable pub overlapRuns : ℕ → ℕ → ℕ → ℕ → Bool

@@ -3,12 +3,13 @@ use drive::Drive;
 ghost use mathlib.Core.Path.{_≡_};
 ghost use Prim.Native.Nat.{_+_, _-_, _*_, _^_, _≤_, _<_, min};
 ghost use lib.ListN.{length, getD};
-ghost use lib.Dec.{eqb};
+ghost use lib.Dec.{ltb, eqb};
+ghost use mathlib.Core.Bool.{not, false};
 ghost use lib.Seq.{sets};
-ghost use Rattle.drive.specs.Drive.{driveKind, fieldsOk, inStore};
+ghost use Rattle.drive.specs.Drive.{driveKind, recordOf, fieldsOk, inStore};
 ghost use Rattle.logic.specs.Logic.{pick, both, allBelow};
 ghost use Rattle.attached.specs.Parameters.{parametersKind};
-ghost use Rattle.table.specs.Table.{isKind, lengthOk, headerAt, overlapsAny, refusal, more, parametersAt, parametersRefusal, withParameters, endStep, recordStep, stepAt, placeAfter, Advances, begun, zeroDrive, emptyTable, Reads, slotRecords, recordsOf, drivesOf, tableOf, writeAnswer, writeOut, writtenNumbers, writeNumbers, soundTo, blankTo, attachedTo, isSound, overlapRuns, overlapsRun, refusalAmong};
+ghost use Rattle.table.specs.Table.{isKind, lengthOk, headerAt, overlapsAny, refusal, more, parametersAt, withParameters, endStep, recordStep, stepAt, placeAfter, Advances, begun, zeroDrive, emptyTable, reading, endAnswer, Reads, slotRecords, recordsOf, drivesOf, tableOf, writeAnswer, writeOut, writtenNumbers, writeNumbers, soundTo, blankTo, attachedTo, isSound, overlapRuns, overlapsRun, refusalAmong};
 
 // Document 01's refusals of a table, in the order of the checks.
 const CUT_OFF: u8 = 1;
@@ -226,31 +227,37 @@ fn push(b: Table, d: Drive) -> Table
 
 // ---- a drive's parameters
 
-// The refusal of a record of parameters for the drive of that number, or 0.
-fn parameters_refusal(b: Table, number: u16) -> u8
-    ensures { λ r. ⌜ r ≡ parametersRefusal b number ⌝ }
+// A record of parameters names the last drive read, by its number, and that one has none yet.
+fn names_last(count: usize, present: [bool; 8], number: u16) -> bool
+    ensures { λ r. ⌜ r ≡ both (ltb number 8) (both (eqb (number + 1) count) (not (getD present number false))) ⌝ }
 {
     let i = number as usize;
     if MOST_DRIVES <= i {
-        return NOT_LAST;
+        return false;
     }
-    let present = b.present;
-    if logic::and(i + 1 == b.count, !present[i]) {
-        return 0;
-    }
-    NOT_LAST
+    logic::and(i + 1 == count, !present[i])
 }
 
-// The drives so far with parameters for a slot, which `parameters_refusal` has not refused.
+// The bytes of all slots with those of one slot.
+fn with_bytes(bytes: [u8; 112], i: usize, p: [u8; 14]) -> [u8; 112]
+    requires { ⌜ i < 8 ⌝ }
+    ensures { λ r. ⌜ r ≡ sets bytes (14 * i) p ⌝ }
+{
+    let mut next = bytes;
+    words::store(&mut next, attached::GIVEN_LENGTH * i, &p);
+    next
+}
+
+// The drives so far with parameters for a slot.
 fn with_parameters(b: Table, i: usize, p: [u8; 14]) -> Table
     requires { ⌜ i < 8 ⌝ }
     ensures { λ r. ⌜ r ≡ withParameters b i p ⌝ }
 {
+    let bytes = b.parameters;
+    let laid = with_bytes(bytes, i, p);
     let mut next = b;
-    let mut bytes = b.parameters;
-    words::store(&mut bytes, attached::GIVEN_LENGTH * i, &p);
     next.present[i] = true;
-    next.parameters = bytes;
+    next.parameters = laid;
     next
 }
 
@@ -312,16 +319,16 @@ fn parameters_step(r: &[u8], at: usize, b: Table, store: u64) -> Stepped
     ensures { λ q. ⌜ q ≡ recordStep parametersKind 20 (now (r .entry)) b at store ⌝ }
 {
     let number = attached::number_in(r);
-    let n = parameters_refusal(b, number);
-    if n == 0 {
+    let present = b.present;
+    if !names_last(b.count, present, number) {
         return Stepped {
-            step: Step::Next(at + r.len()),
-            table: with_parameters(b, number as usize, attached::parameters_in(r)),
+            step: Step::Refused(NOT_LAST, at),
+            table: b,
         };
     }
     Stepped {
-        step: Step::Refused(n, at),
-        table: b,
+        step: Step::Next(at + r.len()),
+        table: with_parameters(b, number as usize, attached::parameters_in(r)),
     }
 }
 
@@ -457,40 +464,72 @@ pub fn start() -> Cursor
     }
 }
 
-// All drives of a table, for a store of that many blocks.
+fn ended(answer: Answer, b: Table) -> Reading
+    ensures { λ r. ⌜ r ≡ reading answer b ⌝ }
+{
+    Reading { answer, table: b }
+}
+
+// The answer at the end record, whose four bytes end at a place of n.
+fn end_answer(next: usize, n: usize) -> Answer
+    ensures { λ r. ⌜ r ≡ endAnswer next n ⌝ }
+{
+    if next < n {
+        return Answer::Refused(BYTE_FOLLOWS, next);
+    }
+    Answer::Accepted
+}
+
+// All drives of a table, for a store of that many blocks. The runs of the drives so far stand beside them, and nothing is handed on that holds
+// them all: a step of the cursor's would copy eight drives for each record.
 pub fn read_table(t: &[u8], store: u64) -> Reading
     ensures { λ r. ⌜ Reads (now (t .entry)) store r ⌝ }
 {
     let mut at = 0;
     let mut b = empty_table();
+    let mut firsts = [0u64; 8];
+    let mut sizes = [0u64; 8];
     let mut left: usize = MOST_RECORDS;
     while 0 < left {
-        let r = step_at(t, at, b, store);
-        let s = r.step;
-        b = r.table;
-        match s {
-            Step::Next(next) => {
+        let h = header_at(t, at);
+        match h {
+            Header::Bad(n) => return ended(Answer::Refused(n, at), b),
+            Header::Whole(kind, size) => {
+                let next = at + size;
+                if kind == END_KIND {
+                    return ended(end_answer(next, t.len()), b);
+                }
+                if kind == drive::DRIVE_KIND {
+                    let d = drive::decode(&t[at..next]);
+                    let n = b.count;
+                    let number = refusal_among(d, store, &firsts, &sizes, n);
+                    if number != 0 {
+                        return ended(Answer::Refused(number, at), b);
+                    }
+                    b.drives[n] = d;
+                    b.count = n + 1;
+                    firsts[n] = d.first;
+                    sizes[n] = d.blocks;
+                    at = next;
+                    left -= 1;
+                    continue;
+                }
+                let number = attached::number_in(&t[at..next]);
+                let present = b.present;
+                if !names_last(b.count, present, number) {
+                    return ended(Answer::Refused(NOT_LAST, at), b);
+                }
+                let i = number as usize;
+                let bytes = b.parameters;
+                let laid = with_bytes(bytes, i, attached::parameters_in(&t[at..next]));
+                b.present[i] = true;
+                b.parameters = laid;
                 at = next;
                 left -= 1;
             }
-            Step::Done => {
-                return Reading {
-                    answer: Answer::Accepted,
-                    table: b,
-                };
-            }
-            Step::Refused(n, place) => {
-                return Reading {
-                    answer: Answer::Refused(n, place),
-                    table: b,
-                };
-            }
         }
     }
-    Reading {
-        answer: Answer::Refused(NINTH_DRIVE, at),
-        table: b,
-    }
+    ended(Answer::Refused(NINTH_DRIVE, at), b)
 }
 
 // ---- the table written back
@@ -506,6 +545,17 @@ fn held(count: usize) -> usize
     }
 }
 
+// The length of the records of a slot, by its drive and whether it has parameters.
+fn slot_length(d: Drive, present: bool) -> usize
+    ensures { λ r. ⌜ (r ≡ length (recordOf d) + pick present 20 0) × (r ≤ 88) ⌝ }
+{
+    let n = drive::record_length(d);
+    if present {
+        return n + attached::PARAMETERS_LENGTH as usize;
+    }
+    n
+}
+
 // The length of the records of the first n slots. `write_table` asks for at most eight.
 fn records_length(b: Table, n: usize) -> usize
     requires { ⌜ n ≤ 8 ⌝ }
@@ -515,10 +565,8 @@ fn records_length(b: Table, n: usize) -> usize
     let mut i = 0;
     while i < n {
         let d = b.drives[i];
-        total += drive::record_length(d);
-        if b.present[i] {
-            total += attached::PARAMETERS_LENGTH as usize;
-        }
+        let present = b.present[i];
+        total += slot_length(d, present);
         i += 1;
     }
     total

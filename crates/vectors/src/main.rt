@@ -1,7 +1,8 @@
-// Runs document 01's "run by program" cases and its sums, the ends of the two largest geometries, and the sources' worked values that document
-// 01 keeps (`sources`). A line for each. The functions are called on the paper's 72-byte table and a window of 65,536 bytes; the turns of P9
+// Runs document 01's "run by program" cases and its sums, the ends of the two largest geometries, the sources' worked values that document
+// 01 keeps (`sources`), and parameter tables that are placed (`placement`). A line for each. The functions are called on the paper's 72-byte table and a window of 65,536 bytes; the turns of P9
 // and P10 are given at desks with a drive of 64 blocks. The check pays for each slice that is lent, and in each statement for every local, a desk or
 // a table most: so a case is a call with numbers that makes its own table and window, and a function that holds a desk or a table does little else.
+mod placement;
 mod sources;
 
 use chs::Address;
@@ -11,6 +12,7 @@ use chs::ToBlock;
 use desk::Desk;
 use desk::TurnAnswer;
 use int13::Outcome;
+use int13::Placement;
 use int13::Registers;
 ghost use mathlib.Core.Path.{_≡_};
 ghost use Prim.Native.Nat.{_+_, _≤_};
@@ -166,11 +168,17 @@ fn registers(ax: u16, cx: u16, dx: u16) -> Registers {
     }
 }
 
+// Nothing is placed in the window.
+const NO_PLACEMENT: Placement = Placement {
+    placed: false,
+    address: 0,
+};
+
 // A call at the drives of a table.
 fn begin(t: &[u8], r: Registers, window: &mut [u8]) -> Outcome {
     let reading = table::read_table(t, STORE_BLOCKS);
     let b = reading.table;
-    int13::begin(b, r, window)
+    int13::begin(b, NO_PLACEMENT, r, window)
 }
 
 fn begin_at(which: u8, r: Registers, window: &mut [u8]) -> Outcome {
@@ -517,4 +525,5 @@ fn main() {
     sources::functions();
     sources::tables();
     sources::withdrawal(&mut arena, &mut store);
+    placement::tables(&mut arena, &store);
 }

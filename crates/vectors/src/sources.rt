@@ -151,8 +151,8 @@ pub(crate) fn functions() {
 
 // ---- tables and results
 
-// Bytes of a result in hexadecimal.
-fn say_bytes(out: &[u8], from: usize, to: usize) {
+// Bytes in hexadecimal.
+pub(crate) fn say_bytes(out: &[u8], from: usize, to: usize) {
     if out.len() < to {
         return;
     }

@@ -21,11 +21,11 @@ returns c =
     let own : ℕ = windowLength (length arena) in
     let e : o .result .end - o .result .start ≡ spanLength (length arena) (a .guest) (m .result) = omega arith in
     let part : take (o .result .end - o .result .start) (drop (o .result .start) arena) ≡ windowOf arena (a .guest) own = rw (e, o .ensures .0, m .ensures) in
-    let n : length (k .last .1 .1 .0) ≡ spanLength (length arena) (a .guest) own = k .kept .1 .1 .0 ∙ ap length part ∙ length-window arena (a .guest) own in (
-      k .ensures .0 ∙ ap (λ (x : List ℕ). begin (fed (a .b)) (a .registers) x .outcome) part,
+    let n : length (k .last .1 .1 .1 .0) ≡ spanLength (length arena) (a .guest) own = k .kept .1 .1 .1 .0 ∙ ap length part ∙ length-window arena (a .guest) own in (
+      k .ensures .0 ∙ ap (λ (x : List ℕ). begin (fed (a .b) (a .placement)) (a .registers) x .outcome) part,
       rw (e, o .ensures .0, m .ensures)
-          (with-window-lent arena (a .guest) own (k .last .1 .1 .0) n
-          ∙ ap (withWindow arena (a .guest) own) (k .ensures .1 ∙ ap (λ (x : List ℕ). begin (fed (a .b)) (a .registers) x .window) part)),
+          (with-window-lent arena (a .guest) own (k .last .1 .1 .1 .0) n
+          ∙ ap (withWindow arena (a .guest) own) (k .ensures .1 ∙ ap (λ (x : List ℕ). begin (fed (a .b) (a .placement)) (a .registers) x .window) part)),
     )
 
 pub begin-own-spec : {M : Type 1} → statement M

@@ -29,15 +29,16 @@ returns-2 c =
 returns-3 : tie.Need-returns-3
 unfolding result
 returns-3 c =
-    let a = c .before .before .before .before .before .before .before .before .before .before .before .args in
-    let known = not-false (c .before .before .before .before .before .before .before .before .before .before .before .args .known) (c .before .before .before .before .before .before .before .before .before .if1 .left) in
+    let a = c .before .before .before .before .before .before .before .before .before .before .before .before .args in
+    let known = not-false (a .known) (c .before .before .before .before .before .before .before .before .before .before .if1 .left) in
     let w = now (a .window) in
     let inside : ltb (length w) (packetPlace (a .r) + 2) ≡ false = le-ltb (length w) (packetPlace (a .r) + 2) (omega arith) in
-    let asked = c .before .before .before .before .before .get16 .ensures in
-    let place = c .before .before .before .before .before .before .before .before .packet-place .ensures in
+    let asked = c .before .before .before .before .before .before .get16 .ensures in
+    let place = c .before .before .before .before .before .before .before .before .before .packet-place .ensures in
+    let pointer = c .before .before .before .before .before .pointer-of .ensures in
     let given = c .before .before .before .write-result .ensures in (
       rw (known, inside, c .result-given .ensures, given .0, asked, place, lent-rest w (packetPlace (a .r))),
-      rw (known, inside, given .1, asked, place, lent-rest w (packetPlace (a .r))) (put-rest w _ (packetPlace (a .r))),
+      rw (known, inside, given .1, pointer, asked, place, lent-rest w (packetPlace (a .r))) (put-rest w _ (packetPlace (a .r))),
     )
 
 pub result-48-spec : {M : Type 1} → statement M
@@ -51,6 +52,7 @@ result-48-spec =
     (search needs)
     returns-2
     (λ c κs. omega arith)
+    (search needs)
     (λ c. omega arith)
     (λ c. omega arith)
     (λ c. omega arith)

@@ -9,7 +9,7 @@ use Rattle.table.proofs.drive_count.Tie as tie
 returns : tie.Need-returns
 returns c =
     let l : length (c .before .args .b .drives) ≡ 8 = search (needs, length-mapped) in
-    c .held .ensures ∙ sym (length-drives _ l)
+    c .held .ensures ∙ sym (length-drives (c .before .args .b) l)
 
 pub drive-count-spec : {M : Type 1} → statement M
 drive-count-spec = tie.close (tie.spec (λ c κs. tt) returns)

@@ -1,6 +1,6 @@
 use mathlib.Core.Path.{sym, _∙_}
 use denote.Ref.{now}
-use Rattle.table.proofs.TableLaws.{refusal-room, record-next, record-refused}
+use Rattle.table.proofs.TableLaws.{refusal-room, drive-next, drive-refused}
 use borrow.Author.Needs.{needs}
 use Rattle.table.proofs.drive_step.Statement.{statement}
 use Rattle.table.proofs.drive_step.Tie as tie
@@ -8,18 +8,18 @@ use Rattle.table.proofs.drive_step.Tie as tie
 push-requires : tie.Need-push-requires
 push-requires c κs =
     let a = c .before .before .before .before .args in
-    refusal-room (a .b) (c .before .before .decode .result) (a .store) (sym (c .before .refusal-of .ensures) ∙ c .if1 .taken)
+    refusal-room (a .b .count) (a .b .drives) (c .before .before .decode .result) (a .store) (sym (c .before .refusal-of .ensures) ∙ c .if1 .taken)
 
 returns : tie.Need-returns
 returns c =
     let s = c .before .before .before .before .before in
     let a = s .args in
-    record-next (now (a .r)) (a .at) (a .b) (a .store) (s .pre .0) (c .before .before .before .decode .ensures) (c .before .before .refusal-of .ensures) (c .before .if1 .taken) (c .push .ensures)
+    drive-next (now (a .r)) (a .at) (a .b) (a .store) (s .pre .0) (c .before .before .before .decode .ensures) (c .before .before .refusal-of .ensures) (c .before .if1 .taken) (c .push .ensures)
 
 returns-2 : tie.Need-returns-2
 returns-2 c =
     let a = c .before .before .before .before .args in
-    record-refused (now (a .r)) (a .at) (a .b) (a .store) (c .before .before .decode .ensures) (c .before .refusal-of .ensures) (c .if1 .left)
+    drive-refused (now (a .r)) (a .at) (a .b) (a .store) (c .before .before .decode .ensures) (c .before .refusal-of .ensures) (c .if1 .left)
 
 pub drive-step-spec : {M : Type 1} → statement M
 drive-step-spec =

@@ -10,8 +10,11 @@ returns c = rw (lt-leb (c .before .args .b .count) 8 (c .if1 .taken))
 
 returns-2 : tie.Need-returns-2
 unfolding isSound
-returns-2 c = rw (le-leb (c .before .before .before .before .before .args .b .count) 8 (c .before .before .before .before .if1 .left), c .and .ensures, c .before .before .sound-to .ensures, c .before .blank-past .ensures)
+returns-2 c =
+    let s = c .before .before .before .before .before .before in
+    rw (le-leb (s .before .args .b .count) 8 (s .if1 .left), c .and2 .ensures, c .before .sound-to .ensures, c .before .before .and .ensures, c .before .before .before .before .blank-past .ensures, c .before .before .before .attached-to .ensures)
 
 pub is-sound-spec : {M : Type 1} → statement M
 is-sound-spec =
-    tie.close (tie.spec returns (search needs) (λ c κs. tt) (λ c κs. tt) returns-2)
+    tie.close
+    (tie.spec returns (λ c κs. tt) (λ c κs. tt) (λ c κs. tt) (search needs) (λ c κs. tt) returns-2)

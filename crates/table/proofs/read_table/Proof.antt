@@ -1,8 +1,14 @@
 use borrow.Author.Needs.{needs}
+use native.Mathlib.Nat.{add-sub-cancel-left}
 use native.Mathlib.Omega.{arith}
-use mathlib.Core.Path.{refl}
+use mathlib.Core.Path.{_≡_, refl, sym, _∙_}
 use Prim.Native.Nat.{_<_}
-use Rattle.table.proofs.Runs.{Stands, stands-first, slot-left, reads-end, reads-done, reads-refused, reads-bad, stands-more}
+use borrow.Author.Tests.{not-true, not-false}
+use denote.Ref.{now}
+use Rattle.table.specs.declared.Header.the-variants.{Whole}
+use Rattle.table.specs.Table.{headerAt, Reads}
+use Rattle.table.proofs.TableLaws.{whole-at, drive-whole, parameters-whole, reads-end}
+use Rattle.table.proofs.Runs.{Stands, stands-first, slot-left, slot-named, header-reads, end-reads, drive-reads, drive-stands, parameters-reads, parameters-stands}
 use Rattle.table.proofs.read_table.Statement.{statement}
 use Rattle.table.proofs.read_table.Tie as tie
 
@@ -17,18 +23,46 @@ loop-holds c = stands-first _ _ _ _ (c .empty-table .ensures) refl refl
 
 returns : tie.Need-returns Inv-loop μ-loop
 returns c =
-    let f = c .before .before .before .before .before .before .before .before in
-    reads-bad (f .before .before .loop .inv) (f .before .loop-test .taken) (f .found-at .ensures) _ (c .before .before .before .before .before .s .given .1) (c .before .refusal-among .ensures) (c .if1 .taken)
+    let f = c .before .before .before .before in
+    rw (c .ended .ensures) (header-reads (f .before .before .loop .inv) (f .before .loop-test .taken) (sym (f .header-at .ensures) ∙ c .before .before .h .given .1))
+
+-- the header of a whole record
+header : (c : tie.After-h2 Inv-loop μ-loop)
+    → headerAt (now (c .before .before .before .before .before .before .before .args .t)) (c .before .before .before .before .loop .at) ≡ Whole (c .h2 .given .0 .0) (c .h2 .given .0 .1 .0)
+header c = sym (c .before .before .header-at .ensures) ∙ c .h2 .given .1
+
+add-next : tie.Need-add-next Inv-loop μ-loop
+add-next c = let w = whole-at _ _ _ _ (header (c .before)) in omega arith
+
+returns-2 : tie.Need-returns-2 Inv-loop μ-loop
+returns-2 c =
+    let k = c .before .before .before .before in
+    let f = k .before .before .before in
+    rw (c .ended2 .ensures) (end-reads (f .before .loop .inv) (f .loop-test .taken) (header k) (c .before .before .if1 .taken) (c .before .end-answer .ensures))
+
+part-decode-end : tie.Need-part-decode-end Inv-loop μ-loop
+part-decode-end c = let w = whole-at _ _ _ _ (header (c .before .before .before)) in omega arith
+
+decode-requires : tie.Need-decode-requires Inv-loop μ-loop
+decode-requires c κs =
+    let d = drive-whole _ _ _ _ (header (c .before .before .before .before)) (c .before .if2 .taken) in
+    rw add-sub-cancel-left (omega (arith, d .0))
+
+returns-3 : tie.Need-returns-3 Inv-loop μ-loop
+returns-3 c =
+    let k = c .before .before .before .before .before .before .before .before .before .before in
+    let f = k .before .before .before in
+    rw (c .ended3 .ensures) (drive-reads (f .before .loop .inv) (f .loop-test .taken) (header k) (c .before .before .before .before .before .before .before .if2 .taken) (rw add-sub-cancel-left at (c .before .before .before .before .before .decode .ensures)) (c .before .before .refusal-among .ensures) (c .before .if3 .taken))
 
 -- the drive that was found has a slot
-slot : (c : tie.Else1 Inv-loop μ-loop) → c .before .before .before .before .before .before .before .before .before .before .loop .b .count < 8
-slot c = slot-left _ _ _ _ _ (c .before .refusal-among .ensures) (c .if1 .left)
+slot : (c : tie.Else3 Inv-loop μ-loop) → c .before .before .before .before .before .before .before .before .before .before .before .before .before .loop .b .count < 8
+slot c = slot-left _ _ _ _ _ (c .before .refusal-among .ensures) (c .if3 .left)
 
 mul-d : tie.Need-mul-d Inv-loop μ-loop
 mul-d c = omega (arith, slot c)
 
 element-set-from-d : tie.Need-element-set-from-d Inv-loop μ-loop
-element-set-from-d c = omega (arith, slot c, c .before .before .before .before .before .before .before .before .before .before .loop .inv .eight .0)
+element-set-from-d c = omega (arith, slot c, c .before .before .before .before .before .before .before .before .before .before .before .before .before .loop .inv .eight .0)
 
 add-b : tie.Need-add-b Inv-loop μ-loop
 add-b c = omega (arith, slot c)
@@ -37,27 +71,61 @@ mul-firsts : tie.Need-mul-firsts Inv-loop μ-loop
 mul-firsts c = omega (arith, slot c)
 
 array-write-firsts : tie.Need-array-write-firsts Inv-loop μ-loop
-array-write-firsts c = omega (arith, slot c, c .before .before .before .before .before .before .before .before .before .before .loop .inv .eight .1)
+array-write-firsts c = omega (arith, slot c, c .before .before .before .before .before .before .before .before .before .before .before .before .before .loop .inv .eight .1)
 
 mul-sizes : tie.Need-mul-sizes Inv-loop μ-loop
 mul-sizes c = omega (arith, slot c)
 
 array-write-sizes : tie.Need-array-write-sizes Inv-loop μ-loop
-array-write-sizes c = omega (arith, slot c, c .before .before .before .before .before .before .before .before .before .before .loop .inv .eight .2)
+array-write-sizes c = omega (arith, slot c, c .before .before .before .before .before .before .before .before .before .before .before .before .before .loop .inv .eight .2)
 
 loop-again : tie.Need-loop-again Inv-loop μ-loop
 loop-again c =
-    let f = c .before .before .before .before .before .before .before .before in
-    stands-more (f .before .before .loop .inv) (f .before .loop-test .taken) (f .found-at .ensures) _ (c .before .before .before .before .before .s .given .1) (c .before .refusal-among .ensures) (c .if1 .left)
+    let k = c .before .before .before .before .before .before .before .before .before in
+    let f = k .before .before .before in
+    drive-stands (f .before .loop .inv) (f .loop-test .taken) (header k) (c .before .before .before .before .before .before .if2 .taken) (rw add-sub-cancel-left at (c .before .before .before .before .decode .ensures)) (c .before .refusal-among .ensures) (c .if3 .left)
 
-returns-2 : tie.Need-returns-2 Inv-loop μ-loop
-returns-2 c = let f = c .before .before .before in reads-done (f .before .before .loop .inv) (f .before .loop-test .taken) (f .found-at .ensures) (c .enum-told .given .1)
+part-number-in-end : tie.Need-part-number-in-end Inv-loop μ-loop
+part-number-in-end c = let w = whole-at _ _ _ _ (header (c .before .before .before)) in omega arith
 
-returns-3 : tie.Need-returns-3 Inv-loop μ-loop
-returns-3 c = let f = c .before .before .before .before in reads-refused (f .before .before .loop .inv) (f .before .loop-test .taken) (f .found-at .ensures) _ _ (c .before .s2 .given .1)
+number-in-requires : tie.Need-number-in-requires Inv-loop μ-loop
+number-in-requires c κs =
+    let d = parameters-whole _ _ _ _ (header (c .before .before .before .before)) (c .before .before .if1 .left) (c .before .if2 .left) in
+    rw add-sub-cancel-left (omega (arith, d .0))
 
 returns-4 : tie.Need-returns-4 Inv-loop μ-loop
-returns-4 c = reads-end (c .before .loop .inv) (omega arith)
+returns-4 c =
+    let k = c .before .before .before .before .before .before .before .before .before in
+    let f = k .before .before .before in
+    rw (c .ended4 .ensures) (parameters-reads (f .before .loop .inv) (f .loop-test .taken) (header k) (c .before .before .before .before .before .before .before .if1 .left) (c .before .before .before .before .before .before .if2 .left) (rw add-sub-cancel-left at (c .before .before .before .before .number-in .ensures)) (c .before .before .names-last .ensures) (not-true _ (c .before .if4 .taken)))
+
+part-parameters-in-end : tie.Need-part-parameters-in-end Inv-loop μ-loop
+part-parameters-in-end c = let w = whole-at _ _ _ _ (header (c .before .before .before .before .before .before .before .before .before)) in omega arith
+
+parameters-in-requires : tie.Need-parameters-in-requires Inv-loop μ-loop
+parameters-in-requires c κs =
+    let d = parameters-whole _ _ _ _ (header (c .before .before .before .before .before .before .before .before .before .before)) (c .before .before .before .before .before .before .before .before .if1 .left) (c .before .before .before .before .before .before .before .if2 .left) in
+    rw add-sub-cancel-left (omega (arith, d .0))
+
+-- the drive that was named has a slot
+named : (c : tie.Else4 Inv-loop μ-loop) → c .before .before .before .number-in .result < 8
+named c = slot-named _ _ (c .before .names-last .ensures) (not-false _ (c .if4 .left))
+
+with-bytes-requires : tie.Need-with-bytes-requires Inv-loop μ-loop
+with-bytes-requires c κs = named (c .before .before .before)
+
+element-write-b : tie.Need-element-write-b Inv-loop μ-loop
+element-write-b c = omega (arith, named (c .before .before .before .before), c .before .before .before .before .before .before .before .before .before .before .before .before .before .before .before .before .loop .inv .marks)
+
+loop-again-2 : tie.Need-loop-again-2 Inv-loop μ-loop
+loop-again-2 c =
+    let k = c .before .before .before .before .before .before .before .before .before .before .before .before in
+    let f = k .before .before .before in
+    parameters-stands (f .before .loop .inv) (f .loop-test .taken) (header k) (c .before .before .before .before .before .before .before .before .before .before .if1 .left) (c .before .before .before .before .before .before .before .before .before .if2 .left) (rw add-sub-cancel-left at (c .before .before .before .before .before .before .before .number-in .ensures)) (c .before .before .before .before .before .names-last .ensures)
+    (not-false _ (c .before .before .before .before .if4 .left)) (rw add-sub-cancel-left at (c .before .parameters-in .ensures)) (c .with-bytes .ensures)
+
+returns-5 : tie.Need-returns-5 Inv-loop μ-loop
+returns-5 c = rw (c .ended5 .ensures) (reads-end _ _ _ _ _ (omega arith) (c .before .before .loop .inv .reads))
 
 pub read-table-spec : {M : Type 1} → statement M
 read-table-spec =
@@ -71,6 +139,18 @@ read-table-spec =
     (search needs)
     (λ c κs. tt)
     returns
+    (search needs)
+    add-next
+    (λ c κs. tt)
+    (λ c κs. tt)
+    returns-2
+    (search needs)
+    (search needs)
+    part-decode-end
+    decode-requires
+    (λ c κs. tt)
+    (λ c κs. tt)
+    returns-3
     mul-d
     element-set-from-d
     add-b
@@ -82,7 +162,21 @@ read-table-spec =
     (search needs)
     loop-again
     (search needs)
-    returns-2
     (search needs)
-    returns-3
-    returns-4)
+    part-number-in-end
+    number-in-requires
+    (λ c κs. tt)
+    (λ c κs. tt)
+    returns-4
+    (search needs)
+    (search needs)
+    (search needs)
+    part-parameters-in-end
+    parameters-in-requires
+    with-bytes-requires
+    element-write-b
+    (search needs)
+    (search needs)
+    loop-again-2
+    (λ c κs. tt)
+    returns-5)

@@ -4,25 +4,31 @@ use Prim.Native.Nat.{_≤_, _-_, _*_}
 use mathlib.Core.Path.{_≡_, refl}
 use lib.ListN.{length}
 use Rattle.table.specs.Table.{recordsOf}
-use Rattle.table.proofs.TableLaws.{length-more}
+use Rattle.table.proofs.TableLaws.{length-more, length-slot}
 use Rattle.table.proofs.records_length.Statement.{statement}
 use Rattle.table.proofs.records_length.Tie as tie
 
 abbrev Inv-loop : tie.InvT-loop
-Inv-loop n b total₀ i₀ total i = (i ≤ n) × (total ≡ length (recordsOf i b)) × (total ≡ 68 * i)
+Inv-loop n b total₀ i₀ total i = (i ≤ n) × (total ≡ length (recordsOf i b)) × (total ≤ 88 * i)
 
 abbrev μ-loop : tie.MeasureT-loop
 μ-loop n b total₀ i₀ total i = n - i
 
+-- what the types say
+bytes : (c : tie.Start Inv-loop μ-loop) → length (c .args .t1 .parameters) ≡ 112
+bytes c = search needs
+
 loop-holds : tie.Need-loop-holds Inv-loop μ-loop
 unfolding recordsOf
-loop-holds c = (search needs, refl, refl)
+loop-holds c = (search needs, refl, search needs)
 
 loop-again : tie.Need-loop-again Inv-loop μ-loop
 loop-again c =
-    let h = c .before .before .before in
-    let m = length-more (h .loop .i) (h .before .args .t1) in
-    (search needs, omega (arith, m, c .record-length .ensures .0, h .loop .inv .1), omega (arith, c .record-length .ensures .1, h .loop .inv .2))
+    let h = c .before .before .before .before in
+    let s = h .before in
+    let m = length-more (h .loop .i) (s .args .t1) in
+    let l = length-slot (s .args .t1) (h .loop .i) (bytes s) (omega arith) in
+    (search needs, omega (arith, m, l, c .slot-length .ensures .0, h .loop .inv .1), omega (arith, c .slot-length .ensures .1, h .loop .inv .2))
 
 returns : tie.Need-returns Inv-loop μ-loop
 returns c =
@@ -37,6 +43,7 @@ records-length-spec =
     Inv-loop
     μ-loop
     loop-holds
+    (search needs)
     (search needs)
     (search needs)
     (λ c κs. tt)

@@ -4,7 +4,7 @@ use native.Mathlib.Omega.{arith}
 use denote.Ref.{now}
 use Rattle.table.specs.declared.Header.the-variants.{Whole}
 use Rattle.table.specs.Table.{headerAt}
-use Rattle.table.proofs.TableLaws.{whole-at, drive-whole, stepAt-bad, stepAt-end, stepAt-drive}
+use Rattle.table.proofs.TableLaws.{whole-at, drive-whole, parameters-whole, stepAt-bad, stepAt-end, stepAt-drive, stepAt-parameters}
 use borrow.Author.Needs.{needs}
 use Rattle.table.proofs.step_at.Statement.{statement}
 use Rattle.table.proofs.step_at.Tie as tie
@@ -23,19 +23,32 @@ add-next : tie.Need-add-next
 add-next c = let w = whole-at _ _ _ _ (header (c .before .before)) in omega arith
 
 part-drive-step-end : tie.Need-part-drive-step-end
-part-drive-step-end c = let w = whole-at _ _ _ _ (header (c .before .before)) in omega arith
+part-drive-step-end c = let w = whole-at _ _ _ _ (header (c .before .before .before)) in omega arith
 
 drive-step-requires : tie.Need-drive-step-requires
 drive-step-requires c κs =
-    let d = drive-whole _ _ _ _ (header (c .before .before .before)) (c .before .if1 .left) in
+    let d = drive-whole _ _ _ _ (header (c .before .before .before .before)) (c .before .if2 .taken) in
     (rw add-sub-cancel-left (d .0), omega (arith, d .1))
 
 returns-2 : tie.Need-returns-2
-returns-2 c = stepAt-bad _ _ _ _ _ (sym (c .before .before .before .header-at .ensures) ∙ c .before .h .given .1)
+returns-2 c =
+    rw add-sub-cancel-left at (c .drive-step .ensures) ∙ stepAt-drive _ _ _ _ _ _ (header (c .before .before .before .before .before)) (c .before .before .if2 .taken)
+
+part-parameters-step-end : tie.Need-part-parameters-step-end
+part-parameters-step-end c = let w = whole-at _ _ _ _ (header (c .before .before .before)) in omega arith
+
+parameters-step-requires : tie.Need-parameters-step-requires
+parameters-step-requires c κs =
+    let d = parameters-whole _ _ _ _ (header (c .before .before .before .before)) (c .before .before .if1 .left) (c .before .if2 .left) in
+    (rw add-sub-cancel-left (d .0), omega (arith, d .1))
 
 returns-3 : tie.Need-returns-3
-returns-3 c =
-    rw add-sub-cancel-left at (c .drive-step .ensures) ∙ stepAt-drive _ _ _ _ _ _ (header (c .before .before .before .before)) (c .before .before .if1 .left)
+returns-3 c = stepAt-bad _ _ _ _ _ (sym (c .before .before .before .header-at .ensures) ∙ c .before .h .given .1)
+
+returns-4 : tie.Need-returns-4
+returns-4 c =
+    rw add-sub-cancel-left at (c .parameters-step .ensures)
+    ∙ stepAt-parameters _ _ _ _ _ _ (header (c .before .before .before .before .before)) (c .before .before .before .if1 .left) (c .before .before .if2 .left)
 
 pub step-at-spec : {M : Type 1} → statement M
 step-at-spec =
@@ -52,4 +65,9 @@ step-at-spec =
     part-drive-step-end
     drive-step-requires
     returns-2
-    returns-3)
+    (search needs)
+    (search needs)
+    part-parameters-step-end
+    parameters-step-requires
+    returns-3
+    returns-4)

@@ -54,17 +54,21 @@ returns-2 c =
     post-answered (desk h) (guest h) (call h) (arena h) (store h)
     (post-other (desk h) (guest h) (arena h) (store h) (passed t) (call h) (rw (c .before .stage-in .ensures) at (c .match .keys2)))
 
+placement-requires : tie.Need-placement-requires
+placement-requires c κs = below (c .before .before .before .before .before)
+
 posted-requires : tie.Need-posted-requires
-posted-requires c κs = below (c .before .before .before .before .before .before .before .before .before)
+posted-requires c κs = below (c .before .before .before .before .before .before .before .before .before .before)
 
 returns-3 : tie.Need-returns-3
 returns-3 c =
     let k = c .before .before .before .begin-own .ensures in
-    let v = c .before .before .before .before .before .before in
+    let p = c .before .before .before .before .before .placement .ensures in
+    let v = c .before .before .before .before .before .before .before in
     let t = v .before .before .before .before in
     let h = t .before in
     post-answered (desk h) (guest h) (call h) (arena h) (store h)
-    (rw (k .1) (post-vacant (desk h) (guest h) (arena h) (store h) (passed t) (call h) (sym (v .before .before .stage-in .ensures) ∙ v .enum-told .given .1) (k .0) refl (c .posted .ensures .0) (c .posted .ensures .1)))
+    (rw (k .1, p) (post-vacant (desk h) (guest h) (arena h) (store h) (passed t) (call h) (sym (v .before .before .stage-in .ensures) ∙ v .enum-told .given .1) (rw p at (k .0)) refl (c .posted .ensures .0) (c .posted .ensures .1)))
 
 pub post-spec : {M : Type 1} → statement M
 post-spec =
@@ -75,6 +79,7 @@ post-spec =
     stage-in-requires
     (search needs)
     returns-2
+    placement-requires
     (search needs)
     posted-requires
     (search needs)

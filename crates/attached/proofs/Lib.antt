@@ -1,0 +1,2 @@
+pub mod AttachedLaws
+pub mod Vectors
