@@ -9,17 +9,18 @@ use lib.Dec.{eqb}
 use Rattle.logic.specs.Logic.{pick, both}
 use Rattle.drive.specs.declared.Drive.{Drive}
 use Rattle.table.specs.declared.Table.{Table}
+use Rattle.int13.specs.Placement.{tableCount}
 use Rattle.int13.specs.Steps.{firstDrive, isDrive, driveAt}
 use Rattle.desk.specs.declared.Stage.{Stage}
 use Rattle.desk.specs.declared.Desk.{Desk}
 use Rattle.desk.specs.declared.Next.{Next}
-use Rattle.desk.specs.Parts.{stageAt, withStage, next, withPointer}
+use Rattle.desk.specs.Parts.{stageAt, withStage, isWaiting, next, withPointer, withPlacement}
 use Rattle.desk.specs.Acceptable.{accept}
 use Rattle.desk.specs.Calls.{houseNumber, firstWaiting}
 use Rattle.desk.proofs.AcceptableLaws.{accept-true}
-use Rattle.image.specs.Image.{readDesk, deskOf, accepted, laid, putStage, putPointer}
+use Rattle.image.specs.Image.{readDesk, deskOf, accepted, laid, putStage, putPointer, putPlacement}
 use Rattle.image.proofs.ImageLaws.{AcceptedBlock, accepted-read}
-use Rattle.image.proofs.Puts.{put-stage, put-both}
+use Rattle.image.proofs.Puts.{put-stage, put-both, put-placement}
 
 pub block : (b : List ℕ) → accept (deskOf b) ≡ true → AcceptedBlock b
 unfolding accepted
@@ -45,6 +46,12 @@ module _ (b : List ℕ) (a : accept (deskOf b) ≡ true) where
   pub stage-read : {s : Stage} (g : ℕ) → s ≡ stageAt (readDesk b) g → s ≡ stageAt (deskOf b) g
   stage-read g e = e ∙ ap (λ (d : Desk). stageAt d g) (sym (block b a .desk))
 
+  pub waiting-read : {w : Bool} (g : ℕ) → w ≡ isWaiting (stageAt (readDesk b) g) → w ≡ isWaiting (stageAt (deskOf b) g)
+  waiting-read g e = e ∙ ap (λ (d : Desk). isWaiting (stageAt d g)) (sym (block b a .desk))
+
+  pub tables-read : {n : ℕ} → n ≡ tableCount (readDesk b .table) → n ≡ tableCount (deskOf b .table)
+  tables-read e = e ∙ ap (λ (d : Desk). tableCount (d .table)) (sym (block b a .desk))
+
   pub table-read : {t : Table} → t ≡ readDesk b .table → t ≡ deskOf b .table
   table-read e = e ∙ ap (λ (d : Desk). d .table) (sym (block b a .desk))
 
@@ -64,3 +71,7 @@ module _ (b : List ℕ) (a : accept (deskOf b) ≡ true) where
   pub put-turn : {c : List ℕ} (g : ℕ) (s : Stage) → g < 8 → c ≡ putPointer (putStage b g s) (next g) → c ≡ laid b (withPointer (withStage (deskOf b) g s) (next g))
   unfolding accepted
   put-turn g s h e = e ∙ put-both b a g s (next g) h
+
+  pub put-place : {c : List ℕ} (g address : ℕ) → g < 8 → c ≡ putPlacement b g address → c ≡ laid b (withPlacement (deskOf b) g address)
+  unfolding accepted
+  put-place g address h e = e ∙ put-placement b a g address h

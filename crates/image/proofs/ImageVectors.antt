@@ -1,4 +1,4 @@
--- The desk block by number: a desk in which every field has a value of its own, and its 300 words as docs/BLOCK.md has them.
+-- The desk block by number: a desk in which every field has a value of its own, and its 338 words as docs/BLOCK.md has them.
 -- Assumes nothing.
 use mathlib.Core.Path.{_≡_, refl}
 use mathlib.Core.Bool.{Bool, true, false}
@@ -13,7 +13,7 @@ use Rattle.desk.specs.declared.Stage.the-variants.{Waiting, Finished}
 use Rattle.desk.specs.declared.Row.{Row}
 use Rattle.desk.specs.declared.Desk.{Desk}
 use Rattle.desk.specs.Parts.{vacantRow}
-use Rattle.image.specs.Image.{each, deskWords, image, readStage, readDrive, readDesk}
+use Rattle.image.specs.Image.{each, listed, deskWords, image, markAt, addressAt, presentAt, bytesAt, deskSize, readStage, readDrive, readDesk, putPlacement}
 
 -- the first n words of a block: word w begins at byte 8 w, lowest byte first
 abbrev words : ℕ → List ℕ → List ℕ
@@ -67,7 +67,8 @@ last = record {
   device = 0xF2 ∷ 0xF3 ∷ 0xF4 ∷ 0xF5 ∷ 0xF6 ∷ 0xF7 ∷ 0xF8 ∷ 0xF9 ∷ [];
 }
 
--- waiting, finished and vacant rows with carry set and clear; drives in the first slot and the last
+-- waiting, finished and vacant rows with carry set and clear; drives in the first slot and the last; marks of placement and of parameters that
+-- are no mirror of each other, an address for every guest, and a value of its own for each of the 112 bytes, 10h to 7Fh
 abbrev desk : Desk
 desk = record {
   rows =
@@ -80,9 +81,18 @@ desk = record {
       ∷ waiting (registers 0x1600 true) 0x86 0x16000001 0x16000002 0x16000003 0x16000004 0x16000005
       ∷ finished (registers 0x1700 true) ∷ [];
   pointer = 5;
-  table = record { drives = first ∷ (replicate 6 zeroDrive ++ (last ∷ [])); count = 7 };
+  table = record {
+    drives = first ∷ (replicate 6 zeroDrive ++ (last ∷ []));
+    count = 7;
+    present = false ∷ true ∷ true ∷ false ∷ false ∷ false ∷ true ∷ true ∷ [];
+    parameters = listed (λ k. 0x10 + k) 0 112;
+  };
   arena = 0x7172737475767778;
   store = 0x8182838485868788;
+  placed = true ∷ false ∷ false ∷ true ∷ false ∷ true ∷ true ∷ true ∷ [];
+  addresses =
+      0x2000000000000001 ∷ 0x2000000000000002 ∷ 0x2000000000000003 ∷ 0x2000000000000004
+      ∷ 0x2000000000000005 ∷ 0x2000000000000006 ∷ 0x2000000000000007 ∷ 0x2000000000000008 ∷ [];
 }
 
 -- a row: word 0 the stage; 1 to 8 AX, BX, CX, DX, DS, SI, ES and carry as posted; 9 to 14 drive, first block, number of blocks, buffer,
@@ -112,16 +122,45 @@ slotWords =
     ∷ 0xB106 ∷ 0xB107 ∷ 0xB108 ∷ 0xB1 ∷ 0xB2
     ∷ 0xC5C4C3C2 ∷ 0xD9D8D7D6D5D4D3D2 ∷ 0xE9E8E7E6E5E4E3E2 ∷ 0xF9F8F7F6F5F4F3F2 ∷ []))
 
--- number of drives, turn pointer, arena length, store length
-pub block : words 300 (image desk) ≡ rowWords ++ (slotWords ++ (7 ∷ 5 ∷ 0x7172737475767778 ∷ 0x8182838485868788 ∷ []))
+-- the guests' marks of placement and their addresses
+abbrev placeWords : List ℕ
+placeWords =
+    1 ∷ 0 ∷ 0 ∷ 1 ∷ 0 ∷ 1 ∷ 1 ∷ 1
+    ∷ 0x2000000000000001 ∷ 0x2000000000000002 ∷ 0x2000000000000003 ∷ 0x2000000000000004
+    ∷ 0x2000000000000005 ∷ 0x2000000000000006 ∷ 0x2000000000000007 ∷ 0x2000000000000008 ∷ []
+
+-- the slots' marks of parameters, and their bytes
+abbrev parameterWords : List ℕ
+parameterWords =
+    0 ∷ 1 ∷ 1 ∷ 0 ∷ 0 ∷ 0 ∷ 1 ∷ 1
+    ∷ 0x1716151413121110 ∷ 0x1F1E1D1C1B1A1918 ∷ 0x2726252423222120 ∷ 0x2F2E2D2C2B2A2928 ∷ 0x3736353433323130 ∷ 0x3F3E3D3C3B3A3938 ∷ 0x4746454443424140
+    ∷ 0x4F4E4D4C4B4A4948 ∷ 0x5756555453525150 ∷ 0x5F5E5D5C5B5A5958 ∷ 0x6766656463626160 ∷ 0x6F6E6D6C6B6A6968 ∷ 0x7776757473727170 ∷ 0x7F7E7D7C7B7A7978 ∷ []
+
+-- number of drives, turn pointer, arena length, store length; then those
+pub block : words 338 (image desk)
+    ≡ rowWords ++ (slotWords ++ ((7 ∷ 5 ∷ 0x7172737475767778 ∷ 0x8182838485868788 ∷ []) ++ (placeWords ++ parameterWords)))
 unfolding image deskWords each leBytes le
 block = refl
 
-pub block-length : length (image desk) ≡ 2400
+pub block-length : length (image desk) ≡ 2704
 unfolding image deskWords each leBytes
 block-length = refl
+
+-- the places as docs/BLOCK.md has them: a guest's mark and address, a slot's mark, fourteen bytes for each slot, the size
+pub places : markAt 0 ∷ markAt 7 ∷ addressAt 0 ∷ addressAt 7 ∷ presentAt 0 ∷ presentAt 7 ∷ bytesAt 0 ∷ bytesAt 1 ∷ bytesAt 7 ∷ deskSize ∷ []
+    ≡ 2400 ∷ 2456 ∷ 2464 ∷ 2520 ∷ 2528 ∷ 2584 ∷ 2592 ∷ 2606 ∷ 2690 ∷ 2704 ∷ []
+places = refl
 
 -- read back: each field from its own words
 pub read-back : readDesk (image desk) ≡ desk
 unfolding image deskWords each leBytes le readDesk readStage readDrive
 read-back = refl
+
+-- guest 4 placed: its mark and its address, and no other's
+pub placed : words 24 (drop 2400 (putPlacement (image desk) 4 0x2122232425262728))
+    ≡ 1 ∷ 0 ∷ 0 ∷ 1 ∷ 1 ∷ 1 ∷ 1 ∷ 1
+    ∷ 0x2000000000000001 ∷ 0x2000000000000002 ∷ 0x2000000000000003 ∷ 0x2000000000000004
+    ∷ 0x2122232425262728 ∷ 0x2000000000000006 ∷ 0x2000000000000007 ∷ 0x2000000000000008
+    ∷ 0 ∷ 1 ∷ 1 ∷ 0 ∷ 0 ∷ 0 ∷ 1 ∷ 1 ∷ []
+unfolding putPlacement image deskWords each leBytes le
+placed = refl

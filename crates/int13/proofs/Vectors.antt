@@ -1,5 +1,5 @@
 -- Calls by number: document 01's drive of 2048 blocks and C/H/S 2/16/63, each function's success and refusals, and cases with two
--- faults that show the order of the tests.
+-- faults that show the order of the tests; then three drives that differ in everything, and of them two with parameter tables.
 -- Assumes nothing.
 use mathlib.Core.Path.{_≡_, refl}
 use mathlib.Core.Bool.{Bool, true, false}

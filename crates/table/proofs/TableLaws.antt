@@ -9,7 +9,7 @@ use native.Mathlib.Nat.{zero-add, add-assoc}
 use native.Mathlib.Numerals.{add-one, sub-one}
 use native.Mathlib.Omega.{arith}
 use lib.ListN.{length, getD, drop, length-append, length-take, length-drop}
-use lib.Seq.{sets, length-take-le, getD-take, getD-drop}
+use lib.Seq.{sets, length-sets, length-take-le, getD-take, getD-drop}
 use lib.Dec.{ltb, leb, eqb}
 use borrow.Author.Tests.{leb-false, lt-leb, ltb-true, ltb-false, lt-ltb, le-ltb, eq-eqb, ne-eqb, eqb-true, eqb-false}
 use Rattle.logic.specs.Logic.{pick, both, either}
@@ -32,7 +32,7 @@ use Rattle.table.specs.declared.Answer.the-variants.{Accepted, Refused a
 use Rattle.table.specs.declared.Reading.{Reading}
 use Rattle.table.specs.declared.Written.{Written}
 use Rattle.table.specs.declared.Written.the-variants.{Bytes, Refused as WriteRefused}
-use Rattle.table.specs.Table.{emptyTable, mostRecords, badField, pastStore, overlapping, isKind, lengthOk, headerOf, headerAt, overlapsAny, refusal, noDrive, more, hasParameters, parametersAt, parametersRefusal, withParameters, stepped, recordRefusal, withRecord, recordStep, endStep, stepOf, stepAt, placeAfter, advanced, Advances, begun, reading, goOn, stepNumbers, answerNumbers, writtenNumbers, takenNumbers, wholeNumbers, recordNumbers, onward, numbersFrom, tableNumbers, writeNumbers, readTable, Reads, readFrom, slotRecords, recordsOf, endRecord, bytesOf, drivesOf, tableOf, writeAnswer, writeOut}
+use Rattle.table.specs.Table.{emptyTable, mostRecords, badField, pastStore, overlapping, isKind, lengthOk, headerOf, headerAt, overlapsAny, refusal, noDrive, more, hasParameters, parametersAt, parametersRefusal, withParameters, stepped, recordRefusal, withRecord, recordStep, endStep, stepOf, stepAt, placeAfter, advanced, Advances, begun, reading, goOn, stepNumbers, answerNumbers, writtenNumbers, takenNumbers, wholeNumbers, recordNumbers, onward, numbersFrom, tableNumbers, writeNumbers, readTable, Reads, readFrom, slotBytes, slotRecords, recordsOf, endRecord, bytesOf, drivesOf, tableOf, writeAnswer, writeOut}
 
 -- ---- the header
 
@@ -495,8 +495,11 @@ slot-without b i e = rw e (append-nil (recordOf (getD (b .drives) i noDrive)))
 pub slot-with : (b : Table) (i : ℕ) → hasParameters b i ≡ true → slotRecords b i ≡ recordOf (getD (b .drives) i noDrive) ++ parametersRecord i (parametersAt b i)
 slot-with b i e = rw e
 
+pub length-slotPart : (l : List ℕ) (i : ℕ) → length l ≡ 112 → i < 8 → length (part 14 l (14 * i)) ≡ 14
+length-slotPart l i e h = length-take-le 14 (drop (14 * i) l) (rw length-drop (omega arith))
+
 pub length-parametersAt : (b : Table) (i : ℕ) → length (b .parameters) ≡ 112 → i < 8 → length (parametersAt b i) ≡ 14
-length-parametersAt b i l h = length-take-le 14 (drop (14 * i) (b .parameters)) (rw length-drop (omega arith))
+length-parametersAt b i l h = length-slotPart (b .parameters) i l h
 
 pub length-slot : (b : Table) (i : ℕ) → length (b .parameters) ≡ 112 → i < 8
     → length (slotRecords b i) ≡ length (recordOf (getD (b .drives) i noDrive)) + pick (hasParameters b i) 20 0
@@ -508,21 +511,33 @@ length-slot b i l h =
     by-mark true = length-parametersRecord i (parametersAt b i) (length-parametersAt b i l h)
     by-mark false = refl
 
--- the records of a slot laid from a place on, as the code lays them
-pub slot-laid : {o r : List ℕ} {n : ℕ} (b : Table) (i : ℕ) (s : List ℕ) (at : ℕ) → hasParameters b i ≡ false → r ≡ recordOf (getD (b .drives) i noDrive)
-    → n ≡ length (recordOf (getD (b .drives) i noDrive)) → o ≡ sets s at r → (o ≡ sets s at (slotRecords b i)) × (at + n ≡ at + length (slotRecords b i))
-slot-laid b i s at e r n o =
-    let w = slot-without b i e in
-    (o ∙ ap (sets s at) (r ∙ sym w), ap (λ (x : ℕ). at + x) (n ∙ ap length (sym w)))
+pub length-slotBytes : (r : List ℕ) (d : Drive) (present : Bool) (i : ℕ) (p : List ℕ) → present ≡ true → length r ≡ length (parametersRecord i p)
+    → length (slotBytes d present i p) ≡ length (recordOf d) + length r
+length-slotBytes r d present i p e q = rw (e, q) (length-append (recordOf d) (parametersRecord i p))
 
-pub slot-laid-both : {o o₂ r r₂ p : List ℕ} {n : ℕ} (b : Table) (i : ℕ) (s : List ℕ) (at : ℕ) → hasParameters b i ≡ true → r ≡ recordOf (getD (b .drives) i noDrive)
-    → n ≡ length (recordOf (getD (b .drives) i noDrive)) → o ≡ sets s at r → p ≡ parametersAt b i → r₂ ≡ parametersRecord i p → o₂ ≡ sets o (at + n) r₂ → length r₂ ≡ 20
-    → (o₂ ≡ sets s at (slotRecords b i)) × (at + n + 20 ≡ at + length (slotRecords b i))
-slot-laid-both {o} {o₂} {r} {r₂} {p} {n} b i s at e q m o₁ w y z l =
-    let d : List ℕ = recordOf (getD (b .drives) i noDrive) in
-    let x : List ℕ = parametersRecord i (parametersAt b i) in
-    let k : r₂ ≡ x = y ∙ ap (parametersRecord i) w in
-    (rw (z, o₁, q, k, m, slot-with b i e) (sym (sets-append s at d x)), rw (slot-with b i e) (omega (arith, length-append d x, m, ap length k, l)))
+-- the records of a slot laid from a place on, as the code lays them
+pub slot-laid : {o r : List ℕ} {n : ℕ} (d : Drive) (present : Bool) (i : ℕ) (p s : List ℕ) (at : ℕ) → present ≡ false → r ≡ recordOf d → n ≡ length (recordOf d) → o ≡ sets s at r
+    → (o ≡ sets s at (slotBytes d present i p)) × (at + n ≡ at + length (slotBytes d present i p))
+slot-laid d present i p s at e q m w =
+    let alone : slotBytes d present i p ≡ recordOf d = rw e (append-nil (recordOf d)) in
+    (w ∙ ap (sets s at) (q ∙ sym alone), ap (λ (x : ℕ). at + x) (m ∙ ap length (sym alone)))
+
+pub slot-laid-both : {o o₂ r r₂ : List ℕ} {n : ℕ} (d : Drive) (present : Bool) (i : ℕ) (p s : List ℕ) (at : ℕ) → present ≡ true → r ≡ recordOf d → n ≡ length (recordOf d) → o ≡ sets s at r
+    → r₂ ≡ parametersRecord i p → o₂ ≡ sets o (at + n) r₂ → length r₂ ≡ 20 → (o₂ ≡ sets s at (slotBytes d present i p)) × (at + n + 20 ≡ at + length (slotBytes d present i p))
+slot-laid-both d present i p s at e q m w y z l =
+    let x : List ℕ = parametersRecord i p in
+    (rw (z, w, q, y, m, e) (sym (sets-append s at (recordOf d) x)), rw e (omega (arith, length-append (recordOf d) x, m, ap length y, l)))
+
+-- one slot more, as the code lays it
+pub slot-next : {o p : List ℕ} {r : ℕ} (s : List ℕ) (b : Table) (i at : ℕ) (o₀ : List ℕ) → length o₀ ≡ length s → o₀ ≡ sets s 0 (recordsOf i b) → at ≡ length (recordsOf i b) → p ≡ parametersAt b i
+    → o ≡ sets o₀ at (slotBytes (getD (b .drives) i noDrive) (hasParameters b i) i p) → r ≡ at + length (slotBytes (getD (b .drives) i noDrive) (hasParameters b i) i p)
+    → (length o ≡ length s) × (o ≡ sets s 0 (recordsOf (i + 1) b)) × (r ≡ length (recordsOf (i + 1) b))
+slot-next {o} {p} s b i at o₀ l w e q x y =
+    let slot : ℕ → List ℕ → List ℕ = slotBytes (getD (b .drives) i noDrive) (hasParameters b i) in (
+      ap length x ∙ length-sets o₀ at (slot i p) ∙ l,
+      x ∙ rw (w, q) (sets-slot s b i at e),
+      y ∙ rw q (omega (arith, length-more i b, e)),
+    )
 
 -- a table of eight slots holds as many drives as it counts, and at most eight
 pub length-drives : (b : Table) → length (b .drives) ≡ 8 → length (drivesOf b) ≡ min (b .count) 8

@@ -263,9 +263,13 @@ refusalAmong n firsts sizes d store = refusalBy n (overlapsRun n firsts sizes d)
 abbrev pub endRecord : List ℕ
 endRecord = leBytes 2 endLength ++ leBytes 2 endKind
 
--- the records of a slot: its drive's, then that of its parameters, where it has one, with the slot's number and the bytes as they were read
+-- the records of slot i: its drive's, then that of its parameters, where it has them, with the slot's number and the bytes as they were read
+abbrev pub slotBytes : Drive → Bool → ℕ → List ℕ → List ℕ
+slotBytes d present i p = recordOf d ++ pick present (parametersRecord i p) []
+
+-- of a table
 abbrev pub slotRecords : Table → ℕ → List ℕ
-slotRecords b i = recordOf (getD (b .drives) i noDrive) ++ pick (hasParameters b i) (parametersRecord i (parametersAt b i)) []
+slotRecords b i = slotBytes (getD (b .drives) i noDrive) (hasParameters b i) i (parametersAt b i)
 
 -- the records of the first n slots
 unfoldable pub recordsOf : ℕ → Table → List ℕ

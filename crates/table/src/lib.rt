@@ -7,9 +7,10 @@ ghost use lib.Dec.{ltb, eqb};
 ghost use mathlib.Core.Bool.{not, false};
 ghost use lib.Seq.{sets};
 ghost use Rattle.drive.specs.Drive.{driveKind, recordOf, fieldsOk, inStore};
+ghost use Rattle.words.specs.Words.{part};
 ghost use Rattle.logic.specs.Logic.{pick, both, allBelow};
 ghost use Rattle.attached.specs.Parameters.{parametersKind};
-ghost use Rattle.table.specs.Table.{isKind, lengthOk, headerAt, overlapsAny, refusal, more, parametersAt, withParameters, endStep, recordStep, stepAt, placeAfter, Advances, begun, zeroDrive, emptyTable, reading, endAnswer, Reads, slotRecords, recordsOf, drivesOf, tableOf, writeAnswer, writeOut, writtenNumbers, writeNumbers, soundTo, blankTo, attachedTo, isSound, overlapRuns, overlapsRun, refusalAmong};
+ghost use Rattle.table.specs.Table.{isKind, lengthOk, headerAt, overlapsAny, refusal, more, parametersAt, withParameters, endStep, recordStep, stepAt, placeAfter, Advances, begun, zeroDrive, emptyTable, reading, endAnswer, Reads, slotBytes, recordsOf, drivesOf, tableOf, writeAnswer, writeOut, writtenNumbers, writeNumbers, soundTo, blankTo, attachedTo, isSound, overlapRuns, overlapsRun, refusalAmong};
 
 // Document 01's refusals of a table, in the order of the checks.
 const CUT_OFF: u8 = 1;
@@ -261,17 +262,25 @@ fn with_parameters(b: Table, i: usize, p: [u8; 14]) -> Table
     next
 }
 
+// The bytes of one slot among those of all.
+fn bytes_at(bytes: [u8; 112], i: usize) -> [u8; 14]
+    requires { ⌜ i < 8 ⌝ }
+    ensures { λ p. ⌜ p ≡ part 14 bytes (14 * i) ⌝ }
+{
+    let from = attached::GIVEN_LENGTH * i;
+    let end = from + attached::GIVEN_LENGTH;
+    let mut p = [0u8; 14];
+    words::store(&mut p, 0, &bytes[from..end]);
+    p
+}
+
 // The fourteen bytes of a slot, one of the eight.
 pub fn parameters_at(b: Table, i: usize) -> [u8; 14]
     requires { ⌜ i < 8 ⌝ }
     ensures { λ p. ⌜ p ≡ parametersAt b i ⌝ }
 {
     let bytes = b.parameters;
-    let from = attached::GIVEN_LENGTH * i;
-    let end = from + attached::GIVEN_LENGTH;
-    let mut p = [0u8; 14];
-    words::store(&mut p, 0, &bytes[from..end]);
-    p
+    bytes_at(bytes, i)
 }
 
 // ---- the cursor
@@ -572,20 +581,19 @@ fn records_length(b: Table, n: usize) -> usize
     total
 }
 
-// The records of one slot, laid from a place on; the place behind them.
-fn put_slot(b: Table, i: usize, out: &mut [u8], at: usize) -> usize
-    requires { ⌜ (i < 8) × (at + length (slotRecords b i) ≤ length (now out)) ⌝ }
-    ensures { λ r. ⌜ (now (out .exit) ≡ sets (now (out .entry)) at (slotRecords b i)) × (r ≡ at + length (slotRecords b i)) ⌝ }
+// The records of slot i, which has that drive and, where `present` says so, those bytes, laid from a place on; the place behind them.
+fn put_slot(d: Drive, present: bool, i: usize, p: [u8; 14], out: &mut [u8], at: usize) -> usize
+    requires { ⌜ (i < 8) × (at + length (slotBytes d present i p) ≤ length (now out)) ⌝ }
+    ensures { λ r. ⌜ (now (out .exit) ≡ sets (now (out .entry)) at (slotBytes d present i p)) × (r ≡ at + length (slotBytes d present i p)) ⌝ }
 {
-    let d = b.drives[i];
     let r = drive::encode(d);
     words::store(out, at, &r);
     let behind = at + drive::record_length(d);
-    if !b.present[i] {
+    if !present {
         return behind;
     }
-    let p = attached::encode(i as u16, parameters_at(b, i));
-    words::store(out, behind, &p);
+    let given = attached::encode(i as u16, p);
+    words::store(out, behind, &given);
     behind + attached::PARAMETERS_LENGTH as usize
 }
 
@@ -594,10 +602,14 @@ fn put_records(b: Table, n: usize, out: &mut [u8])
     requires { ⌜ (n ≤ 8) × (length (recordsOf n b) ≤ length (now out)) ⌝ }
     ensures { λ _. ⌜ now (out .exit) ≡ sets (now (out .entry)) 0 (recordsOf n b) ⌝ }
 {
+    let bytes = b.parameters;
     let mut at: usize = 0;
     let mut i = 0;
     while i < n {
-        at = put_slot(b, i, out, at);
+        let d = b.drives[i];
+        let present = b.present[i];
+        let p = bytes_at(bytes, i);
+        at = put_slot(d, present, i, p, out, at);
         i += 1;
     }
 }

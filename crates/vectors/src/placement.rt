@@ -91,7 +91,8 @@ fn support_case(desk: Desk, guest: usize, drive: u16, arena: &mut [u8], store: &
         ..registers(0x4100, 0, drive)
     };
     let posted = desk.post(guest, asked, arena, store);
-    say_support(drive, posted.answer);
+    let answer = posted.answer;
+    say_support(drive, answer);
 }
 
 fn say_pointer(drive: u16, at: usize, arena: &[u8])
@@ -137,7 +138,8 @@ fn say_placed(address: u64, answer: PlaceAnswer) {
 
 fn place(desk: Desk, guest: usize, address: u64, arena: &mut [u8], store: &[u8]) -> Desk {
     let placing = desk.place(guest, address, arena, store);
-    say_placed(address, placing.answer);
+    let answer = placing.answer;
+    say_placed(address, answer);
     placing.desk
 }
 

@@ -18,7 +18,7 @@ use Rattle.int13.specs.declared.Outcome.the-variants.{Answered, Waits as Outcom
 use Rattle.int13.specs.Steps.{Checked, fed, begin}
 use Rattle.desk.specs.declared.Desk.{Desk}
 use Rattle.desk.specs.declared.PostAnswer.the-variants.{Refused as PostRefused}
-use Rattle.desk.specs.Parts.{ownWindow, withOwn}
+use Rattle.desk.specs.Parts.{ownWindow, withOwn, placementAt}
 use Rattle.desk.specs.Calls.{isLent, done, postChecked, postRow, postOf}
 use Rattle.desk.specs.Numbers.{postNumbers}
 use Rattle.desk.proofs.CallsLaws.{house-refused, Passed, house-passed, post-other, post-vacant}
@@ -71,7 +71,7 @@ made : (c : tie.After-begun) (o : Outcome) → c .begun .result ≡ o
 made c o e =
     let h = c .before .before .before .before .before .before .before .before in
     let p = passed (c .before .before .before .before .before .before .before) in
-    let t = ap (λ (x : Desk). begin (fed (x .table)) (registers h) (ownWindow (arena h) (guest h))) (sym (block (bytes h) (p .acceptable) .desk)) in
+    let t = ap (λ (x : Desk). begin (fed (x .table) (placementAt x (guest h))) (registers h) (ownWindow (arena h) (guest h))) (sym (block (bytes h) (p .acceptable) .desk)) in
     let v = sym (stage-read (bytes h) (p .acceptable) (guest h) (c .before .before .before .before .before .stage-of .ensures)) ∙ c .before .before .before .enum-told .given .1 in
     let w = c .begun .ensures .1 ∙ ap (λ (x : Checked). withOwn (arena h) (guest h) (x .window)) t in
     rw w (post-vacant (deskOf (bytes h)) (guest h) (arena h) (store h) p (registers h) v (sym e ∙ c .begun .ensures .0 ∙ ap (λ (x : Checked). x .outcome) t) refl refl refl)
@@ -96,7 +96,7 @@ returns-2 c =
     rw (← post-other (deskOf (bytes h)) (guest h) (arena h) (store h) p (registers h) (subst (λ (x : Stage). OneOf (1 ∷ 2 ∷ []) (tagOf stage.the-type x)) s (c .match .keys2)))
 
 begun-requires : tie.Need-begun-requires
-begun-requires c κs = sized (c .before .before .before .before .before .before)
+begun-requires c κs = let t = c .before .before .before .before .before .before in (sized t, below t)
 
 put-stage-requires : tie.Need-put-stage-requires
 put-stage-requires c κs = let t = tested (c .before .before .before .before .before .before) in (sized t, below t)

@@ -1,10 +1,11 @@
 use mathlib.Core.Path.{_≡_, sym, ap, _∙_}
 use mathlib.Core.Bool.{true}
-use Prim.Native.Nat.{_-_, _<_, _≤_}
+use Prim.Native.Nat.{ℕ, _+_, _-_, _*_, _/_, _%_, _<_, _≤_}
 use native.Mathlib.Omega.{arith}
 use lib.ListN.{length}
 use borrow.Author.Tests.{not-true, not-false}
 use Rattle.logic.proofs.LogicLaws.{length-mapped}
+use Rattle.int13.specs.declared.Shown.{Shown}
 use Rattle.int13.specs.Steps.{isDrive, shownOf}
 use Rattle.int13.proofs.StepsLaws.{count-most, isDrive-true}
 use borrow.Author.Needs.{needs}
@@ -42,7 +43,11 @@ tables-before-requires c κs = omega (arith, slot (c .before .before .before) .1
 
 returns-3 : tie.Need-returns-3
 unfolding shownOf
-returns-3 c = rw (known (c .before .before .before .before .before), sym (c .before .before .before .and .ensures) ∙ not-false _ (c .before .before .if2 .left), c .shown-at .ensures, c .before .tables-before .ensures .0)
+returns-3 c =
+    let a = c .before .before .before .before .before .before .before .args in
+    let found = sym (c .before .before .before .and .ensures) ∙ not-false _ (c .before .before .if2 .left) in
+    let table : ℕ → Shown = λ before. record { table = true; segment = (a .placement .address + 16 * before) / 16 % 65536 } in
+    rw (known (c .before .before .before .before .before), found) (c .shown-at .ensures ∙ ap table (c .before .tables-before .ensures .0))
 
 pub shown-of-spec : {M : Type 1} → statement M
 shown-of-spec =
