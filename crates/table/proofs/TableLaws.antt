@@ -79,6 +79,21 @@ pub header-is : {left size kind : ℕ} {k l : Bool} (t : List ℕ) (at : ℕ) �
 unfolding headerAt headerOf
 header-is t at e s q k l = rw (k, l, e, s, q)
 
+-- the length of a kind that is known
+pub lengthOk-one : (size : ℕ) → eqb size 68 ≡ lengthOk 1 size
+lengthOk-one size = by-test (eqb size 68)
+  where
+    by-test : (x : Bool) → x ≡ either x false
+    by-test true = refl
+    by-test false = refl
+
+pub lengthOk-zero : (size : ℕ) → eqb size 4 ≡ lengthOk 0 size
+lengthOk-zero size = by-test (eqb size 4)
+  where
+    by-test : (x : Bool) → x ≡ either x false
+    by-test true = refl
+    by-test false = refl
+
 -- the kinds with their lengths
 lengthOk-cases : (k n : ℕ) → lengthOk k n ≡ true → ((k ≡ 0) × (n ≡ 4)) ⊎ (((k ≡ 1) × (n ≡ 68)) ⊎ ((k ≡ 4) × (n ≡ 20)))
 lengthOk-cases k n h =
@@ -529,15 +544,14 @@ slot-laid-both d present i p s at e q m w y z l =
     (rw (z, w, q, y, m, e) (sym (sets-append s at (recordOf d) x)), rw e (omega (arith, length-append (recordOf d) x, m, ap length y, l)))
 
 -- one slot more, as the code lays it
-pub slot-next : {o p : List ℕ} {r : ℕ} (s : List ℕ) (b : Table) (i at : ℕ) (o₀ : List ℕ) → length o₀ ≡ length s → o₀ ≡ sets s 0 (recordsOf i b) → at ≡ length (recordsOf i b) → p ≡ parametersAt b i
-    → o ≡ sets o₀ at (slotBytes (getD (b .drives) i noDrive) (hasParameters b i) i p) → r ≡ at + length (slotBytes (getD (b .drives) i noDrive) (hasParameters b i) i p)
+pub slot-next : {o : List ℕ} {r : ℕ} (s : List ℕ) (b : Table) (i at : ℕ) (o₀ : List ℕ) → length o₀ ≡ length s → o₀ ≡ sets s 0 (recordsOf i b) → at ≡ length (recordsOf i b)
+    → o ≡ sets o₀ at (slotRecords b i) → r ≡ at + length (slotRecords b i)
     → (length o ≡ length s) × (o ≡ sets s 0 (recordsOf (i + 1) b)) × (r ≡ length (recordsOf (i + 1) b))
-slot-next {o} {p} s b i at o₀ l w e q x y =
-    let slot : ℕ → List ℕ → List ℕ = slotBytes (getD (b .drives) i noDrive) (hasParameters b i) in (
-      ap length x ∙ length-sets o₀ at (slot i p) ∙ l,
-      x ∙ rw (w, q) (sets-slot s b i at e),
-      y ∙ rw q (omega (arith, length-more i b, e)),
-    )
+slot-next s b i at o₀ l w e x y = (
+  ap length x ∙ length-sets o₀ at (slotRecords b i) ∙ l,
+  x ∙ rw w (sets-slot s b i at e),
+  y ∙ omega (arith, length-more i b, e),
+)
 
 -- a table of eight slots holds as many drives as it counts, and at most eight
 pub length-drives : (b : Table) → length (b .drives) ≡ 8 → length (drivesOf b) ≡ min (b .count) 8

@@ -109,24 +109,30 @@ fn bytes_left(n: usize, at: usize) -> usize
     if at < n { n - at } else { 0 }
 }
 
+// A drive's kind is tested first here and below: most records are drives, and the tests of one kind become one.
 fn is_kind(kind: u16) -> bool
     ensures { λ r. ⌜ r ≡ isKind kind ⌝ }
 {
-    let drive = logic::or(kind == drive::DRIVE_KIND, kind == attached::PARAMETERS_KIND);
-    logic::or(kind == END_KIND, drive)
+    if kind == drive::DRIVE_KIND {
+        return true;
+    }
+    logic::or(kind == END_KIND, kind == attached::PARAMETERS_KIND)
 }
 
 // The length for the kind.
 fn length_ok(kind: u16, size: u16) -> bool
     ensures { λ r. ⌜ r ≡ lengthOk kind size ⌝ }
 {
-    let end = logic::and(kind == END_KIND, size == END_LENGTH);
-    let drive = logic::and(kind == drive::DRIVE_KIND, size == drive::DRIVE_LENGTH);
-    let parameters = logic::and(
+    if kind == drive::DRIVE_KIND {
+        return size == drive::DRIVE_LENGTH;
+    }
+    if kind == END_KIND {
+        return size == END_LENGTH;
+    }
+    logic::and(
         kind == attached::PARAMETERS_KIND,
         size == attached::PARAMETERS_LENGTH,
-    );
-    logic::or(end, logic::or(drive, parameters))
+    )
 }
 
 fn header_at(t: &[u8], at: usize) -> Header
@@ -263,9 +269,9 @@ fn with_parameters(b: Table, i: usize, p: [u8; 14]) -> Table
 }
 
 // The bytes of one slot among those of all.
-fn bytes_at(bytes: [u8; 112], i: usize) -> [u8; 14]
-    requires { ⌜ i < 8 ⌝ }
-    ensures { λ p. ⌜ p ≡ part 14 bytes (14 * i) ⌝ }
+fn bytes_at(bytes: &[u8], i: usize) -> [u8; 14]
+    requires { ⌜ (length (now bytes) ≡ 112) × (i < 8) ⌝ }
+    ensures { λ p. ⌜ p ≡ part 14 (now (bytes .entry)) (14 * i) ⌝ }
 {
     let from = attached::GIVEN_LENGTH * i;
     let end = from + attached::GIVEN_LENGTH;
@@ -280,7 +286,7 @@ pub fn parameters_at(b: Table, i: usize) -> [u8; 14]
     ensures { λ p. ⌜ p ≡ parametersAt b i ⌝ }
 {
     let bytes = b.parameters;
-    bytes_at(bytes, i)
+    bytes_at(&bytes, i)
 }
 
 // ---- the cursor
@@ -581,10 +587,10 @@ fn records_length(b: Table, n: usize) -> usize
     total
 }
 
-// The records of slot i, which has that drive and, where `present` says so, those bytes, laid from a place on; the place behind them.
-fn put_slot(d: Drive, present: bool, i: usize, p: [u8; 14], out: &mut [u8], at: usize) -> usize
-    requires { ⌜ (i < 8) × (at + length (slotBytes d present i p) ≤ length (now out)) ⌝ }
-    ensures { λ r. ⌜ (now (out .exit) ≡ sets (now (out .entry)) at (slotBytes d present i p)) × (r ≡ at + length (slotBytes d present i p)) ⌝ }
+// The records of slot i, which has that drive and, where `present` says so, its bytes of all, laid from a place on; the place behind them.
+fn put_slot(d: Drive, present: bool, i: usize, bytes: &[u8], out: &mut [u8], at: usize) -> usize
+    requires { ⌜ (length (now bytes) ≡ 112) × (i < 8) × (at + length (slotBytes d present i (part 14 (now bytes) (14 * i))) ≤ length (now out)) ⌝ }
+    ensures { λ r. ⌜ (now (out .exit) ≡ sets (now (out .entry)) at (slotBytes d present i (part 14 (now (bytes .entry)) (14 * i)))) × (r ≡ at + length (slotBytes d present i (part 14 (now (bytes .entry)) (14 * i)))) ⌝ }
 {
     let r = drive::encode(d);
     words::store(out, at, &r);
@@ -592,7 +598,7 @@ fn put_slot(d: Drive, present: bool, i: usize, p: [u8; 14], out: &mut [u8], at: 
     if !present {
         return behind;
     }
-    let given = attached::encode(i as u16, p);
+    let given = attached::encode(i as u16, bytes_at(bytes, i));
     words::store(out, behind, &given);
     behind + attached::PARAMETERS_LENGTH as usize
 }
@@ -608,8 +614,7 @@ fn put_records(b: Table, n: usize, out: &mut [u8])
     while i < n {
         let d = b.drives[i];
         let present = b.present[i];
-        let p = bytes_at(bytes, i);
-        at = put_slot(d, present, i, p, out, at);
+        at = put_slot(d, present, i, &bytes, out, at);
         i += 1;
     }
 }

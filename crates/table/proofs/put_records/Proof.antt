@@ -1,12 +1,11 @@
 use borrow.Author.Needs.{needs}
 use native.Mathlib.Omega.{arith}
-use Prim.Native.Nat.{ℕ, _≤_, _-_}
-use mathlib.Core.Path.{_≡_, refl, ap}
-use lib.ListN.{length, getD}
+use Prim.Native.Nat.{_≤_, _-_}
+use mathlib.Core.Path.{_≡_, refl}
+use lib.ListN.{length}
 use lib.Seq.{sets}
-use mathlib.Core.List.{List}
 use denote.Ref.{now}
-use Rattle.table.specs.Table.{noDrive, hasParameters, slotBytes, recordsOf}
+use Rattle.table.specs.Table.{recordsOf}
 use Rattle.table.proofs.TableLaws.{length-more, length-up, slot-next}
 use Rattle.table.proofs.put_records.Statement.{statement}
 use Rattle.table.proofs.put_records.Tie as tie
@@ -17,6 +16,10 @@ Inv-loop n out₀ b bytes at₀ i₀ out at i = (i ≤ n) × (length out ≡ len
 abbrev μ-loop : tie.MeasureT-loop
 μ-loop n out₀ b bytes at₀ i₀ out at i = n - i
 
+-- what the types say
+bytes : (c : tie.Start Inv-loop μ-loop) → length (c .args .t1 .parameters) ≡ 112
+bytes c = search needs
+
 loop-holds : tie.Need-loop-holds Inv-loop μ-loop
 unfolding recordsOf
 loop-holds c = (search needs, refl, refl, refl)
@@ -26,18 +29,16 @@ put-slot-requires c κs =
     let h = c .before .before .before .before .before in
     let s = h .before .before .before in
     let b = s .args .t1 in
-    let i = h .loop .i in
-    let m = length-more i b in
-    let l = length-up i (s .args .n) b (c .before .before .before .before .loop-test .taken) in
-    let same = ap (λ (p : List ℕ). length (slotBytes (getD (b .drives) i noDrive) (hasParameters b i) i p)) (c .before .bytes-at .ensures) in
-    (search needs, omega (arith, m, l, same, h .loop .inv .1, h .loop .inv .3, s .pre .1))
+    let m = length-more (h .loop .i) b in
+    let l = length-up (h .loop .i) (s .args .n) b (c .before .before .before .before .loop-test .taken) in
+    (bytes s, search needs, omega (arith, m, l, h .loop .inv .1, h .loop .inv .3, s .pre .1))
 
 loop-again : tie.Need-loop-again Inv-loop μ-loop
 loop-again c =
     let h = c .before .before .before .before .before .before .before .before in
     let a = h .before .before .before .args in
     let e = c .before .before .put-slot .ensures in
-    let n = slot-next (now (a .out)) (a .t1) (h .loop .i) (h .loop .at) (h .loop .out) (h .loop .inv .1) (h .loop .inv .2) (h .loop .inv .3) (c .before .before .before .before .bytes-at .ensures) (e .0) (e .1) in
+    let n = slot-next (now (a .out)) (a .t1) (h .loop .i) (h .loop .at) (h .loop .out) (h .loop .inv .1) (h .loop .inv .2) (h .loop .inv .3) (e .0) (e .1) in
     (search needs, n .0, n .1, n .2)
 
 returns : tie.Need-returns Inv-loop μ-loop
@@ -56,7 +57,7 @@ put-records-spec =
     (search needs)
     (search needs)
     (search needs)
-    (search needs)
+    (λ c. search needs)
     put-slot-requires
     (search needs)
     (search needs)
