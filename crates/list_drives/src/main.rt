@@ -1,5 +1,5 @@
 // Lists the drive table on standard input, or says where and why it is refused. The store is taken as 2^32 blocks.
-// 612 bytes settle every answer (table's theorem `buffer-enough`), so the buffer's 4096 answer for input of any length.
+// 772 bytes settle every answer (table's theorem `buffer-enough`), so the buffer's 4096 answer for input of any length.
 use drive::Drive;
 use table::Answer;
 use table::Table;

@@ -318,7 +318,7 @@ unfolding le leBytes inLimits driveOf same busOk interfaceOk geometryFits fields
 both-read = refl
 
 -- refused, the table has the drives and parameters before it
-pub attached-before : readTable (first-bytes ++ second-bytes ++ attach 1 ++ attach 1) 14000 .table ≡ two-attached
+pub attached-before : readTable (first-bytes ++ second-bytes ++ attach 1 ++ attach 0) 14000 .table ≡ two-attached
 unfolding le leBytes inLimits driveOf same busOk interfaceOk geometryFits fieldsOk inStore overlap headerOf headerAt overlapsAny refusal parametersRefusal recordRefusal withRecord recordStep endStep stepOf stepAt readFrom readTable
 attached-before = refl
 
