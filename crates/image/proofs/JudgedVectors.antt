@@ -42,13 +42,13 @@ unfolding moreGood below each leBytes le readDesk readStage readDrive attachedTo
 windows = refl
 
 -- a mark of 2, a mark with a second byte; an address without a mark; a misaligned one, one past the end, one before it
-pub guests : map (λ (b : List ℕ). moreGood b 96) (but 2408 2 ∷ but 2409 1 ∷ but 2464 0x10 ∷ but 2472 0x38 ∷ but 2472 0x50 ∷ but 2472 0x30 ∷ [])
+pub guests : map (λ (b : List ℕ). moreGood b 96) (but 2400 2 ∷ but 2409 1 ∷ but 2464 0x10 ∷ but 2472 0x38 ∷ but 2472 0x50 ∷ but 2472 0x30 ∷ [])
     ≡ false ∷ false ∷ false ∷ false ∷ false ∷ true ∷ []
 unfolding moreGood below each leBytes le readDesk readStage readDrive attachedTo placementsOk placeOk parametersTo
 guests = refl
 
 -- a mark of 2, a mark with a second byte; the mark of a slot past the count, and of one more drive, with room for its table
-pub slots : map (λ (b : List ℕ). moreGood b 96) (but 2528 2 ∷ but 2529 1 ∷ but 2552 1 ∷ sets (sets (but 2552 1) 2368 (4 ∷ [])) 2472 (0x30 ∷ []) ∷ [])
+pub slots : map (λ (b : List ℕ). moreGood b 96) (but 2536 2 ∷ but 2529 1 ∷ but 2552 1 ∷ sets (sets (but 2552 1) 2368 (4 ∷ [])) 2472 (0x30 ∷ []) ∷ [])
     ≡ false ∷ false ∷ false ∷ true ∷ []
 unfolding moreGood below each leBytes le readDesk readStage readDrive attachedTo placementsOk placeOk parametersTo
 slots = refl
@@ -95,8 +95,13 @@ desk = record {
   addresses = 0 ∷ 0x40 ∷ replicate 6 0;
 }
 
--- accepted as it is; not with a mark of 2, an address without a mark, a bad address, a mark past the count, bytes without a mark
-pub acceptance : accepted (image desk) ∷ map (λ (at : ℕ). accepted (sets (image desk) at (2 ∷ []))) (2408 ∷ 2464 ∷ 2472 ∷ 2552 ∷ 2606 ∷ [])
-    ≡ true ∷ replicate 5 false
+-- whether its block is accepted with another byte at a place
+abbrev acceptedBut : ℕ → ℕ → Bool
+acceptedBut at x = accepted (sets (image desk) at (x ∷ []))
+
+-- accepted as it is, and with another good place; not with a mark of 2, an address without a mark, a misaligned address, a mark past the count,
+-- bytes without a mark
+pub acceptance : accepted (image desk) ∷ acceptedBut 2472 0x30 ∷ acceptedBut 2400 2 ∷ acceptedBut 2464 0x10 ∷ acceptedBut 2472 0x38 ∷ acceptedBut 2552 1 ∷ acceptedBut 2606 1 ∷ []
+    ≡ true ∷ true ∷ replicate 5 false
 unfolding accepted deskOf isImage image deskWords each leBytes le readDesk readStage readDrive same accept isSound soundTo blankTo attachedTo refusal overlapsAny overlap fieldsOk inStore geometryFits inLimits busOk interfaceOk isBlank blankNumbers blankNames rowsOk placementsOk placeOk parametersTo
 acceptance = refl
