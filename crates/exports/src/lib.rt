@@ -98,8 +98,7 @@ pub extern "C" fn edd_write(desk: &[u8], out: &mut [u8], written: &mut u64) -> u
     if number != 0 {
         return number as u32;
     }
-    let b = image::table_of(desk);
-    let answer = table::write_table(b, out);
+    let answer = image::write_table(desk, out);
     match answer {
         Written::Bytes(n) => {
             *written = n as u64;

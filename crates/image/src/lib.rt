@@ -11,6 +11,7 @@ use int13::Placement;
 use int13::Registers;
 use int13::Shown;
 use table::Table;
+use table::Written;
 ghost use mathlib.Core.Path.{_≡_};
 ghost use Prim.Native.Nat.{_+_, _*_, _≤_, _<_};
 ghost use lib.ListN.{length, getD};
@@ -20,7 +21,7 @@ ghost use lib.Dec.{eqb};
 ghost use Rattle.logic.specs.Logic.{pick, both};
 ghost use Rattle.words.specs.Words.{part};
 ghost use Rattle.attached.specs.Parameters.{givenLength};
-ghost use Rattle.table.specs.Table.{mostDrives, attachedAt, attachedTo, parametersTo};
+ghost use Rattle.table.specs.Table.{mostDrives, attachedAt, attachedTo, parametersTo, recordsOf, writeAnswer, writeOut};
 ghost use Rattle.desk.specs.declared.Stage.the-variants.{Waiting, Finished};
 ghost use Rattle.desk.specs.Parts.{stageAt, isWaiting, placementAt};
 ghost use Rattle.desk.specs.Acceptable.{placementsOk};
@@ -340,6 +341,50 @@ pub fn shown_of(b: &[u8], guest: usize, n: u8) -> Shown
         return none;
     }
     int13::shown_at(p.address, tables_before(b, i))
+}
+
+// ---- the block's table written back, slot by slot: no table is made of it
+
+// The length of the records of the first n slots. `write_table` asks for at most eight.
+fn records_length(b: &[u8], n: usize) -> usize
+    requires { ⌜ (length (now b) ≡ deskSize) × (n ≤ mostDrives) ⌝ }
+    ensures { λ r. ⌜ (r ≡ length (recordsOf n (readDesk (now (b .entry)) .table))) × (r ≤ 88 * n) ⌝ }
+{
+    let tables = tables_before(b, n) as usize;
+    drive::DRIVE_LENGTH as usize * n + attached::PARAMETERS_LENGTH as usize * tables
+}
+
+// The records of the first n slots, laid at the start of a buffer that `write_table` has found long enough.
+fn put_records(b: &[u8], n: usize, out: &mut [u8])
+    requires { ⌜ (length (now b) ≡ deskSize) × (n ≤ mostDrives) × (length (recordsOf n (readDesk (now b) .table)) ≤ length (now out)) ⌝ }
+    ensures { λ _. ⌜ now (out .exit) ≡ sets (now (out .entry)) 0 (recordsOf n (readDesk (now (b .entry)) .table)) ⌝ }
+{
+    let from = BYTES;
+    let end = SIZE;
+    let mut at: usize = 0;
+    let mut i = 0;
+    while i < n {
+        let d = drive_in(b, i);
+        let present = mark_at(b, PRESENT + 8 * i);
+        at = table::put_slot(d, present, i, &b[from..end], out, at);
+        i += 1;
+    }
+}
+
+// Lays the drives of the block's table out as a table.
+pub fn write_table(b: &[u8], out: &mut [u8]) -> Written
+    requires { ⌜ length (now b) ≡ deskSize ⌝ }
+    ensures { λ r. ⌜ (r ≡ writeAnswer (readDesk (now (b .entry)) .table) (length (now (out .entry)))) × (now (out .exit) ≡ writeOut (readDesk (now (b .entry)) .table) (now (out .entry))) ⌝ }
+{
+    let n = count_of(b) as usize;
+    let end = records_length(b, n);
+    let whole = end + table::END_LENGTH as usize;
+    if out.len() < whole {
+        return Written::Refused(table::SHORT_BUFFER);
+    }
+    put_records(b, n, out);
+    table::put_end(out, end);
+    Written::Bytes(whole)
 }
 
 // ---- a block judged on its words: no desk is made of it, and every width is a test of a word

@@ -559,6 +559,10 @@ length-drives b l = rw (length-take (b .count) (b .drives), l)
 
 -- ---- the writer
 
+-- the end record, as the code lays it
+pub end-laid : {o₁ o₂ : List ℕ} (s : List ℕ) (at : ℕ) → o₁ ≡ sets s at (leBytes 2 4) → o₂ ≡ sets o₁ (at + 2) (leBytes 2 0) → o₂ ≡ sets s at endRecord
+end-laid s at e f = rw (f, e, sets-append s at (leBytes 2 4) (leBytes 2 0), length-leBytes)
+
 module _ (b : Table) (out : List ℕ) (n end : ℕ) (eight : length (b .drives) ≡ 8) (held : n ≡ min (b .count) 8) (all : end ≡ length (recordsOf n b)) where
   table-held : tableOf b ≡ recordsOf n b ++ endRecord
   unfolding tableOf bytesOf
@@ -573,13 +577,12 @@ module _ (b : Table) (out : List ℕ) (n end : ℕ) (eight : length (b .drives) 
       let t : ltb (length out) (length (tableOf b)) ≡ true = lt-ltb (length out) (length (tableOf b)) (rw length-held h) in
       (rw t, rw t)
 
-  pub write-done : {o₁ o₂ o₃ : List ℕ} → end + 4 ≤ length out → o₁ ≡ sets out 0 (recordsOf n b) → o₂ ≡ sets o₁ end (leBytes 2 4) → o₃ ≡ sets o₂ (end + 2) (leBytes 2 0)
-      → (Bytes (end + 4) ≡ writeAnswer b (length out)) × (o₃ ≡ writeOut b out)
+  pub write-done : {o₁ o₂ : List ℕ} → end + 4 ≤ length out → o₁ ≡ sets out 0 (recordsOf n b) → o₂ ≡ sets o₁ end endRecord
+      → (Bytes (end + 4) ≡ writeAnswer b (length out)) × (o₂ ≡ writeOut b out)
   unfolding writeAnswer writeOut
-  write-done {o₁} {o₂} {o₃} h e₁ e₂ e₃ =
+  write-done {o₁} {o₂} h e₁ e₂ =
       let t : ltb (length out) (length (tableOf b)) ≡ false = le-ltb (length out) (length (tableOf b)) (rw length-held h) in
-      let whole : sets out 0 (tableOf b) ≡ o₃ =
-      rw (table-held, sets-append, sets-append, length-leBytes, zero-add, ← all, e₃, e₂, e₁) in
+      let whole : sets out 0 (tableOf b) ≡ o₂ = rw (table-held, sets-append out 0 (recordsOf n b) endRecord, zero-add, ← all, e₂, e₁) in
       (rw (t, length-held), rw t (sym whole ∙ sets-front out (tableOf b) (rw length-held h)))
 
 -- ---- a table that obeys the rules

@@ -10,7 +10,7 @@ ghost use Rattle.drive.specs.Drive.{driveKind, recordOf, fieldsOk, inStore};
 ghost use Rattle.words.specs.Words.{part};
 ghost use Rattle.logic.specs.Logic.{pick, both, allBelow};
 ghost use Rattle.attached.specs.Parameters.{parametersKind};
-ghost use Rattle.table.specs.Table.{isKind, lengthOk, headerAt, overlapsAny, refusal, more, parametersAt, withParameters, endStep, recordStep, stepAt, placeAfter, Advances, begun, zeroDrive, emptyTable, reading, endAnswer, Reads, slotBytes, recordsOf, drivesOf, tableOf, writeAnswer, writeOut, writtenNumbers, writeNumbers, soundTo, blankTo, attachedTo, isSound, overlapRuns, overlapsRun, refusalAmong};
+ghost use Rattle.table.specs.Table.{isKind, lengthOk, headerAt, overlapsAny, refusal, more, parametersAt, withParameters, endStep, recordStep, stepAt, placeAfter, Advances, begun, zeroDrive, emptyTable, reading, endAnswer, Reads, slotBytes, recordsOf, endRecord, drivesOf, tableOf, writeAnswer, writeOut, writtenNumbers, writeNumbers, soundTo, blankTo, attachedTo, isSound, overlapRuns, overlapsRun, refusalAmong};
 
 // Document 01's refusals of a table, in the order of the checks.
 const CUT_OFF: u8 = 1;
@@ -33,12 +33,12 @@ const NOT_LAST: u8 = 9;
 const BYTE_FOLLOWS: u8 = 8;
 
 // House number of a write to a buffer shorter than the table.
-const SHORT_BUFFER: u8 = 19;
+pub const SHORT_BUFFER: u8 = 19;
 
 // The end record.
 const END_KIND: u16 = 0;
 
-const END_LENGTH: u16 = 4;
+pub const END_LENGTH: u16 = 4;
 
 // The length word and the kind.
 const HEADER_LENGTH: usize = 4;
@@ -588,7 +588,7 @@ fn records_length(b: Table, n: usize) -> usize
 }
 
 // The records of slot i, which has that drive and, where `present` says so, its bytes of all, laid from a place on; the place behind them.
-fn put_slot(d: Drive, present: bool, i: usize, bytes: &[u8], out: &mut [u8], at: usize) -> usize
+pub fn put_slot(d: Drive, present: bool, i: usize, bytes: &[u8], out: &mut [u8], at: usize) -> usize
     requires { ⌜ (length (now bytes) ≡ 112) × (i < 8) × (at + length (slotBytes d present i (part 14 (now bytes) (14 * i))) ≤ length (now out)) ⌝ }
     ensures { λ r. ⌜ (now (out .exit) ≡ sets (now (out .entry)) at (slotBytes d present i (part 14 (now (bytes .entry)) (14 * i)))) × (r ≡ at + length (slotBytes d present i (part 14 (now (bytes .entry)) (14 * i)))) ⌝ }
 {
@@ -619,6 +619,15 @@ fn put_records(b: Table, n: usize, out: &mut [u8])
     }
 }
 
+// The end record, laid at a place; `write_table` has found room for it.
+pub fn put_end(out: &mut [u8], at: usize)
+    requires { ⌜ at + 4 ≤ length (now out) ⌝ }
+    ensures { λ _. ⌜ now (out .exit) ≡ sets (now (out .entry)) at endRecord ⌝ }
+{
+    words::store16(out, at, END_LENGTH);
+    words::store16(out, at + 2, END_KIND);
+}
+
 // Lays the table's drives out as a table again.
 pub fn write_table(b: Table, out: &mut [u8]) -> Written
     ensures { λ r. ⌜ (r ≡ writeAnswer b (length (now (out .entry)))) × (now (out .exit) ≡ writeOut b (now (out .entry))) × (writtenNumbers r ≡ writeNumbers b (length (now (out .entry)))) ⌝ }
@@ -630,8 +639,7 @@ pub fn write_table(b: Table, out: &mut [u8]) -> Written
         return Written::Refused(SHORT_BUFFER);
     }
     put_records(b, n, out);
-    words::store16(out, end, END_LENGTH);
-    words::store16(out, end + 2, END_KIND);
+    put_end(out, end);
     Written::Bytes(whole)
 }
 

@@ -38,11 +38,11 @@ refused c =
     (house-refused _ _ _ WriteRefused (writeAnswer t (length (out h))) (number h) (c .if1 .taken), house-refused _ _ _ (λ n. out h) (writeOut t (out h)) (number h) (c .if1 .taken))
 
 -- what the table's writer did is what the call does
-wrote : (c : tie.After-write-table) → (c .write-table .result ≡ writtenOf (deskOf (bytes (c .before .before .before .before))) (length (out (c .before .before .before .before)))) × (c .write-table .last .1 .0 ≡ writtenOut (deskOf (bytes (c .before .before .before .before))) (out (c .before .before .before .before)))
+wrote : (c : tie.After-write-table) → (c .write-table .result ≡ writtenOf (deskOf (bytes (c .before .before .before))) (length (out (c .before .before .before)))) × (c .write-table .last .1 .0 ≡ writtenOut (deskOf (bytes (c .before .before .before))) (out (c .before .before .before)))
 wrote c =
-    let h = c .before .before .before .before in
-    let p = passed (c .before .before .before) in
-    let t = table-read (bytes h) (p .acceptable) (c .before .before .table-of .ensures) in
+    let h = c .before .before .before in
+    let p = passed (c .before .before) in
+    let t = table-read (bytes h) (p .acceptable) refl in
     let w = write-table (deskOf (bytes h)) (out h) p in
     (c .write-table .ensures .0 ∙ ap (λ (x : Table). writeAnswer x (length (out h))) t ∙ w .0, c .write-table .ensures .1 ∙ ap (λ (x : Table). writeOut x (out h)) t ∙ w .1)
 
@@ -52,8 +52,8 @@ returns c =
     let r = refused c in
     rw (← r .0, ← r .1)
 
-table-of-requires : tie.Need-table-of-requires
-table-of-requires c κs = block (bytes (c .before)) (passed c .acceptable) .size
+write-table-requires : tie.Need-write-table-requires
+write-table-requires c κs = block (bytes (c .before .before)) (passed (c .before) .acceptable) .size
 
 returns-2 : tie.Need-returns-2
 unfolding writeCall over writtenNumbers
@@ -75,8 +75,7 @@ edd-write-spec =
     (search needs)
     (search needs)
     returns
-    table-of-requires
-    (search needs)
+    write-table-requires
     (search needs)
     (search needs)
     (search needs)

@@ -19,11 +19,11 @@ returns c =
 
 returns-2 : tie.Need-returns-2
 returns-2 c =
-    let put = c .before .before .before .before .before .before .before .before .before .before in
+    let put = c .before .before .before .before .before .before in
     let short = put .before .before in
     let s = short .before .before .before .before in
     let w = write-done (s .args .b) (now (s .args .out)) _ _ (eight s) (short .before .before .held .ensures) (short .before .records-length .ensures .0) (short .if1 .left)
-    (put .put-records .ensures) (c .before .before .before .before .before .before .store16 .ensures) (c .before .before .store162 .ensures) in
+    (put .put-records .ensures) (c .before .before .put-end .ensures) in
     (w .0, w .1, write-numbers _ _ (w .0))
 
 pub write-table-spec : {M : Type 1} → statement M
@@ -35,8 +35,6 @@ write-table-spec =
     (search needs)
     (search needs)
     returns
-    (search needs)
-    (search needs)
     (search needs)
     (search needs)
     (search needs)
