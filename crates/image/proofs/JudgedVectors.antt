@@ -47,8 +47,8 @@ pub guests : map (λ (b : List ℕ). moreGood b 96) (but 2400 2 ∷ but 2409 1 �
 unfolding moreGood parametersGood placesGood below each leBytes le readDesk readStage readDrive attachedTo placementsOk placeOk parametersTo
 guests = refl
 
--- a mark of 2, a mark with a second byte; the mark of a slot past the count, and of one more drive, with room for its table
-pub slots : map (λ (b : List ℕ). moreGood b 96) (but 2536 2 ∷ but 2529 1 ∷ but 2552 1 ∷ sets (sets (but 2552 1) 2368 (4 ∷ [])) 2472 (0x30 ∷ []) ∷ [])
+-- a mark of 2, a mark with a second byte; the mark of a slot past the count, with room for its table, and the same of one more drive
+pub slots : map (λ (b : List ℕ). moreGood b 96) (but 2536 2 ∷ but 2529 1 ∷ sets (but 2472 0x30) 2552 (1 ∷ []) ∷ sets (sets (but 2472 0x30) 2552 (1 ∷ [])) 2368 (4 ∷ []) ∷ [])
     ≡ false ∷ false ∷ false ∷ true ∷ []
 unfolding moreGood parametersGood placesGood below each leBytes le readDesk readStage readDrive attachedTo placementsOk placeOk parametersTo
 slots = refl
