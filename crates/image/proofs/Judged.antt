@@ -34,7 +34,7 @@ use Rattle.desk.specs.Acceptable.{requestOk, stageOk, rowsOk, placementOk, plac
 use Rattle.desk.specs.Calls.{closed}
 use Rattle.desk.proofs.AcceptableLaws.{closed-refused}
 use Rattle.image.specs.Image.{each, flat, listed, requestWords, stageWords, rowWords, rowsWords, driveWords, slotsWords, tailWords, marksWords, placesWords, givenWords, parametersWords, deskWords, image, rowSize, slotSize, rowAt, slotAt, tailAt, markAt, addressAt, presentAt, bytesAt, deskSize, countAt, pointerAt, arenaAt, storeAt, requestPlace, finishedPlace, registersAt, requestAt, readStage, readRow, readDrive, readRows, readSlots, readMarks, readAddresses, readDesk, isImage, deskOf, accepted, FitsDrive}
-use Rattle.image.specs.Judged.{below, areRegisters, isRequest, isSlot, driveGood, drivesGood, restZero, firstIn, blocksIn, apart, aloneTo, drivesApart, follows, ascending, waitingGood, finishedGood, rowGood, rowsGood, zeroBytes, moreGood, tableGood, judged}
+use Rattle.image.specs.Judged.{below, areRegisters, isRequest, isSlot, driveGood, drivesGood, restZero, firstIn, blocksIn, apart, aloneTo, drivesApart, follows, ascending, waitingGood, finishedGood, rowGood, rowsGood, zeroBytes, parametersGood, placesGood, moreGood, tableGood, judged}
 use Rattle.image.proofs.Fill.{length-row, length-drive, length-rows, length-slots, length-places, length-parameters}
 use Rattle.image.proofs.ImageLaws.{Says, drive-read, drive-fits}
 use Rattle.image.proofs.Fields.{listed-at, length-listed, length-marks, row-of, slot-of, placement-at, attached-of}
@@ -593,7 +593,7 @@ module _ (b : List ℕ) (h : Bytes b) (l : length b ≡ deskSize) where
 
   sized : both (tableGood b) (both (ltb (le 8 b pointerAt) 8) (both (rowsGood 8 b (windowLength (le 8 b arenaAt))) (moreGood b (windowLength (le 8 b arenaAt)))))
       ≡ both (same b (image (readDesk b))) (accept (readDesk b))
-  unfolding tableGood moreGood accept isSound readDesk count drives
+  unfolding tableGood moreGood parametersGood placesGood accept isSound readDesk count drives
   sized = rw image-is (go (leb count 8) (leb-true count 8))
     where
       store : ℕ
@@ -602,8 +602,11 @@ module _ (b : List ℕ) (h : Bytes b) (l : length b ≡ deskSize) where
       M : ℕ
       M = windowLength (le 8 b arenaAt)
 
-      marks : Bool
-      marks = both (below 8 2 b (markAt 0)) (below 8 2 b (presentAt 0))
+      placed : Bool
+      placed = below 8 2 b (markAt 0)
+
+      present : Bool
+      present = below 8 2 b (presentAt 0)
 
       attached : Bool
       attached = attachedTo 8 (readDesk b .table)
@@ -612,16 +615,16 @@ module _ (b : List ℕ) (h : Bytes b) (l : length b ≡ deskSize) where
       placements = placementsOk 8 (tableCount (readDesk b .table)) M (readDesk b)
 
       go : (t : Bool) → (t ≡ true → count ≤ 8)
-          → both (both t (both (drivesGood count b store) (both (restZero 8 count b) (drivesApart count b)))) (both (ltb (le 8 b pointerAt) 8) (both (rowsGood 8 b M) (both marks (both attached placements))))
-          ≡ both (both (matches b (rowAt 0) (rowsWords (readRows b))) (both (matches b (slotAt 0) (slotsWords (readSlots b))) marks))
+          → both (both t (both (drivesGood count b store) (both (restZero 8 count b) (drivesApart count b)))) (both (ltb (le 8 b pointerAt) 8) (both (rowsGood 8 b M) (both (both present attached) (both placed placements))))
+          ≡ both (both (matches b (rowAt 0) (rowsWords (readRows b))) (both (matches b (slotAt 0) (slotsWords (readSlots b))) (both placed present)))
           (both (both t (both (soundTo count (drives b) store) (both (blankTo 8 (drives b) count) attached))) (both (ltb (le 8 b pointerAt) 8) (both (rowsOk 8 (readDesk b .rows) (readDesk b .table) M) placements)))
       go true m = rw (← table-is store (m refl), ← rows-is M) (arrange (matches b (rowAt 0) (rowsWords (readRows b))) (matches b (slotAt 0) (slotsWords (readSlots b)))
-          (soundTo count (drives b) store) (blankTo 8 (drives b) count) (ltb (le 8 b pointerAt) 8) (rowsOk 8 (readDesk b .rows) (readDesk b .table) M) marks attached placements)
+          (soundTo count (drives b) store) (blankTo 8 (drives b) count) (ltb (le 8 b pointerAt) 8) (rowsOk 8 (readDesk b .rows) (readDesk b .table) M) placed present attached placements)
         where
-          arrange : (r p s z q o m a l : Bool)
-              → both (both p (both s z)) (both q (both (both r o) (both m (both a l)))) ≡ both (both r (both p m)) (both (both s (both z a)) (both q (both o l)))
-          arrange r p s z q o m a l = simp (both-assoc, both-left)
-      go false m = sym (both-false (both (matches b (rowAt 0) (rowsWords (readRows b))) (both (matches b (slotAt 0) (slotsWords (readSlots b))) marks)))
+          arrange : (r p s z q o m n a l : Bool)
+              → both (both p (both s z)) (both q (both (both r o) (both (both n a) (both m l)))) ≡ both (both r (both p (both m n))) (both (both s (both z a)) (both q (both o l)))
+          arrange r p s z q o m n a l = simp (both-assoc, both-left)
+      go false m = sym (both-false (both (matches b (rowAt 0) (rowsWords (readRows b))) (both (matches b (slotAt 0) (slotsWords (readSlots b))) (both placed present))))
 
 -- ---- zeros behind the last words
 
@@ -660,54 +663,44 @@ zero-given s at e f g =
     (all-intro 8 _ (λ j l. all-at 14 j (λ j. eqb (getD s (at + j) 0) 0) t (omega arith)))
     (all-intro 8 _ (λ j l. let z : at + (6 + j) ≡ at + 6 + j = omega arith in rw z at (all-at 14 (6 + j) (λ j. eqb (getD s (at + j) 0) 0) t (omega arith)))))))
 
--- words that are all zero mark nothing
-module _ (b : List ℕ) (e : below 38 1 b (markAt 0) ≡ true) where
-  word-zero : (j : ℕ) → j < 38 → le 8 b (markAt 0 + 8 * j) ≡ 0
+-- n words that are all zero
+module _ (b : List ℕ) (at n : ℕ) (e : below n 1 b at ≡ true) where
+  word-zero : (j : ℕ) → j < n → le 8 b (at + 8 * j) ≡ 0
   unfolding below
-  word-zero j l = omega (arith, ltb-true (le 8 b (markAt 0 + 8 * j)) 1 (all-at 38 j (λ j. ltb (le 8 b (markAt 0 + 8 * j)) 1) e l))
+  word-zero j l = omega (arith, ltb-true (le 8 b (at + 8 * j)) 1 (all-at n j (λ j. ltb (le 8 b (at + 8 * j)) 1) e l))
 
-  byte-zero : (m : ℕ) → m < 304 → getD b (markAt 0 + m) 0 ≡ 0
+  byte-zero : (m : ℕ) → m < 8 * n → getD b (at + m) 0 ≡ 0
   unfolding zeroBytes
   byte-zero m l =
-      let z : markAt 0 + 8 * (m / 8) + m % 8 ≡ markAt 0 + m = omega arith in
-      let w = sym (zero-word 8 b (markAt 0 + 8 * (m / 8))) ∙ eq-eqb _ 0 (word-zero (m / 8) (omega arith)) in
-      rw z at (eqb-true (getD b (markAt 0 + 8 * (m / 8) + m % 8) 0) 0 (all-at 8 (m % 8) (λ j. eqb (getD b (markAt 0 + 8 * (m / 8) + j) 0) 0) w (omega arith)))
+      let z : at + 8 * (m / 8) + m % 8 ≡ at + m = omega arith in
+      let w = sym (zero-word 8 b (at + 8 * (m / 8))) ∙ eq-eqb _ 0 (word-zero (m / 8) (omega arith)) in
+      rw z at (eqb-true (getD b (at + 8 * (m / 8) + m % 8) 0) 0 (all-at 8 (m % 8) (λ j. eqb (getD b (at + 8 * (m / 8) + j) 0) 0) w (omega arith)))
 
-  small : (at : ℕ) → markAt 0 ≤ at → at + 64 ≤ bytesAt 0 → at % 8 ≡ 0 → below 8 2 b at ≡ true
+  marks-zero : 8 ≤ n → below 8 2 b at ≡ true
   unfolding below
-  small at l r m =
-      all-intro 8 _ (λ j q.
-      let z : markAt 0 + 8 * ((at - markAt 0) / 8 + j) ≡ at + 8 * j = omega arith in
-      let w : le 8 b (at + 8 * j) ≡ 0 = ap (le 8 b) (sym z) ∙ word-zero ((at - markAt 0) / 8 + j) (omega arith) in
-      lt-ltb (le 8 b (at + 8 * j)) 2 (omega (arith, w)))
+  marks-zero l = all-intro 8 _ (λ j q. lt-ltb (le 8 b (at + 8 * j)) 2 (omega (arith, word-zero j (omega arith))))
 
-  mark-zero : (at k : ℕ) → at + 8 * k + 8 ≤ bytesAt 0 → markAt 0 ≤ at → getD b (at + 8 * k) 0 ≡ 0
-  mark-zero at k l m =
-      let z : markAt 0 + (at - markAt 0 + 8 * k) ≡ at + 8 * k = omega arith in
-      rw z at (byte-zero (at - markAt 0 + 8 * k) (omega arith))
-
-  attached-none : attachedTo 8 (readDesk b .table) ≡ true
-  unfolding attachedTo zeroBytes
-  attached-none =
-      all-intro 8 _ (λ i l.
+-- mark nothing
+module _ (b : List ℕ) where
+  pub bare-good : below 22 1 b (presentAt 0) ≡ true → parametersGood b ≡ true
+  unfolding parametersGood attachedTo zeroBytes
+  bare-good e =
+      both-intro _ _ (marks-zero b (presentAt 0) 22 e (omega arith))
+      (all-intro 8 _ (λ i l.
       attached-of b i l
-      ∙ rw (mark-zero (presentAt 0) i (omega arith) (omega arith))
+      ∙ rw (byte-zero b (presentAt 0) 22 e (8 * i) (omega arith))
       (all-intro 14 (λ j. eqb (getD b (bytesAt i + j) 0) 0) (λ j q.
-      let z : markAt 0 + (192 + 14 * i + j) ≡ bytesAt i + j = omega arith in
-      eq-eqb (getD b (bytesAt i + j) 0) 0 (ap (λ (k : ℕ). getD b k 0) (sym z) ∙ byte-zero (192 + 14 * i + j) (omega arith)))))
+      let z : presentAt 0 + (64 + 14 * i + j) ≡ bytesAt i + j = omega arith in
+      eq-eqb (getD b (bytesAt i + j) 0) 0 (ap (λ (k : ℕ). getD b k 0) (sym z) ∙ byte-zero b (presentAt 0) 22 e (64 + 14 * i + j) (omega arith))))))
 
-  placements-none : (tables M : ℕ) → placementsOk 8 tables M (readDesk b) ≡ true
-  unfolding placementsOk
-  placements-none tables M =
-      all-intro 8 _ (λ g l.
+  pub unplaced-good : (M : ℕ) → below 16 1 b (markAt 0) ≡ true → placesGood b M ≡ true
+  unfolding placesGood placementsOk
+  unplaced-good M e =
+      both-intro _ _ (marks-zero b (markAt 0) 16 e (omega arith))
+      (all-intro 8 _ (λ g l.
       let z : markAt 0 + 8 * (8 + g) ≡ addressAt g = omega arith in
-      let y : le 8 b (addressAt g) ≡ 0 = ap (le 8 b) (sym z) ∙ word-zero (8 + g) (omega arith) in
-      ap (placementOk tables M) (sym (placement-at {p = noPlacement} b g l (rw (mark-zero (markAt 0) g (omega arith) (omega arith))) (sym y))))
-
-  pub zeros-good : (M : ℕ) → true ≡ moreGood b M
-  unfolding moreGood
-  zeros-good M =
-      rw (small (markAt 0) (omega arith) (omega arith) refl, small (presentAt 0) (omega arith) (omega arith) refl, attached-none, placements-none (tableCount (readDesk b .table)) M)
+      let y : le 8 b (addressAt g) ≡ 0 = ap (le 8 b) (sym z) ∙ word-zero b (markAt 0) 16 e (8 + g) (omega arith) in
+      ap (placementOk (tableCount (readDesk b .table)) M) (sym (placement-at {p = noPlacement} b g l (rw (byte-zero b (markAt 0) 16 e (8 * g) (omega arith))) (sym y)))))
 
 -- ---- judged and accepted
 

@@ -15,7 +15,7 @@ use Rattle.desk.specs.declared.Desk.{Desk}
 use Rattle.desk.specs.Parts.{vacantRow}
 use Rattle.desk.specs.Acceptable.{rowsOk, placeOk, placementsOk, accept}
 use Rattle.image.specs.Image.{each, flat, listed, deskWords, image, readStage, readDrive, readDesk, isImage, deskOf, accepted}
-use Rattle.image.specs.Judged.{below, moreGood}
+use Rattle.image.specs.Judged.{below, parametersGood, placesGood, moreGood}
 
 -- ---- the sections behind the slots: three drives, of which the first and the last have parameters; guest 1 placed at 40h, guest 6 at 0
 
@@ -38,25 +38,25 @@ but at x = sets block at (x ∷ [])
 
 -- in windows of 96 bytes two tables end at 60h, in windows of 95 past the end
 pub windows : map (moreGood block) (96 ∷ 95 ∷ []) ≡ true ∷ false ∷ []
-unfolding moreGood below each leBytes le readDesk readStage readDrive attachedTo placementsOk placeOk parametersTo
+unfolding moreGood parametersGood placesGood below each leBytes le readDesk readStage readDrive attachedTo placementsOk placeOk parametersTo
 windows = refl
 
 -- a mark of 2, a mark with a second byte; an address without a mark; a misaligned one, one past the end, one before it
 pub guests : map (λ (b : List ℕ). moreGood b 96) (but 2400 2 ∷ but 2409 1 ∷ but 2464 0x10 ∷ but 2472 0x38 ∷ but 2472 0x50 ∷ but 2472 0x30 ∷ [])
     ≡ false ∷ false ∷ false ∷ false ∷ false ∷ true ∷ []
-unfolding moreGood below each leBytes le readDesk readStage readDrive attachedTo placementsOk placeOk parametersTo
+unfolding moreGood parametersGood placesGood below each leBytes le readDesk readStage readDrive attachedTo placementsOk placeOk parametersTo
 guests = refl
 
--- a mark of 2, a mark with a second byte; the mark of a slot past the count, and of one more drive, with room for its table
-pub slots : map (λ (b : List ℕ). moreGood b 96) (but 2536 2 ∷ but 2529 1 ∷ but 2552 1 ∷ sets (sets (but 2552 1) 2368 (4 ∷ [])) 2472 (0x30 ∷ []) ∷ [])
+-- a mark of 2, a mark with a second byte; the mark of a slot past the count, with room for its table, and the same of one more drive
+pub slots : map (λ (b : List ℕ). moreGood b 96) (but 2536 2 ∷ but 2529 1 ∷ sets (but 2472 0x30) 2552 (1 ∷ []) ∷ sets (sets (but 2472 0x30) 2552 (1 ∷ [])) 2368 (4 ∷ []) ∷ [])
     ≡ false ∷ false ∷ false ∷ true ∷ []
-unfolding moreGood below each leBytes le readDesk readStage readDrive attachedTo placementsOk placeOk parametersTo
+unfolding moreGood parametersGood placesGood below each leBytes le readDesk readStage readDrive attachedTo placementsOk placeOk parametersTo
 slots = refl
 
 -- the first and the last byte of a slot without a mark, and the last of all; other bytes where the mark stands
 pub bytes : map (λ (b : List ℕ). moreGood b 96) (but 2606 1 ∷ but 2619 1 ∷ but 2703 1 ∷ but 2605 0 ∷ but 2620 0 ∷ [])
     ≡ false ∷ false ∷ false ∷ true ∷ true ∷ []
-unfolding moreGood below each leBytes le readDesk readStage readDrive attachedTo placementsOk placeOk parametersTo
+unfolding moreGood parametersGood placesGood below each leBytes le readDesk readStage readDrive attachedTo placementsOk placeOk parametersTo
 bytes = refl
 
 -- ---- the same in the block of a desk

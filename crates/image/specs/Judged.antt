@@ -108,11 +108,17 @@ rowsGood n b M = allBelow n (λ g. rowGood b M (rowAt g))
 unfoldable pub zeroBytes : ℕ → List ℕ → ℕ → Bool
 zeroBytes n b at = allBelow n (λ j. eqb (getD b (at + j) 0) 0)
 
--- the marks are 0 or 1; only slots with a drive have parameters, and a slot without has zeros for them; and every place is good
+-- the marks of parameters are 0 or 1; only slots with a drive have parameters, and a slot without has zeros for them
+unfoldable pub parametersGood : List ℕ → Bool
+parametersGood b = both (below mostDrives 2 b (presentAt 0)) (attachedTo mostDrives (readDesk b .table))
+
+-- the marks of placement are 0 or 1, and every place is good
+unfoldable pub placesGood : List ℕ → ℕ → Bool
+placesGood b M = both (below guests 2 b (markAt 0)) (placementsOk guests (tableCount (readDesk b .table)) M (readDesk b))
+
+-- what stands behind the last words
 unfoldable pub moreGood : List ℕ → ℕ → Bool
-moreGood b M =
-    both (both (below guests 2 b (markAt 0)) (below mostDrives 2 b (presentAt 0)))
-    (both (attachedTo mostDrives (readDesk b .table)) (placementsOk guests (tableCount (readDesk b .table)) M (readDesk b)))
+moreGood b M = both (parametersGood b) (placesGood b M)
 
 -- ---- "Calls the host makes", the desk block: which are accepted
 

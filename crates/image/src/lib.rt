@@ -30,7 +30,7 @@ ghost use Rattle.memory.specs.Window.{guests};
 ghost use Rattle.int13.specs.Placement.{tableCount};
 ghost use Rattle.int13.specs.Steps.{firstDrive, driveCount, isDrive, driveAt, shownOf};
 ghost use Rattle.image.specs.Image.{rowSize, slotSize, slotAt, deskSize, each, flat, stageWords, rowWords, driveWords, image, registersAt, requestAt, readStage, readDrive, readMarks, readDesk, accepted, laid, putStage, putPointer, markAt, presentAt, bytesAt, marksWords, placesWords, givenWords, parametersWords, putPlacement};
-ghost use Rattle.image.specs.Judged.{below, areRegisters, isRequest, isSlot, driveGood, drivesGood, restZero, firstIn, blocksIn, apart, aloneTo, drivesApart, follows, ascending, waitingGood, finishedGood, rowGood, rowsGood, tableGood, zeroBytes, moreGood};
+ghost use Rattle.image.specs.Judged.{below, areRegisters, isRequest, isSlot, driveGood, drivesGood, restZero, firstIn, blocksIn, apart, aloneTo, drivesApart, follows, ascending, waitingGood, finishedGood, rowGood, rowsGood, tableGood, zeroBytes, parametersGood, placesGood, moreGood};
 
 // Rows of a desk and slots of a table.
 const GUESTS: usize = memory::GUESTS;
@@ -67,10 +67,13 @@ const BYTES: usize = PRESENT + 8 * MOST_DRIVES;
 // Bytes of the parameters of all slots.
 const GIVEN: usize = attached::GIVEN_LENGTH * MOST_DRIVES;
 
-// Bytes of a block, and the words behind the last ones.
+// Bytes of a block.
 pub const SIZE: usize = BYTES + GIVEN;
 
-const MORE: usize = (SIZE - MARKS) / 8;
+// Words of the placements and of the parameters.
+const PLACE_WORDS: usize = (PRESENT - MARKS) / 8;
+
+const PARAMETER_WORDS: usize = (SIZE - PRESENT) / 8;
 
 // The BIOS number of the first drive; bytes of a block of the store.
 const FIRST_DRIVE: u8 = int13::FIRST_DRIVE;
@@ -630,7 +633,7 @@ fn is_attached(b: &[u8], i: usize) -> bool
     zero_given(b, BYTES + attached::GIVEN_LENGTH * i)
 }
 
-fn parameters_good(b: &[u8]) -> bool
+fn all_attached(b: &[u8]) -> bool
     requires { ⌜ length (now b) ≡ deskSize ⌝ }
     ensures { λ r. ⌜ r ≡ attachedTo mostDrives (readDesk (now (b .entry)) .table) ⌝ }
 {
@@ -643,7 +646,14 @@ fn parameters_good(b: &[u8]) -> bool
     good
 }
 
-fn places_good(b: &[u8], tables: u8, m: u64) -> bool
+fn parameters_good(b: &[u8]) -> bool
+    requires { ⌜ length (now b) ≡ deskSize ⌝ }
+    ensures { λ r. ⌜ r ≡ parametersGood (now (b .entry)) ⌝ }
+{
+    logic::and(below(b, PRESENT, MOST_DRIVES, 2), all_attached(b))
+}
+
+fn placements_ok(b: &[u8], tables: u8, m: u64) -> bool
     requires { ⌜ length (now b) ≡ deskSize ⌝ }
     ensures { λ r. ⌜ r ≡ placementsOk guests tables m (readDesk (now (b .entry))) ⌝ }
 {
@@ -656,20 +666,33 @@ fn places_good(b: &[u8], tables: u8, m: u64) -> bool
     good
 }
 
-// What stands behind the last words. Most blocks have zeros there, which are good.
+fn places_good(b: &[u8], m: u64) -> bool
+    requires { ⌜ length (now b) ≡ deskSize ⌝ }
+    ensures { λ r. ⌜ r ≡ placesGood (now (b .entry)) m ⌝ }
+{
+    logic::and(
+        below(b, MARKS, GUESTS, 2),
+        placements_ok(b, table_count(b), m),
+    )
+}
+
+// What stands behind the last words. In most blocks that is zeros, which are good. Each case has a return of its own, so that the compiler
+// keeps the two tests above out of the way of such a block.
 fn more_good(b: &[u8], m: u64) -> bool
     requires { ⌜ length (now b) ≡ deskSize ⌝ }
     ensures { λ r. ⌜ r ≡ moreGood (now (b .entry)) m ⌝ }
 {
-    if below(b, MARKS, MORE, 1) {
-        return true;
+    let bare = below(b, PRESENT, PARAMETER_WORDS, 1);
+    if below(b, MARKS, PLACE_WORDS, 1) {
+        if bare {
+            return true;
+        }
+        return parameters_good(b);
     }
-    let marks = logic::and(
-        below(b, MARKS, GUESTS, 2),
-        below(b, PRESENT, MOST_DRIVES, 2),
-    );
-    let good = logic::and(parameters_good(b), places_good(b, table_count(b), m));
-    logic::and(marks, good)
+    if bare {
+        return places_good(b, m);
+    }
+    logic::and(parameters_good(b), places_good(b, m))
 }
 
 // Whether a block is the image of an acceptable desk.

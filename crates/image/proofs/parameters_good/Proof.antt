@@ -1,46 +1,11 @@
-use native.Mathlib.Omega.{arith}
+use Rattle.image.specs.Judged.{parametersGood}
 use borrow.Author.Needs.{needs}
-use Prim.Native.Nat.{_-_, _≤_}
-use mathlib.Core.Path.{_≡_, refl}
-use Rattle.logic.proofs.LogicLaws.{all-more}
-use Rattle.table.specs.Table.{attachedAt, attachedTo}
-use Rattle.image.specs.Image.{readDesk}
 use Rattle.image.proofs.parameters_good.Statement.{statement}
 use Rattle.image.proofs.parameters_good.Tie as tie
 
-abbrev Inv-loop : tie.InvT-loop
-Inv-loop b good₀ i₀ good i = (i ≤ 8) × (good ≡ attachedTo i (readDesk b .table))
-
-abbrev μ-loop : tie.MeasureT-loop
-μ-loop b good₀ i₀ good i = 8 - i
-
-loop-holds : tie.Need-loop-holds Inv-loop μ-loop
-unfolding attachedTo
-loop-holds c = (search needs, refl)
-
-loop-again : tie.Need-loop-again Inv-loop μ-loop
-unfolding attachedTo
-loop-again c =
-    let l = c .before .before .before in
-    let b = l .before .before .args .b .now in
-    (search needs, all-more (l .loop .i) (attachedAt (readDesk b .table)) (l .loop .inv .1) (c .and .ensures) (c .before .is-attached .ensures))
-
-returns : tie.Need-returns Inv-loop μ-loop
-returns c =
-    let l = c .before in
-    let e : l .loop .i ≡ 8 = omega arith in
-    rw (← e) (l .loop .inv .1)
+returns : tie.Need-returns
+unfolding parametersGood
+returns c = rw (c .and .ensures, c .before .all-attached .ensures, c .before .before .below .ensures)
 
 pub parameters-good-spec : {M : Type 1} → statement M
-parameters-good-spec =
-    tie.close
-    (tie.spec
-    Inv-loop
-    μ-loop
-    loop-holds
-    (search needs)
-    (search needs)
-    (search needs)
-    (search needs)
-    loop-again
-    returns)
+parameters-good-spec = tie.close (tie.spec (search needs) (search needs) (search needs) returns)
