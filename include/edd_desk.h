@@ -80,7 +80,8 @@
  *      4  4 bytes each: physical cylinders, heads, sectors; any numbers, handed out by 48h
  *     16  8 bytes: the drive's number of blocks, at least 1
  *     24  8 bytes: its first block in the store
- *     32  2 bytes: information flags for 48h; bits 7 to 15 are zero
+ *     32  2 bytes: information flags; bits 7 to 15 are zero. 48h hands them out, but bits 4 to 6 as zero where bit 2
+ *         (removable) is clear; 43h may ask to verify (AL 2) where bit 3 is set
  *     34  2 bytes: cylinders, 1 to 1024
  *     36  2 bytes: heads, 1 to 255
  *     38  1 byte: sectors, 1 to 63; cylinders * heads * sectors is at most the number of blocks
@@ -136,7 +137,7 @@
 #endif
 
 /* The version of this header. Each change request raises it by 1; edd_version() answers that of the library. */
-#define EDD_VERSION 2
+#define EDD_VERSION 3
 
 /* Asks the compiler to warn where the result of a call is ignored. Define it yourself, as nothing, to switch that off. */
 #ifndef EDD_NODISCARD
@@ -272,7 +273,8 @@ EDD_NODISCARD uint32_t edd_write(const uint8_t *desk, size_t desk_len, uint8_t *
  *
  * 41h answers CX 0001h, and 48h has FFFFh:FFFFh at offset 26 of a result of 30 bytes or more. For a drive with a record of
  * kind 4, and a guest for which edd_place was done since the opening, these are CX 0005h and a pointer to the drive's
- * parameter table.
+ * parameter table. The information flags at offset 2 are those of the drive's record, with bits 4 to 6 (change line,
+ * lockable, maximum geometry) as zero where bit 2 (removable) is clear: without it they mean nothing.
  *
  * The packet is read here and never again, so from now on the guest may overwrite it. Its place is remembered: a
  * withdrawal writes the count word there. The guest leaves the buffer alone until the request has ended.

@@ -307,6 +307,31 @@ static void parameter_tables(machine *m)
     free(table);
 }
 
+/* rule: exports::edd_post exports::edd_write */
+/* bits 4 to 6 of the information flags: 48h of 26 bytes shows them with bit 2 only, and the table keeps them; 43h verifies by bit 3 */
+static void information_flags(machine *m)
+{
+    static const uint8_t written[] = {0x7A, 0x7E, 0x78}, shown[] = {0x0A, 0x7E, 0x08};
+    uint8_t *table = bytes(72, 0), *out = bytes(72, 0);
+    uint64_t place = 77, length = 77;
+    const uint8_t *result = m->arena + 4 * WINDOW + 0x200;
+
+    memcpy(table, paper_table, 72);
+    for (unsigned i = 0; i < 3; i++) {
+        registers r = set(0x4800, 1, 2, 0x0080, 0x20, 0, 8), verify = set(0x4302, 1, 2, 0x0080, 0, 0, 8), given = verify;
+        table[32] = written[i];
+        CHECK(edd_open(m->desk, EDD_DESK_SIZE, table, 72, ARENA, STORE, &place) == EDD_DONE);
+        m->arena[4 * WINDOW + 0x200] = 26, m->arena[4 * WINDOW + 0x201] = 0;
+        CHECK(post(m, 4, &r) == EDD_DONE && r.carry == 0 && result[0] == 26 && result[2] == shown[i] && result[3] == 0);
+        CHECK(edd_write(m->desk, EDD_DESK_SIZE, out, 72, &length) == EDD_DONE && length == 72 && memcmp(out, table, 72) == 0);
+        put_packet(m, 4, 1, 0);
+        CHECK(post(m, 4, &verify) == EDD_NOTHING_YET && same(verify, given));
+    }
+    CHECK(edd_open(m->desk, EDD_DESK_SIZE, paper_table, 72, ARENA, STORE, &place) == EDD_DONE);
+    free(out);
+    free(table);
+}
+
 /* rule: exports::edd_write exports::edd_post exports::edd_turn exports::edd_collect exports::edd_withdraw */
 static void house_refusals(machine *m)
 {
@@ -362,6 +387,7 @@ int main(void)
     at_once(&m);
     protected_drive(&m);
     parameter_tables(&m);
+    information_flags(&m);
     house_refusals(&m);
     numbers();
     free(m.desk);

@@ -6,12 +6,12 @@ const struct disk disks[EDD_DRIVES] = {
     /* C, H, S        first   blocks  flags   protected         record of kind 4: ports 1F0h and 3F6h, IRQ 14, and so on */
     { 306, 4, 17,         3,  20808, 0x0000, 0, "ISA", "ATA", "\xf0\x01\xf6\x03\x00\xcb\x0e\x00\x00\x04\x00\x00\x00\x00" },
     { 80, 2, 18,      20811,   2880, 0x0000, 0, "ISA", "ATA", NULL }, /* touches the disk before it */
-    { 40, 16, 63,     23700,  40960, 0x0008, 0, "PCI", "SCSI", NULL },
+    { 40, 16, 63,     23700,  40960, 0x0078, 0, "PCI", "SCSI", NULL }, /* not removable: bits 4 to 6 mean nothing */
     { 20, 16, 63,     64660,  20480, 0x0002, 0, "PCI", "ATA", "\x70\x01\x76\x03\x50\x07\x0f\x01\x22\x03\x31\x00\x00\x00" },
     { 100, 7, 33,     86000,  24000, 0x000a, 0, "PCI", "1394", NULL },
     { 33, 5, 61,     110000,  10100, 0x0008, 0, "PCI", "USB", NULL },
     { 64, 2, 32,     120111,   4401, 0x0000, 0, "PCI", "FIBRE", "any bytes here" },
-    { 80, 2, 15,     124590,   2400, 0x0004, 1, "PCI", "ATAPI", NULL },
+    { 80, 2, 15,     124590,   2400, 0x0034, 1, "PCI", "ATAPI", NULL },
 };
 
 void put_word(uint8_t *at, unsigned bytes, uint64_t value)

@@ -13,7 +13,7 @@ struct disk {
     uint16_t cylinders, heads;
     uint8_t sectors;
     uint64_t first, blocks;    /* in the store; the blocks past the geometry are reached by packets only */
-    uint16_t flags;            /* information flags; bit 3: 43h may be asked to verify */
+    uint16_t flags;            /* information flags; bit 3: 43h may be asked to verify; bits 4 to 6 count with bit 2 */
     uint8_t is_protected;
     const char *bus, *interface;
     const char *parameters;    /* the 14 bytes of its record of kind 4; NULL where it has none */

@@ -431,6 +431,12 @@ static void follow_pointer(struct guest *g, uint64_t result, const struct disk *
     g->followed++;
 }
 
+/* change request 2026-02: bits 4 to 6 only of a removable disk, which has bit 2 */
+static uint16_t flags_shown(const struct disk *disk)
+{
+    return disk->flags & 0x04 ? disk->flags : (uint16_t)(disk->flags & ~0x70u);
+}
+
 /* 48h: the whole result, document 01's layout */
 static void parameters(struct guest *g)
 {
@@ -443,7 +449,7 @@ static void parameters(struct guest *g)
 
     q.result_length = size >= 66 ? 66 : size >= 30 ? 30 : 26;
     put_word(q.result + 0, 2, q.result_length);
-    put_word(q.result + 2, 2, disk->flags);
+    put_word(q.result + 2, 2, flags_shown(disk));
     put_word(q.result + 4, 4, disk->cylinders);
     put_word(q.result + 8, 4, disk->heads);
     put_word(q.result + 12, 4, disk->sectors);

@@ -2035,6 +2035,73 @@ fn h14_parameters_in_the_block(service: &dyn Service) {
     assert_eq!((stand.shown(6, 0x80).0, stand.shown(6, 0x82).0), (NO_POINTER, [0, 0, 61, 0]), "by the records that there are");
 }
 
+// ---- 2026-02: flags that mean nothing on a fixed disk
+
+/// Drives that differ in their information flags alone, and in where they lie.
+fn flagged(words: impl Iterator<Item = u16>) -> Vec<Drive> {
+    words.enumerate().map(|(i, flags)| Drive { flags, ..small_drive(i as u64, 1) }).collect()
+}
+
+// rule: flagsShown FlagBits
+fn h15_flags_of_48h(service: &dyn Service) {
+    let mut stand = Stand::open(service, &flagged([0x7A, 0x7E, 0x78, 0x70, 0x74, 0x2B, 0x5C, 0x13].into_iter()), 8 * 1024, 8 * 512);
+    for (dl, shown) in (0x80..).zip([0x0A, 0x7E, 0x08, 0x00, 0x74, 0x0B, 0x5C, 0x03]) {
+        assert_eq!(stand.result(1, dl, 66).0[2..4], [shown, 0], "{dl:02x}");
+    }
+    // every word that a table may hold, bit by bit, in every size; no other byte goes by the flags
+    for some in 0..16 {
+        let mut stand = Stand::open(service, &flagged(8 * some..8 * some + 8), 8 * 1024, 8 * 512);
+        let others = stand.result(6, 0x80, 66).0[4..].to_vec();
+        for (dl, flags) in (0x80..).zip(8 * some..8 * some + 8) {
+            for size in [26, 29, 30, 65, 66, 1000] {
+                let result = stand.result(6, dl, size).0;
+                for bit in 0..16 {
+                    let given = flags >> bit & 1 == 1;
+                    let expected = if (4..=6).contains(&bit) && flags >> 2 & 1 == 0 { false } else { given };
+                    let shown = u16::from_le_bytes([result[2], result[3]]) >> bit & 1 == 1;
+                    assert_eq!(shown, expected, "flags {flags:02x}, bit {bit}, size {size}");
+                }
+                assert!(result[4..] == others[..result.len() - 4], "flags {flags:02x}, size {size}: byte 65 too");
+            }
+        }
+    }
+}
+
+// rule: recordOf tableOf driveWords
+fn h16_flags_are_kept(service: &dyn Service) {
+    for some in 0..16 {
+        let list = flagged(8 * some..8 * some + 8);
+        let mut stand = Stand::open(service, &list, 8 * 1024, 8 * 512);
+        let table = drives::table(&list);
+        for _ in 0..2 {
+            for (slot, drive) in list.iter().enumerate() {
+                assert_eq!(stand.word(drive_word(slot, 5)), u64::from(drive.flags), "the block keeps what was written");
+            }
+            let mut out = vec![0; table.len()];
+            assert_eq!(stand.write(&mut out), (DONE, table.len() as u64));
+            assert!(out == table, "written back as it was");
+            (0x80..0x88).for_each(|dl| drop(stand.result(2, dl, 66)));
+        }
+    }
+}
+
+// rule: verifyOk
+fn h17_verify_by_the_table(service: &dyn Service) {
+    let words = [0x78, 0x70, 0x7C, 0x74, 0x08, 0x7F, 0x77, 0x00];
+    let mut stand = Stand::open(service, &flagged(words.into_iter()), 8 * 1024, 8 * 512);
+    for (dl, flags) in (0x80..).zip(words) {
+        stand.packet(4, 0, 1, (0, 0x200), 0);
+        let given = Registers { ds: 0, si: 0, ..registers(0x43, 2, dl) };
+        let got = stand.post(4, given);
+        if flags & 8 != 0 {
+            assert_eq!(got, (NOTHING_YET, given), "flags {flags:02x}");
+            stand.withdraw(4);
+        } else {
+            assert_eq!(got, (DONE, refused(given, 0x01)), "flags {flags:02x}");
+        }
+    }
+}
+
 macro_rules! cases {
     ($($name:ident),* $(,)?) => { &[$((stringify!($name), $name as fn(&dyn Service))),*] };
 }
@@ -2111,6 +2178,9 @@ const CASES: &[(&str, fn(&dyn Service))] = cases![
     h12_opening_clears,
     h13_placements_in_the_block,
     h14_parameters_in_the_block,
+    h15_flags_of_48h,
+    h16_flags_are_kept,
+    h17_verify_by_the_table,
 ];
 
 /// The case that runs, for the message when the machine stops it.

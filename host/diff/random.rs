@@ -399,6 +399,8 @@ impl Run {
                 if result[0] >= 30 {
                     self.tally.shown(result[26..30] != [0xFF; 4]);
                 }
+                let table = self.world.rows().and_then(|desk| desk.drives.numbered(u64::from(registers.dl())).map(|drive| drive.flags));
+                self.tally.flagged(table.map(u16::to_le_bytes) != result[2..4].try_into().ok());
             }
             _ => {}
         }

@@ -22,6 +22,8 @@ pub struct Tally {
     placed: BTreeMap<u64, u64>,
     extensions: BTreeMap<u16, u64>,
     pointers: [u64; 2],
+    /// Results of 48h with the flags of the table, and with other ones.
+    flags: [u64; 2],
 }
 
 /// AH of an answered post, or this for a request that waits.
@@ -102,6 +104,11 @@ impl Tally {
         self.pointers[usize::from(pointer)] += 1;
     }
 
+    /// A 48h result, with other flags than the table's or with those.
+    pub fn flagged(&mut self, other: bool) {
+        self.flags[usize::from(other)] += 1;
+    }
+
     pub fn add_watch(&mut self, watch: &Watch) {
         self.finished += watch.finished;
         self.compared += watch.compared;
@@ -130,6 +137,9 @@ impl Tally {
         missing.extend([1, 5].iter().filter(|cx| !self.extensions.contains_key(cx)).map(|cx| format!("41h with CX {cx:04x}h")));
         if self.pointers.contains(&0) {
             missing.push("48h results with a pointer and without".into());
+        }
+        if self.flags.contains(&0) {
+            missing.push("48h results with the table's flags and with bits 4 to 6 cleared".into());
         }
         missing
     }
@@ -160,6 +170,7 @@ impl Tally {
         println!("tables of a placement {}", placed.join(", "));
         let extensions: Vec<String> = self.extensions.iter().map(|(cx, times)| format!("{cx:04x}h: {times}")).collect();
         println!("41h CX {}; 48h pointers: {} given, {} not", extensions.join(", "), self.pointers[1], self.pointers[0]);
+        println!("48h flags: {} as the table has them, {} with bits 4 to 6 cleared", self.flags[0], self.flags[1]);
         println!("hostile blocks: {} accepted, {} refused; worlds: {}", self.hostile_accepted, self.hostile_refused, self.worlds);
     }
 }

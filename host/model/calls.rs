@@ -56,7 +56,7 @@ fn number(call: impl FnOnce() -> Result<u32, u32>) -> u32 {
 
 /// The header's EDD_VERSION; each change request raises both.
 pub fn version() -> u32 {
-    2
+    3
 }
 
 pub fn desk_size() -> u64 {

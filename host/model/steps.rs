@@ -275,11 +275,19 @@ fn returned_size(asked: u16) -> Option<usize> {
     }
 }
 
+/// 2026-02: "48h returns bits 4 to 6 as zero when bit 2 is clear."
+fn information_flags(drive: &Drive) -> [u8; 2] {
+    const REMOVABLE: u16 = 1 << 2;
+    const OF_REMOVABLE: u16 = 1 << 4 | 1 << 5 | 1 << 6;
+    let meaningless = if drive.flags & REMOVABLE == 0 { OF_REMOVABLE } else { 0 };
+    (drive.flags & !meaningless).to_le_bytes()
+}
+
 /// The whole result buffer, by its places.
 fn result_of(drive: &Drive, pointer: [u8; 4], returned: usize) -> [u8; RESULT_SIZE] {
     let mut result = [0; RESULT_SIZE];
     result[0..2].copy_from_slice(&(returned as u16).to_le_bytes());
-    result[2..4].copy_from_slice(&drive.flags.to_le_bytes());
+    result[2..4].copy_from_slice(&information_flags(drive));
     result[4..8].copy_from_slice(&drive.physical_cylinders.to_le_bytes());
     result[8..12].copy_from_slice(&drive.physical_heads.to_le_bytes());
     result[12..16].copy_from_slice(&drive.physical_sectors.to_le_bytes());

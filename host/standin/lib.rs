@@ -76,6 +76,11 @@ pub unsafe extern "C" fn edd_open(
         let without = [&table[..*place as usize], &table[*place as usize + 20..]].concat();
         return model::open(desk, &without, arena_length, store_length, place);
     }
+    #[cfg(fault = "flags_masked_at_open")]
+    for at in (0..8).map(|slot| 184 + 14 * slot + 5).filter(|_| answer == 0) {
+        let flags = words::get(desk, at);
+        words::set(desk, at, if flags & 4 == 0 { flags & !0x70 } else { flags });
+    }
     #[cfg(fault = "placements_survive")]
     if answer == 0 && model::block::read(&before).is_some() {
         desk[8 * 300..8 * 316].copy_from_slice(&before[8 * 300..8 * 316]);
@@ -96,6 +101,10 @@ pub unsafe extern "C" fn edd_write(desk: *const u8, desk_len: usize, out: *mut u
     #[cfg(fault = "placed_bytes_written")]
     if answer == 0 && *written >= 92 && out[70] == 4 {
         out[78] |= 0xA0;
+    }
+    #[cfg(fault = "flags_masked_when_written")]
+    if answer == 0 && *written >= 72 && out[32] & 4 == 0 {
+        out[32] &= !0x70;
     }
     #[cfg(fault = "clears_rest_of_buffer")]
     if answer == 0 {
@@ -184,6 +193,20 @@ pub unsafe extern "C" fn edd_post(
             let segment = &mut arena[result + 28..result + 30];
             segment.copy_from_slice(&(u16::from_le_bytes([segment[0], segment[1]]).wrapping_add(without)).to_le_bytes());
         }
+    }
+    #[cfg(any(fault = "flags_unmasked", fault = "flags_always_masked", fault = "flags_without_bit_3"))]
+    if answer == 0 && given.ax >> 8 == 0x48 && out.carry == 0 {
+        let raw = words::get(desk, 184 + 14 * usize::from(given.dl() - 0x80) + 5) as u8;
+        let shown = if cfg!(fault = "flags_unmasked") {
+            raw
+        } else if cfg!(fault = "flags_always_masked") {
+            raw & !0x70
+        } else if raw & 4 == 0 {
+            raw & 7
+        } else {
+            raw
+        };
+        arena[guest as usize * (arena.len() / 8) + model::parts::linear(ds, si) as usize + 2] = shown;
     }
     #[cfg(fault = "extensions_unplaced")]
     if answer == 0 && given.ax >> 8 == 0x41 && out.carry == 0 && words::get(desk, 316 + usize::from(given.dl() - 0x80)) == 1 {

@@ -34,9 +34,9 @@ use Rattle.image.specs.Image.{deskSize, deskOf, laid}
 
 -- ---- the version, ours and in no paper: a block is for the library of its version, since a change request may give it another form
 
--- 1 is the base; each change request adds 1: 2 has 2026-01
+-- 1 is the base; each change request adds 1: 2 has 2026-01, 3 has 2026-02
 abbrev pub version : ℕ
-version = 2
+version = 3
 
 -- what a call leaves: the number that it returns and the values behind its pointers, in the order of its parameters; and the bytes of each
 -- slice that was lent for change, in that order

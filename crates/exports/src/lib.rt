@@ -44,7 +44,7 @@ const NOT_WAITING: u32 = desk::NOT_WAITING as u32;
 const BAD_PLACE: u32 = desk::BAD_PLACE as u32;
 
 // The version of the interface and of the block's form: 1 is the base, and each change request adds 1.
-const VERSION: u32 = 2;
+const VERSION: u32 = 3;
 
 // Guests are 0 to 7.
 const GUESTS: u64 = memory::GUESTS as u64;

@@ -586,7 +586,7 @@ vectors =
 -- ---- three drives, and calls in which every register, offset, segment, drive and geometry that enters has a value of its own: nothing
 -- that is exchanged, ignored or taken from another drive gives the same numbers
 
--- 80h: 385 of 5000 blocks from store block 700
+-- 80h: 385 of 5000 blocks from store block 700; information flag bits 1 and 4 to 6, of which bit 1 alone shows
 abbrev drive80 : Drive
 drive80 = record {
   cylinders = 6;
@@ -594,7 +594,7 @@ drive80 = record {
   sectors = 12;
   blocks = 5000;
   first = 700;
-  flags = 2;
+  flags = 0x72;
   c = 5;
   h = 7;
   s = 11;
@@ -605,7 +605,7 @@ drive80 = record {
   device = replicate 8 0;
 }
 
--- 81h: 1800 of 3000 blocks from store block 6000; information flag bit 3
+-- 81h: 1800 of 3000 blocks from store block 6000; information flag bits 3 to 6
 abbrev drive81 : Drive
 drive81 = record {
   cylinders = 301;
@@ -613,7 +613,7 @@ drive81 = record {
   sectors = 13;
   blocks = 3000;
   first = 6000;
-  flags = 10;
+  flags = 0x78;
   c = 300;
   h = 3;
   s = 2;
@@ -624,7 +624,7 @@ drive81 = record {
   device = 9 ∷ 10 ∷ 11 ∷ 12 ∷ 13 ∷ 14 ∷ 15 ∷ 16 ∷ [];
 }
 
--- 82h: 40 of 41 blocks from store block 9001, protected
+-- 82h: 40 of 41 blocks from store block 9001, protected; information flag bits 2 and 4 to 6, which all show
 abbrev drive82 : Drive
 drive82 = record {
   cylinders = 1031;
@@ -632,7 +632,7 @@ drive82 = record {
   sectors = 14;
   blocks = 41;
   first = 9001;
-  flags = 4;
+  flags = 0x74;
   c = 2;
   h = 4;
   s = 5;
@@ -737,12 +737,12 @@ pub record Apart : Type 0 where
       ∷ (numbers (at apart (own 0x4177 0x55AA 0x0242 0x0183) []) (0 ∷ kept19 0x0177 0x55AA 0x0242 0x0183 1))
       ∷ [])
   -- 48h: the result of DL's drive, laid at DS:SI
-  --   82h: flags 4, physical geometry 1031/10/14, 41 blocks
-  --   80h: flags 2, physical geometry 6/8/12, 5000 blocks
+  --   82h: flags 74h, physical geometry 1031/10/14, 41 blocks
+  --   80h: flags 2 of 72h, physical geometry 6/8/12, 5000 blocks
   --   82h, the word at DS:SI cut off: 01h
   pub own-results : Hold
       ((both-ways (at apart (own 0x4877 5 0x0242 0x0182) (placed (26 ∷ 0 ∷ []) 26)) (0 ∷ kept19 0x0077 5 0x0242 0x0182 0)
-      (placed (26 ∷ 0 ∷ 4 ∷ 0 ∷ 7 ∷ 4 ∷ 0 ∷ 0 ∷ 10 ∷ 0 ∷ 0 ∷ 0 ∷ 14 ∷ 0 ∷ 0 ∷ 0 ∷ 41 ∷ 0 ∷ 0 ∷ 0 ∷ 0 ∷ 0 ∷ 0 ∷ 0 ∷ 0 ∷ 2 ∷ []) 2))
+      (placed (26 ∷ 0 ∷ 0x74 ∷ 0 ∷ 7 ∷ 4 ∷ 0 ∷ 0 ∷ 10 ∷ 0 ∷ 0 ∷ 0 ∷ 14 ∷ 0 ∷ 0 ∷ 0 ∷ 41 ∷ 0 ∷ 0 ∷ 0 ∷ 0 ∷ 0 ∷ 0 ∷ 0 ∷ 0 ∷ 2 ∷ []) 2))
       ∷ (both-ways (at apart (own 0x4877 5 0x0242 0x0180) (placed (26 ∷ 0 ∷ []) 26)) (0 ∷ kept19 0x0077 5 0x0242 0x0180 0)
       (placed (26 ∷ 0 ∷ 2 ∷ 0 ∷ 6 ∷ 0 ∷ 0 ∷ 0 ∷ 8 ∷ 0 ∷ 0 ∷ 0 ∷ 12 ∷ 0 ∷ 0 ∷ 0 ∷ 0x88 ∷ 0x13 ∷ 0 ∷ 0 ∷ 0 ∷ 0 ∷ 0 ∷ 0 ∷ 0 ∷ 2 ∷ []) 2))
       ∷ (both-ways (at apart (own 0x4877 5 0x0242 0x0182) (placed (26 ∷ []) 0)) (0 ∷ kept19 0x0177 5 0x0242 0x0182 1) (placed (26 ∷ []) 0))
@@ -808,10 +808,10 @@ abbrev front80 : ℕ → List ℕ
 front80 n = n ∷ 0 ∷ 2 ∷ 0 ∷ 6 ∷ 0 ∷ 0 ∷ 0 ∷ 8 ∷ 0 ∷ 0 ∷ 0 ∷ 12 ∷ 0 ∷ 0 ∷ 0 ∷ 0x88 ∷ 0x13 ∷ 0 ∷ 0 ∷ 0 ∷ 0 ∷ 0 ∷ 0 ∷ 0 ∷ 2 ∷ []
 
 abbrev front81 : ℕ → List ℕ
-front81 n = n ∷ 0 ∷ 10 ∷ 0 ∷ 0x2D ∷ 1 ∷ 0 ∷ 0 ∷ 9 ∷ 0 ∷ 0 ∷ 0 ∷ 13 ∷ 0 ∷ 0 ∷ 0 ∷ 0xB8 ∷ 0x0B ∷ 0 ∷ 0 ∷ 0 ∷ 0 ∷ 0 ∷ 0 ∷ 0 ∷ 2 ∷ []
+front81 n = n ∷ 0 ∷ 8 ∷ 0 ∷ 0x2D ∷ 1 ∷ 0 ∷ 0 ∷ 9 ∷ 0 ∷ 0 ∷ 0 ∷ 13 ∷ 0 ∷ 0 ∷ 0 ∷ 0xB8 ∷ 0x0B ∷ 0 ∷ 0 ∷ 0 ∷ 0 ∷ 0 ∷ 0 ∷ 0 ∷ 2 ∷ []
 
 abbrev front82 : ℕ → List ℕ
-front82 n = n ∷ 0 ∷ 4 ∷ 0 ∷ 7 ∷ 4 ∷ 0 ∷ 0 ∷ 10 ∷ 0 ∷ 0 ∷ 0 ∷ 14 ∷ 0 ∷ 0 ∷ 0 ∷ 41 ∷ 0 ∷ 0 ∷ 0 ∷ 0 ∷ 0 ∷ 0 ∷ 0 ∷ 0 ∷ 2 ∷ []
+front82 n = n ∷ 0 ∷ 0x74 ∷ 0 ∷ 7 ∷ 4 ∷ 0 ∷ 0 ∷ 10 ∷ 0 ∷ 0 ∷ 0 ∷ 14 ∷ 0 ∷ 0 ∷ 0 ∷ 41 ∷ 0 ∷ 0 ∷ 0 ∷ 0 ∷ 0 ∷ 0 ∷ 0 ∷ 0 ∷ 2 ∷ []
 
 -- bytes 30 to 65 of 80h's
 abbrev paths80 : List ℕ

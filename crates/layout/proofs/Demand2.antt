@@ -3,12 +3,13 @@
 use mathlib.Core.Path.{_≡_, refl, sym, ap, _∙_}
 use mathlib.Core.List.{List, [], _∷_, _++_, append-assoc}
 use mathlib.Core.Bool.{Bool, true, false}
-use Prim.Native.Nat.{ℕ, _+_, _%_, _^_, _≤_, _<_}
+use Prim.Native.Nat.{ℕ, zero, suc, _+_, _*_, _/_, _%_, _^_, _≤_, _<_}
+use native.Mathlib.Nat.{mod-lt}
 use native.Mathlib.Omega.{arith}
 use lib.ListN.{length, getD, take, drop, length-append}
 use lib.Seq.{take-all, take-at, drop-at, drop-drop, getD-drop}
-use lib.Dec.{leb, ltb}
-use borrow.Author.Tests.{leb-true, ltb-true, ltb-false}
+use lib.Dec.{eqb, leb, ltb}
+use borrow.Author.Tests.{eqb-true, eqb-false, leb-true, ltb-true, ltb-false}
 use Rattle.logic.specs.Logic.{pick, both}
 use Rattle.logic.proofs.LogicLaws.{both-true, impossible}
 use Rattle.words.specs.Words.{le, leBytes, part}
@@ -20,9 +21,54 @@ use Rattle.drive.proofs.DriveLaws.{Arrays}
 use Rattle.layout.specs.declared.Pointer.{Pointer}
 use Rattle.layout.specs.declared.ResultAnswer.the-variants.{Written, Refused}
 use Rattle.layout.specs.Packet.{badParameter}
-use Rattle.layout.specs.ResultBuffer.{leastSize, pointerSize, pathSize, returnedSize, parameterBytes, blockBytes, interfaceBytes, pathBytes, summedBytes, sum, checksum, wholeResult, resultBytes, resultAnswer}
-use Rattle.layout.specs.Demand2.{Parameters, Pointing, Paths, FitsPointer, Demand2}
+use Rattle.layout.specs.ResultBuffer.{leastSize, pointerSize, pathSize, returnedSize, flagsShown, parameterBytes, blockBytes, interfaceBytes, pathBytes, summedBytes, sum, checksum, wholeResult, resultBytes, resultAnswer}
+use Rattle.layout.specs.Demand2.{FlagBits, Parameters, Pointing, Paths, FitsPointer, Demand2}
 use Rattle.layout.proofs.ResultBufferLaws.{sum-checksum, length-summed, length-whole, length-result}
+
+-- ---- the information flags
+
+-- of a flag word, by the test of bit 2
+module _ (f : ℕ) where
+  abbrev shown : Bool → ℕ
+  shown t = pick t f (f % 16 + f / 128 * 128)
+
+  bits-by : (t : Bool) → eqb (f / 4 % 2) 1 ≡ t → FlagBits f (shown t)
+  bits-by true e =
+      let removable = eqb-true (f / 4 % 2) 1 e in
+      record { bits-0-to-3 = refl; bits-4-to-6-fixed = λ h. absurd (omega arith); bits-4-to-6-removable = λ h. refl; bits-7-to-15 = refl }
+  bits-by false e = record {
+    bits-0-to-3 = omega arith;
+    bits-4-to-6-fixed = λ h. omega arith;
+    bits-4-to-6-removable = λ h. absurd (eqb-false (f / 4 % 2) 1 e h);
+    bits-7-to-15 = omega arith;
+  }
+
+  fits-by : (t : Bool) → f < 256 ^ 2 → shown t < 256 ^ 2
+  fits-by true h = h
+  fits-by false h = omega arith
+
+flag-bits : (d : Drive) → FlagBits (d .flags) (flagsShown d)
+flag-bits d = bits-by (d .flags) (eqb (d .flags / 4 % 2) 1) refl
+
+-- a word is its bits
+joined : (x : ℕ) → x ≡ x % 16 + 16 * (x / 16 % 8) + 128 * (x / 128)
+joined x = omega arith
+
+-- no other word has these bits
+pub one-word : (f a b : ℕ) → FlagBits f a → FlagBits f b → a ≡ b
+one-word f a b x y =
+    let low : a % 16 ≡ b % 16 = x .bits-0-to-3 ∙ sym (y .bits-0-to-3) in
+    let middle : a / 16 % 8 ≡ b / 16 % 8 = by-bit (f / 4 % 2) (mod-lt (f / 4) (omega arith)) refl in
+    let high : a / 128 ≡ b / 128 = x .bits-7-to-15 ∙ sym (y .bits-7-to-15) in
+    joined a ∙ rw (low, middle, high) (sym (joined b))
+  where
+    by-bit : (t : ℕ) → t < 2 → f / 4 % 2 ≡ t → a / 16 % 8 ≡ b / 16 % 8
+    by-bit zero h e = x .bits-4-to-6-fixed e ∙ sym (y .bits-4-to-6-fixed e)
+    by-bit (suc zero) h e = x .bits-4-to-6-removable e ∙ sym (y .bits-4-to-6-removable e)
+    by-bit (suc (suc t)) h e = absurd (omega arith)
+
+flags-fit : (d : Drive) → d .flags < 256 ^ 2 → flagsShown d < 256 ^ 2
+flags-fit d = fits-by (d .flags) (eqb (d .flags / 4 % 2) 1)
 
 -- ---- the runs, each before any bytes
 
@@ -31,7 +77,7 @@ parameters : (d : Drive) (n : ℕ) (rest : List ℕ) → Fits d → n < 256 ^ 2
 unfolding parameterBytes leBytes le
 parameters d n rest f h = record {
   at-0 = read-write 2 n h;
-  at-2 = read-write 2 (d .flags) (f .flags);
+  at-2 = rw (read-write 2 (flagsShown d) (flags-fit d (f .flags))) (flag-bits d);
   at-4 = read-write 4 (d .cylinders) (f .cylinders);
   at-8 = read-write 4 (d .heads) (f .heads);
   at-12 = read-write 4 (d .sectors) (f .sectors);

@@ -1,16 +1,18 @@
 -- The packet, the 48h result and the parameter table by number, each field with a value of its own: a definition in which two of them change places, one is not
 -- read, or a number of the paper is another, gives other numbers here.
 -- Assumes nothing.
-use mathlib.Core.Path.{_≡_, refl}
+use mathlib.Core.Path.{_≡_, refl, sym, ap, _∙_}
 use mathlib.Core.List.{List, [], _∷_, _++_, map}
-use Prim.Native.Nat.{ℕ}
-use lib.ListN.{length, replicate}
+use Prim.Native.Nat.{ℕ, zero, suc, _+_, _<_}
+use native.Mathlib.Nat.{zero-add}
+use native.Mathlib.Omega.{arith}
+use lib.ListN.{length, getD, replicate}
 use Rattle.words.specs.Words.{le, leBytes}
 use Rattle.drive.specs.declared.Drive.{Drive}
 use Rattle.layout.specs.declared.Pointer.{Pointer}
 use Rattle.layout.specs.Packet.{linear, packetAt, readPacket, packetNumbers, packetGiven}
 use Rattle.layout.specs.ParameterTable.{parameterSize, driveFlags, placedBytes, parameterTable}
-use Rattle.layout.specs.ResultBuffer.{noPointer, returnedSize, parameterBytes, blockBytes, interfaceBytes, pathBytes, sum, wholeResult, resultBytes, resultAnswer, resultOut, sizeGiven}
+use Rattle.layout.specs.ResultBuffer.{noPointer, returnedSize, flagsShown, parameterBytes, blockBytes, interfaceBytes, pathBytes, sum, wholeResult, resultBytes, resultAnswer, resultOut, sizeGiven}
 
 -- ---- addresses: 16 times 1234h plus 5678h
 
@@ -38,14 +40,14 @@ packets-given = refl
 -- ---- the result
 
 -- every field another value; the geometry, the first block and the protection do not show
-abbrev drive : Drive
-drive = record {
+abbrev flagged : ℕ → Drive
+flagged flags = record {
   cylinders = 0x44434241;
   heads = 0x48474645;
   sectors = 0x4C4B4A49;
   blocks = 0x5857565554535251;
   first = 0xE8E7E6E5E4E3E2E1;
-  flags = 0x6261;
+  flags = flags;
   c = 0xC2C1;
   h = 0xC4C3;
   s = 0xC5;
@@ -56,13 +58,17 @@ drive = record {
   device = 0xB1 ∷ 0xB2 ∷ 0xB3 ∷ 0xB4 ∷ 0xB5 ∷ 0xB6 ∷ 0xB7 ∷ 0xB8 ∷ [];
 }
 
+-- of its flags bits 5 and 6 do not show, since bit 2 is clear
+abbrev drive : Drive
+drive = flagged 0x6261
+
 abbrev pointer : Pointer
 pointer = record { offset = 0x7271; segment = 0x7473 }
 
 -- offsets 2 to 25, 26 to 29, 30 to 65
 abbrev from2 : List ℕ
 from2 =
-    0x61 ∷ 0x62
+    0x01 ∷ 0x62
     ∷ 0x41 ∷ 0x42 ∷ 0x43 ∷ 0x44 ∷ 0x45 ∷ 0x46 ∷ 0x47 ∷ 0x48 ∷ 0x49 ∷ 0x4A ∷ 0x4B ∷ 0x4C
     ∷ 0x51 ∷ 0x52 ∷ 0x53 ∷ 0x54 ∷ 0x55 ∷ 0x56 ∷ 0x57 ∷ 0x58 ∷ 0x00 ∷ 0x02 ∷ []
 
@@ -103,6 +109,44 @@ pub sizes-given : map (sizeGiven 65) (29 ∷ 30 ∷ []) ∷ map (λ asked. sizeG
     ∷ []
 unfolding sizeGiven returnedSize
 sizes-given = refl
+
+-- ---- the information flags, "2026-02"
+
+-- the 128 words that a table may hold, sixteen in a row, as 48h shows them
+abbrev shown : List ℕ
+shown =
+    0x00 ∷ 0x01 ∷ 0x02 ∷ 0x03 ∷ 0x04 ∷ 0x05 ∷ 0x06 ∷ 0x07 ∷ 0x08 ∷ 0x09 ∷ 0x0A ∷ 0x0B ∷ 0x0C ∷ 0x0D ∷ 0x0E ∷ 0x0F
+    ∷ 0x00 ∷ 0x01 ∷ 0x02 ∷ 0x03 ∷ 0x14 ∷ 0x15 ∷ 0x16 ∷ 0x17 ∷ 0x08 ∷ 0x09 ∷ 0x0A ∷ 0x0B ∷ 0x1C ∷ 0x1D ∷ 0x1E ∷ 0x1F
+    ∷ 0x00 ∷ 0x01 ∷ 0x02 ∷ 0x03 ∷ 0x24 ∷ 0x25 ∷ 0x26 ∷ 0x27 ∷ 0x08 ∷ 0x09 ∷ 0x0A ∷ 0x0B ∷ 0x2C ∷ 0x2D ∷ 0x2E ∷ 0x2F
+    ∷ 0x00 ∷ 0x01 ∷ 0x02 ∷ 0x03 ∷ 0x34 ∷ 0x35 ∷ 0x36 ∷ 0x37 ∷ 0x08 ∷ 0x09 ∷ 0x0A ∷ 0x0B ∷ 0x3C ∷ 0x3D ∷ 0x3E ∷ 0x3F
+    ∷ 0x00 ∷ 0x01 ∷ 0x02 ∷ 0x03 ∷ 0x44 ∷ 0x45 ∷ 0x46 ∷ 0x47 ∷ 0x08 ∷ 0x09 ∷ 0x0A ∷ 0x0B ∷ 0x4C ∷ 0x4D ∷ 0x4E ∷ 0x4F
+    ∷ 0x00 ∷ 0x01 ∷ 0x02 ∷ 0x03 ∷ 0x54 ∷ 0x55 ∷ 0x56 ∷ 0x57 ∷ 0x08 ∷ 0x09 ∷ 0x0A ∷ 0x0B ∷ 0x5C ∷ 0x5D ∷ 0x5E ∷ 0x5F
+    ∷ 0x00 ∷ 0x01 ∷ 0x02 ∷ 0x03 ∷ 0x64 ∷ 0x65 ∷ 0x66 ∷ 0x67 ∷ 0x08 ∷ 0x09 ∷ 0x0A ∷ 0x0B ∷ 0x6C ∷ 0x6D ∷ 0x6E ∷ 0x6F
+    ∷ 0x00 ∷ 0x01 ∷ 0x02 ∷ 0x03 ∷ 0x74 ∷ 0x75 ∷ 0x76 ∷ 0x77 ∷ 0x08 ∷ 0x09 ∷ 0x0A ∷ 0x0B ∷ 0x7C ∷ 0x7D ∷ 0x7E ∷ 0x7F ∷ []
+
+-- so many numbers, from one on
+abbrev upward : ℕ → ℕ → List ℕ
+upward from zero = []
+upward from (suc n) = from ∷ upward (suc from) n
+
+pub flags-shown : map (λ flags. flagsShown (flagged flags)) (upward 0 128) ≡ shown
+flags-shown = refl
+
+-- a place of such a list
+at-place : (f : ℕ → ℕ) (from n i : ℕ) → i < n → getD (map f (upward from n)) i 0 ≡ f (from + i)
+at-place f from zero i h = absurd (omega arith)
+at-place f from (suc n) zero h = ap f (omega arith)
+at-place f from (suc n) (suc i) h = at-place f (suc from) n i (omega arith) ∙ ap f (omega arith)
+
+-- the same of every drive that a table may hold: its flags have bits 7 to 15 zero
+pub flags-of-table : (d : Drive) → d .flags < 128 → flagsShown d ≡ getD shown (d .flags) 0
+flags-of-table d h =
+    let place = at-place (λ flags. flagsShown (flagged flags)) 0 128 (d .flags) h in
+    rw zero-add at (sym place) ∙ ap (λ l. getD l (d .flags) 0) flags-shown
+
+-- words that no table holds: bits 7 to 15 stay in either case
+pub flags-above : map (λ flags. flagsShown (flagged flags)) (0xFFFF ∷ 0xFFFB ∷ 0xA5F2 ∷ 0xA576 ∷ []) ≡ 0xFFFF ∷ 0xFF8B ∷ 0xA582 ∷ 0xA576 ∷ []
+flags-above = refl
 
 -- ---- the parameter table
 

@@ -1,6 +1,6 @@
 -- Demand 2, the 48h result: what stands at each of the paper's offsets, for every drive and pointer whose fields fit their words.
 -- Assumes nothing.
-use Prim.Native.Nat.{ℕ, _%_, _^_, _≤_, _<_}
+use Prim.Native.Nat.{ℕ, _/_, _%_, _^_, _≤_, _<_}
 use mathlib.Core.Path.{_≡_}
 use mathlib.Core.List.{List, [], _∷_}
 use lib.ListN.{length, getD, drop}
@@ -11,12 +11,21 @@ use Rattle.layout.specs.declared.Pointer.{Pointer}
 use Rattle.layout.specs.declared.ResultAnswer.the-variants.{Written}
 use Rattle.layout.specs.ResultBuffer.{sum, resultAnswer, resultOut}
 
+-- ---- "2026-02": the information flags that 48h returns, of those that the table has
+
+-- bit by bit: "48h returns bits 4 to 6 as zero when bit 2 is clear"; where it is set they are the table's, and the others are in either case
+pub record FlagBits (table returned : ℕ) : Type 0 where
+  pub bits-0-to-3 : returned % 16 ≡ table % 16
+  pub bits-4-to-6-fixed : table / 4 % 2 ≡ 0 → returned / 16 % 8 ≡ 0
+  pub bits-4-to-6-removable : table / 4 % 2 ≡ 1 → returned / 16 % 8 ≡ table / 16 % 8
+  pub bits-7-to-15 : returned / 128 ≡ table / 128
+
 -- ---- "Steps of each function", 48h: the layout; r is the window from DS:SI on
 
 -- offsets 0 to 24, of every result: returned size, information flags, physical cylinders, heads, sectors, blocks, the word 512
 pub record Parameters (d : Drive) (n : ℕ) (r : List ℕ) : Type 0 where
   pub at-0 : le 2 r 0 ≡ n
-  pub at-2 : le 2 r 2 ≡ d .flags
+  pub at-2 : FlagBits (d .flags) (le 2 r 2)
   pub at-4 : le 4 r 4 ≡ d .cylinders
   pub at-8 : le 4 r 8 ≡ d .heads
   pub at-12 : le 4 r 12 ≡ d .sectors

@@ -1,9 +1,9 @@
--- Document 01, "Steps of each function", 48h: the sizes, the bytes and the answer of the result buffer.
+-- Document 01, "Steps of each function", 48h: the sizes, the bytes and the answer of the result buffer; the flags as document 02 corrects them.
 -- Assumes nothing.
-use Prim.Native.Nat.{ℕ, _+_, _-_, _%_}
+use Prim.Native.Nat.{ℕ, _+_, _-_, _*_, _/_, _%_}
 use mathlib.Core.List.{List, [], _∷_, _++_}
 use lib.ListN.{length, take, drop}
-use lib.Dec.{leb, ltb}
+use lib.Dec.{eqb, leb, ltb}
 use Rattle.logic.specs.Logic.{pick, both}
 use Rattle.words.specs.Words.{leBytes}
 use Rattle.drive.specs.declared.Drive.{Drive}
@@ -33,9 +33,10 @@ returnedSize asked = pick (ltb asked pointerSize) leastSize (pick (ltb asked pat
 
 -- ---- "Steps of each function", 48h: the bytes, by the paper's offsets
 
--- information flags as the table has them
+-- information flags (document 02, 2026-02): the table's where bit 2, removable, is set; where it is clear, the table's with bits 4 to 6, which
+-- then mean nothing, as zero
 abbrev pub flagsShown : Drive → ℕ
-flagsShown d = d .flags
+flagsShown d = pick (eqb (d .flags / 4 % 2) 1) (d .flags) (d .flags % 16 + d .flags / 128 * 128)
 
 -- FFFFh:FFFFh, which is no pointer: of a drive without a parameter table, and for a guest without placement
 abbrev pub noPointer : Pointer

@@ -97,10 +97,15 @@ fn returned_size(asked: u16) -> u16
     PATH_SIZE
 }
 
+// The information flags that 48h shows: without bit 2, removable, bits 4 to 6 mean nothing and are zero.
 fn flags_shown(d: Drive) -> u16
     ensures { λ r. ⌜ r ≡ flagsShown d ⌝ }
 {
-    d.flags
+    let flags = d.flags;
+    if flags / 4 % 2 == 1 {
+        return flags;
+    }
+    flags % 16 + flags / 128 * 128
 }
 
 // The four runs of a result are written in a buffer of 66 bytes, which `result_of` makes.

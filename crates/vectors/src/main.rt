@@ -28,7 +28,8 @@ const PACKET_SIZE: u16 = 16;
 
 // ---- tables
 
-// Which table a call is made at: document 01's, or that one with protection, with information flag bit 3, or with P6's geometry.
+// Which table a call is made at: document 01's, or that one with protection, with information flag bit 3, with P6's geometry, or with flag
+// bits 3 to 6.
 const PLAIN: u8 = 0;
 
 const PROTECTED: u8 = 1;
@@ -36,6 +37,8 @@ const PROTECTED: u8 = 1;
 const VERIFYING: u8 = 2;
 
 const LARGEST: u8 = 3;
+
+const FLAGS_78: u8 = 4;
 
 // The record of document 01's drive and the end record, but for its number of blocks, its C and H, and protection in byte 39.
 fn table_bytes(blocks: u16, c: u8, h: u8, protection: u8) -> [u8; 72] {
@@ -64,10 +67,10 @@ fn largest_table() -> [u8; 72] {
     t
 }
 
-// A drive with information flag bit 3 set, which can write with verify.
-fn verifying_table() -> [u8; 72] {
+// Document 01's drive with other information flags. With bit 3 it can write with verify.
+fn flagged_table(flags: u8) -> [u8; 72] {
     let mut t = table_bytes(2048, 2, 16, 0);
-    t[32] = 0x0A;
+    t[32] = flags;
     t
 }
 
@@ -76,7 +79,10 @@ fn table_of(which: u8) -> [u8; 72] {
         return largest_table();
     }
     if which == VERIFYING {
-        return verifying_table();
+        return flagged_table(0x0A);
+    }
+    if which == FLAGS_78 {
+        return flagged_table(0x78);
     }
     if which == PROTECTED {
         return table_bytes(2048, 2, 16, 1);

@@ -1,5 +1,6 @@
 // The sources' worked values that document 01 keeps, beyond its own cases: docs/PROMISES.md, "The sources' values", has them all.
 use super::FIRST_DRIVE;
+use super::FLAGS_78;
 use super::OUTPUT;
 use super::PACKET_SIZE;
 use super::PLAIN;
@@ -11,6 +12,7 @@ use super::begin_at;
 use super::end_line;
 use super::extensions_call;
 use super::fill;
+use super::flagged_table;
 use super::geometry_call;
 use super::one_turn;
 use super::opened;
@@ -75,6 +77,8 @@ fn writes() {
     write_call(3);
     say(b"43h AL 2, flag bit 3 set: ");
     packet_call(VERIFYING, 0x4302, PACKET_SIZE, 0, 1);
+    say(b"43h AL 2, flags 78: ");
+    packet_call(FLAGS_78, 0x4302, PACKET_SIZE, 0, 1);
 }
 
 // The count word of a packet at place 0, after the call.
@@ -194,6 +198,22 @@ fn names() {
     names_case(b"PCI\x00FIBRE\x00\x00\x00");
 }
 
+// Document 02, 2026-02: the information flags that 48h shows of those in the table.
+fn flags_case(flags: u8) {
+    say(b"flags ");
+    io::print_hex(OUTPUT, flags as u64, 2);
+    say(b", ");
+    let t = flagged_table(flags);
+    result_case(&t, 2, 4);
+}
+
+// Bits 4 to 6 without bit 2, with it, and with bit 3 alone.
+fn flags() {
+    flags_case(0x7A);
+    flags_case(0x7E);
+    flags_case(0x78);
+}
+
 // A drive of 2^25 blocks with these flags and this C, H and S.
 fn limits_table(flags: u8, c: u16, h: u16, s: u8) -> [u8; 72] {
     let mut t = table_bytes(0, 0, 0, 0);
@@ -277,6 +297,7 @@ fn four_drives() {
 pub(crate) fn tables() {
     whole_result();
     names();
+    flags();
     limits();
     four_drives();
 }
