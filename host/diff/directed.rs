@@ -2056,10 +2056,9 @@ fn h15_flags_of_48h(service: &dyn Service) {
             for size in [26, 29, 30, 65, 66, 1000] {
                 let result = stand.result(6, dl, size).0;
                 for bit in 0..16 {
-                    let given = flags >> bit & 1 == 1;
-                    let expected = if (4..=6).contains(&bit) && flags >> 2 & 1 == 0 { false } else { given };
+                    let (given, removable) = (flags >> bit & 1 == 1, flags >> 2 & 1 == 1);
                     let shown = u16::from_le_bytes([result[2], result[3]]) >> bit & 1 == 1;
-                    assert_eq!(shown, expected, "flags {flags:02x}, bit {bit}, size {size}");
+                    assert_eq!(shown, given && (removable || !(4..=6).contains(&bit)), "flags {flags:02x}, bit {bit}, size {size}");
                 }
                 assert!(result[4..] == others[..result.len() - 4], "flags {flags:02x}, size {size}: byte 65 too");
             }

@@ -1,4 +1,5 @@
-// The sources' worked values that document 01 keeps, beyond its own cases: docs/PROMISES.md, "The sources' values", has them all.
+// The sources' worked values that document 01 keeps, beyond its own cases, and the flags of 48h, which document 02 (2026-02) takes from document 004:
+// docs/PROMISES.md, "The sources' values", has them all.
 use super::FIRST_DRIVE;
 use super::FLAGS_78;
 use super::OUTPUT;
@@ -198,7 +199,7 @@ fn names() {
     names_case(b"PCI\x00FIBRE\x00\x00\x00");
 }
 
-// Document 02, 2026-02: the information flags that 48h shows of those in the table.
+// The information flags that 48h shows of those in the table.
 fn flags_case(flags: u8) {
     say(b"flags ");
     io::print_hex(OUTPUT, flags as u64, 2);
