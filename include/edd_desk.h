@@ -16,49 +16,56 @@
  *           window: 16 * segment + offset, never wrapped. Up to seven bytes at the end of the arena belong to nobody.
  *   store   the blocks of all drives, 512 bytes each. The drive table says which drive has which blocks.
  *   table   the drive table: 0 to 8 drives, numbered from 80h upward in table order. See "The drive table" below.
+ *   reader  EDD_READER_SIZE bytes that hold a table of which only the beginning has arrived, for a host that gets it in
+ *           fragments, through a pipe for example. See edd_reader_open. A host that has the whole table needs no reader.
+ *           What is said above of a desk's bytes holds for a reader's too.
  *
  *
  * What every call keeps to
  *
- *   All input has an answer. Registers, packets, tables and desk blocks may hold anything; a guest's number, the two
- *   lengths of edd_open and the address of edd_place may be any number. A slice may have any length, provided that its
- *   memory really is that long. The result is EDD_DONE (0), a number that says why the call was refused, or
- *   EDD_NOTHING_YET (256) where there is nothing to hand out yet.
+ *   All input has an answer. Registers, packets, tables, fragments, desk blocks and reader blocks may hold anything; a
+ *   guest's number, the lengths given at an opening and the address of edd_place may be any number. A slice may have any
+ *   length, provided that its memory really is that long. The result is EDD_DONE (0), a number that says why the call was
+ *   refused, or EDD_NOTHING_YET (256) where there is nothing to hand out yet.
  *
- *   A refused call changes nothing: no register, no result and no byte of desk, arena, store or buffer is written. The one
- *   exception is *place of edd_open, which is written when the table is refused (1 to 9) and at no other time. A call that
- *   answers 256 changes nothing either, except that a post stores the waiting request in the desk.
+ *   A refused call changes nothing: no register, no result and no byte of desk, arena, store or buffer is written. There
+ *   are two exceptions, both where a table is refused (1 to 9): *place is then written, by edd_open, edd_reader_feed and
+ *   edd_reader_end, and at no other time; and a reader keeps that refusal in its block. A call that answers 256 changes
+ *   nothing either, except that a post stores the waiting request in the desk, and a reader what it was fed.
  *
  *   The caller owns everything. The library keeps no pointer after a call returns, allocates nothing, starts nothing, and
  *   has no variable of its own: no static record, no cache, no errno. A call uses at most EDD_STACK_MAX bytes of stack, which
  *   is tested and not proved.
  *
  *   What may run at the same time. All calls on one desk, its arena and its store run one at a time, under the host's own
- *   lock. Calls with different desks, arenas and stores need no lock and may run on any threads: the library has nothing
- *   of its own that they could share, so no request can meet another's scratch data.
+ *   lock, and so do all calls on one reader. Calls with different desks, arenas and stores, or different readers, need no
+ *   lock and may run on any threads: the library has nothing of its own that they could share, so no request can meet
+ *   another's scratch data.
  *
  *   What is proved is about the bytes at the beginning and at the end of a call. It holds if nobody else writes, while the
- *   call runs, the desk block, the window of the guest that is posted, served, withdrawn or placed for, or the blocks that
- *   are moved. Of the rest of arena and store a call uses only the lengths: a post, a withdrawal or a placement touches no
- *   window but its guest's; a turn touches no window but that of the guest it serves, whose request was waiting, and no
- *   block but those it moves; no other call touches a block. This is tested with protected pages and not proved. So a guest
- *   that has no request waiting may go on running in its own window, without the lock, while calls for other guests run.
+ *   call runs, the desk or reader block, the table, fragment or buffer that is lent, the window of the guest that is
+ *   posted, served, withdrawn or placed for, or the blocks that are moved. Of the rest of arena and store a call uses only the lengths: a post, a withdrawal or a
+ *   placement touches no window but its guest's; a turn touches no window but that of the guest it serves, whose request
+ *   was waiting, and no block but those it moves; no other call touches a block. This is tested with protected pages and
+ *   not proved. So a guest that has no request waiting may go on running in its own window, without the lock, while calls
+ *   for other guests run.
  *
  *   A guest whose request is waiting leaves its buffer alone until the request has ended, because a turn may be reading or
  *   writing it. It may overwrite its packet, but a withdrawal writes two bytes there.
  *
- *   What is lent to one call must not overlap: desk, arena, store, table and buffer must not overlap each other, nor the
- *   places of the results, and no two result or register pointers may be the same. This is the caller's duty and is not
- *   tested.
+ *   What is lent to one call must not overlap: desk, reader, arena, store, table, fragment and buffer must not overlap
+ *   each other, nor the places of the results, and no two result or register pointers may be the same. This is the
+ *   caller's duty and is not tested.
  *
  *   Pointers. A slice is a pointer and its length in bytes. NULL with length 0 is an empty slice. No other pointer may be
  *   NULL: neither that of a slice longer than 0 nor that of a result or a register. A slice needs no alignment; results
  *   and registers are aligned as their types require.
  *
- *   The interface may grow by change request. The names of these twelve calls and the order and types of their parameters
- *   stay; a call that needs more arguments comes under a new name. Everything else can change from one version to the
- *   next: the sizes (EDD_DESK_SIZE, EDD_TABLE_SIZE_MAX, EDD_STACK_MAX), the form of the block, the refusals, and what a
- *   turn may answer. Compile with the header that came with the library; edd_version() == EDD_VERSION says whether you did.
+ *   The interface may grow by change request. The names of these seventeen calls and the order and types of their
+ *   parameters stay; a call that needs more arguments comes under a new name. Everything else can change from one version
+ *   to the next: the sizes (EDD_DESK_SIZE, EDD_READER_SIZE, EDD_TABLE_SIZE_MAX, EDD_STACK_MAX), the form of the blocks,
+ *   the refusals, and what a turn may answer. Compile with the header that came with the library; edd_version() ==
+ *   EDD_VERSION says whether you did.
  *
  *
  * What is proved of every list of calls at one desk after an opening
@@ -137,7 +144,7 @@
 #endif
 
 /* The version of this header. Each change request raises it by 1; edd_version() answers that of the library. */
-#define EDD_VERSION 3
+#define EDD_VERSION 4
 
 /* Asks the compiler to warn where the result of a call is ignored. Define it yourself, as nothing, to switch that off. */
 #ifndef EDD_NODISCARD
@@ -159,6 +166,7 @@ extern "C" {
 /* ---- sizes */
 
 #define EDD_DESK_SIZE 2704     /* bytes of a desk block; edd_desk_size() answers the same */
+#define EDD_READER_SIZE 816    /* bytes of a reader block; edd_reader_size() answers the same */
 #define EDD_BLOCK_SIZE 512     /* bytes of a block of the store */
 #define EDD_GUESTS 8           /* guests are 0 to 7 */
 #define EDD_DRIVES 8           /* drives of a table, at most */
@@ -169,33 +177,40 @@ extern "C" {
 /* ---- results of every call */
 
 #define EDD_DONE 0
-#define EDD_NOTHING_YET 256 /* edd_post: the request waits for turns. edd_turn: no request waits. */
+#define EDD_NOTHING_YET 256 /* edd_post: the request waits for turns. edd_turn: no request waits. edd_reader_feed: nothing is
+                               settled: feed on, or say that the input has ended. edd_reader_write: say that first. */
 
-/* Refusals of a drive table, by edd_open. *place says where: the start of the record, or for 8 the first byte too many. */
-#define EDD_TABLE_CUT_OFF 1     /* the table stops inside a record or before the end record: lend all of it */
+/*
+ * Refusals of a drive table, by edd_open, edd_reader_feed, edd_reader_end and edd_reader_write, which repeats the number
+ * only. *place of the others says where, counted from the table's first byte: the start of the record, or for 8 the first
+ * byte too many.
+ */
+#define EDD_TABLE_CUT_OFF 1     /* the table stops inside a record or before the end record: lend or feed all of it */
 #define EDD_TABLE_LENGTH 2      /* the record's length is wrong for its kind: it must be 68, 20, or 4 for the end record */
 #define EDD_TABLE_KIND 3        /* unknown kind of record: this library knows drives (1), parameters (4) and the end (0) */
 #define EDD_TABLE_NINTH_DRIVE 4 /* more than eight drives: use a second desk */
 #define EDD_TABLE_FIELD 5       /* a field of the drive breaks its rule: correct the record */
 #define EDD_TABLE_STORE 6       /* the drive ends past the store: lend a longer store or correct the record */
 #define EDD_TABLE_OVERLAP 7     /* the drive shares a block with an earlier one: correct its first block */
-#define EDD_TABLE_TRAILING 8    /* a byte follows the end record: lend the table without it */
+#define EDD_TABLE_TRAILING 8    /* a byte follows the end record: lend or feed the table without it */
 #define EDD_TABLE_NOT_LAST 9    /* the record of kind 4 does not name the last drive read, or repeats one: correct the table */
 
 /* House refusals. Where several apply the order is 25, 24, 20, then 19, 21, 22 or 23, then 26. */
-#define EDD_BUFFER_SHORT 19      /* edd_write: the buffer is shorter than the table: EDD_TABLE_SIZE_MAX is always enough */
+#define EDD_BUFFER_SHORT 19      /* edd_write, edd_reader_write: the buffer is shorter than the table: EDD_TABLE_SIZE_MAX is
+                                    always enough */
 #define EDD_NO_SUCH_GUEST 20     /* the guest's number is 8 or more: an error of the host */
 #define EDD_ROW_NOT_VACANT 21    /* edd_post: the guest's last request waits or is finished: collect or withdraw it first.
                                     edd_place: it waits */
 #define EDD_NOT_FINISHED 22      /* edd_collect: nothing to collect: post, or give more turns */
 #define EDD_NOT_WAITING 23       /* edd_withdraw: no request waits: if it has finished, collect it */
 #define EDD_LENGTH_DIFFERS 24    /* arena or store is not as long as at the opening: lend the same, or open again */
-#define EDD_DESK_NOT_ACCEPTED 25 /* the block has another size, or its bytes are not those of an acceptable desk: open it */
+#define EDD_DESK_NOT_ACCEPTED 25 /* the block has another size, or its bytes are not those of an acceptable desk, or of a
+                                    reader where a reader is lent: open it */
 #define EDD_BAD_PLACE 26         /* edd_place: the tables cannot lie at that address: choose another */
 
 /*
  * 25 does not detect every block that was never opened, nor all damage: a block of zeros, for example, is that of a desk
- * without drives and with both lengths 0. Open a block before you do anything else with it.
+ * without drives and with both lengths 0 (as a reader it is refused). Open a block before you do anything else with it.
  */
 
 /* Refusal of edd_block and edd_address: outside the geometry, or the geometry outside its limits. It is 04h of INT 13h. */
@@ -218,7 +233,8 @@ extern "C" {
 EDD_NODISCARD uint32_t edd_version(void);
 
 /*
- * The size of a desk block, EDD_DESK_SIZE. A host that loads the library at run time compares both numbers first.
+ * The size of a desk block, EDD_DESK_SIZE. A host that loads the library at run time compares the version and the sizes of
+ * both blocks (edd_reader_size) first.
  */
 EDD_NODISCARD uint64_t edd_desk_size(void);
 
@@ -359,6 +375,89 @@ EDD_NODISCARD uint32_t edd_withdraw(uint8_t *desk, size_t desk_len, uint8_t *are
  */
 EDD_NODISCARD uint32_t edd_place(uint8_t *desk, size_t desk_len, uint8_t *arena, size_t arena_len, const uint8_t *store,
                                  size_t store_len, uint64_t guest, uint64_t address);
+
+/*
+ * The size of a reader block, EDD_READER_SIZE.
+ */
+EDD_NODISCARD uint64_t edd_reader_size(void);
+
+/*
+ * Opens a reader: a drive table that arrives in fragments is fed to it, and however it is cut, the answer is that of
+ * edd_open on the whole. Between the fragments the reader keeps the drives so far and at most one unfinished record.
+ *
+ *   reader, reader_len  the block to write. Only its size is looked at. It may hold any bytes, even those of a reader in use,
+ *                       which then begins anew.
+ *   store_length        length in bytes of the store, any number, as for edd_open. Give edd_open the same: with a shorter one
+ *                       it may refuse (6) what the reader accepted.
+ *
+ * 0         done: the whole block is written.
+ * 25        reader_len is not EDD_READER_SIZE. Nothing is written.
+ *
+ * Example: the table comes through a pipe, and a desk is opened with it. The result is that of the first call that refuses.
+ *
+ *   uint8_t reader[EDD_READER_SIZE], piece[64], table[EDD_TABLE_SIZE_MAX];
+ *   uint64_t place = 0, table_len = 0;
+ *   ssize_t n;
+ *   uint32_t answer = edd_reader_open(reader, EDD_READER_SIZE, store_len);
+ *
+ *   while (answer == EDD_DONE || answer == EDD_NOTHING_YET) {
+ *       if ((n = read(pipe, piece, sizeof piece)) <= 0)
+ *           break; // the end of input; a host tells an error (-1) apart
+ *       answer = edd_reader_feed(reader, EDD_READER_SIZE, piece, (size_t)n, &place);
+ *   }
+ *   answer = edd_reader_end(reader, EDD_READER_SIZE, &place);
+ *   if (answer == EDD_DONE)
+ *       answer = edd_reader_write(reader, EDD_READER_SIZE, table, sizeof table, &table_len);
+ *   if (answer == EDD_DONE)
+ *       answer = edd_open(desk, EDD_DESK_SIZE, table, table_len, arena_len, store_len, &place);
+ */
+EDD_NODISCARD uint32_t edd_reader_open(uint8_t *reader, size_t reader_len, uint64_t store_length);
+
+/*
+ * Feeds the next bytes of the table. A refusal is made by the feed whose bytes settle it, whatever may follow them: 2 and 3
+ * with the fourth byte of a record, 4, 5, 6, 7 and 9 with its last, 8 with the first byte after the end record. That bytes
+ * are missing (1) is never settled before the end of input. Once the table is refused, or the end was told, further bytes
+ * are ignored, and the same answer is given again.
+ *
+ *   reader, reader_len  changed: what was fed, or the refusal, is kept in it
+ *   bytes, bytes_len    the fragment, of any length; an empty one changes nothing
+ *   place               where the table is refused
+ *
+ * 256       nothing is settled: feed on, or call edd_reader_end if that was all. *place is not written.
+ * 0         the end was told before, and the table was accepted; the bytes were ignored. *place is not written.
+ * 1 to 9    the table is refused: *place is written, and the refusal is kept. Open the reader anew for another table.
+ * 25        the block is not that of a reader. Nothing is written.
+ */
+EDD_NODISCARD uint32_t edd_reader_feed(uint8_t *reader, size_t reader_len, const uint8_t *bytes, size_t bytes_len,
+                                       uint64_t *place);
+
+/*
+ * Tells the reader that the input has ended. Told again, it gives the same answer and changes nothing.
+ *
+ *   reader, reader_len  changed: the answer is kept in it
+ *   place               where the table is refused
+ *
+ * 0         the whole table arrived and is accepted: write it out. *place is not written.
+ * 1 to 9    the table is refused, now or before; 1: bytes are missing. *place is written.
+ * 25        the block is not that of a reader. Nothing is written.
+ */
+EDD_NODISCARD uint32_t edd_reader_end(uint8_t *reader, size_t reader_len, uint64_t *place);
+
+/*
+ * Writes the table that was read, for edd_open: byte for byte the one that was fed.
+ *
+ *   reader, reader_len  only read
+ *   out, out_len        the buffer for the table. Bytes after the table are left as they are.
+ *   written             the length of the table in bytes
+ *
+ * 0         done: the table is at the start of the buffer, and *written is its length.
+ * 25        the block is not that of a reader; tested first.
+ * 256       the end was not told: call edd_reader_end.
+ * 1 to 9    the table was refused.
+ * 19        the buffer is shorter than the table; tested last. Unless the answer is 0, nothing is written.
+ */
+EDD_NODISCARD uint32_t edd_reader_write(const uint8_t *reader, size_t reader_len, uint8_t *out, size_t out_len,
+                                        uint64_t *written);
 
 /*
  * Where a guest's window lies in an arena of that length: bytes *start to *start + *length - 1. For a guest of 8 or more

@@ -550,6 +550,66 @@ static struct summary table_calls(const struct setting *settings, unsigned count
     return sum;
 }
 
+/* ---- 7. reading the longest table: as a whole, and as it arrives */
+
+/* All of it by edd_open for a piece of 0; else by a reader in pieces of that size, from its opening to the table written out. */
+static double read_longest(const struct service *s, size_t piece)
+{
+    static uint8_t desk[EDD_DESK_SIZE], reader[EDD_READER_SIZE], table[EDD_TABLE_SIZE_MAX], out[EDD_TABLE_SIZE_MAX];
+    const size_t length = place_table(table, EDD_DRIVES, 1, 1 * MIB);
+    const unsigned rounds = piece == 0 ? 2000 : piece < 64 ? 10 : 200;
+    uint64_t at = 0, written = 0;
+    uint32_t wrong = EDD_DONE;
+
+    double begun = nanoseconds();
+    for (unsigned i = 0; i < rounds; i++) {
+        if (piece == 0) {
+            wrong |= s->open(desk, sizeof desk, table, length, 1 * MIB, 1 * MIB, &at);
+        } else {
+            wrong |= s->reader_open(reader, sizeof reader, 1 * MIB);
+            for (size_t fed = 0; fed < length; fed += piece)
+                wrong |= s->reader_feed(reader, sizeof reader, table + fed, length - fed < piece ? length - fed : piece, &at) ^
+                         EDD_NOTHING_YET;
+            wrong |= s->reader_end(reader, sizeof reader, &at);
+            wrong |= s->reader_write(reader, sizeof reader, out, sizeof out, &written);
+        }
+        settle();
+    }
+    double taken = (nanoseconds() - begun) / rounds;
+    expect(wrong == EDD_DONE && (piece == 0 || (written == length && memcmp(out, table, length) == 0)), "the longest table is read");
+    return taken;
+}
+
+static void table_reading(void)
+{
+    static const struct { const char *name; size_t piece; } readings[] = {
+        { "open, the whole table", 0 },
+        { "reader, one piece", EDD_TABLE_SIZE_MAX },
+        { "reader, pieces of 64 bytes", 64 },
+        { "reader, pieces of 1 byte", 1 },
+    };
+    printf("7. Reading the longest table, %d bytes: by an opening, and by a reader that is opened, fed, told the end and written out.\n\n",
+           EDD_TABLE_SIZE_MAX);
+    printf("   %-28s   library / model      library, ns      model, ns\n", "");
+    static struct times times[sizeof readings / sizeof readings[0]][2];
+    for (int b = 0; b < BATCHES; b++)
+        for (unsigned i = 0; i < sizeof readings / sizeof readings[0]; i++)
+            for (unsigned s = 0; s < service_count; s++)
+                times[i][s].with[b] = read_longest(&services[s], readings[i].piece);
+    for (unsigned i = 0; i < sizeof readings / sizeof readings[0]; i++) {
+        const struct times *t = times[i];
+        printf("   %-28s", readings[i].name);
+        if (service_count == 2)
+            ratio_cell(&t[0], &t[1]);
+        else
+            printf("   %16s", "-");
+        for (unsigned s = 0; s < service_count; s++)
+            printf(" %7.0f /%7.0f", best(&t[s]), median(&t[s]));
+        printf("\n");
+    }
+    line();
+}
+
 int main(int argc, char **argv)
 {
     static const struct setting drives[] = {
@@ -609,6 +669,7 @@ int main(int argc, char **argv)
     printf("6. Each call, by the parameter tables, 8 drives; ns. Other rows vacant; placed: 8 records, placed for all guests. The model with\n"
            "   all placed.\n\n");
     struct summary by_tables = table_calls(tables, 3);
+    table_reading();
 
     printf("Aims\n");
     printf("   a call below %.0f ns: the slowest takes %.0f (%s), with seven other rows waiting %.0f (%s), with parameter tables %.0f"

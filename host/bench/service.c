@@ -30,6 +30,10 @@ void service_load(struct service *s, const char *name, const char *path)
     find(object, "edd_collect", &s->collect);
     find(object, "edd_withdraw", &s->withdraw);
     find(object, "edd_place", &s->place);
+    find(object, "edd_reader_open", &s->reader_open);
+    find(object, "edd_reader_feed", &s->reader_feed);
+    find(object, "edd_reader_end", &s->reader_end);
+    find(object, "edd_reader_write", &s->reader_write);
     find(object, "edd_window", &s->window);
     find(object, "edd_block", &s->block);
     find(object, "edd_address", &s->address);

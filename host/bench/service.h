@@ -19,6 +19,10 @@ struct service {
     uint32_t (*withdraw)(uint8_t *, size_t, uint8_t *, size_t, const uint8_t *, size_t, uint64_t, uint16_t *, uint16_t *,
                          uint16_t *, uint16_t *, uint16_t *, uint16_t *, uint16_t *, uint16_t *);
     uint32_t (*place)(uint8_t *, size_t, uint8_t *, size_t, const uint8_t *, size_t, uint64_t, uint64_t);
+    uint32_t (*reader_open)(uint8_t *, size_t, uint64_t);
+    uint32_t (*reader_feed)(uint8_t *, size_t, const uint8_t *, size_t, uint64_t *);
+    uint32_t (*reader_end)(uint8_t *, size_t, uint64_t *);
+    uint32_t (*reader_write)(const uint8_t *, size_t, uint8_t *, size_t, uint64_t *);
     uint32_t (*window)(uint64_t, uint64_t, uint64_t *, uint64_t *);
     uint32_t (*block)(uint32_t, uint32_t, uint32_t, uint32_t, uint32_t, uint32_t, uint32_t *);
     uint32_t (*address)(uint32_t, uint32_t, uint32_t, uint64_t, uint32_t *, uint32_t *, uint32_t *);

@@ -1,16 +1,19 @@
 /*
  * A short session at a desk through include/edd_desk.h, as a C or C++ program sees it. The header comes first, so that it must be
  * complete by itself. Every slice is a block of its own from malloc with the exact length, so that the address sanitizer sees what
- * this program does wrong with it. read_first_block is the example in the header; host/c_test takes it from there.
+ * this program does wrong with it. read_first_block is the example in the header, and open_from_pipe that of edd_reader_open;
+ * host/c_test takes them from there.
  */
 #include "edd_desk.h"
 
 #include <stdio.h>
 #include <stdlib.h>
 #include <string.h>
+#include <unistd.h>
 
 int read_first_block(uint8_t *desk, const uint8_t *table, size_t table_len, uint8_t *arena, size_t arena_len, uint8_t *store,
                      size_t store_len);
+uint32_t open_from_pipe(uint8_t *desk, int pipe, uint64_t arena_len, uint64_t store_len);
 
 static int checks, failed;
 
@@ -354,6 +357,227 @@ static void house_refusals(machine *m)
     free(desk);
 }
 
+/* three drives of 512 blocks, the second with a record of kind 4, and the end record */
+enum { THREE = 3 * 68 + 20 + 4 };
+
+static uint8_t *three_drives(void)
+{
+    uint8_t *table = bytes(THREE, 0), *at = table;
+
+    for (unsigned i = 0; i < 3; i++, at += 68) {
+        memcpy(at, paper_table, 68);
+        at[17] = 2, at[25] = (uint8_t)(2 * i); /* blocks, and the first of them */
+        at[34] = 1, at[36] = 8;                /* 1 cylinder, 8 heads, 63 sectors */
+        if (i == 1) {
+            at[68] = 20, at[70] = 4, at[72] = 1;
+            memset(at + 74, 0x5A, 14);
+            at += 20;
+        }
+    }
+    at[0] = 4;
+    return table;
+}
+
+/* the end of a pipe to read from, into which those bytes were written and which was then closed on the other side */
+static int pipe_with(const uint8_t *table, size_t length)
+{
+    int ends[2] = {-1, -1};
+
+    CHECK(pipe(ends) == 0 && write(ends[1], table, length) == (ssize_t)length && close(ends[1]) == 0);
+    return ends[0];
+}
+
+/* feeds bytes that lie in a block of their own, with nothing behind them */
+static uint32_t feed(uint8_t *reader, const uint8_t *from, size_t length, uint64_t *place)
+{
+    uint8_t *fragment = bytes(length, 0);
+    memcpy(fragment, from, length);
+    uint32_t answer = edd_reader_feed(reader, EDD_READER_SIZE, fragment, length, place);
+    free(fragment);
+    return answer;
+}
+
+/* rule: exports::edd_reader_open exports::edd_reader_feed exports::edd_reader_end exports::edd_reader_write */
+/* a table out of a pipe in pieces of that size, and a desk opened with it */
+static void table_through_a_pipe(machine *m, size_t piece)
+{
+    uint8_t *table = three_drives(), *buffer = bytes(piece, 0);
+    uint8_t *reader = bytes(EDD_READER_SIZE, 3), *out = bytes(THREE, 5);
+    uint64_t place = 77, written = 77;
+    size_t pieces = 0;
+    ssize_t n;
+    int from = pipe_with(table, THREE);
+
+    CHECK(edd_reader_open(reader, EDD_READER_SIZE, STORE) == EDD_DONE);
+    while ((n = read(from, buffer, piece)) > 0) {
+        pieces++;
+        CHECK(feed(reader, buffer, (size_t)n, &place) == EDD_NOTHING_YET);
+        CHECK(edd_reader_feed(reader, EDD_READER_SIZE, NULL, 0, &place) == EDD_NOTHING_YET);
+        CHECK(edd_reader_write(reader, EDD_READER_SIZE, out, THREE, &written) == EDD_NOTHING_YET);
+    }
+    CHECK(n == 0 && close(from) == 0 && pieces == (THREE + piece - 1) / piece);
+    CHECK(edd_reader_end(reader, EDD_READER_SIZE, &place) == EDD_DONE);
+    CHECK(edd_reader_write(reader, EDD_READER_SIZE, out, THREE - 1, &written) == EDD_BUFFER_SHORT);
+    CHECK(edd_reader_write(reader, EDD_READER_SIZE, NULL, 0, &written) == EDD_BUFFER_SHORT);
+    CHECK(out[0] == 0 && out[THREE - 1] == (uint8_t)((THREE - 1) * 5 >> 5) && place == 77 && written == 77);
+    CHECK(edd_reader_write(reader, EDD_READER_SIZE, out, THREE, &written) == EDD_DONE && written == THREE);
+    CHECK(memcmp(out, table, THREE) == 0);
+    /* bytes after the end are ignored, and the answer stays */
+    CHECK(feed(reader, table, THREE, &place) == EDD_DONE);
+    CHECK(edd_reader_feed(reader, EDD_READER_SIZE, NULL, 0, &place) == EDD_DONE);
+    CHECK(edd_reader_end(reader, EDD_READER_SIZE, &place) == EDD_DONE && place == 77);
+    /* the desk has those drives */
+    CHECK(edd_open(m->desk, EDD_DESK_SIZE, out, (size_t)written, ARENA, STORE, &place) == EDD_DONE && place == 77);
+    memset(out, 0, THREE);
+    CHECK(edd_write(m->desk, EDD_DESK_SIZE, out, THREE, &written) == EDD_DONE && memcmp(out, table, THREE) == 0);
+    free(buffer);
+    free(out);
+    free(reader);
+    free(table);
+}
+
+/* fed in two pieces, cut at a place: the refusal comes with the second, is repeated, and nothing changes any more */
+static void refused_once_and_for_all(const uint8_t *table, size_t length, size_t cut, uint32_t number, uint64_t at)
+{
+    uint8_t *reader = bytes(EDD_READER_SIZE, 3), *kept = bytes(EDD_READER_SIZE, 0), *out = bytes(EDD_TABLE_SIZE_MAX, 5);
+    uint64_t place = 77, written = 77;
+
+    CHECK(edd_reader_open(reader, EDD_READER_SIZE, STORE) == EDD_DONE);
+    CHECK(feed(reader, table, cut, &place) == EDD_NOTHING_YET && place == 77);
+    if (number == EDD_TABLE_CUT_OFF) {
+        CHECK(feed(reader, table + cut, length - cut, &place) == EDD_NOTHING_YET && place == 77);
+        CHECK(edd_reader_end(reader, EDD_READER_SIZE, &place) == number && place == at);
+    } else {
+        CHECK(feed(reader, table + cut, length - cut, &place) == number && place == at);
+    }
+    memcpy(kept, reader, EDD_READER_SIZE);
+    for (unsigned i = 0; i < 2; i++) {
+        place = 77;
+        CHECK(feed(reader, paper_table, 72, &place) == number && place == at);
+        place = 77;
+        CHECK(edd_reader_feed(reader, EDD_READER_SIZE, NULL, 0, &place) == number && place == at);
+        place = 77;
+        CHECK(edd_reader_end(reader, EDD_READER_SIZE, &place) == number && place == at);
+        CHECK(edd_reader_write(reader, EDD_READER_SIZE, out, EDD_TABLE_SIZE_MAX, &written) == number);
+        CHECK(edd_reader_write(reader, EDD_READER_SIZE, NULL, 0, &written) == number);
+    }
+    CHECK(memcmp(reader, kept, EDD_READER_SIZE) == 0 && written == 77 && out[100] == (uint8_t)(100 * 5 >> 5));
+    /* until it is opened anew */
+    place = 77;
+    CHECK(edd_reader_open(reader, EDD_READER_SIZE, STORE) == EDD_DONE);
+    CHECK(feed(reader, paper_table, 72, &place) == EDD_NOTHING_YET);
+    CHECK(edd_reader_end(reader, EDD_READER_SIZE, &place) == EDD_DONE && place == 77);
+    free(out);
+    free(kept);
+    free(reader);
+}
+
+/* rule: exports::edd_reader_feed exports::edd_reader_end exports::edd_reader_write refusedAt */
+static void fragments_refused(void)
+{
+    uint8_t *table = three_drives(), *longer = bytes(THREE + 1, 0);
+
+    memcpy(longer, table, THREE);
+    refused_once_and_for_all(longer, THREE + 1, THREE, EDD_TABLE_TRAILING, THREE);
+    refused_once_and_for_all(table, THREE - 1, 100, EDD_TABLE_CUT_OFF, THREE - 4);
+    refused_once_and_for_all(table, 60, 0, EDD_TABLE_CUT_OFF, 0);
+    longer[0] = 67; /* settled by the fourth byte */
+    refused_once_and_for_all(longer, 4, 3, EDD_TABLE_LENGTH, 0);
+    longer[0] = 68, longer[68 + 2] = 2;
+    refused_once_and_for_all(longer, 68 + 4, 68 + 3, EDD_TABLE_KIND, 68);
+    longer[68 + 2] = 1, longer[68 + 39] = 2; /* by the last byte of a record */
+    refused_once_and_for_all(longer, 2 * 68, 2 * 68 - 1, EDD_TABLE_FIELD, 68);
+    longer[68 + 39] = 0, longer[68 + 30] = 1;
+    refused_once_and_for_all(longer, THREE + 1, 2 * 68 - 1, EDD_TABLE_STORE, 68);
+    longer[68 + 30] = 0, longer[68 + 25] = 1;
+    refused_once_and_for_all(longer, THREE, 20, EDD_TABLE_OVERLAP, 68);
+    longer[68 + 25] = 2, longer[136 + 4] = 0;
+    refused_once_and_for_all(longer, 156, 155, EDD_TABLE_NOT_LAST, 136);
+    uint8_t *nine = bytes(9 * 68, 0);
+    for (size_t i = 0; i < 9; i++) {
+        memcpy(nine + 68 * i, table, 68);
+        nine[68 * i + 16] = 63, nine[68 * i + 17] = 0, nine[68 * i + 36] = 1;
+        nine[68 * i + 24] = (uint8_t)(63 * i), nine[68 * i + 25] = (uint8_t)(63 * i >> 8);
+    }
+    refused_once_and_for_all(nine, 9 * 68, 9 * 68 - 1, EDD_TABLE_NINTH_DRIVE, 8 * 68);
+    free(nine);
+    free(longer);
+    free(table);
+}
+
+/* a block that is no reader's: refused by the three calls, and nothing is written */
+static void no_reader(uint8_t *block, size_t length)
+{
+    uint8_t *before = bytes(length, 0), *out = bytes(72, 5);
+    uint64_t place = 77, written = 77;
+
+    memcpy(before, block, length);
+    CHECK(edd_reader_feed(block, length, paper_table, 72, &place) == EDD_DESK_NOT_ACCEPTED);
+    CHECK(edd_reader_feed(block, length, NULL, 0, &place) == EDD_DESK_NOT_ACCEPTED);
+    CHECK(edd_reader_end(block, length, &place) == EDD_DESK_NOT_ACCEPTED);
+    CHECK(edd_reader_write(block, length, out, 72, &written) == EDD_DESK_NOT_ACCEPTED);
+    CHECK(edd_reader_write(block, length, NULL, 0, &written) == EDD_DESK_NOT_ACCEPTED);
+    CHECK(memcmp(block, before, length) == 0 && place == 77 && written == 77 && out[71] == (uint8_t)(71 * 5 >> 5));
+    free(out);
+    free(before);
+}
+
+/* rule: exports::edd_reader_size exports::edd_reader_open Reader.accepted */
+static void readers_not_accepted(void)
+{
+    static const size_t sizes[] = {0, 1, EDD_READER_SIZE - 1, EDD_READER_SIZE + 1, EDD_DESK_SIZE};
+    uint8_t *reader = bytes(EDD_READER_SIZE, 0);
+    uint64_t place = 77;
+
+    CHECK(edd_reader_size() == EDD_READER_SIZE);
+    no_reader(reader, EDD_READER_SIZE); /* zeros */
+    for (size_t i = 0; i < sizeof sizes / sizeof sizes[0]; i++) {
+        uint8_t *other = bytes(sizes[i] + 1, 0);
+        CHECK(edd_reader_open(other, sizes[i], STORE) == EDD_DESK_NOT_ACCEPTED && other[0] == 0);
+        no_reader(other, sizes[i]);
+        free(other);
+    }
+    CHECK(edd_reader_open(NULL, 0, STORE) == EDD_DESK_NOT_ACCEPTED);
+    /* a good one with some byte changed: the course, the number, what is held, the table and what follows it */
+    CHECK(edd_reader_open(reader, EDD_READER_SIZE, STORE) == EDD_DONE);
+    CHECK(feed(reader, paper_table, 70, &place) == EDD_NOTHING_YET);
+    static const size_t changed[] = {0,  7,  8,   15,  25,       31,       32,
+                                     39, 42, 107, 108, 108 + 39, 108 + 68, EDD_READER_SIZE - 1};
+    for (size_t i = 0; i < sizeof changed / sizeof changed[0]; i++) {
+        reader[changed[i]] = (uint8_t)(reader[changed[i]] + 2);
+        no_reader(reader, EDD_READER_SIZE);
+        reader[changed[i]] = (uint8_t)(reader[changed[i]] - 2);
+    }
+    CHECK(feed(reader, paper_table + 70, 2, &place) == EDD_NOTHING_YET);
+    CHECK(edd_reader_end(reader, EDD_READER_SIZE, &place) == EDD_DONE && place == 77);
+    free(reader);
+}
+
+/* rule: exports::edd_reader_feed */
+/* the header's example: good, refused, ended too soon, and with nothing in it */
+static void example_of_the_pipe(machine *m)
+{
+    uint8_t *table = three_drives(), *out = bytes(THREE, 0);
+    uint64_t written = 77;
+    int from = pipe_with(table, THREE);
+
+    CHECK(open_from_pipe(m->desk, from, ARENA, STORE) == EDD_DONE && close(from) == 0);
+    CHECK(edd_write(m->desk, EDD_DESK_SIZE, out, THREE, &written) == EDD_DONE && memcmp(out, table, THREE) == 0);
+    table[39] = 7;
+    from = pipe_with(table, THREE);
+    CHECK(open_from_pipe(m->desk, from, ARENA, STORE) == EDD_TABLE_FIELD);
+    /* it has read 128 bytes and no more */
+    CHECK(read(from, out, THREE) == THREE - 128 && memcmp(out, table + 128, THREE - 128) == 0 && close(from) == 0);
+    table[39] = 0;
+    from = pipe_with(table, 200);
+    CHECK(open_from_pipe(m->desk, from, ARENA, STORE) == EDD_TABLE_CUT_OFF && close(from) == 0);
+    from = pipe_with(table, 0);
+    CHECK(open_from_pipe(m->desk, from, ARENA, STORE) == EDD_TABLE_CUT_OFF && close(from) == 0);
+    CHECK(edd_write(m->desk, EDD_DESK_SIZE, out, THREE, &written) == EDD_DONE && written == THREE);
+    free(out);
+    free(table);
+}
+
 /* rule: exports::edd_window exports::edd_block exports::edd_address */
 static void numbers(void)
 {
@@ -389,6 +613,14 @@ int main(void)
     parameter_tables(&m);
     information_flags(&m);
     house_refusals(&m);
+    table_through_a_pipe(&m, 1);
+    table_through_a_pipe(&m, 3);
+    table_through_a_pipe(&m, 67);
+    table_through_a_pipe(&m, 68);
+    table_through_a_pipe(&m, 69);
+    fragments_refused();
+    readers_not_accepted();
+    example_of_the_pipe(&m);
     numbers();
     free(m.desk);
     free(m.arena);

@@ -12,7 +12,8 @@ enum { STACK = 256 * 1024, PATTERN = 0xa5, WINDOW = 65536, DRIVE_BLOCKS = 64, PA
 
 static _Alignas(64) uint8_t stack[STACK];
 static ucontext_t caller, callee;
-static uint8_t desk[EDD_DESK_SIZE], table[EDD_TABLE_SIZE_MAX], out[EDD_TABLE_SIZE_MAX];
+static uint8_t desk[EDD_DESK_SIZE], reader[EDD_READER_SIZE], table[EDD_TABLE_SIZE_MAX], out[EDD_TABLE_SIZE_MAX];
+static size_t fed, piece; /* of the table, so far and next */
 static uint8_t arena[EDD_GUESTS * WINDOW], store[EDD_DRIVES * DRIVE_BLOCKS * EDD_BLOCK_SIZE];
 static uint16_t ax, bx, cx, dx, ds, si, es, carry;
 static uint64_t first, second;
@@ -55,11 +56,33 @@ static void do_place(void)
     answer = edd_place(desk, sizeof desk, arena, sizeof arena, store, sizeof store, 7, 0x8000);
 }
 
+static void do_reader_open(void)
+{
+    answer = edd_reader_open(reader, sizeof reader, sizeof store);
+    fed = 0;
+}
+
+static void do_reader_feed(void)
+{
+    answer = edd_reader_feed(reader, sizeof reader, table + fed, piece, &first);
+    fed += piece;
+}
+
+static void do_reader_end(void)
+{
+    answer = edd_reader_end(reader, sizeof reader, &first);
+}
+
+static void do_reader_write(void)
+{
+    answer = edd_reader_write(reader, sizeof reader, out, sizeof out, &first);
+}
+
 static void do_numbers(void)
 {
     answer = edd_window(sizeof arena, 7, &first, &second) + edd_block(4, 1, 16, 3, 0, 16, &small[0]) +
              edd_address(4, 1, 16, 63, &small[0], &small[1], &small[2]) + (edd_version() - EDD_VERSION) +
-             (uint32_t)(edd_desk_size() - EDD_DESK_SIZE);
+             (uint32_t)(edd_desk_size() - EDD_DESK_SIZE) + (uint32_t)(edd_reader_size() - EDD_READER_SIZE);
 }
 
 /* A stack grows downward, so what lies below the first changed byte was never used. */
@@ -97,6 +120,22 @@ static void set_request(void)
     ax = 0x4200, bx = cx = ds = es = 0, dx = 0x87, si = PACKET;
 }
 
+/* the whole table in pieces of one size: the last is shorter */
+static void measure_reader(size_t size)
+{
+    measure(do_reader_open, "reader open", EDD_DONE);
+    while (fed < sizeof table) {
+        piece = sizeof table - fed < size ? sizeof table - fed : size;
+        measure(do_reader_feed, "reader feed", EDD_NOTHING_YET);
+    }
+    measure(do_reader_write, "reader write before the end", EDD_NOTHING_YET);
+    measure(do_reader_end, "reader end", EDD_DONE);
+    measure(do_reader_write, "reader write", EDD_DONE);
+    fed = 0;
+    measure(do_reader_feed, "reader feed after the end", EDD_DONE);
+    measure(do_reader_end, "reader end again", EDD_DONE);
+}
+
 int main(void)
 {
     for (unsigned i = 0; i < EDD_DRIVES; i++) {
@@ -129,6 +168,14 @@ int main(void)
     arena[7 * WINDOW + PACKET] = 66;
     ax = 0x4800;
     measure(do_post, "post 48h", EDD_DONE);
+    measure_reader(sizeof table);
+    measure_reader(67);
+    measure_reader(1);
+    measure(do_reader_open, "reader open", EDD_DONE);
+    measure(do_reader_end, "reader end, refused", EDD_TABLE_CUT_OFF);
+    measure(do_reader_write, "reader write, refused", EDD_TABLE_CUT_OFF);
+    reader[0] = 4;
+    measure(do_reader_feed, "reader feed, not accepted", EDD_DESK_NOT_ACCEPTED);
     measure(do_numbers, "window, block, address", EDD_DONE);
     printf("stack: a call uses at most %zu bytes, the header allows %d: %s\n", most, EDD_STACK_MAX, bad ? "FAILED" : "ok");
     return bad;

@@ -4,7 +4,8 @@
  * Every guest works on its own disk, keeps its own copy of what its memory and its disk must hold, and compares after each
  * request: the registers, what it laid down, what it read, and the blocks of the store that it named. At the end the whole
  * store is compared with those copies. Three disks have a device parameter table, which the host places for half of the
- * guests: they follow the pointer of 48h to it. For a monitor of your own, copy host/example, not this.
+ * guests: they follow the pointer of 48h to it. The drive table comes from another process through a pipe, and is read as it
+ * arrives. For a monitor of your own, copy host/example, not this.
  *
  *   demo [-r requests] [-s seed] [-p pause]
  */
@@ -13,6 +14,7 @@
 #include <stdio.h>
 #include <stdlib.h>
 #include <string.h>
+#include <sys/wait.h>
 #include <time.h>
 #include <unistd.h>
 
@@ -187,14 +189,14 @@ static void check_arena(struct faults *f, struct monitor *m, const struct guest 
             fault(f, NO_GUEST, "arena byte %zu belongs to nobody and has changed", at);
 }
 
-/* The desk: the table that it writes is the one that was opened. */
+/* The desk: the table that it writes is the one that was sent. */
 static void check_table(struct faults *f, struct monitor *m, const uint8_t *table, size_t length)
 {
     uint8_t out[EDD_TABLE_SIZE_MAX];
     uint64_t written = 0;
     if (edd_write(m->desk, sizeof m->desk, out, sizeof out, &written) != EDD_DONE || written != length ||
         memcmp(out, table, length) != 0)
-        fault(f, NO_GUEST, "the table written back is not the table opened");
+        fault(f, NO_GUEST, "the table written back is not the table sent");
 }
 
 /* The guests' own checks, and the theorem's bounds. */
@@ -269,14 +271,20 @@ int main(int argc, char **argv)
     size_t table_length = disks_table(table);
     uint8_t *arena = malloc(ARENA_LENGTH), *store = malloc(STORE_LENGTH);
     uint64_t place = 0;
-    int too_few = 0;
+    int from = disks_send(), too_few = 0;
 
     if (!arena || !store)
         out_of_memory();
+    if (from < 0) {
+        perror("demo: no pipe, or no process to send the table");
+        return 2;
+    }
     memset(arena, NOBODY, ARENA_LENGTH);
     memset(store, NOBODY, STORE_LENGTH);
 
-    uint32_t answer = monitor_open(&monitor, table, table_length, arena, ARENA_LENGTH, store, STORE_LENGTH, &place);
+    uint32_t answer = monitor_open(&monitor, from, arena, ARENA_LENGTH, store, STORE_LENGTH, &place);
+    close(from);
+    wait(NULL);
     if (answer != EDD_DONE) {
         fprintf(stderr, "demo: table refused %u at %llu\n", (unsigned)answer, (unsigned long long)place);
         return 2;
@@ -294,6 +302,7 @@ int main(int argc, char **argv)
     for (unsigned g = 0; g < EDD_GUESTS; g++)
         guests[g].shared = guests[SHARED_DISK].disk; /* protected, so nobody changes it */
 
+    printf("demo: the drive table, %zu bytes, came through a pipe in fragments of at most %d bytes\n", table_length, PIECE);
     printf("demo: %llu requests of each guest, seed %llu, a pause of %llu microseconds after each turn\n",
            (unsigned long long)o.requests, (unsigned long long)o.seed, (unsigned long long)o.pause);
     double begun = now();

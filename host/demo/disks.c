@@ -1,6 +1,7 @@
 #include "disks.h"
 
 #include <string.h>
+#include <unistd.h>
 
 const struct disk disks[EDD_DRIVES] = {
     /* C, H, S        first   blocks  flags   protected         record of kind 4: ports 1F0h and 3F6h, IRQ 14, and so on */
@@ -64,4 +65,36 @@ size_t disks_table(uint8_t table[EDD_TABLE_SIZE_MAX])
     }
     put_word(table + length, 4, 4); /* the end record: length 4, kind 0 */
     return length + 4;
+}
+
+/* In pieces of 1, 2, 3 bytes and so on: they end anywhere in a record, and some hold the end of one and more. */
+static void send_table(int to)
+{
+    uint8_t table[EDD_TABLE_SIZE_MAX];
+    size_t length = disks_table(table);
+    for (size_t at = 0, piece = 1; at < length; at += piece, piece++) {
+        if (piece > length - at)
+            piece = length - at;
+        if (write(to, table + at, piece) != (ssize_t)piece)
+            _exit(1);
+    }
+    _exit(0);
+}
+
+int disks_send(void)
+{
+    int ends[2];
+    if (pipe(ends) != 0)
+        return -1;
+    pid_t sender = fork();
+    if (sender == 0) {
+        close(ends[0]);
+        send_table(ends[1]);
+    }
+    close(ends[1]);
+    if (sender < 0) {
+        close(ends[0]);
+        return -1;
+    }
+    return ends[0];
 }

@@ -29,6 +29,12 @@ extern const struct disk disks[EDD_DRIVES];
 /* Lays out the drive table of the eight disks and returns its length. */
 size_t disks_table(uint8_t table[EDD_TABLE_SIZE_MAX]);
 
+/*
+ * Starts a process that sends this table through a pipe, piece by piece, as a launcher may get it. Returns the end to read
+ * from, or -1 with errno. The process has ended when all is read, or ends after the reading end was closed: wait for it.
+ */
+int disks_send(void);
+
 /* Little-endian words, as tables, packets and results have them. */
 void put_word(uint8_t *at, unsigned bytes, uint64_t value);
 

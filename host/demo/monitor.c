@@ -1,8 +1,10 @@
 #include "monitor.h"
 
+#include <errno.h>
 #include <stdio.h>
 #include <stdlib.h>
 #include <string.h>
+#include <unistd.h>
 
 #include "tsan.h"
 
@@ -23,11 +25,35 @@ static void impossible(const char *call, const char *what, uint64_t guest)
     abort();
 }
 
-uint32_t monitor_open(struct monitor *m, const uint8_t *table, size_t table_length, uint8_t *arena, size_t arena_length,
-                      uint8_t *store, size_t store_length, uint64_t *place)
+/* Feeds a reader what arrives, and writes out the table that it accepts. */
+static uint32_t read_table(int from, size_t store_length, uint8_t table[EDD_TABLE_SIZE_MAX], uint64_t *length,
+                           uint64_t *place)
 {
+    uint8_t reader[EDD_READER_SIZE], piece[PIECE];
+    uint32_t number = edd_reader_open(reader, sizeof reader, store_length);
+    ssize_t got;
+
+    if (number != EDD_DONE)
+        refused("edd_reader_open", number);
+    do {
+        got = read(from, piece, sizeof piece);
+        if (got > 0)
+            number = edd_reader_feed(reader, sizeof reader, piece, (size_t)got, place);
+    } while ((got > 0 && number == EDD_NOTHING_YET) || (got < 0 && errno == EINTR));
+    number = edd_reader_end(reader, sizeof reader, place);
+    if (number != EDD_DONE)
+        return number; /* with the number and the place of the feed, if that refused */
+    return edd_reader_write(reader, sizeof reader, table, EDD_TABLE_SIZE_MAX, length);
+}
+
+uint32_t monitor_open(struct monitor *m, int table, uint8_t *arena, size_t arena_length, uint8_t *store, size_t store_length,
+                      uint64_t *place)
+{
+    uint8_t whole[EDD_TABLE_SIZE_MAX];
+    uint64_t length = 0;
+
     memset(m, 0, sizeof *m);
-    if (edd_version() != EDD_VERSION || edd_desk_size() != sizeof m->desk) {
+    if (edd_version() != EDD_VERSION || edd_desk_size() != sizeof m->desk || edd_reader_size() != EDD_READER_SIZE) {
         fprintf(stderr, "monitor: the library is of another version than its header\n");
         abort();
     }
@@ -40,7 +66,10 @@ uint32_t monitor_open(struct monitor *m, const uint8_t *table, size_t table_leng
     m->store = store;
     m->store_length = store_length;
     m->running = EDD_GUESTS;
-    return edd_open(m->desk, sizeof m->desk, table, table_length, arena_length, store_length, place);
+    uint32_t number = read_table(table, store_length, whole, &length, place);
+    if (number != EDD_DONE)
+        return number;
+    return edd_open(m->desk, sizeof m->desk, whole, (size_t)length, arena_length, store_length, place);
 }
 
 void monitor_close(struct monitor *m)

@@ -70,10 +70,13 @@ struct outcome {
 };
 
 /*
- * Opens the desk. The arena and the store are the caller's and stay lent until monitor_close. The result is edd_open's.
+ * Opens the desk with the table that is read from a file or a pipe, in fragments of at most PIECE bytes as they arrive, up to
+ * its end or to the first refusal. The arena and the store are the caller's and stay lent until monitor_close. The result is
+ * that of edd_reader_end, or edd_open's.
  */
-uint32_t monitor_open(struct monitor *m, const uint8_t *table, size_t table_length, uint8_t *arena, size_t arena_length,
-                      uint8_t *store, size_t store_length, uint64_t *place);
+uint32_t monitor_open(struct monitor *m, int table, uint8_t *arena, size_t arena_length, uint8_t *store, size_t store_length,
+                      uint64_t *place);
+#define PIECE 64
 void monitor_close(struct monitor *m);
 
 void monitor_lock(struct monitor *m);

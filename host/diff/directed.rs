@@ -1,15 +1,15 @@
 //! Cases written by hand, each named after the point of document 01 or of a change request that it is about. Every case runs against the library and against
 //! the model, and says itself what must come out.
 //!
-//! Letters: a refusals, b functions, c the drive table, d the desk block, e windows and turns, g sums and threads, h parameter tables
-//! (change request 2026-01).
+//! Letters: a refusals, b functions, c the drive table, d the desk block, e windows and turns, g sums and threads, h change requests:
+//! parameter tables (2026-01), information flags (2026-02, from h15 on), a table in fragments (2026-03, from h18 on).
 
 use crate::chance::Chance;
 use crate::drives::{self, paper_drive, Drive};
 use crate::random::Run;
 use crate::service::{Lent, Library, Model, Place, Service};
 use model::addresses::{Address, Geometry};
-use model::{Registers, DESK_SIZE};
+use model::{Registers, DESK_SIZE, READER_SIZE};
 use std::panic::{catch_unwind, AssertUnwindSafe};
 use std::process::ExitCode;
 use std::sync::atomic::{AtomicUsize, Ordering};
@@ -377,7 +377,7 @@ fn a2_arena_length_alone(service: &dyn Service) {
     }
 }
 
-// rule: openCall opened exports::edd_open
+// rule: openCall Calls.opened exports::edd_open
 fn a3_open_over_anything(service: &dyn Service) {
     let table = drives::table(&[paper_drive()]);
     let mut clean = Stand::paper(service, 1024);
@@ -508,7 +508,7 @@ fn a9_carry_is_not_read(service: &dyn Service) {
     assert!(blocks.iter().all(|block| *block == blocks[0]), "the block shows the carry that was given");
 }
 
-// rule: accepted
+// rule: Image.accepted
 fn a9_waiting_row_with_carry_1(service: &dyn Service) {
     let mut stand = Stand::paper(service, 1024);
     assert_eq!(stand.post_packet(3, 0x42, 1, 0).0, NOTHING_YET);
@@ -1049,7 +1049,7 @@ fn mixed(service: &dyn Service) -> Stand<'_> {
     stand
 }
 
-// rule: accept accepted
+// rule: Acceptable.accept Image.accepted
 fn d1_accepted_though_unreachable(service: &dyn Service) {
     let mut stand = mixed(service);
     let ax = stand.word(row(0, 1));
@@ -1089,7 +1089,7 @@ fn d1_accepted_though_unreachable(service: &dyn Service) {
     assert_eq!(stand.turn().0, 24, "zeros, and an arena with bytes");
 }
 
-// rule: accept jobOk rangeOk movedOk
+// rule: Acceptable.accept jobOk rangeOk movedOk
 fn d1_refused_by_one_word(service: &dyn Service) {
     let mut stand = mixed(service);
     stand.refused_with("pointer", POINTER, 8);
@@ -1942,7 +1942,7 @@ fn h11_placed_anew(service: &dyn Service) {
     assert_eq!((stand.word(PLACED + 2), stand.word(ADDRESSES + 2), stand.shown(2, 0x82).0), (1, 0, [0, 0, 1, 0]));
 }
 
-// rule: opened openOf
+// rule: Calls.opened openOf
 fn h12_opening_clears(service: &dyn Service) {
     let mut stand = three_drives(service, 1024);
     let fresh = stand.desk.bytes().to_vec();
@@ -1960,7 +1960,7 @@ fn h12_opening_clears(service: &dyn Service) {
     }
 }
 
-// rule: placementOk placementsOk isImage accept
+// rule: placementOk placementsOk isImage Acceptable.accept
 fn h13_placements_in_the_block(service: &dyn Service) {
     let mut stand = three_drives(service, 1024);
     stand.place_done(2, 0x40, &GAPPED);
@@ -2101,6 +2101,582 @@ fn h17_verify_by_the_table(service: &dyn Service) {
     }
 }
 
+// ---- h: a table that arrives in fragments (change request 2026-03)
+
+/// A reader, in a block of its own.
+struct Arrival<'a> {
+    service: &'a dyn Service,
+    block: Lent,
+}
+
+/// Nothing is settled, and no place was written.
+const MORE: (u32, u64) = (NOTHING_YET, UNWRITTEN);
+/// Accepted, and no place was written.
+const ACCEPTED: (u32, u64) = (DONE, UNWRITTEN);
+
+impl<'a> Arrival<'a> {
+    /// Opened over bytes that differ from place to place.
+    fn open(service: &'a dyn Service, store_blocks: u64) -> Arrival<'a> {
+        let mut arrival = Arrival { service, block: Lent::holding(&Chance::new(9).bytes(READER_SIZE), Place::END) };
+        assert_eq!(arrival.open_again(512 * store_blocks), DONE, "opening");
+        arrival
+    }
+
+    /// At a block of any bytes.
+    fn at(service: &'a dyn Service, block: &[u8]) -> Arrival<'a> {
+        Arrival { service, block: Lent::holding(block, Place::END) }
+    }
+
+    fn open_again(&mut self, store_length: u64) -> u32 {
+        let answer = self.service.reader_open(self.block.bytes_mut(), store_length);
+        assert!(self.block.margin_intact(), "the library wrote beside the reader");
+        answer
+    }
+
+    fn feed(&mut self, bytes: &[u8]) -> (u32, u64) {
+        let fragment = Lent::holding(bytes, Place::END);
+        fragment.set_read_only(true);
+        let mut place = UNWRITTEN;
+        let answer = self.service.reader_feed(self.block.bytes_mut(), fragment.bytes(), &mut place);
+        assert!(self.block.margin_intact(), "the library wrote beside the reader");
+        (answer, place)
+    }
+
+    fn end(&mut self) -> (u32, u64) {
+        let mut place = UNWRITTEN;
+        let answer = self.service.reader_end(self.block.bytes_mut(), &mut place);
+        assert!(self.block.margin_intact(), "the library wrote beside the reader");
+        (answer, place)
+    }
+
+    fn write(&self, out: &mut [u8]) -> (u32, u64) {
+        let mut written = UNWRITTEN;
+        self.block.set_read_only(true);
+        let answer = self.service.reader_write(self.block.bytes(), out, &mut written);
+        self.block.set_read_only(false);
+        (answer, written)
+    }
+
+    /// The end is told, and the table written out is that one.
+    fn ends_with(&mut self, table: &[u8]) {
+        assert_eq!(self.end(), ACCEPTED, "the end of {} bytes", table.len());
+        let mut out = vec![0x3C; LONGEST_TABLE];
+        assert_eq!(self.write(&mut out), (DONE, table.len() as u64));
+        assert!(out[..table.len()] == *table, "the bytes that were fed");
+        assert!(out[table.len()..].iter().all(|byte| *byte == 0x3C), "bytes past the table stay");
+    }
+
+    /// No byte of the block changes by what is done.
+    fn unchanged(&mut self, what: &str, mut done: impl FnMut(&mut Self)) {
+        let before = self.block.bytes().to_vec();
+        done(self);
+        assert!(self.block.bytes() == before, "{what}: the reader changed");
+    }
+
+    /// Refused by every call but an opening, and nothing is written.
+    fn refused_everywhere(&mut self, what: &str) {
+        self.unchanged(what, |reader| {
+            let mut out = [0x3C; LONGEST_TABLE];
+            assert_eq!(reader.write(&mut out), (25, UNWRITTEN), "{what}: write");
+            assert!(out == [0x3C; LONGEST_TABLE], "{what}: the buffer was written");
+            assert_eq!(reader.feed(&[0x44]), (25, UNWRITTEN), "{what}: feed");
+            assert_eq!(reader.feed(&[]), (25, UNWRITTEN), "{what}: feed of nothing");
+            assert_eq!(reader.end(), (25, UNWRITTEN), "{what}: end");
+        });
+    }
+}
+
+/// Document 01's 72 bytes.
+fn paper_table() -> Vec<u8> {
+    drives::table(&[paper_drive()])
+}
+
+/// Eight drives with parameters, 708 bytes, for a store of eight blocks.
+fn longest_table() -> Vec<u8> {
+    drives::table(&(0..8).map(|i| with_parameters(small_drive(i, 1), i as u8)).collect::<Vec<_>>())
+}
+
+/// The block of a reader, laid out by hand: the records are those of the drives so far.
+fn reader_block(course: u64, number: u64, store_blocks: u64, held: &[u8], records: &[u8]) -> Vec<u8> {
+    let mut block = vec![0; READER_SIZE];
+    let words = [course, number, store_blocks, held.len() as u64, records.len() as u64 + 4];
+    for (i, word) in words.iter().enumerate() {
+        block[8 * i..8 * i + 8].copy_from_slice(&word.to_le_bytes());
+    }
+    block[40..40 + held.len()].copy_from_slice(held);
+    block[108..108 + records.len()].copy_from_slice(records);
+    block[108 + records.len()] = 4;
+    block
+}
+
+// rule: Arrives feedAll feeds joined exports::edd_reader_feed
+fn h18_cut_in_two(service: &dyn Service) {
+    let table = paper_table();
+    assert_eq!(opened(service, &table, 2048), ACCEPTED);
+    for cut in 0..=table.len() {
+        let mut reader = Arrival::open(service, 2048);
+        assert_eq!(reader.feed(&table[..cut]), MORE, "the first {cut} bytes");
+        assert_eq!(reader.feed(&table[cut..]), MORE, "the others after {cut}");
+        reader.ends_with(&table);
+    }
+    // in three, so that a piece lies inside a record
+    for from in [1, 4, 20, 67] {
+        for to in from..=table.len() {
+            let mut reader = Arrival::open(service, 2048);
+            for piece in [&table[..from], &table[from..to], &table[to..]] {
+                assert_eq!(reader.feed(piece), MORE, "cut at {from} and {to}");
+            }
+            reader.ends_with(&table);
+        }
+    }
+}
+
+// rule: feedByte heldByte afterStep byCourse
+fn h19_byte_by_byte(service: &dyn Service) {
+    for (table, store_blocks) in [(paper_table(), 2048), (longest_table(), 8), (drives::table(&[]), 0), (drives::table(&gapped()), 64)] {
+        let mut reader = Arrival::open(service, store_blocks);
+        for (i, byte) in table.iter().enumerate() {
+            assert_eq!(reader.feed(&[*byte]), MORE, "byte {i} of {}", table.len());
+            // a copy of the block is a reader of its own
+            if i % 67 == 0 {
+                let mut copy = Arrival::at(service, reader.block.bytes());
+                assert_eq!(copy.feed(&table[i + 1..]), MORE);
+                copy.ends_with(&table);
+            }
+        }
+        reader.ends_with(&table);
+    }
+}
+
+/// A table that the byte at `settling` refuses: not before it, whatever follows, however it is cut, and as the whole reading has it.
+fn settles(service: &dyn Service, what: &str, table: &[u8], store_blocks: u64, settling: usize, refusal: (u32, u64)) {
+    assert_eq!(opened(service, &table[..=settling], store_blocks), refusal, "{what}: read as a whole");
+    assert_eq!(opened(service, table, store_blocks), refusal, "{what}: read as a whole, with what follows");
+    let mut slowly = Arrival::open(service, store_blocks);
+    for (i, byte) in table[..settling].iter().enumerate() {
+        assert_eq!(slowly.feed(&[*byte]), MORE, "{what}: byte {i}");
+    }
+    assert_eq!(slowly.feed(&table[settling..=settling]), refusal, "{what}: the byte that settles it");
+    let mut at_once = Arrival::open(service, store_blocks);
+    assert_eq!(at_once.feed(table), refusal, "{what}: all at once");
+    assert!(slowly.block.bytes() == at_once.block.bytes(), "{what}: cut in another way, the block is the same");
+    for cut in settling.saturating_sub(70)..=settling {
+        let mut reader = Arrival::open(service, store_blocks);
+        assert_eq!(reader.feed(&table[..cut]), MORE, "{what}: {cut} bytes");
+        let mut ended = Arrival::at(service, reader.block.bytes());
+        let whole = opened(service, &table[..cut], store_blocks);
+        assert_eq!(ended.end(), whole, "{what}: ended after {cut} bytes");
+        assert!(matches!(whole, (1, _) | ACCEPTED), "{what}: ended after {cut} bytes");
+        assert_eq!(reader.feed(&table[cut..]), refusal, "{what}: the rest after {cut} bytes");
+    }
+    assert_eq!(slowly.end(), refusal, "{what}: at the end too");
+}
+
+// rule: afterStep refusedAt readerFeedCall Arrives
+fn h20_settling_bytes(service: &dyn Service) {
+    let good = [with_parameters(small_drive(0, 4), 1), small_drive(4, 4)];
+    let records = |count: usize| drives::table(&good[..count]).strip_suffix(&drives::END).unwrap().to_vec();
+    for before in 0..=2 {
+        let at = records(before).len();
+        let after = |record: &[u8]| [&records(before)[..], record, &drives::END].concat();
+        // 3 and 2: with the fourth byte of the record
+        for (header, number) in [
+            ([0x44, 0, 2, 0], 3),
+            ([4, 0, 3, 0], 3),
+            ([5, 0, 9, 0], 3),
+            ([4, 0, 0, 1], 3),
+            ([0x44, 0, 1, 0xFF], 3),
+            ([0x43, 0, 1, 0], 2),
+            ([0x44, 1, 1, 0], 2),
+            ([0x14, 0, 1, 0], 2),
+            ([0x44, 0, 4, 0], 2),
+            ([0x15, 0, 4, 0], 2),
+            ([0, 0, 0, 0], 2),
+            ([5, 0, 0, 0], 2),
+        ] {
+            settles(service, "a header", &after(&[&header[..], &[7; 70]].concat()), 64, at + 3, (number, at as u64));
+        }
+        // 5, 6 and 7: with the last byte of the drive
+        let bad = small_drive(8, 4);
+        for (what, drive, number) in [
+            ("a field", Drive { protection: 2, ..bad }, 5),
+            ("its last but one field", Drive { interface_type: *b"I2O\0\0\0\0\0", ..bad }, 5),
+            ("past the store", Drive { first: 61, ..bad }, 6),
+            ("overlap", Drive { first: 3, ..bad }, 7),
+        ] {
+            if number != 7 || before > 0 {
+                settles(service, what, &after(&drive.record()), 64, at + 67, (number, at as u64));
+            }
+        }
+        // 9: with the last byte of the record of kind 4; only the second drive may still get one
+        for number in [0, 1, 2, 7, 0x100, 0xFFFF].into_iter().filter(|number| (before, *number) != (2, 1)) {
+            let record = drives::parameters_record(number, [7; 14]);
+            settles(service, "another drive's parameters", &after(&record), 64, at + 19, (9, at as u64));
+        }
+        // 8: with the first byte behind the end record
+        settles(service, "a byte behind the end", &after(&drives::END), 64, at + 4, (8, at as u64 + 4));
+        settles(service, "a zero behind the end", &[&records(before)[..], &drives::END, &[0]].concat(), 64, at + 4, (8, at as u64 + 4));
+    }
+    // 4: with the last byte of a ninth drive, sound or not; 3 and 2 come before it, and so does 9
+    let eight = &longest_table()[..704];
+    for ninth in [small_drive(8, 1), Drive { sectors: 0, ..small_drive(0, 1) }] {
+        settles(service, "a ninth drive", &[eight, &ninth.record(), &drives::END].concat(), 9, 704 + 67, (4, 704));
+    }
+    settles(service, "a ninth drive of length 67", &[eight, &[0x43, 0, 1, 0, 9]].concat(), 9, 707, (2, 704));
+    settles(service, "kind 2 after eight", &[eight, &[0x44, 0, 2, 0, 9]].concat(), 9, 707, (3, 704));
+    settles(service, "parameters repeated", &[eight, &parameters_record(7), &[9]].concat(), 9, 704 + 19, (9, 704));
+    settles(service, "a byte behind the longest table", &[&longest_table()[..], &[0, 0]].concat(), 9, 708, (8, 708));
+}
+
+// rule: endBy endFeed told soFar exports::edd_reader_end
+fn h21_missing_only_at_the_end(service: &dyn Service) {
+    let table = drives::table(&[with_parameters(small_drive(0, 4), 1), small_drive(4, 4)]);
+    for length in 0..table.len() {
+        let place = [156, 88, 68, 0].into_iter().find(|place| *place <= length).unwrap() as u64;
+        let mut reader = Arrival::open(service, 64);
+        assert_eq!(reader.feed(&table[..length]), MORE, "{length} bytes");
+        assert_eq!(reader.end(), (1, place), "{length} bytes");
+        assert_eq!(opened(service, &table[..length], 64), (1, place), "{length} bytes as a whole");
+        // the missing bytes come too late
+        reader.unchanged("fed too late", |reader| {
+            assert_eq!(reader.feed(&table[length..]), (1, place));
+            assert_eq!(reader.end(), (1, place));
+        });
+    }
+    let mut reader = Arrival::open(service, 64);
+    assert_eq!(reader.end(), (1, 0), "nothing arrived");
+    // a ninth drive that lacks its last byte is missing bytes first
+    let nine = [&longest_table()[..704], &small_drive(8, 1).record()].concat();
+    let mut reader = Arrival::open(service, 9);
+    assert_eq!(reader.feed(&nine[..771]), MORE);
+    assert_eq!(reader.end(), (1, 704));
+}
+
+// rule: feedAll readerFeedCall
+fn h22_empty_fragments(service: &dyn Service) {
+    let table = drives::table(&gapped());
+    let mut reader = Arrival::open(service, 64);
+    for (i, byte) in table.iter().enumerate() {
+        reader.unchanged("nothing was fed", |reader| assert_eq!(reader.feed(&[]), MORE, "before byte {i}"));
+        assert_eq!(reader.feed(&[*byte]), MORE);
+    }
+    reader.unchanged("nothing was fed", |reader| assert_eq!(reader.feed(&[]), MORE, "after the end record"));
+    reader.ends_with(&table);
+    reader.unchanged("nothing was fed", |reader| assert_eq!(reader.feed(&[]), ACCEPTED));
+    let mut refused = Arrival::open(service, 64);
+    assert_eq!(refused.feed(&[0x44, 0, 2, 0]), (3, 0));
+    refused.unchanged("nothing was fed", |reader| assert_eq!(reader.feed(&[]), (3, 0)));
+}
+
+// rule: feedAll afterStep Arrives
+fn h23_several_records_in_one(service: &dyn Service) {
+    let table = longest_table();
+    // the records that a fragment ends, and the rest of them in another
+    for length in [69, 88, 89, 156, 176, 200, 352, 703, 704, 705, 707, 708] {
+        let mut reader = Arrival::open(service, 8);
+        for piece in table.chunks(length) {
+            assert_eq!(reader.feed(piece), MORE, "pieces of {length}");
+        }
+        reader.ends_with(&table);
+    }
+    // a refusal behind good records, in the same fragment: the drives before it count for its place, not the fragment's start
+    for before in [1, 68, 100, 176, 600] {
+        let mut reader = Arrival::open(service, 8);
+        assert_eq!(reader.feed(&table[..before]), MORE);
+        assert_eq!(reader.feed(&[&table[before..704], &[4, 0, 2, 0]].concat()), (3, 704), "after {before} bytes");
+    }
+    // a long one after the end record, and one that is refused by its first bytes
+    let mut reader = Arrival::open(service, 8);
+    assert_eq!(reader.feed(&[&table[..], &[0xFF; 100_000]].concat()), (8, 708));
+    let mut reader = Arrival::open(service, 8);
+    assert_eq!(reader.feed(&[0xFF; 100_000]), (3, 0));
+}
+
+// rule: byCourse answerBy fedNumbers Stays
+fn h24_after_a_refusal(service: &dyn Service) {
+    let table = drives::table(&gapped());
+    let one = drives::table(&[small_drive(0, 4)]);
+    let refusals: [(&[u8], (u32, u64)); 5] = [
+        (&[0x43, 0, 1, 0], (2, 0)),
+        (&[&one[..68], &[4, 0, 2, 0]].concat(), (3, 68)),
+        (&[&one[..68], &one[..68]].concat(), (7, 68)),
+        (&[&one[..68], &parameters_record(1)].concat(), (9, 68)),
+        (&[&one[..], &[0]].concat(), (8, 72)),
+    ];
+    for (bytes, refusal) in refusals {
+        let mut reader = Arrival::open(service, 64);
+        assert_eq!(reader.feed(bytes), refusal);
+        reader.unchanged("after a refusal", |reader| {
+            for _ in 0..2 {
+                assert_eq!(reader.feed(&table), refusal, "a good table");
+                assert_eq!(reader.feed(&[0]), refusal);
+                assert_eq!(reader.end(), refusal, "the end");
+                assert_eq!(reader.write(&mut [0; LONGEST_TABLE]), (refusal.0, UNWRITTEN), "written");
+            }
+        });
+        // opened anew it has forgotten all
+        assert_eq!(reader.open_again(64 * 512), DONE);
+        assert_eq!(reader.feed(&table), MORE);
+        reader.ends_with(&table);
+    }
+}
+
+// rule: byCourse endBy Stays
+fn h25_after_the_end(service: &dyn Service) {
+    let table = drives::table(&gapped());
+    let mut reader = Arrival::open(service, 64);
+    assert_eq!(reader.feed(&table), MORE);
+    reader.ends_with(&table);
+    reader.unchanged("after the end", |reader| {
+        for _ in 0..2 {
+            assert_eq!(reader.feed(&[0]), ACCEPTED, "a byte that is ignored");
+            assert_eq!(reader.feed(&table), ACCEPTED);
+            assert_eq!(reader.feed(&[0xFF; 4]), ACCEPTED);
+            assert_eq!(reader.end(), ACCEPTED, "told again");
+        }
+    });
+    reader.ends_with(&table);
+    assert_eq!(opened(service, &table, 64), ACCEPTED, "what it wrote can be opened");
+    assert_eq!(reader.open_again(64 * 512), DONE);
+    assert_eq!(reader.end(), (1, 0), "opened anew, and nothing arrived");
+}
+
+// rule: readerWriteCall readerWriteEffect writeOut exports::edd_reader_write
+fn h26_written_out(service: &dyn Service) {
+    let table = drives::table(&gapped());
+    let mut out = Lent::holding(&[0x3C; LONGEST_TABLE], Place::END);
+    let untouched = |out: &Lent| out.bytes().iter().all(|byte| *byte == 0x3C) && out.margin_intact();
+    let mut reader = Arrival::open(service, 64);
+    assert_eq!(reader.write(out.bytes_mut()), MORE, "before the first byte");
+    assert_eq!(reader.write(&mut []), MORE, "256 before 19");
+    assert_eq!(reader.feed(&table), MORE);
+    assert_eq!(reader.write(out.bytes_mut()), MORE, "the end record was read, but the end was not told");
+    assert_eq!(reader.write(&mut []), MORE, "256 before 19");
+    assert_eq!(reader.end(), ACCEPTED);
+    for room in [0, 3, 71, table.len() - 1] {
+        out.set_length(room, Place::END);
+        out.bytes_mut().fill(0x3C);
+        assert_eq!(reader.write(out.bytes_mut()), (19, UNWRITTEN), "{room} bytes");
+        assert!(untouched(&out), "{room} bytes");
+    }
+    for room in [table.len(), table.len() + 1, LONGEST_TABLE] {
+        out.set_length(room, Place::END);
+        out.bytes_mut().fill(0x3C);
+        reader.unchanged("written", |reader| assert_eq!(reader.write(out.bytes_mut()), (DONE, table.len() as u64)));
+        assert!(out.bytes()[..table.len()] == table && out.bytes()[table.len()..].iter().all(|byte| *byte == 0x3C) && out.margin_intact());
+    }
+    out.bytes_mut().fill(0x3C);
+    let mut damaged = Arrival::at(service, reader.block.bytes());
+    damaged.block.bytes_mut()[0] = 4;
+    assert_eq!(damaged.write(&mut []), (25, UNWRITTEN), "25 before 19");
+    let mut refused = Arrival::open(service, 64);
+    assert_eq!(refused.feed(&table[..100]), MORE);
+    assert_eq!(refused.end(), (1, 88));
+    assert_eq!(refused.write(out.bytes_mut()), (1, UNWRITTEN), "the refusal");
+    assert_eq!(refused.write(&mut []), (1, UNWRITTEN), "the refusal before 19");
+    assert!(untouched(&out));
+}
+
+// rule: readerOpenCall Feed.opened exports::edd_reader_open exports::edd_reader_size
+fn h27_size_and_store(service: &dyn Service) {
+    assert_eq!(service.reader_size(), READER_SIZE as u64);
+    assert_eq!(READER_SIZE, 816);
+    let good = Arrival::open(service, 64).block.bytes().to_vec();
+    for size in [0, 1, 8, READER_SIZE - 8, READER_SIZE - 1, READER_SIZE + 1, READER_SIZE + 8, DESK_SIZE] {
+        let mut bytes = good.clone();
+        bytes.resize(size, 0);
+        let mut reader = Arrival::at(service, &bytes);
+        reader.refused_everywhere("size");
+        reader.unchanged("size", |reader| assert_eq!(reader.open_again(512), 25));
+    }
+    // the store has whole blocks
+    let (table, at_two) = (drives::table(&[small_drive(0, 2)]), drives::table(&[small_drive(1, 1)]));
+    for (store_length, answer) in [(0, 6), (511, 6), (1023, 6), (1024, DONE), (1025, DONE), (1 << 32, DONE), (u64::MAX, DONE)] {
+        for table in [&table, &at_two] {
+            let mut reader = Arrival::at(service, &good);
+            assert_eq!(reader.open_again(store_length), DONE);
+            assert!(reader.block.bytes() == reader_block(0, 0, store_length / 512, &[], &[]), "opened over a reader: {store_length}");
+            let expected = if answer == DONE { MORE } else { (6, 0) };
+            assert_eq!(reader.feed(table), expected, "a store of {store_length} bytes");
+        }
+    }
+}
+
+// rule: Reader.image headBytes tableBytes courseNumber refusalNumber Reader.laid
+fn h28_reader_block(service: &dyn Service) {
+    let list = [with_parameters(small_drive(0, 4), 0x30), small_drive(4, 4)];
+    let table = drives::table(&list);
+    let mut reader = Arrival::open(service, 64);
+    let is = |reader: &Arrival, what: &str, block: Vec<u8>| {
+        let at = reader.block.bytes().iter().zip(&block).position(|(got, wanted)| got != wanted);
+        assert_eq!(at, None, "{what}: the first byte that differs");
+    };
+    is(&reader, "opened", reader_block(0, 0, 64, &[], &[]));
+    // every stage of a table that is accepted, one byte after the other
+    for length in 1..=table.len() {
+        assert_eq!(reader.feed(&table[length - 1..length]), MORE);
+        let taken = [156, 88, 68, 0].into_iter().find(|place| *place <= length).unwrap();
+        let whole = length == table.len();
+        let held = if whole { &[][..] } else { &table[taken..length] };
+        is(&reader, "reading", reader_block(u64::from(whole), 0, 64, held, &table[..taken]));
+    }
+    assert_eq!(reader.end(), ACCEPTED);
+    is(&reader, "accepted", reader_block(2, 0, 64, &[], &table[..156]));
+    // refused: nothing is held, and the drives are those before the record
+    let mut end_missing = Arrival::open(service, 64);
+    assert_eq!(end_missing.feed(&table[..150]), MORE);
+    assert_eq!(end_missing.end(), (1, 88));
+    is(&end_missing, "1", reader_block(3, 1, 64, &[], &table[..88]));
+    for (what, bytes, refusal, records) in [
+        ("2", [&table[..156], &[0x43, 0, 1, 0]].concat(), (2, 156), 156),
+        ("3", [&table[..88], &[0x44, 0, 2, 0, 5]].concat(), (3, 88), 88),
+        ("7", [&table[..88], &table[..68]].concat(), (7, 88), 88),
+        ("8", [&table[..], &[4]].concat(), (8, 160), 156),
+        ("9", [&table[..88], &table[68..88]].concat(), (9, 88), 88),
+    ] {
+        let number = u64::from(refusal.0);
+        for first in [0, 30, bytes.len() - 1, bytes.len()] {
+            let mut reader = Arrival::open(service, 64);
+            let answers = [reader.feed(&bytes[..first]), reader.feed(&bytes[first..])];
+            assert_eq!(answers[1], refusal, "{what}");
+            is(&reader, what, reader_block(3, number, 64, &[], &table[..records]));
+        }
+    }
+    let longest = longest_table();
+    let mut reader = Arrival::open(service, 8);
+    assert_eq!(reader.feed(&[&longest[..704], &longest[..67]].concat()), MORE);
+    is(&reader, "full", reader_block(0, 0, 8, &longest[..67], &longest[..704]));
+}
+
+// rule: Reader.accepted readReader Reader.Exact
+/// Each byte of some good blocks changed by one: every call answers as the model does, and leaves the same block.
+fn h29_every_byte_of_the_block(service: &dyn Service) {
+    let list = [with_parameters(small_drive(0, 4), 0x30), small_drive(4, 4)];
+    let (table, longest) = (drives::table(&list), longest_table());
+    let blocks = [
+        reader_block(0, 0, 64, &[], &[]),
+        reader_block(0, 0, 64, &table[88..118], &table[..88]),
+        reader_block(0, 0, 64, &table[68..71], &table[..68]),
+        reader_block(0, 0, 64, &table[68..87], &table[..68]),
+        reader_block(1, 0, 64, &[], &table[..156]),
+        reader_block(2, 0, 8, &[], &longest[..704]),
+        reader_block(3, 5, 64, &[], &table[..68]),
+    ];
+    for (which, good) in blocks.iter().enumerate() {
+        let mut accepted = Vec::new();
+        for at in 0..READER_SIZE {
+            let mut block = good.clone();
+            block[at] = block[at].wrapping_add(1);
+            let by = |service: &dyn Service| {
+                let (mut fed, mut ended, mut places) = (block.clone(), block.clone(), [UNWRITTEN; 3]);
+                let [first, second, third] = &mut places;
+                let feed = service.reader_feed(&mut fed, &[0x14, 0], first);
+                let end = service.reader_end(&mut ended, second);
+                let write = service.reader_write(&block, &mut [0; LONGEST_TABLE], third);
+                ([feed, end, write], places, fed, ended)
+            };
+            let (got, wanted) = (by(service), by(&Model));
+            assert_eq!((got.0, got.1), (wanted.0, wanted.1), "block {which}, byte {at}: feed, end, write");
+            assert!(got == wanted, "block {which}, byte {at}: the block after it");
+            assert!(got.0 == [25; 3] || !got.0.contains(&25), "block {which}, byte {at}: 25 by some calls");
+            if got.0[0] != 25 {
+                accepted.push(at);
+            }
+        }
+        // an opened reader: the course, the store's blocks, and one byte held, which is zero
+        if which == 0 {
+            assert_eq!(accepted, [0, 16, 17, 18, 19, 20, 21, 22, 23, 24]);
+        }
+        assert!(!accepted.is_empty() && accepted.len() < READER_SIZE / 2, "block {which}: {} bytes may be others", accepted.len());
+    }
+}
+
+// rule: Reader.accept courseOk isCut Reader.restZero courseAt
+fn h30_rules_of_the_block(service: &dyn Service) {
+    let list = [with_parameters(small_drive(0, 4), 0x30), small_drive(4, 4)];
+    let table = drives::table(&list);
+    let records = &table[..156];
+    let drive = small_drive(8, 4).record();
+    let parameters = drives::parameters_record(1, [9; 14]);
+    let refused = |what: &str, block: &[u8]| Arrival::at(service, block).refused_everywhere(what);
+    let says = |what: &str, block: &[u8], answer: (u32, u64)| {
+        let mut reader = Arrival::at(service, block);
+        reader.unchanged(what, |reader| assert_eq!(reader.feed(&[]), answer, "{what}"));
+    };
+    refused("zeros: a table has an end record", &[0; READER_SIZE]);
+    refused("ones", &[0xFF; READER_SIZE]);
+    // course and number
+    for course in 0..3 {
+        let answer = if course == 2 { ACCEPTED } else { MORE };
+        says("a course", &reader_block(course, 0, 64, &[], records), answer);
+        for number in [1, 9, 256, 1 << 32, u64::MAX] {
+            refused("a number and no refusal", &reader_block(course, number, 64, &[], records));
+        }
+    }
+    for course in [4, 5, 256, 259, 1 << 32, (1 << 63) + 3, u64::MAX] {
+        refused("no course", &reader_block(course, 0, 64, &[], records));
+        refused("no course", &reader_block(course, 3, 64, &[], records));
+    }
+    for number in 1..=9 {
+        let place = if number == 8 { 160 } else { 156 };
+        says("refused", &reader_block(3, number, 64, &[], records), (number as u32, place));
+        let place = if number == 8 { 4 } else { 0 };
+        says("refused without drives", &reader_block(3, number, 0, &[], &[]), (number as u32, place));
+    }
+    for number in [0, 10, 255, 256, 257, 1 << 32 | 5, u64::MAX] {
+        refused("no number of a table's refusal", &reader_block(3, number, 64, &[], records));
+    }
+    // bytes held: by a reader that reads, and only the beginning of a record
+    for course in 1..4 {
+        refused("held by one that does not read", &reader_block(course, if course == 3 { 5 } else { 0 }, 64, &drive[..1], records));
+    }
+    for held in [&[0xFF; 3][..], &[4, 0, 0], &drive[..4], &drive[..67], &parameters[..4], &parameters[..19], &[0x44, 0, 1, 0, 0xFF]] {
+        says("a beginning", &reader_block(0, 0, 64, held, records), MORE);
+        says("a beginning, after eight drives", &reader_block(0, 0, 8, held, &longest_table()[..704]), MORE);
+    }
+    for held in [&[4, 0, 0, 0][..], &drive, &parameters, &[0x43, 0, 1, 0], &[0x44, 0, 2, 0], &[0x44, 0, 1, 1], &[4, 0, 0, 0, 0]] {
+        refused("no beginning", &reader_block(0, 0, 64, held, records));
+    }
+    refused("parameters and more", &reader_block(0, 0, 64, &[&parameters[..], &[0]].concat(), records));
+    let mut block = reader_block(0, 0, 64, &drive[..41], records);
+    block[24] = 40;
+    refused("a byte past those held", &block);
+    for length in [68, 69, 256, 256 + 41, 1 << 32, (1 << 32) + 41, u64::MAX] {
+        block[24..32].copy_from_slice(&u64::to_le_bytes(length));
+        refused("more held than there is room for", &block);
+    }
+    // the table: its rules, its length, and zeros behind it
+    says("a store that just holds it", &reader_block(0, 0, 8, &[], records), MORE);
+    refused("a store that does not hold it", &reader_block(0, 0, 7, &[], records));
+    says("any store without drives", &reader_block(0, 0, u64::MAX, &[], &[]), MORE);
+    for (what, at, byte) in [("field", 39, 2), ("overlap", 88 + 24, 3), ("kind", 2, 2), ("parameters", 72, 1), ("end record", 156, 5)] {
+        let mut block = reader_block(0, 0, 64, &[], records);
+        block[108 + at] = byte;
+        refused(what, &block);
+    }
+    for length in [0, 4, 88, 92, 156, 159, 161, 708, 709, 160 + 256, 1 << 32 | 160, u64::MAX] {
+        let mut block = reader_block(0, 0, 64, &[], records);
+        block[32..40].copy_from_slice(&u64::to_le_bytes(length));
+        refused("another length of the table", &block);
+    }
+    for at in [160, 161, 707] {
+        let mut block = reader_block(0, 0, 64, &[], records);
+        block[108 + at] = 1;
+        refused("a byte behind the table", &block);
+    }
+    // a block that no bytes lead to goes on as one that they do: 9 on one that says 4 without a drive is still 4
+    let mut odd = Arrival::at(service, &reader_block(3, 4, 64, &[], &[]));
+    assert_eq!((odd.feed(&table), odd.end()), ((4, 0), (4, 0)));
+    let mut closed = Arrival::at(service, &reader_block(1, 0, 64, &[], records));
+    assert_eq!(closed.end(), ACCEPTED);
+    let mut closed = Arrival::at(service, &reader_block(1, 0, 64, &[], records));
+    assert_eq!(closed.feed(&[0]), (8, 160));
+    let mut going_on = Arrival::at(service, &reader_block(0, 0, 64, &drive[..40], records));
+    assert_eq!(going_on.feed(&drive[40..]), MORE);
+    assert_eq!(going_on.feed(&drives::END), MORE);
+    going_on.ends_with(&[records, &drive, &drives::END].concat());
+}
+
 macro_rules! cases {
     ($($name:ident),* $(,)?) => { &[$((stringify!($name), $name as fn(&dyn Service))),*] };
 }
@@ -2180,6 +2756,19 @@ const CASES: &[(&str, fn(&dyn Service))] = cases![
     h15_flags_of_48h,
     h16_flags_are_kept,
     h17_verify_by_the_table,
+    h18_cut_in_two,
+    h19_byte_by_byte,
+    h20_settling_bytes,
+    h21_missing_only_at_the_end,
+    h22_empty_fragments,
+    h23_several_records_in_one,
+    h24_after_a_refusal,
+    h25_after_the_end,
+    h26_written_out,
+    h27_size_and_store,
+    h28_reader_block,
+    h29_every_byte_of_the_block,
+    h30_rules_of_the_block,
 ];
 
 /// The case that runs, for the message when the machine stops it.

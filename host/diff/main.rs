@@ -9,6 +9,7 @@ mod chance;
 mod demand;
 mod directed;
 mod drives;
+mod fragments;
 mod random;
 mod service;
 mod tally;

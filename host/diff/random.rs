@@ -1,15 +1,17 @@
-//! Random calls, library against model, call by call: the answer, every value behind a pointer, and every byte of desk, arena, store and
-//! buffer must be the same. The calls go to worlds, each with an arena, a store and a desk opened over them. Most calls are good, so that
-//! requests wait, are served in parts, finish, and are collected or withdrawn, with the calls of eight guests interleaved.
+//! Random calls, library against model, call by call: the answer, every value behind a pointer, and every byte of desk, reader, arena,
+//! store and buffer must be the same. The calls go to worlds, each with an arena, a store and a desk opened over them. Most calls are good,
+//! so that requests wait, are served in parts, finish, and are collected or withdrawn, with the calls of eight guests interleaved. Between
+//! them tables, good and damaged, arrive in fragments at the world's reader.
 
 use crate::chance::Chance;
 use crate::demand::Watch;
 use crate::drives::{self, Drive};
+use crate::fragments::Reading;
 use crate::service::{Lent, Library, Model, Place, Service};
 use crate::tally::Tally;
 use model::addresses::{Address, Geometry};
 use model::parts::{Desk, Row};
-use model::{Registers, DESK_SIZE};
+use model::{Registers, DESK_SIZE, READER_SIZE};
 use std::sync::atomic::{AtomicU64, Ordering};
 
 /// For the message when the machine stops a call: see `main`. If several runs are active at the same time, it names one of them.
@@ -26,9 +28,19 @@ pub enum Call {
     Collect { guest: u64, registers: Registers },
     Withdraw { guest: u64, registers: Registers },
     Place { guest: u64, address: u64 },
+    ReaderOpen { store_length: u64 },
+    ReaderFeed,
+    ReaderEnd,
+    ReaderWrite,
     Window { arena_length: u64, guest: u64 },
     Block { geometry: [u32; 3], address: [u32; 3] },
     Address { geometry: [u32; 3], block: u64 },
+}
+
+impl Call {
+    fn at_reader(&self) -> bool {
+        matches!(self, Call::ReaderOpen { .. } | Call::ReaderFeed | Call::ReaderEnd | Call::ReaderWrite)
+    }
 }
 
 /// What a call left behind its pointers. What it did not write still holds what was there before, which is the same on both sides.
@@ -39,8 +51,9 @@ pub struct Outcome {
     pub registers: Registers,
 }
 
+/// The block is the desk's, or for a call at a reader the reader's; the table is a fragment then.
 struct Slices<'a> {
-    desk: &'a mut [u8],
+    block: &'a mut [u8],
     arena: &'a mut [u8],
     store: &'a mut [u8],
     table: &'a [u8],
@@ -50,36 +63,40 @@ struct Slices<'a> {
 fn perform(service: &dyn Service, call: &Call, lent: Slices, before: [u64; 3]) -> Outcome {
     let mut n = before;
     let mut r = Registers::default();
-    let Slices { desk, arena, store, table, out } = lent;
+    let Slices { block, arena, store, table, out } = lent;
     let geometry = |g: &[u32; 3]| Geometry { cylinders: g[0], heads: g[1], sectors: g[2] };
     let answer = match call {
-        Call::Open { arena_length, store_length } => service.open(desk, table, *arena_length, *store_length, &mut n[0]),
-        Call::Write => service.write(desk, out, &mut n[0]),
+        Call::Open { arena_length, store_length } => service.open(block, table, *arena_length, *store_length, &mut n[0]),
+        Call::Write => service.write(block, out, &mut n[0]),
         Call::Post { guest, registers } => {
             r = *registers;
-            service.post(desk, arena, store, *guest, &mut r)
+            service.post(block, arena, store, *guest, &mut r)
         }
         Call::Turn => {
             let [guest, moved, _] = &mut n;
-            service.turn(desk, arena, store, guest, moved)
+            service.turn(block, arena, store, guest, moved)
         }
         Call::Collect { guest, registers } => {
             r = *registers;
-            service.collect(desk, *guest, &mut r)
+            service.collect(block, *guest, &mut r)
         }
         Call::Withdraw { guest, registers } => {
             r = *registers;
-            service.withdraw(desk, arena, store, *guest, &mut r)
+            service.withdraw(block, arena, store, *guest, &mut r)
         }
-        Call::Place { guest, address } => service.place(desk, arena, store, *guest, *address),
+        Call::Place { guest, address } => service.place(block, arena, store, *guest, *address),
+        Call::ReaderOpen { store_length } => service.reader_open(block, *store_length),
+        Call::ReaderFeed => service.reader_feed(block, table, &mut n[0]),
+        Call::ReaderEnd => service.reader_end(block, &mut n[0]),
+        Call::ReaderWrite => service.reader_write(block, out, &mut n[0]),
         Call::Window { arena_length, guest } => {
             let [start, length, _] = &mut n;
             service.window(*arena_length, *guest, start, length)
         }
         Call::Block { geometry: g, address: a } => {
-            let mut block = n[0] as u32;
-            let answer = service.block(geometry(g), Address { cylinder: a[0], head: a[1], sector: a[2] }, &mut block);
-            n[0] = u64::from(block);
+            let mut found = n[0] as u32;
+            let answer = service.block(geometry(g), Address { cylinder: a[0], head: a[1], sector: a[2] }, &mut found);
+            n[0] = u64::from(found);
             answer
         }
         Call::Address { geometry: g, block } => {
@@ -98,24 +115,27 @@ enum Slice {
     Other(Vec<u8>),
 }
 
-/// An arena and a store, twice, with a desk that was opened over them.
+/// An arena and a store, twice, with a desk that was opened over them, and a reader.
 struct World {
     drives: Vec<Drive>,
     window: u64,
     desk: Lent,
+    reader: Lent,
     arena: Lent,
     store: Lent,
     model_desk: Vec<u8>,
+    model_reader: Vec<u8>,
     model_arena: Vec<u8>,
     model_store: Vec<u8>,
     watch: Watch,
+    reading: Reading,
     /// A calm world has no hostile blocks, so that demand 3 can be followed over a long list.
     calm: bool,
     /// For now the desk is not the one that was opened; the watch pauses until that one is back.
     suspended: bool,
 }
 
-/// Slices for one call, and the library with the choice that its caller has: how an empty slice is passed.
+/// Slices for one call (`desk` for a reader of another size too), and the library with the choice that its caller has: how an empty slice is passed.
 struct Spare {
     desk: Lent,
     arena: Lent,
@@ -164,17 +184,21 @@ impl World {
         let store = chance.bytes(store_length as usize);
         // opening looks at the size of the block alone: it is opened over random bytes
         let desk = chance.bytes(DESK_SIZE);
+        let reader = chance.bytes(READER_SIZE);
         let place = place(chance);
         World {
             drives,
             window,
             desk: Lent::holding(&desk, place),
+            reader: Lent::holding(&reader, place),
             arena: Lent::holding(&arena, place),
             store: Lent::holding(&store, place),
             model_desk: desk,
+            model_reader: reader,
             model_arena: arena,
             model_store: store,
             watch: Watch::default(),
+            reading: Reading::default(),
             calm: chance.percent(50),
             suspended: false,
         }
@@ -241,6 +265,11 @@ impl World {
         self.model_desk.copy_from_slice(bytes);
         self.desk.bytes_mut().copy_from_slice(bytes);
     }
+
+    fn set_reader(&mut self, bytes: &[u8]) {
+        self.model_reader.copy_from_slice(bytes);
+        self.reader.bytes_mut().copy_from_slice(bytes);
+    }
 }
 
 impl Run {
@@ -288,25 +317,28 @@ impl Run {
 
     // ---- one call, both ways
 
-    fn call(&mut self, call: Call, desk: Slice, arena: Slice, store: Slice, table: Vec<u8>) -> Result<Outcome, String> {
+    /// The block is the desk's or the reader's, by the call; the table is what is opened, or the fragment that is fed.
+    fn call(&mut self, call: Call, block: Slice, arena: Slice, store: Slice, table: Vec<u8>) -> Result<Outcome, String> {
         self.calls += 1;
         CALL.store(self.calls, Ordering::Relaxed);
         let place = place(&mut self.chance);
         self.spare.library.null_for_empty.set(self.chance.percent(50));
         let before = [self.chance.any(), self.chance.any(), self.chance.any()];
         let before = if matches!(call, Call::Block { .. } | Call::Address { .. }) { before.map(|n| n & 0xFFFF_FFFF) } else { before };
-        let room = self.room_for_write();
+        let room = self.room_for_write(&call);
         let mut out = self.chance.bytes(room);
 
         let spare = &mut self.spare;
         lay(&mut spare.table, &table, place);
         lay(&mut spare.out, &out, place);
-        for (slice, lent) in [(&desk, &mut spare.desk), (&arena, &mut spare.arena), (&store, &mut spare.store)] {
+        for (slice, lent) in [(&block, &mut spare.desk), (&arena, &mut spare.arena), (&store, &mut spare.store)] {
             lay(lent, if let Slice::Other(bytes) = slice { bytes } else { &[] }, place);
         }
         let world = &mut self.world;
         let own = |slice: &Slice| matches!(slice, Slice::Own);
-        let (own_desk, own_memory) = (own(&desk), own(&arena) && own(&store));
+        let (own_block, own_memory) = (own(&block), own(&arena) && own(&store));
+        let at_reader = call.at_reader();
+        let own_desk = own_block && !at_reader;
         // some posts that may be answered at once are served alone as well, on the window that they found
         let found_window = match &call {
             Call::Post { guest, .. } if *guest < 8 && own_desk && own_memory && self.calls % 4 == 0 => {
@@ -314,19 +346,23 @@ impl Run {
             }
             _ => None,
         };
-        let lent_desk = if own(&desk) { &mut world.desk } else { &mut spare.desk };
+        let lent_block = match own_block {
+            true if at_reader => &mut world.reader,
+            true => &mut world.desk,
+            false => &mut spare.desk,
+        };
         let lent_arena = if own(&arena) { &mut world.arena } else { &mut spare.arena };
         let lent_store = if own(&store) { &mut world.store } else { &mut spare.store };
 
         let only_read = matches!(call, Call::Post { .. } | Call::Withdraw { .. } | Call::Place { .. });
         lent_store.set_read_only(only_read);
-        lent_desk.set_read_only(matches!(call, Call::Write));
+        lent_block.set_read_only(matches!(call, Call::Write | Call::ReaderWrite));
         spare.table.set_read_only(true);
         let by_library = perform(
             &spare.library,
             &call,
             Slices {
-                desk: lent_desk.bytes_mut(),
+                block: lent_block.bytes_mut(),
                 arena: lent_arena.bytes_mut(),
                 store: lent_store.bytes_mut(),
                 table: spare.table.bytes(),
@@ -335,17 +371,17 @@ impl Run {
             before,
         );
         spare.table.set_read_only(false);
-        lent_desk.set_read_only(false);
+        lent_block.set_read_only(false);
         lent_store.set_read_only(false);
 
-        let (mut other_desk, mut other_arena, mut other_store) = (desk, arena, store);
-        let model_desk = pick(&mut other_desk, &mut world.model_desk);
+        let (mut other_block, mut other_arena, mut other_store) = (block, arena, store);
+        let model_block = pick(&mut other_block, if at_reader { &mut world.model_reader } else { &mut world.model_desk });
         let model_arena = pick(&mut other_arena, &mut world.model_arena);
         let model_store = pick(&mut other_store, &mut world.model_store);
         let by_model = perform(
             &Model,
             &call,
-            Slices { desk: model_desk, arena: model_arena, store: model_store, table: &table, out: &mut out },
+            Slices { block: model_block, arena: model_arena, store: model_store, table: &table, out: &mut out },
             before,
         );
 
@@ -354,7 +390,7 @@ impl Run {
         if by_library != by_model {
             found = Some(format!("library {by_library:?}\nmodel   {by_model:?}"));
         }
-        found = found.or_else(|| difference("desk", lent_desk, model_desk));
+        found = found.or_else(|| difference(if at_reader { "reader" } else { "desk" }, lent_block, model_block));
         if lends_memory {
             found = found.or_else(|| difference("arena", lent_arena, model_arena));
             found = found.or_else(|| difference("store", lent_store, model_store));
@@ -363,8 +399,8 @@ impl Run {
         found = found.or_else(|| difference("table", &spare.table, &table));
         if let Some(what) = found {
             let lengths = format!(
-                "desk {}, arena {}, store {}, table {}, buffer {}",
-                model_desk.len(),
+                "block {}, arena {}, store {}, table {}, buffer {}",
+                model_block.len(),
                 model_arena.len(),
                 model_store.len(),
                 table.len(),
@@ -374,6 +410,10 @@ impl Run {
         }
         self.tally.add(&call, &by_model);
         self.tally_tables(&call, &by_model, own_desk && own_memory);
+        if at_reader && own_block && self.world.reading.known && !matches!(call, Call::ReaderOpen { .. }) {
+            let followed = self.world.reading.follow(&call, &by_library, &table, &out);
+            followed.map_err(|what| format!("seed {}, call {}: {call:x?}\nthe reader: {what}", self.seed, self.calls))?;
+        }
         let opening = matches!(call, Call::Open { .. });
         if own_desk && !self.world.suspended && (own_memory || !opening) {
             self.world
@@ -406,9 +446,10 @@ impl Run {
         }
     }
 
-    /// Buffers around the length of the world's table, for edd_write.
-    fn room_for_write(&mut self) -> usize {
-        let table = drives::table(&self.world.drives).len();
+    /// Buffers around the length of the world's table, or of what was fed to its reader, for edd_write and edd_reader_write.
+    fn room_for_write(&mut self, call: &Call) -> usize {
+        let fed = self.world.reading.fed.len();
+        let table = if call.at_reader() { fed.clamp(4, TABLE_ROOM - 100) } else { drives::table(&self.world.drives).len() };
         match self.chance.below(6) {
             0 => table,
             1 => table - 1,
@@ -423,7 +464,7 @@ impl Run {
 
     fn step(&mut self) -> Result<(), String> {
         let hostile = if self.world.calm { 0 } else { 12 };
-        match self.chance.weighed(&[(86, 0), (hostile, 1), (3, 2), (2, 3), (3, 4)]) {
+        match self.chance.weighed(&[(86, 0), (hostile, 1), (3, 2), (2, 3), (3, 4), (18, 5)]) {
             0 => self.at_desk(Slice::Own),
             1 => self.hostile_block(),
             2 => {
@@ -431,7 +472,8 @@ impl Run {
                 self.at_desk(desk)
             }
             3 => self.opening(),
-            _ => self.without_desk(),
+            4 => self.without_desk(),
+            _ => self.at_reader(),
         }
     }
 
@@ -900,6 +942,191 @@ impl Run {
         }
     }
 
+    // ---- readers
+
+    /// One call at the world's reader: mostly the next fragment of its table, until all of it has arrived and the end is told.
+    fn at_reader(&mut self) -> Result<(), String> {
+        let (open, feed, end, write, damage) = (0, 1, 2, 3, 4);
+        let reading = &self.world.reading;
+        let choices = match (reading.verdict, reading.coming.len()) {
+            _ if !reading.known => [(8, open), (6, feed), (3, end), (3, write), (3, damage)],
+            (Some(_), _) => [(8, open), (5, feed), (3, end), (5, write), (3, damage)],
+            (None, 0) => [(1, open), (2, feed), (12, end), (2, write), (4, damage)],
+            (None, _) => [(1, open), (40, feed), (2, end), (2, write), (8, damage)],
+        };
+        let kind = self.chance.weighed(&choices);
+        if kind == open {
+            return self.open_reader();
+        }
+        if kind == damage && !self.world.calm {
+            return self.hostile_reader();
+        }
+        if self.chance.percent(3) {
+            let reader = self.reader_of_wrong_size();
+            let call = [Call::ReaderFeed, Call::ReaderEnd, Call::ReaderWrite][self.chance.below(3) as usize].clone();
+            return self.call(call, reader, Slice::Own, Slice::Own, vec![0x44]).map(|_| ());
+        }
+        if kind == write {
+            return self.call(Call::ReaderWrite, Slice::Own, Slice::Own, Slice::Own, Vec::new()).map(|_| ());
+        }
+        let (settled, told) = (self.world.reading.verdict.is_some(), kind == end);
+        let (call, fragment) = if told { (Call::ReaderEnd, Vec::new()) } else { (Call::ReaderFeed, self.fragment()) };
+        let got = self.call(call, Slice::Own, Slice::Own, Slice::Own, fragment)?;
+        if self.world.reading.known && !settled && (got.answer != 256 || self.chance.percent(20)) {
+            self.read_as_a_whole(told)?;
+        }
+        Ok(())
+    }
+
+    fn open_reader(&mut self) -> Result<(), String> {
+        let (own, any) = (self.world.model_store.len() as u64, self.chance.any());
+        let store_length = self.chance.one_of(&[own, own, own, own, 0, 511, 512, 1 << 41, u64::MAX, any]);
+        if self.chance.percent(4) {
+            let reader = self.reader_of_wrong_size();
+            return self.call(Call::ReaderOpen { store_length }, reader, Slice::Own, Slice::Own, Vec::new()).map(|_| ());
+        }
+        self.call(Call::ReaderOpen { store_length }, Slice::Own, Slice::Own, Slice::Own, Vec::new())?;
+        let coming = drives::any_table(&mut self.chance, store_length / 512);
+        self.world.reading = Reading::opened(store_length, coming);
+        Ok(())
+    }
+
+    /// The next bytes of the table: none, a few, up to around the end of a record, or all that are left.
+    fn fragment(&mut self) -> Vec<u8> {
+        let coming = &mut self.world.reading.coming;
+        let length = match self.chance.below(12) {
+            0 => 0,
+            1..=3 => 1,
+            4..=5 => self.chance.between(1, 5),
+            6..=7 => self.chance.between(5, 70),
+            8 => self.chance.one_of(&[3, 4, 19, 20, 67, 68, 69, 88]),
+            9 => self.chance.between(60, 300),
+            _ => coming.len() as u64,
+        };
+        let fragment: Vec<u8> = coming.drain(..coming.len().min(length as usize)).collect();
+        // after all of it, or once that is settled, any bytes
+        if fragment.is_empty() && self.chance.percent(30) {
+            return self.chance.bytes(length as usize);
+        }
+        fragment
+    }
+
+    /// What was fed, read as a whole by edd_open, is what the reader says.
+    fn read_as_a_whole(&mut self, told: bool) -> Result<(), String> {
+        let (store_length, fed) = (self.world.reading.store_length, self.world.reading.fed.clone());
+        let desk = Slice::Other(self.chance.bytes(DESK_SIZE));
+        let whole = self.call(Call::Open { arena_length: 0, store_length }, desk, Slice::Own, Slice::Own, fed)?;
+        let reading = &self.world.reading;
+        if let Some((number, _)) = reading.verdict {
+            self.tally.read(told, number);
+        }
+        reading
+            .equals_whole(told, (whole.answer, whole.numbers[0]))
+            .map_err(|what| format!("seed {}, call {}: the reader: {what}", self.seed, self.calls))
+    }
+
+    fn reader_of_wrong_size(&mut self) -> Slice {
+        let size =
+            self.chance.one_of(&[0, 1, READER_SIZE - 1, READER_SIZE + 1, READER_SIZE - 8, READER_SIZE + 8, 2 * READER_SIZE, DESK_SIZE]);
+        let mut bytes = self.world.model_reader.clone();
+        bytes.resize(size, 0);
+        Slice::Other(bytes)
+    }
+
+    /// The world's reader with something changed, and a few calls at it. Now and then it is kept.
+    fn hostile_reader(&mut self) -> Result<(), String> {
+        let (kept, reading) = (self.world.model_reader.clone(), self.world.reading.clone());
+        let mut bytes = kept.clone();
+        for _ in 0..self.chance.weighed(&[(12, 1), (3, 2), (1, 4)]) {
+            self.change_reader(&mut bytes);
+        }
+        self.world.set_reader(&bytes);
+        self.world.reading.known = false;
+        let looked = self.call(Call::ReaderWrite, Slice::Own, Slice::Own, Slice::Own, Vec::new())?;
+        self.tally.hostile_reader(looked.answer != 25);
+        for _ in 0..self.chance.between(0, if looked.answer == 25 { 1 } else { 4 }) {
+            let fragment = self.fragment();
+            let call = if self.chance.percent(80) { Call::ReaderFeed } else { Call::ReaderEnd };
+            self.call(call, Slice::Own, Slice::Own, Slice::Own, fragment)?;
+        }
+        if self.chance.percent(70) {
+            self.world.set_reader(&kept);
+            self.world.reading = reading;
+        }
+        Ok(())
+    }
+
+    /// Changes a word of a reader block, its held bytes, its table, or any bit.
+    fn change_reader(&mut self, block: &mut [u8]) {
+        let table_length = word_at(block, 4);
+        let (at, value) = match self.chance.below(14) {
+            0 => {
+                block[self.chance.below(READER_SIZE as u64) as usize] ^= 1 << self.chance.below(8);
+                return;
+            }
+            1 => (0, self.chance.one_of(&[0, 1, 2, 3, 4, 256, 1 << 63])),
+            2 => (1, self.chance.one_of(&[0, 1, 5, 9, 10, 257, 1 << 32])),
+            3 => (2, self.chance.one_of(&[0, 1, word_at(block, 2).wrapping_sub(1), 40, 400, u64::MAX])),
+            4 => (3, self.chance.one_of(&[0, 1, 3, 4, 19, 20, 67, 68, 69, 1 << 32, u64::MAX, word_at(block, 3).wrapping_sub(1)])),
+            5 => (
+                4,
+                self.chance.one_of(&[
+                    0,
+                    3,
+                    4,
+                    72,
+                    92,
+                    table_length.wrapping_sub(68),
+                    table_length.wrapping_add(1),
+                    708,
+                    709,
+                    1 << 32,
+                    u64::MAX,
+                ]),
+            ),
+            6..=7 => {
+                // without held bytes it may be on any course
+                block[24..32].fill(0);
+                block[40..108].fill(0);
+                let course = self.chance.below(4);
+                set_word_at(block, 1, if course == 3 { self.chance.between(1, 9) } else { 0 });
+                (0, course)
+            }
+            8..=10 => return self.change_held(block),
+            11 => return self.change_table(block),
+            12 => {
+                block[(108 + table_length.min(707) + self.chance.below(3)).min(815) as usize] = self.chance.byte();
+                return;
+            }
+            _ => (self.chance.below(102) as usize, self.chance.any() >> self.chance.below(64)),
+        };
+        set_word_at(block, at, value);
+    }
+
+    /// The beginning of a record as the bytes held, of a good one, nearly whole or whole, or with another length or kind.
+    fn change_held(&mut self, block: &mut [u8]) {
+        let mut record = self.chance.bytes(68);
+        let (length, kind) = self.chance.one_of(&[(68, 1), (68, 1), (20, 4), (20, 4), (4, 0), (67, 1), (20, 1), (4, 2), (0x144, 1)]);
+        record[..4].copy_from_slice(&[length as u8, (length >> 8) as u8, kind, 0]);
+        let held = self.chance.one_of(&[0, 1, 3, 4, 5, 19, 20, 21, 66, 67, 68]);
+        set_word_at(block, 3, held as u64);
+        if self.chance.percent(70) {
+            set_word_at(block, 0, 0);
+            set_word_at(block, 1, 0);
+        }
+        block[40..108].fill(0);
+        block[40..40 + held].copy_from_slice(&record[..held]);
+    }
+
+    /// Another table in the block, good or not, with its length; it may be that of more drives than a table has.
+    fn change_table(&mut self, block: &mut [u8]) {
+        let table = drives::any_table(&mut self.chance, word_at(block, 2).min(1 << 55));
+        let length = table.len().min(708);
+        set_word_at(block, 4, length as u64);
+        block[108..].fill(0);
+        block[108..108 + length].copy_from_slice(&table[..length]);
+    }
+
     // ---- windows and addresses
 
     fn without_desk(&mut self) -> Result<(), String> {
@@ -1000,6 +1227,13 @@ fn difference(what: &str, lent: &Lent, model: &[u8]) -> Option<String> {
             316..=323 => format!(" (word {word}: drive place {}, mark of parameters)", word - 316),
             324..=337 => format!(" (drive place {}, byte {} of its parameters)", (at - 8 * 324) / 14, (at - 8 * 324) % 14),
             _ => format!(" (word {word})"),
+        };
+    }
+    if what == "reader" {
+        text += &match at {
+            0..=39 => format!(" (word {})", at / 8),
+            40..=107 => format!(" (held byte {})", at - 40),
+            _ => format!(" (table byte {})", at - 108),
         };
     }
     Some(text)

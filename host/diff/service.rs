@@ -16,6 +16,11 @@ pub trait Service {
     fn collect(&self, desk: &mut [u8], guest: u64, registers: &mut Registers) -> u32;
     fn withdraw(&self, desk: &mut [u8], arena: &mut [u8], store: &[u8], guest: u64, registers: &mut Registers) -> u32;
     fn place(&self, desk: &mut [u8], arena: &mut [u8], store: &[u8], guest: u64, address: u64) -> u32;
+    fn reader_size(&self) -> u64;
+    fn reader_open(&self, reader: &mut [u8], store_length: u64) -> u32;
+    fn reader_feed(&self, reader: &mut [u8], bytes: &[u8], place: &mut u64) -> u32;
+    fn reader_end(&self, reader: &mut [u8], place: &mut u64) -> u32;
+    fn reader_write(&self, reader: &[u8], out: &mut [u8], written: &mut u64) -> u32;
     fn window(&self, arena_length: u64, guest: u64, start: &mut u64, length: &mut u64) -> u32;
     fn block(&self, geometry: Geometry, address: Address, block: &mut u32) -> u32;
     fn address(&self, geometry: Geometry, block: u64, address: &mut Address) -> u32;
@@ -52,6 +57,21 @@ impl Service for Model {
     }
     fn place(&self, desk: &mut [u8], arena: &mut [u8], store: &[u8], guest: u64, address: u64) -> u32 {
         model::place(desk, arena, store, guest, address)
+    }
+    fn reader_size(&self) -> u64 {
+        model::reader_size()
+    }
+    fn reader_open(&self, reader: &mut [u8], store_length: u64) -> u32 {
+        model::reader_open(reader, store_length)
+    }
+    fn reader_feed(&self, reader: &mut [u8], bytes: &[u8], place: &mut u64) -> u32 {
+        model::reader_feed(reader, bytes, place)
+    }
+    fn reader_end(&self, reader: &mut [u8], place: &mut u64) -> u32 {
+        model::reader_end(reader, place)
+    }
+    fn reader_write(&self, reader: &[u8], out: &mut [u8], written: &mut u64) -> u32 {
+        model::reader_write(reader, out, written)
     }
     fn window(&self, arena_length: u64, guest: u64, start: &mut u64, length: &mut u64) -> u32 {
         model::window(arena_length, guest, start, length)
@@ -147,6 +167,11 @@ extern "C" {
         guest: u64,
         address: u64,
     ) -> u32;
+    fn edd_reader_size() -> u64;
+    fn edd_reader_open(reader: *mut u8, reader_len: usize, store_length: u64) -> u32;
+    fn edd_reader_feed(reader: *mut u8, reader_len: usize, bytes: *const u8, bytes_len: usize, place: *mut u64) -> u32;
+    fn edd_reader_end(reader: *mut u8, reader_len: usize, place: *mut u64) -> u32;
+    fn edd_reader_write(reader: *const u8, reader_len: usize, out: *mut u8, out_len: usize, written: *mut u64) -> u32;
     fn edd_window(arena_length: u64, guest: u64, start: *mut u64, length: *mut u64) -> u32;
     fn edd_block(c: u32, h: u32, s: u32, cylinder: u32, head: u32, sector: u32, block: *mut u32) -> u32;
     fn edd_address(c: u32, h: u32, s: u32, block: u64, cylinder: *mut u32, head: *mut u32, sector: *mut u32) -> u32;
@@ -303,6 +328,37 @@ impl Service for Library {
     fn place(&self, desk: &mut [u8], arena: &mut [u8], store: &[u8], guest: u64, address: u64) -> u32 {
         let (d, a, s) = (self.pointer_mut(desk), self.pointer_mut(arena), self.pointer(store));
         unsafe { edd_place(d, desk.len(), a, arena.len(), s, store.len(), guest, address) }
+    }
+    fn reader_size(&self) -> u64 {
+        unsafe { edd_reader_size() }
+    }
+    fn reader_open(&self, reader: &mut [u8], store_length: u64) -> u32 {
+        let r = self.pointer_mut(reader);
+        unsafe { edd_reader_open(r, reader.len(), store_length) }
+    }
+    fn reader_feed(&self, reader: &mut [u8], bytes: &[u8], place: &mut u64) -> u32 {
+        let mut out = Places::new([*place], GUARD);
+        let (r, b) = (self.pointer_mut(reader), self.pointer(bytes));
+        let answer = unsafe { edd_reader_feed(r, reader.len(), b, bytes.len(), out.at(0)) };
+        out.check();
+        *place = out.get(0);
+        answer
+    }
+    fn reader_end(&self, reader: &mut [u8], place: &mut u64) -> u32 {
+        let mut out = Places::new([*place], GUARD);
+        let r = self.pointer_mut(reader);
+        let answer = unsafe { edd_reader_end(r, reader.len(), out.at(0)) };
+        out.check();
+        *place = out.get(0);
+        answer
+    }
+    fn reader_write(&self, reader: &[u8], out: &mut [u8], written: &mut u64) -> u32 {
+        let mut places = Places::new([*written], GUARD);
+        let (r, o) = (self.pointer(reader), self.pointer_mut(out));
+        let answer = unsafe { edd_reader_write(r, reader.len(), o, out.len(), places.at(0)) };
+        places.check();
+        *written = places.get(0);
+        answer
     }
     fn window(&self, arena_length: u64, guest: u64, start: &mut u64, length: &mut u64) -> u32 {
         let mut out = Places::new([*start, *length], GUARD);

@@ -14,6 +14,9 @@ pub struct Tally {
     parts: BTreeMap<u64, u64>,
     hostile_accepted: u64,
     hostile_refused: u64,
+    hostile_readers: [u64; 2],
+    /// Tables that were fed: what was said of them for good, by a feed or at the told end.
+    read: BTreeMap<(bool, u32), u64>,
     finished: u64,
     compared: u64,
     at_once: u64,
@@ -32,7 +35,7 @@ const WAITS: u32 = 256;
 const UNKNOWN: u8 = 0xFF;
 const HANDLED: [u8; 9] = [0x02, 0x03, 0x08, 0x41, 0x42, 0x43, 0x44, 0x47, 0x48];
 
-const EXPECTED_ANSWERS: [(&str, &[u32]); 10] = [
+const EXPECTED_ANSWERS: [(&str, &[u32]); 14] = [
     ("open", &[0, 1, 2, 3, 4, 5, 6, 7, 8, 9, 25]),
     ("write", &[0, 19, 25]),
     ("post", &[0, 20, 21, 24, 25, 256]),
@@ -40,6 +43,10 @@ const EXPECTED_ANSWERS: [(&str, &[u32]); 10] = [
     ("collect", &[0, 20, 22, 25]),
     ("withdraw", &[0, 20, 23, 24, 25]),
     ("place", &[0, 20, 21, 24, 25, 26]),
+    ("reader_open", &[0, 25]),
+    ("reader_feed", &[0, 1, 2, 3, 4, 5, 6, 7, 8, 9, 25, 256]),
+    ("reader_end", &[0, 1, 2, 3, 4, 5, 6, 7, 8, 9, 25]),
+    ("reader_write", &[0, 1, 2, 3, 4, 5, 6, 7, 8, 9, 19, 25, 256]),
     ("window", &[0]),
     ("block", &[0, 4]),
     ("address", &[0, 4]),
@@ -68,6 +75,10 @@ impl Tally {
             Call::Collect { .. } => "collect",
             Call::Withdraw { .. } => "withdraw",
             Call::Place { .. } => "place",
+            Call::ReaderOpen { .. } => "reader_open",
+            Call::ReaderFeed => "reader_feed",
+            Call::ReaderEnd => "reader_end",
+            Call::ReaderWrite => "reader_write",
             Call::Window { .. } => "window",
             Call::Block { .. } => "block",
             Call::Address { .. } => "address",
@@ -92,6 +103,15 @@ impl Tally {
 
     pub fn hostile(&mut self, accepted: bool) {
         *(if accepted { &mut self.hostile_accepted } else { &mut self.hostile_refused }) += 1;
+    }
+
+    pub fn hostile_reader(&mut self, accepted: bool) {
+        self.hostile_readers[usize::from(accepted)] += 1;
+    }
+
+    /// A reader said something for good, and it was that of the whole reading.
+    pub fn read(&mut self, told: bool, number: u32) {
+        *self.read.entry((told, number)).or_default() += 1;
     }
 
     /// A placement that was done, of so many tables.
@@ -133,6 +153,11 @@ impl Tally {
         if self.compared == 0 || self.compared == self.finished || self.at_once == 0 || self.at_once_placed == 0 {
             missing.push("requests to compare with served alone".into());
         }
+        if self.hostile_readers.contains(&0) {
+            missing.push("hostile readers of both kinds".into());
+        }
+        let said = (2..=9).map(|number| (false, number)).chain([(true, 0), (true, 1)]);
+        missing.extend(said.filter(|key| !self.read.contains_key(key)).map(|(_, number)| format!("a table fed and settled with {number}")));
         missing.extend((0..=3).filter(|n| !self.placed.contains_key(n)).map(|n| format!("a placement of {n} tables")));
         missing.extend([1, 5].iter().filter(|cx| !self.extensions.contains_key(cx)).map(|cx| format!("41h with CX {cx:04x}h")));
         if self.pointers.contains(&0) {
@@ -149,7 +174,7 @@ impl Tally {
             let of_kind: Vec<_> = self.answers.iter().filter(|(key, _)| key.0 == kind).collect();
             let total: u64 = of_kind.iter().map(|(_, times)| **times).sum();
             let list: Vec<String> = of_kind.iter().map(|((_, number), times)| format!("{number}: {times}")).collect();
-            println!("{kind:9}{total:8} calls; answers {}", list.join(", "));
+            println!("{kind:12}{total:8} calls; answers {}", list.join(", "));
         }
         for (function, _) in EXPECTED_CODES {
             let of_function = self.codes.iter().filter(|(key, _)| key.0 == function);
@@ -171,6 +196,11 @@ impl Tally {
         let extensions: Vec<String> = self.extensions.iter().map(|(cx, times)| format!("{cx:04x}h: {times}")).collect();
         println!("41h CX {}; 48h pointers: {} given, {} not", extensions.join(", "), self.pointers[1], self.pointers[0]);
         println!("48h flags: {} as the table has them, {} with bits 4 to 6 cleared", self.flags[0], self.flags[1]);
+        let read = |told: bool| -> Vec<String> {
+            self.read.iter().filter(|(key, _)| key.0 == told).map(|((_, number), times)| format!("{number}: {times}")).collect()
+        };
+        println!("tables fed, as the whole reading has them: by a feed {}; at the end {}", read(false).join(", "), read(true).join(", "));
+        println!("hostile readers: {} accepted, {} refused", self.hostile_readers[1], self.hostile_readers[0]);
         println!("hostile blocks: {} accepted, {} refused; worlds: {}", self.hostile_accepted, self.hostile_refused, self.worlds);
     }
 }

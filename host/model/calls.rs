@@ -1,15 +1,16 @@
-//! Document 01, "Calls the host makes", with the house numbers of "Numbers given back", and the placement of change request 2026-01.
-//! The calls of include/edd_desk.h, with slices and references for its pointers.
+//! Document 01, "Calls the host makes", with the house numbers of "Numbers given back", the placement of change request 2026-01 and the
+//! reader of 2026-03. The calls of include/edd_desk.h, with slices and references for its pointers.
 
 use crate::addresses::{Address, Geometry};
 use crate::block;
+use crate::fragments::{self, Reader};
 use crate::parameters;
 use crate::parts::{self, Desk, Registers, Request, Row, BLOCK_SIZE, GUESTS};
 use crate::steps::{self, Function, Outcome, WITHDRAWN};
 use crate::table;
 
 pub const DONE: u32 = 0;
-/// post: the row waits; turn: idle. The paper gives these no number.
+/// post: the row waits; turn: idle; a reader: nothing is settled. The papers give these no number.
 pub const NOTHING_YET: u32 = 256;
 
 const BUFFER_SHORT: u32 = 19;
@@ -56,7 +57,7 @@ fn number(call: impl FnOnce() -> Result<u32, u32>) -> u32 {
 
 /// The header's EDD_VERSION; each change request raises both.
 pub fn version() -> u32 {
-    3
+    4
 }
 
 pub fn desk_size() -> u64 {
@@ -210,6 +211,59 @@ pub fn place(desk: &mut [u8], arena: &mut [u8], store: &[u8], guest: u64, addres
         Ok(DONE)
     })
 }
+
+// ---- the reader of fragments
+
+pub fn reader_size() -> u64 {
+    fragments::READER_SIZE as u64
+}
+
+pub fn reader_open(reader: &mut [u8], store_length: u64) -> u32 {
+    if reader.len() != fragments::READER_SIZE {
+        return NOT_ACCEPTED;
+    }
+    fragments::write(reader, &Reader::open(store_length / BLOCK_SIZE));
+    DONE
+}
+
+/// One call at the reader of a block: the step, and what it then answers. The place is written with a refusal only.
+fn at_reader(reader: &mut [u8], place: &mut u64, step: impl FnOnce(&mut Reader)) -> u32 {
+    number(|| {
+        let mut read = fragments::read(reader).ok_or(NOT_ACCEPTED)?;
+        step(&mut read);
+        fragments::write(reader, &read);
+        match read.verdict() {
+            None => Ok(NOTHING_YET),
+            Some(Ok(())) => Ok(DONE),
+            Some(Err(refusal)) => {
+                *place = refusal.place;
+                Err(refusal.number)
+            }
+        }
+    })
+}
+
+pub fn reader_feed(reader: &mut [u8], bytes: &[u8], place: &mut u64) -> u32 {
+    at_reader(reader, place, |read| read.feed(bytes))
+}
+
+pub fn reader_end(reader: &mut [u8], place: &mut u64) -> u32 {
+    at_reader(reader, place, Reader::end)
+}
+
+/// 25, then 256 or the table's refusal, then 19.
+pub fn reader_write(reader: &[u8], out: &mut [u8], written: &mut u64) -> u32 {
+    number(|| {
+        let read = fragments::read(reader).ok_or(NOT_ACCEPTED)?;
+        read.verdict().ok_or(NOTHING_YET)?.map_err(|refusal| refusal.number)?;
+        let table = read.table();
+        out.get_mut(..table.len()).ok_or(BUFFER_SHORT)?.copy_from_slice(table);
+        *written = table.len() as u64;
+        Ok(DONE)
+    })
+}
+
+// ---- calls without a desk
 
 pub fn window(arena_length: u64, guest: u64, start: &mut u64, length: &mut u64) -> u32 {
     (*start, *length) = parts::window_place(arena_length, guest);

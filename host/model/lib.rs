@@ -1,6 +1,6 @@
-//! Document 01 and change request 2026-01 once more. It follows the papers, the table of words in docs/BLOCK.md, the C interface and the
-//! readings in docs/DECISIONS.md, and shares no code with the crates. The differential test (host/diff) compares the library with it, and the
-//! benchmark measures against it.
+//! Document 01 and change requests 2026-01 to 2026-03 once more. It follows the papers, the tables of words in docs/BLOCK.md, the C
+//! interface and the readings in docs/DECISIONS.md, and shares no code with the crates. The differential test (host/diff) compares the library
+//! with it, and the benchmark measures against it.
 //!
 //! Each file is a section of the paper, each function one of its sentences:
 //!   parts      Parts of the desk
@@ -11,6 +11,7 @@
 //!   calls      Calls the host makes, with the house numbers of "Numbers given back"
 //!   alone      served alone, from "The words of demand 3"
 //!   parameters the device parameter table, from change request 2026-01
+//!   fragments  the reader of fragments, by value and as a block of bytes, from change request 2026-03
 //!
 //! `calls` has the exported calls under their C names without `edd_`, on slices and references in place of pointers.
 
@@ -18,6 +19,7 @@ pub mod addresses;
 pub mod alone;
 pub mod block;
 pub mod calls;
+pub mod fragments;
 pub mod parameters;
 pub mod parts;
 pub mod steps;
@@ -25,4 +27,6 @@ pub mod table;
 
 pub use block::DESK_SIZE;
 pub use calls::{address, block_number, collect, desk_size, open, place, post, turn, version, window, withdraw, write};
+pub use calls::{reader_end, reader_feed, reader_open, reader_size, reader_write};
+pub use fragments::READER_SIZE;
 pub use parts::Registers;

@@ -6,7 +6,7 @@
 use model::addresses::{Address, Geometry};
 use model::Registers;
 #[allow(unused_imports)]
-use model::DESK_SIZE;
+use model::{DESK_SIZE, READER_SIZE};
 use std::slice::{from_raw_parts, from_raw_parts_mut};
 
 /// The slice of a pointer and a length; a null pointer with length 0 is an empty one.
@@ -391,6 +391,183 @@ pub unsafe extern "C" fn edd_place(
     }
     answer
 }
+
+// ---- the reader of fragments
+
+#[no_mangle]
+pub extern "C" fn edd_reader_size() -> u64 {
+    model::reader_size()
+}
+
+#[no_mangle]
+pub unsafe extern "C" fn edd_reader_open(reader: *mut u8, reader_len: usize, store_length: u64) -> u32 {
+    let reader = unsafe { lent_mut(reader, reader_len) };
+    #[cfg(fault = "reader_size_untested")]
+    let reader = if reader.len() > READER_SIZE { &mut reader[..READER_SIZE] } else { reader };
+    let answer = model::reader_open(reader, store_length);
+    #[cfg(fault = "reader_store_in_bytes")]
+    if answer == 0 {
+        words::set(reader, 2, store_length);
+    }
+    #[cfg(fault = "reader_keeps_old_bytes")]
+    if answer == 0 {
+        reader[READER_SIZE - 1] = 1;
+    }
+    answer
+}
+
+#[no_mangle]
+pub unsafe extern "C" fn edd_reader_feed(reader: *mut u8, reader_len: usize, bytes: *const u8, bytes_len: usize, place: &mut u64) -> u32 {
+    let (reader, bytes) = unsafe { (lent_mut(reader, reader_len), lent(bytes, bytes_len)) };
+    #[cfg(fault = "reader_size_untested")]
+    let reader = if reader.len() > READER_SIZE { &mut reader[..READER_SIZE] } else { reader };
+    #[cfg(fault = "reads_past_fragment")]
+    unsafe {
+        bytes.as_ptr().add(bytes.len()).read_volatile();
+    }
+    #[cfg(fault = "counted_after_end")]
+    if reader.len() == READER_SIZE && words::get(reader, 0) == 2 {
+        // an accepted reader goes on from its end record
+        words::set(reader, 0, 1);
+        let answer = model::reader_feed(reader, bytes, place);
+        if answer == 256 {
+            return model::reader_end(reader, place);
+        }
+        return answer;
+    }
+    #[cfg(fault = "refusal_forgotten")]
+    if reader.len() == READER_SIZE && words::get(reader, 0) == 3 && !bytes.is_empty() {
+        words::set(reader, 0, 0);
+        words::set(reader, 1, 0);
+    }
+    #[cfg(fault = "empty_fragment_ends")]
+    if bytes.is_empty() {
+        return model::reader_end(reader, place);
+    }
+    #[cfg(fault = "one_record_of_a_fragment")]
+    let bytes = one_record(reader, bytes);
+    #[cfg(any(
+        fault = "length_when_whole",
+        fault = "kind_when_whole",
+        fault = "held_after_refusal",
+        fault = "place_in_fragment",
+        fault = "drives_after_refusal"
+    ))]
+    let before = reader.to_vec();
+    let answer = model::reader_feed(reader, bytes, place);
+    #[cfg(fault = "cut_off_at_feed")]
+    if answer == 256 && words::get(reader, 3) > 0 {
+        return model::reader_end(reader, place);
+    }
+    #[cfg(any(fault = "length_when_whole", fault = "kind_when_whole"))]
+    if answer == (if cfg!(fault = "length_when_whole") { 2 } else { 3 }) && words::get(&before, 0) == 0 {
+        // nothing is said before so many bytes of the record arrived as the longest has
+        let arrived = words::get(&before, 4) - 4 + words::get(&before, 3) + bytes.len() as u64;
+        if arrived - *place < 68 {
+            reader.copy_from_slice(&before);
+            return 256;
+        }
+    }
+    #[cfg(fault = "trailing_before_a_byte")]
+    if answer == 256 && words::get(reader, 0) == 1 {
+        return model::reader_feed(reader, &[0], place);
+    }
+    #[cfg(fault = "trailing_at_the_record")]
+    if answer == 8 {
+        *place -= 4;
+    }
+    #[cfg(fault = "held_after_refusal")]
+    if (2..=9).contains(&answer) && words::get(&before, 0) == 0 {
+        reader[40..108].copy_from_slice(&before[40..108]);
+    }
+    #[cfg(fault = "drives_after_refusal")]
+    if (2..=9).contains(&answer) && words::get(&before, 0) == 0 {
+        // the drives of the refused fragment are forgotten
+        reader[32..40].copy_from_slice(&before[32..40]);
+        reader[108..].copy_from_slice(&before[108..]);
+    }
+    #[cfg(fault = "place_in_fragment")]
+    if (2..=9).contains(&answer) && words::get(&before, 0) < 2 {
+        let arrived = words::get(&before, 4) - 4 + words::get(&before, 3);
+        *place = place.saturating_sub(arrived);
+    }
+    #[cfg(fault = "place_on_256")]
+    if matches!(answer, 0 | 256) {
+        *place = 0;
+    }
+    answer
+}
+
+/// The fragment up to the end of the record that its bytes complete first.
+#[cfg(fault = "one_record_of_a_fragment")]
+fn one_record<'a>(reader: &[u8], bytes: &'a [u8]) -> &'a [u8] {
+    let mut copy = reader.to_vec();
+    for (i, byte) in bytes.iter().enumerate() {
+        let answer = model::reader_feed(&mut copy, &[*byte], &mut 0);
+        if answer == 256 && copy[32..40] != reader[32..40] {
+            return &bytes[..=i];
+        }
+    }
+    bytes
+}
+
+#[no_mangle]
+pub unsafe extern "C" fn edd_reader_end(reader: *mut u8, reader_len: usize, place: &mut u64) -> u32 {
+    let reader = unsafe { lent_mut(reader, reader_len) };
+    #[cfg(fault = "reader_size_untested")]
+    let reader = if reader.len() > READER_SIZE { &mut reader[..READER_SIZE] } else { reader };
+    #[cfg(fault = "end_forgotten")]
+    if reader.len() == READER_SIZE {
+        return model::reader_end(&mut reader.to_vec(), place);
+    }
+    let answer = model::reader_end(reader, place);
+    #[cfg(fault = "place_on_0")]
+    if answer == 0 {
+        *place = 0;
+    }
+    answer
+}
+
+#[no_mangle]
+pub unsafe extern "C" fn edd_reader_write(reader: *const u8, reader_len: usize, out: *mut u8, out_len: usize, written: &mut u64) -> u32 {
+    let (reader, out) = unsafe { (lent(reader, reader_len), lent_mut(out, out_len)) };
+    #[cfg(fault = "reader_size_untested")]
+    let reader = if reader.len() > READER_SIZE { &reader[..READER_SIZE] } else { reader };
+    #[cfg(fault = "held_not_judged")]
+    if reader.len() == READER_SIZE && words::get(reader, 0) == 0 && words::get(reader, 3) < 68 {
+        // only the bytes past those held are looked at
+        let mut copy = reader.to_vec();
+        let held = words::get(reader, 3) as usize;
+        words::set(&mut copy, 3, 0);
+        copy[40..40 + held].fill(0);
+        return model::reader_write(&copy, out, written);
+    }
+    #[cfg(fault = "past_held_not_judged")]
+    if reader.len() == READER_SIZE && words::get(reader, 3) < 68 {
+        let mut copy = reader.to_vec();
+        let held = words::get(reader, 3) as usize;
+        copy[40 + held..108].fill(0);
+        return model::reader_write(&copy, out, written);
+    }
+    #[cfg(fault = "written_before_the_end")]
+    if reader.len() == READER_SIZE && words::get(reader, 0) == 1 {
+        let mut copy = reader.to_vec();
+        words::set(&mut copy, 0, 2);
+        return model::reader_write(&copy, out, written);
+    }
+    let answer = model::reader_write(reader, out, written);
+    #[cfg(fault = "short_before_refusal")]
+    if (answer == 256 || (1..=9).contains(&answer)) && (out.len() as u64) < words::get(reader, 4) {
+        return 19;
+    }
+    #[cfg(fault = "reader_clears_rest")]
+    if answer == 0 {
+        out[*written as usize..].fill(0);
+    }
+    answer
+}
+
+// ---- calls without a desk
 
 #[no_mangle]
 pub extern "C" fn edd_window(arena_length: u64, guest: u64, start: &mut u64, length: &mut u64) -> u32 {

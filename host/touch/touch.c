@@ -6,6 +6,8 @@
  *   place
  *   turn             the window of the guest that it serves and the store blocks that it moves. A read only reads the blocks, a write
  *                    only reads the window.
+ *   reader calls     the reader block, and the fragment or the buffer that they are lent. A fragment is only read, and so is the
+ *                    block when the table is written out; a buffer is touched only where the table is written into it.
  *
  * This is tested, not proved: a promise says what memory holds before and after a call, not which bytes are read in between. What
  * edd_desk.h allows under "What may run at the same time" depends on it: a guest that has no request waiting goes on running in its own
@@ -28,6 +30,7 @@
 #define SECTORS 32u
 #define STORE ((size_t)EDD_DRIVES * DRIVE_BLOCKS * EDD_BLOCK_SIZE)
 #define PAGE_BLOCKS 8u /* blocks of a page of 4096 bytes, the smallest that can be protected */
+#define PAGE ((size_t)PAGE_BLOCKS * EDD_BLOCK_SIZE)
 #define PACKET 0x100
 #define BUFFER 0x1000
 
@@ -191,7 +194,100 @@ static void place(unsigned guest, uint64_t address, uint32_t expected)
     must(answer == expected, "another answer than expected");
 }
 
+/* ---- readers */
+
+static uint8_t *rooms[3]; /* for a reader block, a fragment and a buffer: a page each, between two that stay inaccessible */
+enum room { READER, FRAGMENT, BUFFER_OUT };
+
+/* So many bytes of a room, against the page before or the page behind. */
+static uint8_t *in_room(enum room room, size_t length, int at_end)
+{
+    return rooms[room] + (at_end ? PAGE - length : 0);
+}
+
+/* A call at a reader: no arena, no store, and the three rooms in these ways. */
+static void only_rooms(const char *call, int reader, int fragment, int out)
+{
+    snprintf(doing, sizeof doing, "%s", call);
+    allow(arena, ARENA, PROT_NONE);
+    allow(store, STORE, PROT_NONE);
+    allow(rooms[READER], PAGE, reader);
+    allow(rooms[FRAGMENT], PAGE, fragment);
+    allow(rooms[BUFFER_OUT], PAGE, out);
+}
+
+static void answered(uint32_t answer, uint32_t expected)
+{
+    open_all();
+    for (unsigned i = 0; i < 3; i++)
+        allow(rooms[i], PAGE, PROT_READ | PROT_WRITE);
+    calls++;
+    must(answer == expected, "another answer than expected");
+}
+
+static void feed(uint8_t *reader, const uint8_t *bytes, size_t length, int at_end, uint32_t expected)
+{
+    uint64_t place = 0;
+    uint8_t *fragment = in_room(FRAGMENT, length, at_end);
+    memcpy(fragment, bytes, length);
+    only_rooms("feeding a reader", PROT_READ | PROT_WRITE, length ? PROT_READ : PROT_NONE, PROT_NONE);
+    answered(edd_reader_feed(reader, EDD_READER_SIZE, fragment, length, &place), expected);
+}
+
+static void end(uint8_t *reader, uint32_t expected)
+{
+    uint64_t place = 0;
+    only_rooms("telling a reader the end", PROT_READ | PROT_WRITE, PROT_NONE, PROT_NONE);
+    answered(edd_reader_end(reader, EDD_READER_SIZE, &place), expected);
+}
+
+/* Only a table that is written touches the buffer. */
+static void write_out(uint8_t *reader, size_t length, int at_end, uint32_t expected)
+{
+    uint64_t written = 0;
+    uint8_t *out = in_room(BUFFER_OUT, length, at_end);
+    only_rooms("writing a reader's table", PROT_READ, PROT_NONE, expected == EDD_DONE ? PROT_READ | PROT_WRITE : PROT_NONE);
+    answered(edd_reader_write(reader, EDD_READER_SIZE, out, length, &written), expected);
+}
+
+static void open_reader(uint8_t *reader, size_t length, uint32_t expected)
+{
+    only_rooms("opening a reader", PROT_READ | PROT_WRITE, PROT_NONE, PROT_NONE);
+    answered(edd_reader_open(reader, length, STORE), expected);
+}
+
 /* ---- what is run */
+
+/* rule: exports::edd_reader_open exports::edd_reader_feed exports::edd_reader_end exports::edd_reader_write */
+/* A table in pieces of one size, every slice against an inaccessible page; the same with its last byte missing; then too long. */
+static void fragments(const uint8_t *table, size_t length, size_t piece, int at_end)
+{
+    static const uint8_t more[4096];
+    uint8_t *reader = in_room(READER, EDD_READER_SIZE, at_end);
+
+    for (unsigned end_missing = 0; end_missing < 2; end_missing++) {
+        open_reader(reader, EDD_READER_SIZE, EDD_DONE);
+        for (size_t at = 0; at < length - end_missing; at += piece) {
+            size_t left = length - end_missing - at;
+            feed(reader, table + at, left < piece ? left : piece, at_end, EDD_NOTHING_YET);
+        }
+        feed(reader, table, 0, at_end, EDD_NOTHING_YET);
+        write_out(reader, EDD_TABLE_SIZE_MAX, at_end, EDD_NOTHING_YET);
+        end(reader, end_missing ? EDD_TABLE_CUT_OFF : EDD_DONE);
+        write_out(reader, length - 1, at_end, end_missing ? EDD_TABLE_CUT_OFF : EDD_BUFFER_SHORT);
+        write_out(reader, length, at_end, end_missing ? EDD_TABLE_CUT_OFF : EDD_DONE);
+        feed(reader, more, 4096, at_end, end_missing ? EDD_TABLE_CUT_OFF : EDD_DONE);
+    }
+    open_reader(reader, EDD_READER_SIZE, EDD_DONE);
+    feed(reader, table, length, at_end, EDD_NOTHING_YET);
+    feed(reader, more, 4096, at_end, EDD_TABLE_TRAILING);
+    write_out(reader, EDD_TABLE_SIZE_MAX, at_end, EDD_TABLE_TRAILING);
+    reader[0] = 4; /* no course */
+    feed(reader, table, length, at_end, EDD_DESK_NOT_ACCEPTED);
+    end(reader, EDD_DESK_NOT_ACCEPTED);
+    write_out(reader, EDD_TABLE_SIZE_MAX, at_end, EDD_DESK_NOT_ACCEPTED);
+    open_reader(in_room(READER, EDD_READER_SIZE - 1, at_end), EDD_READER_SIZE - 1, EDD_DESK_NOT_ACCEPTED);
+}
 
 /* rule: exports::edd_post exports::edd_turn exports::edd_collect exports::edd_withdraw */
 /* Every request of every guest by itself. */
@@ -266,10 +362,10 @@ static void nothing(void)
          block == EDD_DESK_NOT_ACCEPTED, "another answer than expected");
 }
 
-static void open_desk(void)
+/* Eight drives with a record of kind 4 each. */
+static void full_table(uint8_t table[EDD_TABLE_SIZE_MAX])
 {
-    uint8_t table[EDD_TABLE_SIZE_MAX] = { 0 };
-    uint64_t place = 0;
+    memset(table, 0, EDD_TABLE_SIZE_MAX);
     for (unsigned i = 0; i < EDD_DRIVES; i++) {
         uint8_t *at = table + 88 * i;
         put_word(at + 0, 4, 0x00010044); /* length 68, kind 1 */
@@ -284,6 +380,13 @@ static void open_desk(void)
         put_word(at + 72, 2, i);
     }
     put_word(table + 88 * EDD_DRIVES, 4, 4);
+}
+
+static void open_desk(void)
+{
+    uint8_t table[EDD_TABLE_SIZE_MAX];
+    uint64_t place = 0;
+    full_table(table);
     must(edd_open(desk, sizeof desk, table, sizeof table, ARENA, STORE, &place) == EDD_DONE, "refused");
 }
 
@@ -300,7 +403,7 @@ static uint8_t *pages(size_t length)
 int main(void)
 {
     struct sigaction action;
-    if (sysconf(_SC_PAGESIZE) != PAGE_BLOCKS * EDD_BLOCK_SIZE) {
+    if (sysconf(_SC_PAGESIZE) != (long)PAGE) {
         printf("touch: FAILED: pages are not of 4096 bytes here, and this program supposes that\n");
         return 1;
     }
@@ -312,6 +415,11 @@ int main(void)
 
     arena = pages(ARENA);
     store = pages(STORE);
+    for (unsigned i = 0; i < 3; i++) {
+        rooms[i] = pages(3 * PAGE) + PAGE;
+        allow(rooms[i] - PAGE, PAGE, PROT_NONE);
+        allow(rooms[i] + PAGE, PAGE, PROT_NONE);
+    }
     snprintf(doing, sizeof doing, "open");
     open_desk();
     one_by_one();
@@ -323,6 +431,13 @@ int main(void)
         }
     }
     nothing();
-    printf("touch: %lu calls, each touched only its guest's window and the blocks that it moved\n", calls);
+    uint8_t table[EDD_TABLE_SIZE_MAX];
+    full_table(table);
+    static const size_t pieces[] = { 1, 67, 68, 69, EDD_TABLE_SIZE_MAX };
+    for (unsigned i = 0; i < sizeof pieces / sizeof pieces[0]; i++) {
+        fragments(table, sizeof table, pieces[i], 0);
+        fragments(table, sizeof table, pieces[i], 1);
+    }
+    printf("touch: %lu calls, each touched only its guest's window and the blocks that it moved, or its reader and fragment\n", calls);
     return 0;
 }

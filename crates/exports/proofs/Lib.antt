@@ -1,1 +1,4 @@
 pub mod Exports
+pub mod Readers
+pub mod Fragments
+pub mod FragmentsExample

@@ -1,8 +1,8 @@
 -- Document 01, "Forms we want to see": the calls for C over desk block, arena and store slices, of which each call is lent those that it
--- needs. Each is document 01's call at the desk whose image the block is. What stands behind a pointer afterwards is a value of the answer, or
--- what stood there.
+-- needs. Each is document 01's call at the desk whose image the block is; those of the reader of fragments (document 02, 2026-03) are over a
+-- reader block. What stands behind a pointer afterwards is a value of the answer, or what stood there.
 -- Assumes nothing.
-use Prim.Native.Nat.{ℕ}
+use Prim.Native.Nat.{ℕ, _/_}
 use mathlib.Core.Bool.{Bool, true, false}
 use mathlib.Core.List.{List, [], _∷_}
 use lib.ListN.{length, getD}
@@ -12,8 +12,10 @@ use Rattle.chs.specs.declared.Geometry.{Geometry}
 use Rattle.chs.specs.declared.Address.{Address}
 use Rattle.chs.specs.Chs.{blockOf, addressOf, blockNumbers, addressNumbers}
 use Rattle.memory.specs.Window.{windowLength, spanStart, spanLength}
-use Rattle.table.specs.Table.{writtenNumbers}
+use Rattle.memory.specs.Blocks.{blockLength}
+use Rattle.table.specs.Table.{writtenNumbers, writeAnswer, writeOut}
 use Rattle.int13.specs.declared.Registers.{Registers}
+use Rattle.int13.specs.Answers.{nothingYet}
 use Rattle.desk.specs.declared.Desk.{Desk}
 use Rattle.desk.specs.declared.OpenAnswer.{OpenAnswer}
 use Rattle.desk.specs.declared.OpenAnswer.the-variants.{Opened, Refused as OpenRefused}
@@ -31,12 +33,17 @@ use Rattle.desk.specs.declared.PlaceAnswer.the-variants.{Placed, Refused as Pla
 use Rattle.desk.specs.Calls.{Done, notAcceptable, openOf, writtenOf, writtenOut, postOf, turnOf, collectOf, withdrawOf, placeOf}
 use Rattle.desk.specs.Numbers.{openNumbers, postNumbers, turnNumbers, collectNumbers, withdrawNumbers, placeNumbers}
 use Rattle.image.specs.Image.{deskSize, deskOf, laid}
+use Rattle.feed.specs.declared.Feed.{Feed}
+use Rattle.feed.specs.declared.Fed.{Fed}
+use Rattle.feed.specs.declared.Fed.the-variants.{More, Accepted as FedAccepted, Refused as FedRefused}
+use Rattle.feed.specs.Feed.{opened, feedAll, endFeed, answerOf, fedNumbers}
+use Rattle.reader.specs.Reader.{readerSize, readReader, accepted as readerAccepted, laid as readerLaid}
 
 -- ---- the version, ours and in no paper: a block is for the library of its version, since a change request may give it another form
 
--- 1 is the base; each change request adds 1: 2 has 2026-01, 3 has 2026-02
+-- 1 is the base; each change request adds 1: 2 has 2026-01, 3 has 2026-02, 4 has 2026-03
 abbrev pub version : ℕ
-version = 3
+version = 4
 
 -- what a call leaves: the number that it returns and the values behind its pointers, in the order of its parameters; and the bytes of each
 -- slice that was lent for change, in that order
@@ -162,6 +169,39 @@ placeEffect b o = effect (placeNumbers (o .answer)) (placeBlock b o (o .answer) 
 -- place at the desk of the block
 unfoldable pub placeCall : List ℕ → List ℕ → List ℕ → ℕ → ℕ → Effect
 placeCall b arena store guest address = placeEffect b (placeOf (deskOf b) guest address arena store)
+
+-- ---- the reader of fragments (document 02, 2026-03): each call is that of the reader whose image the block is; of any other block 25, which
+-- changes nothing. A table's refusal is kept in the block
+
+-- open: 25 for a block of another size; the store has its length in bytes divided by 512, whole blocks
+unfoldable pub readerOpenCall : List ℕ → ℕ → Effect
+readerOpenCall b store =
+    pick (eqb (length b) readerSize) (effect (0 ∷ []) (readerLaid b (opened (store / blockLength)) ∷ [])) (effect (notAcceptable ∷ []) (b ∷ []))
+
+-- what is left of a reader that went on: its answer, whose place is written where it is refused, and the block
+abbrev pub readerEffect : List ℕ → Feed → ℕ → Effect
+readerEffect b f place = effect (over (fedNumbers (answerOf f)) (0 ∷ place ∷ [])) (readerLaid b f ∷ [])
+
+-- feed: a fragment
+unfoldable pub readerFeedCall : List ℕ → List ℕ → ℕ → Effect
+readerFeedCall b bytes place =
+    pick (readerAccepted b) (readerEffect b (feedAll (readReader b) bytes) place) (effect (notAcceptable ∷ place ∷ []) (b ∷ []))
+
+-- end: the end of input
+unfoldable pub readerEndCall : List ℕ → ℕ → Effect
+readerEndCall b place =
+    pick (readerAccepted b) (readerEffect b (endFeed (readReader b)) place) (effect (notAcceptable ∷ place ∷ []) (b ∷ []))
+
+-- write: 256 before the end was told, or the number of the refusal; else as a desk's table is written, 19 if the buffer is shorter
+unfoldable pub readerWriteEffect : Fed → Feed → List ℕ → ℕ → Effect
+readerWriteEffect More f out written = effect (nothingYet ∷ written ∷ []) (out ∷ [])
+readerWriteEffect FedAccepted f out written = effect (over (writtenNumbers (writeAnswer (f .table) (length out))) (0 ∷ written ∷ [])) (writeOut (f .table) out ∷ [])
+readerWriteEffect (FedRefused n at) f out written = effect (n ∷ written ∷ []) (out ∷ [])
+
+-- of the reader of the block
+unfoldable pub readerWriteCall : List ℕ → List ℕ → ℕ → Effect
+readerWriteCall b out written =
+    pick (readerAccepted b) (readerWriteEffect (answerOf (readReader b)) (readReader b) out written) (effect (notAcceptable ∷ written ∷ []) (out ∷ []))
 
 -- ---- the window of a guest in an arena of that length, and CHS addresses
 

@@ -1,6 +1,6 @@
 // The calls for C, which include/edd_desk.h declares. Each makes sure that its block is that of an acceptable desk, reads the row or the
-// table that it needs, does what the desk's method of the same name does, by the same functions, and writes the words that changed. Nothing
-// is kept between calls.
+// table that it needs, does what the desk's method of the same name does, by the same functions, and writes the words that changed. The calls
+// of the reader of fragments read the whole reader from its block and lay it out again. Nothing is kept between calls.
 use chs::Address;
 use chs::Geometry;
 use chs::ToAddress;
@@ -10,8 +10,11 @@ use desk::Next;
 use desk::OpenAnswer;
 use desk::Request;
 use desk::Stage;
+use feed::Fed;
+use feed::Feed;
 use int13::Outcome;
 use int13::Registers;
+use table::Table;
 use table::Written;
 ghost use mathlib.Core.Path.{_≡_};
 ghost use mathlib.Core.List.{List, [], _∷_};
@@ -25,14 +28,20 @@ ghost use Rattle.desk.specs.Parts.{ownWindow, withOwn, next, placementAt};
 ghost use Rattle.desk.specs.Acceptable.{accept};
 ghost use Rattle.desk.specs.Calls.{houseNumber};
 ghost use Rattle.int13.specs.Answers.{registerNumbers};
+ghost use Rattle.table.specs.Table.{writtenNumbers, writeAnswer, writeOut};
+ghost use Rattle.feed.specs.Feed.{answerOf, fedNumbers};
+ghost use Rattle.reader.specs.Reader.{readerSize};
 ghost use Rattle.image.specs.Image.{deskSize, readDesk, deskOf, putStage, putPointer};
-ghost use Rattle.exports.specs.Exports.{version, effect, openCall, writeCall, postCall, turnCall, collectCall, withdrawCall, placeCall, windowCall, blockCall, addressCall};
+ghost use Rattle.exports.specs.Exports.{version, effect, over, openCall, writeCall, postCall, turnCall, collectCall, withdrawCall, placeCall, readerOpenCall, readerFeedCall, readerEndCall, readerWriteCall, windowCall, blockCall, addressCall};
 
 // There is nothing to hand out yet.
 const NOTHING_YET: u32 = 256;
 
 // House number of a block of another size.
 const NOT_ACCEPTABLE: u32 = desk::NOT_ACCEPTABLE as u32;
+
+// The same, of a block that is not that of a reader.
+const NO_READER: u32 = NOT_ACCEPTABLE;
 
 // House numbers of a row in another stage.
 const NOT_VACANT: u32 = desk::NOT_VACANT as u32;
@@ -44,7 +53,10 @@ const NOT_WAITING: u32 = desk::NOT_WAITING as u32;
 const BAD_PLACE: u32 = desk::BAD_PLACE as u32;
 
 // The version of the interface and of the block's form: 1 is the base, and each change request adds 1.
-const VERSION: u32 = 3;
+const VERSION: u32 = 4;
+
+// Bytes of a block of the store.
+const BLOCK_LENGTH: u64 = memory::BLOCK_LENGTH as u64;
 
 // Guests are 0 to 7.
 const GUESTS: u64 = memory::GUESTS as u64;
@@ -99,6 +111,20 @@ pub extern "C" fn edd_write(desk: &[u8], out: &mut [u8], written: &mut u64) -> u
         return number as u32;
     }
     let answer = image::write_table(desk, out);
+    match answer {
+        Written::Bytes(n) => {
+            *written = n as u64;
+            0
+        }
+        Written::Refused(n) => n as u32,
+    }
+}
+
+// A table's drives written into a buffer.
+fn write_out(b: Table, out: &mut [u8], written: &mut u64) -> u32
+    ensures { λ r. ⌜ (r ∷ now (written .exit) ∷ [] ≡ over (writtenNumbers (writeAnswer b (length (now (out .entry))))) (0 ∷ now (written .entry) ∷ [])) × (now (out .exit) ≡ writeOut b (now (out .entry))) ⌝ }
+{
+    let answer = table::write_table(b, out);
     match answer {
         Written::Bytes(n) => {
             *written = n as u64;
@@ -355,6 +381,83 @@ pub extern "C" fn edd_place(
     desk::lay_tables(image::table_of(desk), g, address, arena);
     image::put_placement(desk, g, address);
     0
+}
+
+// ---- the reader of fragments
+
+#[no_mangle]
+pub extern "C" fn edd_reader_size() -> u64
+    ensures { λ r. ⌜ r ≡ readerSize ⌝ }
+{
+    reader::SIZE as u64
+}
+
+#[no_mangle]
+pub extern "C" fn edd_reader_open(reader: &mut [u8], store: u64) -> u32
+    ensures { λ r. ⌜ effect (r ∷ []) (now (reader .exit) ∷ []) ≡ readerOpenCall (now (reader .entry)) store ⌝ }
+{
+    if reader.len() != reader::SIZE {
+        return NO_READER;
+    }
+    let f = Feed::open(store / BLOCK_LENGTH);
+    reader::encode(f, reader);
+    0
+}
+
+// The number of what a reader says, and its place where it is refused.
+fn say(f: Feed, place: &mut u64) -> u32
+    ensures { λ r. ⌜ r ∷ now (place .exit) ∷ [] ≡ over (fedNumbers (answerOf f)) (0 ∷ now (place .entry) ∷ []) ⌝ }
+{
+    let answer = f.answer();
+    match answer {
+        Fed::More => NOTHING_YET,
+        Fed::Accepted => 0,
+        Fed::Refused(n, at) => {
+            *place = at as u64;
+            n as u32
+        }
+    }
+}
+
+#[no_mangle]
+pub extern "C" fn edd_reader_feed(reader: &mut [u8], bytes: &[u8], place: &mut u64) -> u32
+    ensures { λ r. ⌜ effect (r ∷ now (place .exit) ∷ []) (now (reader .exit) ∷ []) ≡ readerFeedCall (now (reader .entry)) (now (bytes .entry)) (now (place .entry)) ⌝ }
+{
+    if !reader::acceptable(reader) {
+        return NO_READER;
+    }
+    let f = reader::decode(reader).take(bytes);
+    reader::encode(f, reader);
+    say(f, place)
+}
+
+#[no_mangle]
+pub extern "C" fn edd_reader_end(reader: &mut [u8], place: &mut u64) -> u32
+    ensures { λ r. ⌜ effect (r ∷ now (place .exit) ∷ []) (now (reader .exit) ∷ []) ≡ readerEndCall (now (reader .entry)) (now (place .entry)) ⌝ }
+{
+    if !reader::acceptable(reader) {
+        return NO_READER;
+    }
+    let f = reader::decode(reader).end();
+    reader::encode(f, reader);
+    say(f, place)
+}
+
+#[no_mangle]
+pub extern "C" fn edd_reader_write(reader: &[u8], out: &mut [u8], written: &mut u64) -> u32
+    ensures { λ r. ⌜ effect (r ∷ now (written .exit) ∷ []) (now (out .exit) ∷ []) ≡ readerWriteCall (now (reader .entry)) (now (out .entry)) (now (written .entry)) ⌝ }
+{
+    if !reader::acceptable(reader) {
+        return NO_READER;
+    }
+    let f = reader::decode(reader);
+    let b = f.table;
+    let answer = f.answer();
+    match answer {
+        Fed::More => NOTHING_YET,
+        Fed::Refused(n, _) => n as u32,
+        Fed::Accepted => write_out(b, out, written),
+    }
 }
 
 // ---- calls without a desk

@@ -1,7 +1,9 @@
 // Lists the drive table on standard input, or says where and why it is refused. The store is taken as 2^32 blocks.
-// 772 bytes settle every answer (table's theorem `buffer-enough`), so the buffer's 4096 answer for input of any length.
+// The table is read as it arrives, a piece at a time, and is never held as a whole: so input may have any length. Once it is refused, nothing more is
+// read.
 use drive::Drive;
-use table::Answer;
+use feed::Fed;
+use feed::Feed;
 use table::Table;
 
 const STORE_BLOCKS: u64 = 4294967296;
@@ -9,6 +11,13 @@ const STORE_BLOCKS: u64 = 4294967296;
 const INPUT: i32 = 0;
 
 const OUTPUT: i32 = 1;
+
+// Bytes of a piece, at most.
+const PIECE: usize = 64;
+
+// So many bytes, 772, settle every table (`few` of feed's theorem), and each read but the last brings one or more. So the bound is never met, but
+// it shows that the reading ends.
+const MOST_READS: usize = table::LONGEST_TABLE - table::END_LENGTH as usize + table::LONGEST_RECORD;
 
 // `table refused 3 at 0`
 fn print_refusal(number: u8, place: usize) {
@@ -50,14 +59,44 @@ fn print_table(b: Table) {
     }
 }
 
-fn main() {
-    let mut buffer = io::buffer();
-    let n = io::read_full(INPUT, &mut buffer);
-    let r = table::read_table(&buffer[..n], STORE_BLOCKS);
-    let answer = r.answer;
-    let b = r.table;
+// Nothing that follows can change what the reader says.
+fn is_settled(f: Feed) -> bool {
+    let answer = f.answer();
     match answer {
-        Answer::Accepted => print_table(b),
-        Answer::Refused(number, place) => print_refusal(number, place),
+        Fed::More => false,
+        Fed::Accepted => true,
+        Fed::Refused(_, _) => true,
+    }
+}
+
+// The reader, fed what arrives until it is refused or the input ends.
+fn read_input() -> Feed {
+    let mut f = Feed::open(STORE_BLOCKS);
+    let mut piece = [0u8; PIECE];
+    let mut left: usize = MOST_READS;
+    while 0 < left {
+        let got = libc::read(INPUT, &mut piece);
+        let n = io::count(got, &piece);
+        f = f.take(&piece[..n]);
+        if n == 0 {
+            return f;
+        }
+        if is_settled(f) {
+            return f;
+        }
+        left -= 1;
+    }
+    f
+}
+
+fn main() {
+    let f = read_input().end();
+    let b = f.table;
+    let answer = f.answer();
+    match answer {
+        // The end was told: everything is settled.
+        Fed::More => {}
+        Fed::Accepted => print_table(b),
+        Fed::Refused(number, place) => print_refusal(number, place),
     }
 }

@@ -18,7 +18,8 @@ use Rattle.table.specs.Table.{more, withParameters, goOn, mostRecords, r
 use Rattle.table.proofs.TableLaws.{stepAt-cases, length-whole, refusal-room, parameters-room}
 use Rattle.table.proofs.Slots.{count-most, count-ext, count-attach}
 
-one-more : (k : ℕ) (t : List ℕ) (store at : ℕ) (b : Table) → b .count ≤ 8 → length (b .present) ≡ 8 → 17 ≤ k + (b .count + parametersTo 8 b)
+-- one record more than there is room for reads the same
+pub one-more : (k : ℕ) (t : List ℕ) (store at : ℕ) (b : Table) → b .count ≤ 8 → length (b .present) ≡ 8 → 17 ≤ k + (b .count + parametersTo 8 b)
     → readFrom (suc k) t store at b ≡ readFrom k t store at b
 unfolding readFrom
 one-more zero t store at b l m h = absurd (omega (arith, l, h, count-most 8 b))

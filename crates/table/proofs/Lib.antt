@@ -8,3 +8,4 @@ pub mod Needed
 pub mod Vectors
 pub mod Demand2
 pub mod Runs
+pub mod Places

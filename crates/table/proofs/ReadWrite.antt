@@ -35,7 +35,7 @@ use Rattle.table.proofs.Sound.{Rules, sound-rules, refusal-ext}
 -- ---- the headers of records that were written
 
 -- a word of a record that follows a place
-le-front : (k : ℕ) (t r s : List ℕ) (at i : ℕ) → drop at t ≡ r ++ s → i + k ≤ length r → le k t (at + i) ≡ le k r i
+pub le-front : (k : ℕ) (t r s : List ℕ) (at i : ℕ) → drop at t ≡ r ++ s → i + k ≤ length r → le k t (at + i) ≡ le k r i
 le-front k t r s at i e h =
     le-ext k t r (at + i) i (λ j l. rw (add-assoc at i j, ← getD-drop at t (i + j) 0, e) (List·getD-append r s 0 (i + j) (omega arith)))
 

@@ -190,12 +190,16 @@ so-good store b s =
         (λ x. either-right (ltb i (b .count)) (isBlank (getD (b .drives) i noDrive)) (ap isBlank (s .blank i x h) ∙ blank-zero))
         (lt-or-le i (b .count))
 
--- an accepted table is good
-pub accepted-good : (t : List ℕ) (store : ℕ) → readTable t store .answer ≡ Accepted → Good (readTable t store .table) store
+-- the drives of any reading are sound, also of one that is refused
+pub read-so : (t : List ℕ) (store : ℕ) → So store (readTable t store .table)
 unfolding readTable
-accepted-good t store e =
+read-so t store =
     let r = read-keeps (λ at. So store) t store
     (λ at b s h z. so-more store b (driveOf (part 68 t at)) s (arrays-drive (part 68 t at) (length-whole t at 1 68 h)) z)
     (λ at b s h z. so-attach store b (numberIn (part 20 t at)) (parametersIn (part 20 t at)) s (length-parametersIn (part 20 t at) (omega (arith, length-whole t at 4 20 h))) z)
     mostRecords 0 emptyTable (so-empty store) in
-    so-good store (readFrom mostRecords t store 0 emptyTable .table) (r .1 .0)
+    r .1 .0
+
+-- an accepted table is good
+pub accepted-good : (t : List ℕ) (store : ℕ) → readTable t store .answer ≡ Accepted → Good (readTable t store .table) store
+accepted-good t store e = so-good store (readTable t store .table) (read-so t store)

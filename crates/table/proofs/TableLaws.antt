@@ -32,7 +32,7 @@ use Rattle.table.specs.declared.Answer.the-variants.{Accepted, Refused a
 use Rattle.table.specs.declared.Reading.{Reading}
 use Rattle.table.specs.declared.Written.{Written}
 use Rattle.table.specs.declared.Written.the-variants.{Bytes, Refused as WriteRefused}
-use Rattle.table.specs.Table.{emptyTable, mostRecords, badField, pastStore, overlapping, isKind, lengthOk, headerOf, headerAt, overlapsAny, refusal, noDrive, more, hasParameters, parametersAt, parametersRefusal, withParameters, stepped, recordRefusal, withRecord, recordStep, endStep, stepOf, stepAt, placeAfter, advanced, Advances, begun, reading, goOn, stepNumbers, answerNumbers, writtenNumbers, takenNumbers, wholeNumbers, recordNumbers, onward, numbersFrom, tableNumbers, writeNumbers, readTable, Reads, readFrom, slotBytes, slotRecords, recordsOf, endRecord, bytesOf, drivesOf, tableOf, writeAnswer, writeOut}
+use Rattle.table.specs.Table.{emptyTable, mostRecords, badField, pastStore, overlapping, isKind, lengthOk, headerOf, headerAt, cutHeader, isUnfinished, overlapsAny, refusal, noDrive, more, hasParameters, parametersAt, parametersRefusal, withParameters, stepped, recordRefusal, withRecord, recordStep, endStep, stepOf, stepAt, placeAfter, advanced, Advances, begun, reading, goOn, stepNumbers, answerNumbers, writtenNumbers, takenNumbers, wholeNumbers, recordNumbers, onward, numbersFrom, tableNumbers, writeNumbers, readTable, Reads, readFrom, slotBytes, slotRecords, recordsOf, endRecord, bytesOf, drivesOf, nextPlace, tableOf, writeAnswer, writeOut}
 
 -- ---- the header
 
@@ -95,7 +95,7 @@ lengthOk-zero size = by-test (eqb size 4)
     by-test false = refl
 
 -- the kinds with their lengths
-lengthOk-cases : (k n : ℕ) → lengthOk k n ≡ true → ((k ≡ 0) × (n ≡ 4)) ⊎ (((k ≡ 1) × (n ≡ 68)) ⊎ ((k ≡ 4) × (n ≡ 20)))
+pub lengthOk-cases : (k n : ℕ) → lengthOk k n ≡ true → ((k ≡ 0) × (n ≡ 4)) ⊎ (((k ≡ 1) × (n ≡ 68)) ⊎ ((k ≡ 4) × (n ≡ 20)))
 lengthOk-cases k n h =
     ⊎-elim (λ x. inl (of 0 4 x))
     (λ y. inr (⊎-elim (λ x. inl (of 1 68 x)) (λ x. inr (of 4 20 x)) (either-true (both (eqb k 1) (eqb n 68)) (both (eqb k 4) (eqb n 20)) y)))
@@ -192,12 +192,12 @@ parameters-nine b i e z = rw z at (parameters-is b i e)
 
 -- ---- a step, by cases
 
-recordStep-next : {n : ℕ} (kind size : ℕ) (r : List ℕ) (b : Table) (at store : ℕ) → n ≡ recordRefusal kind r b store → n ≡ 0
+pub recordStep-next : {n : ℕ} (kind size : ℕ) (r : List ℕ) (b : Table) (at store : ℕ) → n ≡ recordRefusal kind r b store → n ≡ 0
     → stepped (Next (at + size)) (withRecord kind r b) ≡ recordStep kind size r b at store
 unfolding recordStep
 recordStep-next {n} kind size r b at store q z = rw (← q, eq-eqb n 0 z)
 
-recordStep-refused : {n : ℕ} (kind size : ℕ) (r : List ℕ) (b : Table) (at store : ℕ) → n ≡ recordRefusal kind r b store → (n ≡ 0 → ⊥)
+pub recordStep-refused : {n : ℕ} (kind size : ℕ) (r : List ℕ) (b : Table) (at store : ℕ) → n ≡ recordRefusal kind r b store → (n ≡ 0 → ⊥)
     → stepped (Refused n at) b ≡ recordStep kind size r b at store
 unfolding recordStep
 recordStep-refused {n} kind size r b at store q z = rw (← q, ne-eqb n 0 z)
@@ -235,6 +235,15 @@ endStep-done t at b h = rw (le-ltb _ _ h)
 pub stepAt-bad : (t : List ℕ) (at n : ℕ) (b : Table) (store : ℕ) → headerAt t at ≡ Bad n → stepped (Refused n at) b ≡ stepAt t at b store
 unfolding stepAt stepOf
 stepAt-bad t at n b store h = rw h
+
+-- an unfinished record is cut off
+pub unfinished-step : (t : List ℕ) (b : Table) (store : ℕ) → isUnfinished t ≡ true → stepAt t 0 b store ≡ stepped (Refused 1 0) b
+unfolding isUnfinished
+unfinished-step t b store = by-header (headerAt t 0) refl
+  where
+    by-header : (h : Header) → headerAt t 0 ≡ h → cutHeader h ≡ true → stepAt t 0 b store ≡ stepped (Refused 1 0) b
+    by-header (Whole k n) e z = impossible (cc)
+    by-header (Bad n) e z = sym (stepAt-bad t 0 1 b store (e ∙ ap Bad (eqb-true n 1 z)))
 
 pub stepAt-end : (t : List ℕ) (at k n : ℕ) (b : Table) (store : ℕ) → headerAt t at ≡ Whole k n → k ≡ 0 → endStep t at b ≡ stepAt t at b store
 unfolding stepAt stepOf
@@ -556,6 +565,11 @@ slot-next s b i at o₀ l w e x y = (
 -- a table of eight slots holds as many drives as it counts, and at most eight
 pub length-drives : (b : Table) → length (b .drives) ≡ 8 → length (drivesOf b) ≡ min (b .count) 8
 length-drives b l = rw (length-take (b .count) (b .drives), l)
+
+-- where the next record begins, as the code finds it, and the longest table
+pub next-is : {m : ℕ} (b : Table) (n : ℕ) → length (b .drives) ≡ 8 → n ≡ min (b .count) 8 → m ≡ length (recordsOf n b) → m ≤ 88 * n → (m ≡ nextPlace b) × (m + 4 ≤ 708)
+unfolding nextPlace
+next-is b n eight held all most = (all ∙ ap (λ (k : ℕ). length (recordsOf k b)) (held ∙ sym (length-drives b eight)), omega arith)
 
 -- ---- the writer
 

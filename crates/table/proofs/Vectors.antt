@@ -12,29 +12,29 @@ use Rattle.drive.specs.declared.Drive.{Drive}
 use Rattle.drive.specs.Drive.{driveOf, recordOf, geometryBytes, sizeBytes, nameBytes, same, busOk, interfaceOk, geometryFits, fieldsOk, inStore, overlap, blankNumbers, blankNames, isBlank}
 use Rattle.attached.specs.Parameters.{parametersRecord}
 use Rattle.table.specs.declared.Table.{Table}
-use Rattle.table.specs.Table.{headerOf, headerAt, overlapsAny, refusal, parametersRefusal, recordRefusal, withRecord, recordStep, endStep, stepOf, stepAt, zeroDrive, emptyTable, readFrom, readTable, recordsOf, bytesOf, tableOf, writeAnswer, writeOut, soundTo, blankTo, attachedTo, isSound, parametersTo, stepNumbers, answerNumbers, writtenNumbers, recordNumbers, numbersFrom, tableNumbers, writeNumbers}
+use Rattle.table.specs.Table.{headerOf, headerAt, overlapsAny, refusal, parametersRefusal, recordRefusal, withRecord, recordStep, endStep, stepOf, stepAt, zeroDrive, emptyTable, readFrom, readTable, recordsOf, bytesOf, tableOf, nextPlace, isUnfinished, longestRecord, longestTable, writeAnswer, writeOut, soundTo, blankTo, attachedTo, isSound, parametersTo, stepNumbers, answerNumbers, writtenNumbers, recordNumbers, numbersFrom, tableNumbers, writeNumbers}
 
 -- the drive record of document 01's table, and the end record
-abbrev record₁ : List ℕ
+abbrev pub record₁ : List ℕ
 record₁ = 68 ∷ 0 ∷ 1 ∷ 0 ∷ 2 ∷ 0 ∷ 0 ∷ 0 ∷ 16 ∷ 0 ∷ 0 ∷ 0 ∷ 63 ∷ 0 ∷ 0 ∷ 0 ∷ 0 ∷ 8 ∷ 0 ∷ 0 ∷ 0 ∷ 0 ∷ 0 ∷ 0 ∷ 0 ∷ 0 ∷ 0 ∷ 0 ∷ 0 ∷ 0 ∷ 0 ∷ 0 ∷ 2 ∷ 0 ∷ 2 ∷ 0 ∷ 16 ∷ 0 ∷ 63 ∷ 0 ∷ 80 ∷ 67 ∷ 73 ∷ 0 ∷ 65 ∷ 84 ∷ 65 ∷ 0 ∷ 0 ∷ 0 ∷ 0 ∷ 0 ∷ 0 ∷ 31 ∷ 1 ∷ 0 ∷ 0 ∷ 0 ∷ 0 ∷ 0 ∷ 0 ∷ 0 ∷ 0 ∷ 0 ∷ 0 ∷ 0 ∷ 0 ∷ 0 ∷ []
 
-abbrev end : List ℕ
+abbrev pub end : List ℕ
 end = 4 ∷ 0 ∷ 0 ∷ 0 ∷ []
 
 -- its store
-abbrev store : ℕ
+abbrev pub store : ℕ
 store = 4294967296
 
 -- the record with the bytes from a place replaced
-abbrev but : ℕ → List ℕ → List ℕ
+abbrev pub but : ℕ → List ℕ → List ℕ
 but at bytes = sets record₁ at bytes
 
 -- a drive of 2048 blocks from a store block
-abbrev from : ℕ → List ℕ
+abbrev pub from : ℕ → List ℕ
 from n = but 24 (leBytes 8 n)
 
 -- k drives, each after the other
-abbrev drives : ℕ → List ℕ
+abbrev pub drives : ℕ → List ℕ
 drives zero = []
 drives (suc k) = drives k ++ from (2048 * k)
 
@@ -152,10 +152,10 @@ no-store = refl
 -- ---- records of parameters
 
 -- fourteen bytes, each of its own value, and the record that gives them to a drive
-abbrev given-bytes : List ℕ
+abbrev pub given-bytes : List ℕ
 given-bytes = 101 ∷ 102 ∷ 103 ∷ 104 ∷ 105 ∷ 106 ∷ 107 ∷ 108 ∷ 109 ∷ 110 ∷ 111 ∷ 112 ∷ 113 ∷ 114 ∷ []
 
-abbrev attach : ℕ → List ℕ
+abbrev pub attach : ℕ → List ℕ
 attach n = 20 ∷ 0 ∷ 4 ∷ 0 ∷ (leBytes 2 n ++ given-bytes)
 
 -- the same under another kind and another length, for number 1
@@ -163,7 +163,7 @@ abbrev kind : ℕ → ℕ → List ℕ
 kind k size = size ∷ 0 ∷ k ∷ 0 ∷ 1 ∷ 0 ∷ given-bytes
 
 -- k drives with a record of parameters each
-abbrev attached : ℕ → List ℕ
+abbrev pub attached : ℕ → List ℕ
 attached zero = []
 attached (suc k) = attached k ++ from (2048 * k) ++ attach k
 
@@ -340,6 +340,23 @@ attached-buffers = refl
 pub counted : map (λ (n : ℕ). parametersTo n two-attached) (1 ∷ 2 ∷ 8 ∷ []) ++ map (λ (n : ℕ). parametersTo n both-attached) (1 ∷ 2 ∷ 8 ∷ []) ≡ 0 ∷ 1 ∷ 1 ∷ 1 ∷ 2 ∷ 2 ∷ []
 unfolding parametersTo
 counted = refl
+
+-- ---- where the next record begins (document 02, 2026-03)
+
+-- behind no drive, two drives, two of which the second has parameters, and both: 0, 136, 156, 176; the bytes of a table with no end record
+pub next-places : map nextPlace (emptyTable ∷ two ∷ two-attached ∷ both-attached ∷ []) ≡ 0 ∷ 136 ∷ 156 ∷ 176 ∷ []
+unfolding leBytes recordOf geometryBytes sizeBytes nameBytes recordsOf nextPlace parametersRecord
+next-places = refl
+
+-- a record that is cut off: no byte, three, a drive's but one; not so an unknown kind, a wrong length, a drive's record, nor a byte more
+pub cut : map isUnfinished ([] ∷ (4 ∷ 0 ∷ 9 ∷ []) ∷ take 67 record₁ ∷ (5 ∷ 0 ∷ 9 ∷ 0 ∷ []) ∷ (67 ∷ 0 ∷ 1 ∷ 0 ∷ []) ∷ record₁ ∷ (record₁ ++ (4 ∷ [])) ∷ [])
+    ≡ true ∷ true ∷ true ∷ false ∷ false ∷ false ∷ false ∷ []
+unfolding isUnfinished headerAt headerOf le
+cut = refl
+
+-- the longest record is a drive's, the longest table has eight drives with parameters each
+pub longest : longestRecord ∷ longestTable ∷ [] ≡ 68 ∷ 708 ∷ []
+longest = refl
 
 -- ---- a table that obeys the rules
 

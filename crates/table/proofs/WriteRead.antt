@@ -33,7 +33,7 @@ record Read (t : List ℕ) (at : ℕ) (b : Table) : Type 0 where
   fresh : (i : ℕ) → b .count ≤ i → i < 8 → hasParameters b i ≡ false
 
 -- a record of parameters for the last slot follows its drive's
-attach-records : (b : Table) (i : ℕ) (p : List ℕ) → length p ≡ 14 → length (b .present) ≡ 8 → length (b .parameters) ≡ 112 → i < 8 → hasParameters b i ≡ false
+pub attach-records : (b : Table) (i : ℕ) (p : List ℕ) → length p ≡ 14 → length (b .present) ≡ 8 → length (b .parameters) ≡ 112 → i < 8 → hasParameters b i ≡ false
     → recordsOf (i + 1) (withParameters b i p) ≡ recordsOf (i + 1) b ++ parametersRecord i p
 attach-records b i p given marks bytes h e =
     let d : List ℕ = recordOf (getD (b .drives) i noDrive) in

@@ -92,6 +92,10 @@ lengthOk kind size =
 abbrev pub headerLength : ℕ
 headerLength = 4
 
+-- the longest record that there is, a drive's
+abbrev pub longestRecord : ℕ
+longestRecord = driveLength
+
 -- checks 1, 3, 2, 1 of a record, from the bytes left, its length word and its kind: its refusal, or a whole record of a kind and a length
 unfoldable pub headerOf : ℕ → ℕ → ℕ → Header
 headerOf left size kind =
@@ -104,6 +108,15 @@ headerOf left size kind =
 -- the header at a place: the length word first, the kind two bytes on
 unfoldable pub headerAt : List ℕ → ℕ → Header
 headerAt t at = headerOf (length t - at) (le 2 t at) (le 2 t (at + 2))
+
+-- the header is that of a record that is cut off
+abbrev pub cutHeader : Header → Bool
+cutHeader (Whole kind size) = false
+cutHeader (Bad n) = eqb n cutOff
+
+-- the bytes are an unfinished record (document 02, 2026-03): cut off, and nothing else is wrong with it so far
+unfoldable pub isUnfinished : List ℕ → Bool
+isUnfinished t = cutHeader (headerAt t 0)
 
 -- ---- "The drive table", a drive among those before it: checks 4, 5, 6, 7
 
@@ -283,6 +296,14 @@ bytesOf n b = recordsOf n b ++ endRecord
 -- the drives that a table holds
 abbrev pub drivesOf : Table → List Drive
 drivesOf b = take (b .count) (b .drives)
+
+-- where the next record begins, behind those of its drives' slots
+unfoldable pub nextPlace : Table → ℕ
+nextPlace b = length (recordsOf (length (drivesOf b)) b)
+
+-- the longest table: eight drives with parameters each, and the end record
+abbrev pub longestTable : ℕ
+longestTable = mostDrives * (driveLength + parametersLength) + endLength
 
 -- the table's bytes: the records of its drives' slots, and the end record
 unfoldable pub tableOf : Table → List ℕ

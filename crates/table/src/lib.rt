@@ -10,10 +10,10 @@ ghost use Rattle.drive.specs.Drive.{driveKind, recordOf, fieldsOk, inStore};
 ghost use Rattle.words.specs.Words.{part};
 ghost use Rattle.logic.specs.Logic.{pick, both, allBelow};
 ghost use Rattle.attached.specs.Parameters.{parametersKind};
-ghost use Rattle.table.specs.Table.{isKind, lengthOk, headerAt, overlapsAny, refusal, more, parametersAt, withParameters, endStep, recordStep, stepAt, placeAfter, Advances, begun, zeroDrive, emptyTable, reading, endAnswer, Reads, slotBytes, recordsOf, endRecord, drivesOf, tableOf, writeAnswer, writeOut, writtenNumbers, writeNumbers, soundTo, blankTo, attachedTo, isSound, overlapRuns, overlapsRun, refusalAmong};
+ghost use Rattle.table.specs.Table.{isKind, lengthOk, headerAt, isUnfinished, overlapsAny, refusal, more, parametersAt, withParameters, endStep, recordStep, stepAt, placeAfter, Advances, begun, zeroDrive, emptyTable, reading, endAnswer, Reads, slotBytes, recordsOf, endLength, endRecord, drivesOf, nextPlace, longestTable, tableOf, writeAnswer, writeOut, writtenNumbers, writeNumbers, soundTo, blankTo, attachedTo, isSound, overlapRuns, overlapsRun, refusalAmong};
 
 // Document 01's refusals of a table, in the order of the checks.
-const CUT_OFF: u8 = 1;
+pub const CUT_OFF: u8 = 1;
 
 const UNKNOWN_KIND: u8 = 3;
 
@@ -30,7 +30,7 @@ const OVERLAPPING: u8 = 7;
 // Of a record of kind 4 that does not name the last drive read, or repeats one (document 02, 2026-01).
 const NOT_LAST: u8 = 9;
 
-const BYTE_FOLLOWS: u8 = 8;
+pub const BYTE_FOLLOWS: u8 = 8;
 
 // House number of a write to a buffer shorter than the table.
 pub const SHORT_BUFFER: u8 = 19;
@@ -43,11 +43,17 @@ pub const END_LENGTH: u16 = 4;
 // The length word and the kind.
 const HEADER_LENGTH: usize = 4;
 
+// The longest record that there is, a drive's: all that a reader of fragments keeps of one.
+pub const LONGEST_RECORD: usize = drive::DRIVE_LENGTH as usize;
+
 // Enough records: eight drives with a record of parameters each, and the end record or one more, which is refused.
 const MOST_RECORDS: usize = 17;
 
 // Drives: 0 to 8.
 pub const MOST_DRIVES: usize = 8;
+
+// The longest table: eight drives with a record of parameters each, and the end record.
+pub const LONGEST_TABLE: usize = 708;
 
 // The drives in table order; the first `count` slots are in use. Where a slot has a record of parameters, `present` says so, and its fourteen
 // bytes stand from 14 times the slot's number on, as the record has them; else they are zero.
@@ -155,6 +161,17 @@ fn header_at(t: &[u8], at: usize) -> Header
         return Header::Bad(CUT_OFF);
     }
     Header::Whole(kind, whole)
+}
+
+// The bytes are an unfinished record: cut off, and nothing else is wrong with it so far.
+pub fn is_unfinished(t: &[u8]) -> bool
+    ensures { λ r. ⌜ r ≡ isUnfinished (now (t .entry)) ⌝ }
+{
+    let h = header_at(t, 0);
+    match h {
+        Header::Bad(n) => n == CUT_OFF,
+        Header::Whole(_, _) => false,
+    }
 }
 
 // ---- a drive among those before it
@@ -585,6 +602,13 @@ fn records_length(b: Table, n: usize) -> usize
         i += 1;
     }
     total
+}
+
+// Where the next record begins, behind those of a table's drives.
+pub fn next_place(b: Table) -> usize
+    ensures { λ r. ⌜ (r ≡ nextPlace b) × (r + endLength ≤ longestTable) ⌝ }
+{
+    records_length(b, held(b.count))
 }
 
 // The records of slot i, which has that drive and, where `present` says so, its bytes of all, laid from a place on; the place behind them.

@@ -1,0 +1,3 @@
+pub mod FeedLaws
+pub mod Arrives
+pub mod Vectors

@@ -1,0 +1,301 @@
+-- The reader that is fed by number: document 01's 72 bytes however they are cut, each refusal at the byte that settles it, and what is said once
+-- the end is told.
+-- Assumes nothing.
+use mathlib.Core.Path.{_≡_, refl}
+use mathlib.Core.Bool.{true, false}
+use mathlib.Core.List.{List, [], _∷_, _++_, map}
+use Prim.Native.Nat.{ℕ}
+use lib.ListN.{take, drop, replicate}
+use Rattle.words.specs.Words.{le, leBytes}
+use Rattle.chs.specs.Chs.{inLimits}
+use Rattle.drive.specs.declared.Drive.{Drive}
+use Rattle.drive.specs.Drive.{driveOf, recordOf, geometryBytes, sizeBytes, nameBytes, same, busOk, interfaceOk, geometryFits, fieldsOk, inStore, overlap}
+use Rattle.attached.specs.Parameters.{parametersRecord}
+use Rattle.table.specs.declared.Answer.the-variants.{Accepted as TableAccepted, Refused as TableRefused}
+use Rattle.table.specs.Table.{emptyTable, headerOf, headerAt, isUnfinished, overlapsAny, refusal, parametersRefusal, recordRefusal, withRecord, recordStep, endStep, stepOf, stepAt, readFrom, readTable, recordsOf, nextPlace}
+use Rattle.table.proofs.Vectors.{record₁, end, store, but, from, drives, given-bytes, attach, attached}
+use Rattle.feed.specs.declared.Course.the-variants.{Reading, Closed, Accepted, Refused}
+use Rattle.feed.specs.declared.Feed.{Feed}
+use Rattle.feed.specs.Feed.{nothing, opened, staysOpen, isOver, afterStep, heldByte, byCourse, feedByte, feedAll, feeds, endBy, endFeed, refusedAt, answerBy, answerOf, fedNumbers}
+use Rattle.feed.specs.Arrives.{joined, told as answerTold, soFar}
+
+-- what a reader says: 256 where nothing is settled, 0, or number and place
+abbrev said : Feed → List ℕ
+said f = fedNumbers (answerOf f)
+
+-- what it says after each byte
+abbrev along : Feed → List ℕ → List (List ℕ)
+along f [] = []
+along f (x ∷ l) = said (feedByte f x) ∷ along (feedByte f x) l
+
+-- n times that nothing is settled
+abbrev unsettled : ℕ → List (List ℕ)
+unsettled n = replicate n (256 ∷ [])
+
+-- a reader that was fed those bytes, and one that was told the end after them
+abbrev after : List ℕ → Feed
+after l = feedAll (opened store) l
+
+abbrev told : List ℕ → Feed
+told l = endFeed (after l)
+
+-- bytes in two fragments, cut behind n, and in fragments of one byte
+abbrev cut : List ℕ → ℕ → List (List ℕ)
+cut l n = take n l ∷ drop n l ∷ []
+
+abbrev single : List ℕ → List (List ℕ)
+single l = map (λ (x : ℕ). x ∷ []) l
+
+-- ---- document 01's 72 bytes
+
+-- byte by byte nothing is settled, and then the end is told: 0
+pub bytewise : along (opened store) (record₁ ++ end) ++ (said (endFeed (feeds (opened store) (single (record₁ ++ end)))) ∷ [])
+    ≡ unsettled 72 ++ ((0 ∷ []) ∷ [])
+unfolding le leBytes inLimits driveOf same busOk interfaceOk geometryFits fieldsOk inStore overlap headerOf headerAt overlapsAny refusal parametersRefusal recordRefusal withRecord recordStep endStep stepOf stepAt recordOf geometryBytes sizeBytes nameBytes parametersRecord recordsOf nextPlace refusedAt opened afterStep heldByte byCourse feedByte feedAll answerBy answerOf fedNumbers feeds endBy endFeed
+bytewise = refl
+
+-- cut in two, behind 0, 1, 3, 4, 5, 67, 68, 69, 71 and 72 bytes: nothing is settled
+pub in-two : map (λ (n : ℕ). said (feeds (opened store) (cut (record₁ ++ end) n))) (0 ∷ 1 ∷ 3 ∷ 4 ∷ 5 ∷ 67 ∷ 68 ∷ 69 ∷ 71 ∷ 72 ∷ [])
+    ≡ unsettled 10
+unfolding le leBytes inLimits driveOf same busOk interfaceOk geometryFits fieldsOk inStore overlap headerOf headerAt overlapsAny refusal parametersRefusal recordRefusal withRecord recordStep endStep stepOf stepAt recordOf geometryBytes sizeBytes nameBytes parametersRecord recordsOf nextPlace refusedAt opened afterStep heldByte byCourse feedByte feedAll answerBy answerOf fedNumbers feeds
+in-two = refl
+
+-- and then the end is told: 0
+pub in-two-told : map (λ (n : ℕ). said (endFeed (feeds (opened store) (cut (record₁ ++ end) n)))) (0 ∷ 1 ∷ 3 ∷ 4 ∷ 5 ∷ 67 ∷ 68 ∷ 69 ∷ 71 ∷ 72 ∷ [])
+    ≡ replicate 10 (0 ∷ [])
+unfolding le leBytes inLimits driveOf same busOk interfaceOk geometryFits fieldsOk inStore overlap headerOf headerAt overlapsAny refusal parametersRefusal recordRefusal withRecord recordStep endStep stepOf stepAt recordOf geometryBytes sizeBytes nameBytes parametersRecord recordsOf nextPlace refusedAt opened afterStep heldByte byCourse feedByte feedAll answerBy answerOf fedNumbers feeds endBy endFeed
+in-two-told = refl
+
+-- with the drives of the whole
+pub in-two-drives : map (λ (n : ℕ). endFeed (feeds (opened store) (cut (record₁ ++ end) n)) .table) (0 ∷ 1 ∷ 3 ∷ 4 ∷ 5 ∷ 67 ∷ 68 ∷ 69 ∷ 71 ∷ 72 ∷ [])
+    ≡ replicate 10 (readTable (record₁ ++ end) store .table)
+unfolding le leBytes inLimits driveOf same busOk interfaceOk geometryFits fieldsOk inStore overlap headerOf headerAt overlapsAny refusal parametersRefusal recordRefusal withRecord recordStep endStep stepOf stepAt readFrom readTable opened afterStep heldByte byCourse feedByte feedAll feeds endBy endFeed
+in-two-drives = refl
+
+-- the end told early: after 0, 1, 3, 4, 5 and 67 bytes 1 at 0; after 68, which are a drive and no end record, 69 and 71 bytes 1 at 68; after 72 bytes 0
+pub ends : map (λ (n : ℕ). said (told (take n (record₁ ++ end)))) (0 ∷ 1 ∷ 3 ∷ 4 ∷ 5 ∷ 67 ∷ 68 ∷ 69 ∷ 71 ∷ 72 ∷ [])
+    ≡ replicate 6 (1 ∷ 0 ∷ []) ++ replicate 3 (1 ∷ 68 ∷ []) ++ ((0 ∷ []) ∷ [])
+unfolding le leBytes inLimits driveOf same busOk interfaceOk geometryFits fieldsOk inStore overlap headerOf headerAt overlapsAny refusal parametersRefusal recordRefusal withRecord recordStep endStep stepOf stepAt recordOf geometryBytes sizeBytes nameBytes parametersRecord recordsOf nextPlace refusedAt opened afterStep heldByte byCourse feedByte feedAll answerBy answerOf fedNumbers endBy endFeed
+ends = refl
+
+-- the bytes held after as many: of an unfinished record only
+pub keeps : map (λ (n : ℕ). after (take n (record₁ ++ end)) .filled) (0 ∷ 1 ∷ 3 ∷ 4 ∷ 5 ∷ 67 ∷ 68 ∷ 69 ∷ 71 ∷ 72 ∷ [])
+    ≡ 0 ∷ 1 ∷ 3 ∷ 4 ∷ 5 ∷ 67 ∷ 0 ∷ 1 ∷ 3 ∷ 0 ∷ []
+unfolding le leBytes inLimits driveOf same busOk interfaceOk geometryFits fieldsOk inStore overlap headerOf headerAt overlapsAny refusal parametersRefusal recordRefusal withRecord recordStep endStep stepOf stepAt opened afterStep heldByte byCourse feedByte feedAll
+keeps = refl
+
+-- ---- each refusal at the byte that settles it, after a drive of 68 bytes
+
+-- 3 at the header's fourth byte, and not at the third, though that says a kind that there is not
+--   kind 2: 3 at 68
+--   kind 9, of a wrong length too: 3 at 68
+--   kind 257: 3 at 68
+pub header-three : along (after record₁) (4 ∷ 0 ∷ 2 ∷ 0 ∷ []) ++ along (after record₁) (5 ∷ 0 ∷ 9 ∷ 0 ∷ []) ++ along (after record₁) (68 ∷ 0 ∷ 1 ∷ 1 ∷ [])
+    ≡ unsettled 3 ++ ((3 ∷ 68 ∷ []) ∷ []) ++ (unsettled 3 ++ ((3 ∷ 68 ∷ []) ∷ [])) ++ (unsettled 3 ++ ((3 ∷ 68 ∷ []) ∷ []))
+unfolding le leBytes inLimits driveOf same busOk interfaceOk geometryFits fieldsOk inStore overlap headerOf headerAt overlapsAny refusal parametersRefusal recordRefusal withRecord recordStep endStep stepOf stepAt recordOf geometryBytes sizeBytes nameBytes parametersRecord recordsOf nextPlace refusedAt opened afterStep heldByte byCourse feedByte feedAll answerBy answerOf fedNumbers
+header-three = refl
+
+-- 2 there as well: it waits for no byte of the record
+--   a drive of length 67: 2 at 68
+--   an end record of length 5: 2 at 68
+--   parameters of length 276: 2 at 68
+pub header-two : along (after record₁) (67 ∷ 0 ∷ 1 ∷ 0 ∷ []) ++ along (after record₁) (5 ∷ 0 ∷ 0 ∷ 0 ∷ []) ++ along (after record₁) (20 ∷ 1 ∷ 4 ∷ 0 ∷ [])
+    ≡ unsettled 3 ++ ((2 ∷ 68 ∷ []) ∷ []) ++ (unsettled 3 ++ ((2 ∷ 68 ∷ []) ∷ [])) ++ (unsettled 3 ++ ((2 ∷ 68 ∷ []) ∷ []))
+unfolding le leBytes inLimits driveOf same busOk interfaceOk geometryFits fieldsOk inStore overlap headerOf headerAt overlapsAny refusal parametersRefusal recordRefusal withRecord recordStep endStep stepOf stepAt recordOf geometryBytes sizeBytes nameBytes parametersRecord recordsOf nextPlace refusedAt opened afterStep heldByte byCourse feedByte feedAll answerBy answerOf fedNumbers
+header-two = refl
+
+-- 4 at the last byte of a ninth drive, though no ninth one is good: 4 at 544
+pub ninth : along (after (drives 8)) record₁
+    ≡ unsettled 67 ++ ((4 ∷ 544 ∷ []) ∷ [])
+unfolding le leBytes inLimits driveOf same busOk interfaceOk geometryFits fieldsOk inStore overlap headerOf headerAt overlapsAny refusal parametersRefusal recordRefusal withRecord recordStep endStep stepOf stepAt recordOf geometryBytes sizeBytes nameBytes parametersRecord recordsOf nextPlace refusedAt opened afterStep heldByte byCourse feedByte feedAll answerBy answerOf fedNumbers
+ninth = refl
+
+-- 5 at the record's last byte, though protection 2 is its byte 39: 5 at 68
+pub field : along (after record₁) (but 39 (2 ∷ []))
+    ≡ unsettled 67 ++ ((5 ∷ 68 ∷ []) ∷ [])
+unfolding le leBytes inLimits driveOf same busOk interfaceOk geometryFits fieldsOk inStore overlap headerOf headerAt overlapsAny refusal parametersRefusal recordRefusal withRecord recordStep endStep stepOf stepAt recordOf geometryBytes sizeBytes nameBytes parametersRecord recordsOf nextPlace refusedAt opened afterStep heldByte byCourse feedByte feedAll answerBy answerOf fedNumbers
+field = refl
+
+-- 6 at the last byte, past the store by one block: 6 at 68
+pub past : along (after record₁) (from 4294965249)
+    ≡ unsettled 67 ++ ((6 ∷ 68 ∷ []) ∷ [])
+unfolding le leBytes inLimits driveOf same busOk interfaceOk geometryFits fieldsOk inStore overlap headerOf headerAt overlapsAny refusal parametersRefusal recordRefusal withRecord recordStep endStep stepOf stepAt recordOf geometryBytes sizeBytes nameBytes parametersRecord recordsOf nextPlace refusedAt opened afterStep heldByte byCourse feedByte feedAll answerBy answerOf fedNumbers
+past = refl
+
+-- 7 at the last byte, the same drive again: 7 at 68
+pub overlaps : along (after record₁) record₁
+    ≡ unsettled 67 ++ ((7 ∷ 68 ∷ []) ∷ [])
+unfolding le leBytes inLimits driveOf same busOk interfaceOk geometryFits fieldsOk inStore overlap headerOf headerAt overlapsAny refusal parametersRefusal recordRefusal withRecord recordStep endStep stepOf stepAt recordOf geometryBytes sizeBytes nameBytes parametersRecord recordsOf nextPlace refusedAt opened afterStep heldByte byCourse feedByte feedAll answerBy answerOf fedNumbers
+overlaps = refl
+
+-- 9 at the last byte of a record of parameters
+--   for a later drive: 9 at 68
+--   repeated: 9 at 88
+pub names : along (after record₁) (attach 1) ++ along (after record₁) (attach 0 ++ attach 0)
+    ≡ unsettled 19 ++ ((9 ∷ 68 ∷ []) ∷ []) ++ (unsettled 39 ++ ((9 ∷ 88 ∷ []) ∷ []))
+unfolding le leBytes inLimits driveOf same busOk interfaceOk geometryFits fieldsOk inStore overlap headerOf headerAt overlapsAny refusal parametersRefusal recordRefusal withRecord recordStep endStep stepOf stepAt recordOf geometryBytes sizeBytes nameBytes parametersRecord recordsOf nextPlace refusedAt opened afterStep heldByte byCourse feedByte feedAll answerBy answerOf fedNumbers
+names = refl
+
+-- 8 at the first byte behind the end record, and not at the end record
+--   after a drive: 8 at 72
+--   after no drive: 8 at 4
+pub byte-follows : along (after record₁) (end ++ (0 ∷ [])) ++ along (opened store) (end ++ (4 ∷ []))
+    ≡ unsettled 4 ++ ((8 ∷ 72 ∷ []) ∷ []) ++ (unsettled 4 ++ ((8 ∷ 4 ∷ []) ∷ []))
+unfolding le leBytes inLimits driveOf same busOk interfaceOk geometryFits fieldsOk inStore overlap headerOf headerAt overlapsAny refusal parametersRefusal recordRefusal withRecord recordStep endStep stepOf stepAt recordOf geometryBytes sizeBytes nameBytes parametersRecord recordsOf nextPlace refusedAt opened afterStep heldByte byCourse feedByte feedAll answerBy answerOf fedNumbers
+byte-follows = refl
+
+-- 1 once the end is told, and not before
+--   no byte: 1 at 0
+--   three bytes: 1 at 0
+--   a drive and no end record: 1 at 68
+--   three bytes after it, and 67: 1 at 68
+--   parameters after it and no end record: 1 at 88
+pub cut-off : map (λ (l : List ℕ). said (after l)) ([] ∷ take 3 record₁ ∷ record₁ ∷ (record₁ ++ (4 ∷ 0 ∷ 9 ∷ [])) ∷ (record₁ ++ take 67 record₁) ∷ (record₁ ++ attach 0) ∷ [])
+    ++ map (λ (l : List ℕ). said (told l)) ([] ∷ take 3 record₁ ∷ record₁ ∷ (record₁ ++ (4 ∷ 0 ∷ 9 ∷ [])) ∷ (record₁ ++ take 67 record₁) ∷ (record₁ ++ attach 0) ∷ [])
+    ≡ unsettled 6 ++ ((1 ∷ 0 ∷ []) ∷ (1 ∷ 0 ∷ []) ∷ (1 ∷ 68 ∷ []) ∷ (1 ∷ 68 ∷ []) ∷ (1 ∷ 68 ∷ []) ∷ (1 ∷ 88 ∷ []) ∷ [])
+unfolding le leBytes inLimits driveOf same busOk interfaceOk geometryFits fieldsOk inStore overlap headerOf headerAt overlapsAny refusal parametersRefusal recordRefusal withRecord recordStep endStep stepOf stepAt recordOf geometryBytes sizeBytes nameBytes parametersRecord recordsOf nextPlace refusedAt opened afterStep heldByte byCourse feedByte feedAll answerBy answerOf fedNumbers endBy endFeed
+cut-off = refl
+
+-- eight drives with parameters each, 704 bytes, and 67 more: nothing is settled; with the next byte, the 772nd: 4 at 704
+pub longest : along (after (attached 8)) record₁
+    ≡ unsettled 67 ++ ((4 ∷ 704 ∷ []) ∷ [])
+unfolding le leBytes inLimits driveOf same busOk interfaceOk geometryFits fieldsOk inStore overlap headerOf headerAt overlapsAny refusal parametersRefusal recordRefusal withRecord recordStep endStep stepOf stepAt recordOf geometryBytes sizeBytes nameBytes parametersRecord recordsOf nextPlace refusedAt opened afterStep heldByte byCourse feedByte feedAll answerBy answerOf fedNumbers
+longest = refl
+
+-- ---- fragments
+
+-- empty ones change nothing
+--   none, and only empty ones: 1 at 0 once the end is told
+--   between the others: 0 once the end is told
+--   behind the end record: no byte follows
+pub empty : map (λ (fs : List (List ℕ)). said (feeds (opened store) fs)) ([] ∷ ([] ∷ [] ∷ []) ∷ ([] ∷ record₁ ∷ [] ∷ [] ∷ take 2 end ∷ [] ∷ drop 2 end ∷ []) ∷ (record₁ ∷ end ∷ [] ∷ []) ∷ [])
+    ++ map (λ (fs : List (List ℕ)). said (endFeed (feeds (opened store) fs))) ([] ∷ ([] ∷ [] ∷ []) ∷ ([] ∷ record₁ ∷ [] ∷ [] ∷ take 2 end ∷ [] ∷ drop 2 end ∷ []) ∷ (record₁ ∷ end ∷ [] ∷ []) ∷ [])
+    ≡ unsettled 4 ++ ((1 ∷ 0 ∷ []) ∷ (1 ∷ 0 ∷ []) ∷ (0 ∷ []) ∷ (0 ∷ []) ∷ [])
+unfolding le leBytes inLimits driveOf same busOk interfaceOk geometryFits fieldsOk inStore overlap headerOf headerAt overlapsAny refusal parametersRefusal recordRefusal withRecord recordStep endStep stepOf stepAt recordOf geometryBytes sizeBytes nameBytes parametersRecord recordsOf nextPlace refusedAt opened afterStep heldByte byCourse feedByte feedAll answerBy answerOf fedNumbers feeds endBy endFeed
+empty = refl
+
+-- the end of a drive's record, its parameters, a drive with parameters and half an end record in one fragment
+abbrev several : List (List ℕ)
+several = take 10 record₁ ∷ (drop 10 record₁ ++ attach 0 ++ from 2048 ++ attach 1 ++ take 2 end) ∷ drop 2 end ∷ []
+
+-- nothing is settled; 0 once the end is told; 8 at 180 with a byte more
+pub several-said : said (feeds (opened store) several) ∷ said (endFeed (feeds (opened store) several)) ∷ said (feedAll (feeds (opened store) several) (0 ∷ [])) ∷ []
+    ≡ (256 ∷ []) ∷ (0 ∷ []) ∷ (8 ∷ 180 ∷ []) ∷ []
+unfolding le leBytes inLimits driveOf same busOk interfaceOk geometryFits fieldsOk inStore overlap headerOf headerAt overlapsAny refusal parametersRefusal recordRefusal withRecord recordStep endStep stepOf stepAt recordOf geometryBytes sizeBytes nameBytes parametersRecord recordsOf nextPlace refusedAt opened afterStep heldByte byCourse feedByte feedAll answerBy answerOf fedNumbers feeds endBy endFeed
+several-said = refl
+
+-- two drives, the second from block 2048 on, each with its parameters
+pub several-drives : map (λ (d : Drive). d .first) (feeds (opened store) several .table .drives)
+    ≡ 0 ∷ 2048 ∷ replicate 6 0
+unfolding le leBytes inLimits driveOf same busOk interfaceOk geometryFits fieldsOk inStore overlap headerOf headerAt overlapsAny refusal parametersRefusal recordRefusal withRecord recordStep endStep stepOf stepAt opened afterStep heldByte byCourse feedByte feedAll feeds
+several-drives = refl
+
+pub several-marks : feeds (opened store) several .table .present
+    ≡ true ∷ true ∷ replicate 6 false
+unfolding le leBytes inLimits driveOf same busOk interfaceOk geometryFits fieldsOk inStore overlap headerOf headerAt overlapsAny refusal parametersRefusal recordRefusal withRecord recordStep endStep stepOf stepAt opened afterStep heldByte byCourse feedByte feedAll feeds
+several-marks = refl
+
+pub several-parameters : feeds (opened store) several .table .parameters
+    ≡ given-bytes ++ given-bytes ++ replicate 84 0
+unfolding le leBytes inLimits driveOf same busOk interfaceOk geometryFits fieldsOk inStore overlap headerOf headerAt overlapsAny refusal parametersRefusal recordRefusal withRecord recordStep endStep stepOf stepAt opened afterStep heldByte byCourse feedByte feedAll feeds
+several-parameters = refl
+
+-- ---- what stays
+
+-- after a refusal: bytes, whole records and the end are ignored
+--   2 at 68, each byte behind it: 2 at 68
+--   and the end: 2 at 68
+--   8 at 72, a byte more and the end: 8 at 72
+--   7 at 68, and the end record: 7 at 68
+pub refused-stays : along (after (record₁ ++ (67 ∷ 0 ∷ 1 ∷ 0 ∷ []))) (end ++ take 4 record₁) ++ map said (told (record₁ ++ (67 ∷ 0 ∷ 1 ∷ 0 ∷ [])) ∷ after (record₁ ++ end ++ (0 ∷ 1 ∷ [])) ∷ told (record₁ ++ end ++ (0 ∷ 1 ∷ [])) ∷ told (record₁ ++ record₁ ++ end) ∷ [])
+    ≡ replicate 8 (2 ∷ 68 ∷ []) ++ ((2 ∷ 68 ∷ []) ∷ (8 ∷ 72 ∷ []) ∷ (8 ∷ 72 ∷ []) ∷ (7 ∷ 68 ∷ []) ∷ [])
+unfolding le leBytes inLimits driveOf same busOk interfaceOk geometryFits fieldsOk inStore overlap headerOf headerAt overlapsAny refusal parametersRefusal recordRefusal withRecord recordStep endStep stepOf stepAt recordOf geometryBytes sizeBytes nameBytes parametersRecord recordsOf nextPlace refusedAt opened afterStep heldByte byCourse feedByte feedAll answerBy answerOf fedNumbers endBy endFeed
+refused-stays = refl
+
+-- after the end was told
+--   accepted, and a byte: 0
+--   accepted, and the end again: 0
+--   1 at 0, and an end record: 1 at 0
+--   1 at 68, and the end record that was missing: 1 at 68
+--   1 at 68, and the end again: 1 at 68
+pub told-stays : map said (feedAll (told (record₁ ++ end)) (0 ∷ []) ∷ endFeed (told (record₁ ++ end)) ∷ feedAll (told []) end ∷ feedAll (told record₁) end ∷ endFeed (told record₁) ∷ [])
+    ≡ (0 ∷ []) ∷ (0 ∷ []) ∷ (1 ∷ 0 ∷ []) ∷ (1 ∷ 68 ∷ []) ∷ (1 ∷ 68 ∷ []) ∷ []
+unfolding le leBytes inLimits driveOf same busOk interfaceOk geometryFits fieldsOk inStore overlap headerOf headerAt overlapsAny refusal parametersRefusal recordRefusal withRecord recordStep endStep stepOf stepAt recordOf geometryBytes sizeBytes nameBytes parametersRecord recordsOf nextPlace refusedAt opened afterStep heldByte byCourse feedByte feedAll answerBy answerOf fedNumbers endBy endFeed
+told-stays = refl
+
+-- the drives so far: none after 67 bytes, one after 68, one at a refusal of the second, two
+pub counted : map (λ (l : List ℕ). after l .table .count) (take 67 record₁ ∷ record₁ ∷ (record₁ ++ record₁) ∷ (record₁ ++ from 2048) ∷ [])
+    ≡ 0 ∷ 1 ∷ 1 ∷ 2 ∷ []
+unfolding le leBytes inLimits driveOf same busOk interfaceOk geometryFits fieldsOk inStore overlap headerOf headerAt overlapsAny refusal parametersRefusal recordRefusal withRecord recordStep endStep stepOf stepAt opened afterStep heldByte byCourse feedByte feedAll
+counted = refl
+
+-- ---- what a reader keeps
+
+-- opened; five bytes; a drive; a drive and three bytes; cut in two within the second record; closed; refused with 3, and bytes after it; refused
+-- with 8; accepted, and bytes after it; refused with 1
+abbrev points : List Feed
+points = opened store ∷ after (take 5 record₁) ∷ after record₁ ∷ after (record₁ ++ take 3 end) ∷ feeds (opened store) (cut (record₁ ++ take 3 end) 70) ∷ after (record₁ ++ end) ∷ after (record₁ ++ (4 ∷ 0 ∷ 2 ∷ 0 ∷ 7 ∷ 7 ∷ [])) ∷ after (record₁ ++ end ++ (7 ∷ [])) ∷ feedAll (told (record₁ ++ end)) (7 ∷ 7 ∷ []) ∷ told (record₁ ++ take 3 end) ∷ []
+
+-- how many bytes are held: those of an unfinished record, while nothing is settled
+pub points-filled : map (λ (f : Feed). f .filled) points
+    ≡ 0 ∷ 5 ∷ 0 ∷ 3 ∷ 3 ∷ 0 ∷ 0 ∷ 0 ∷ 0 ∷ 0 ∷ []
+unfolding le leBytes inLimits driveOf same busOk interfaceOk geometryFits fieldsOk inStore overlap headerOf headerAt overlapsAny refusal parametersRefusal recordRefusal withRecord recordStep endStep stepOf stepAt opened afterStep heldByte byCourse feedByte feedAll feeds endBy endFeed
+points-filled = refl
+
+-- and which: zeros behind them, and of a record that was taken no byte
+pub points-held : map (λ (f : Feed). f .held) points
+    ≡ replicate 68 0 ∷ (68 ∷ 0 ∷ 1 ∷ 0 ∷ 2 ∷ replicate 63 0) ∷ replicate 68 0 ∷ (4 ∷ replicate 67 0) ∷ (4 ∷ replicate 67 0) ∷ replicate 5 (replicate 68 0)
+unfolding le leBytes inLimits driveOf same busOk interfaceOk geometryFits fieldsOk inStore overlap headerOf headerAt overlapsAny refusal parametersRefusal recordRefusal withRecord recordStep endStep stepOf stepAt opened afterStep heldByte byCourse feedByte feedAll feeds endBy endFeed
+points-held = refl
+
+-- the store's number of blocks stays
+pub points-store : map (λ (f : Feed). f .store) points
+    ≡ replicate 10 4294967296
+unfolding le leBytes inLimits driveOf same busOk interfaceOk geometryFits fieldsOk inStore overlap headerOf headerAt overlapsAny refusal parametersRefusal recordRefusal withRecord recordStep endStep stepOf stepAt opened afterStep heldByte byCourse feedByte feedAll feeds endBy endFeed
+points-store = refl
+
+-- a reader that no bytes lead to, whose record is whole and not taken
+abbrev full : Feed
+full = record { table = emptyTable; store = store; held = replicate 68 7; filled = 68; course = Reading }
+
+-- a byte more: it stays, and nothing is said
+pub full-stays : said (feedByte full 9) ∷ (feedByte full 9 .filled ∷ []) ∷ feedByte full 9 .held ∷ []
+    ≡ (256 ∷ []) ∷ (68 ∷ []) ∷ replicate 68 7 ∷ []
+unfolding le leBytes inLimits driveOf same busOk interfaceOk geometryFits fieldsOk inStore overlap headerOf headerAt overlapsAny refusal parametersRefusal recordRefusal withRecord recordStep endStep stepOf stepAt recordOf geometryBytes sizeBytes nameBytes parametersRecord recordsOf nextPlace refusedAt opened afterStep heldByte byCourse feedByte feedAll answerBy answerOf fedNumbers
+full-stays = refl
+
+-- ---- the answers of the whole, as the theorem says them
+
+-- the bytes of fragments, in their order
+pub joins : joined ((1 ∷ 2 ∷ []) ∷ [] ∷ (3 ∷ []) ∷ (4 ∷ 5 ∷ []) ∷ []) ≡ 1 ∷ 2 ∷ 3 ∷ 4 ∷ 5 ∷ []
+unfolding joined
+joins = refl
+
+-- accepted, 1 at 68, 2 at 68, 8 at 72: once the end was told, and before it, where 1 and acceptance are not said
+pub answers : map (λ a. fedNumbers (answerTold a)) (TableAccepted ∷ TableRefused 1 68 ∷ TableRefused 2 68 ∷ TableRefused 8 72 ∷ [])
+    ++ map (λ a. fedNumbers (soFar a)) (TableAccepted ∷ TableRefused 1 68 ∷ TableRefused 2 68 ∷ TableRefused 8 72 ∷ [])
+    ≡ (0 ∷ []) ∷ (1 ∷ 68 ∷ []) ∷ (2 ∷ 68 ∷ []) ∷ (8 ∷ 72 ∷ []) ∷ (256 ∷ []) ∷ (256 ∷ []) ∷ (2 ∷ 68 ∷ []) ∷ (8 ∷ 72 ∷ []) ∷ []
+unfolding fedNumbers
+answers = refl
+
+-- ---- bytes that settle nothing, and bytes that are ignored
+
+-- a byte leaves the record unfinished
+--   the first: true
+--   the fourth of a drive's header: true
+--   the fourth of a header with kind 9, with kind 257 and with length 67: false
+--   the 67th of a drive: true
+--   the 68th: false
+--   past the longest record: false
+--   behind the end record, once accepted, once refused: false
+pub opens : staysOpen Reading nothing 0 68 ∷ staysOpen Reading (68 ∷ 0 ∷ 1 ∷ replicate 65 0) 3 0 ∷ staysOpen Reading (68 ∷ 0 ∷ 9 ∷ replicate 65 0) 3 0
+    ∷ staysOpen Reading (68 ∷ 0 ∷ 1 ∷ replicate 65 0) 3 1 ∷ staysOpen Reading (67 ∷ 0 ∷ 1 ∷ replicate 65 0) 3 0 ∷ staysOpen Reading (take 66 record₁ ++ (0 ∷ 0 ∷ [])) 66 0 ∷ staysOpen Reading (take 67 record₁ ++ (0 ∷ [])) 67 0
+    ∷ staysOpen Reading record₁ 68 0 ∷ staysOpen Closed nothing 0 68 ∷ staysOpen Accepted nothing 0 68 ∷ staysOpen (Refused 3) nothing 0 68 ∷ []
+    ≡ true ∷ true ∷ false ∷ false ∷ false ∷ true ∷ false ∷ false ∷ false ∷ false ∷ false ∷ []
+unfolding staysOpen isUnfinished headerAt headerOf le
+opens = refl
+
+-- bytes are ignored once the end was told or it is refused, and not before
+pub over : map isOver (Reading ∷ Closed ∷ Accepted ∷ Refused 3 ∷ []) ≡ false ∷ false ∷ true ∷ true ∷ []
+unfolding isOver
+over = refl

@@ -1,0 +1,5 @@
+pub mod ReaderLaws
+pub mod Tables
+pub mod Exact
+pub mod Keeps
+pub mod Vectors
