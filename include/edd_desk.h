@@ -34,8 +34,9 @@
  *   nothing either, except that a post stores the waiting request in the desk, and a reader what it was fed.
  *
  *   The caller owns everything. The library keeps no pointer after a call returns, allocates nothing, starts nothing, and
- *   has no variable of its own: no static record, no cache, no errno. A call uses at most EDD_STACK_MAX bytes of stack, which
- *   is tested and not proved.
+ *   has no variable of its own: no static record, no cache, no errno. A call uses at most EDD_STACK_MAX bytes of stack. That
+ *   much is for edd_open and the calls of a reader; the other calls use at most EDD_STACK_DESK_MAX. Both are tested and not
+ *   proved.
  *
  *   What may run at the same time. All calls on one desk, its arena and its store run one at a time, under the host's own
  *   lock, and so do all calls on one reader. Calls with different desks, arenas and stores, or different readers, need no
@@ -44,14 +45,15 @@
  *
  *   What is proved is about the bytes at the beginning and at the end of a call. It holds if nobody else writes, while the
  *   call runs, the desk or reader block, the table, fragment or buffer that is lent, the window of the guest that is
- *   posted, served, withdrawn or placed for, or the blocks that are moved. Of the rest of arena and store a call uses only the lengths: a post, a withdrawal or a
- *   placement touches no window but its guest's; a turn touches no window but that of the guest it serves, whose request
- *   was waiting, and no block but those it moves; no other call touches a block. This is tested with protected pages and
- *   not proved. So a guest that has no request waiting may go on running in its own window, without the lock, while calls
- *   for other guests run.
+ *   posted, served, withdrawn or placed for, or the blocks that are moved. Of the rest of arena and store a call uses only
+ *   the lengths: a post, a withdrawal or a placement touches no window but its guest's; a turn touches no window but that
+ *   of the guest it serves, whose request was waiting, and no block but those it moves; no other call touches a block. This
+ *   is tested with protected pages and not proved. So a guest that has no request waiting may go on running in its own
+ *   window, without the lock, while calls for other guests run.
  *
  *   A guest whose request is waiting leaves its buffer alone until the request has ended, because a turn may be reading or
- *   writing it. It may overwrite its packet, but a withdrawal writes two bytes there.
+ *   writing it. It may overwrite its packet, but two bytes there, the count word, are written by a withdrawal, and by the turn
+ *   that meets a bad block, of a write (43h) as of a read (42h).
  *
  *   What is lent to one call must not overlap: desk, reader, arena, store, table, fragment and buffer must not overlap
  *   each other, nor the places of the results, and no two result or register pointers may be the same. This is the
@@ -63,7 +65,7 @@
  *
  *   The interface may grow by change request. The names of these seventeen calls and the order and types of their
  *   parameters stay; a call that needs more arguments comes under a new name. Everything else can change from one version
- *   to the next: the sizes (EDD_DESK_SIZE, EDD_READER_SIZE, EDD_TABLE_SIZE_MAX, EDD_STACK_MAX), the form of the blocks,
+ *   to the next: the sizes (EDD_DESK_SIZE, EDD_READER_SIZE, EDD_TABLE_SIZE_MAX, EDD_STACK_MAX and so on), the form of the blocks,
  *   the refusals, and what a turn may answer. Compile with the header that came with the library; edd_version() ==
  *   EDD_VERSION says whether you did.
  *
@@ -71,11 +73,11 @@
  * What is proved of every list of calls at one desk after an opening
  *
  *   A request that waits is served in at least one of any eight successive turns that are not refused. So, unless it is
- *   withdrawn, it finishes within 8 * ceil(n / 16) such turns, n being its number of blocks. A turn changes no other
- *   guest's row or window. The registers, window and blocks of a finished request are those of the same request served
- *   alone at the time of its post, whatever the other guests posted, as long as the host leaves that window and the store
- *   alone meanwhile and no other guest writes a block that the request names. What a post answers at once it answers as
- *   served alone too, with the tables where they were placed for that guest at its post.
+ *   withdrawn, it finishes within 8 * ceil(n / 16) such turns, n being its number of blocks; at a bad block it may
+ *   finish earlier. A turn changes no other guest's row or window. The registers, window and blocks of a finished request are
+ *   those of the same request served alone at the time of its post, whatever the other guests posted, as long as the host
+ *   leaves that window and the store alone meanwhile and no other guest writes a block that the request names. What a post
+ *   answers at once it answers as served alone too, with the tables where they were placed for that guest at its post.
  *
  *
  * The drive table
@@ -99,11 +101,24 @@
  *
  *   Each drive lies inside the store, and no two drives share a block.
  *
- *   Directly after its drive a record of length 20 and kind 4 may stand, at most one for each drive. From it the library
- *   makes the drive's device parameter table for a guest to read (edd_place):
+ *   Directly after its drive two further records may stand, one of kind 3 and one of kind 4, in this order; each drive may
+ *   have either, both or none.
+ *
+ *   Kind 3, length 6 + 8 * n, lists n bad blocks of the drive, 1 to 16 of them. Reads and writes stop before a bad block
+ *   (edd_turn), and 44h reports it (edd_post); nothing else looks at the list. A drive without this record has no bad block.
+ *
+ *      4  2 bytes: the drive's number, counted from 0 in table order
+ *      6  8 bytes each: the numbers of the bad blocks, counted from the drive's own block 0 and not from the store's. Each
+ *         is below the drive's number of blocks and above the one before it
+ *
+ *   Kind 4, length 20: from it the library makes the drive's device parameter table for a guest to read (edd_place):
  *
  *      4  2 bytes: the drive's number, counted from 0 in table order
  *      6  14 bytes: bytes 0 to 13 of the device parameter table; any bytes
+ *
+ *   A record of kind 3 is refused with 2 if its length is not that of 1 to 16 numbers; with 9 if it stands before any drive,
+ *   names another than the last drive read, is that drive's second, or stands behind that drive's record of kind 4; then with
+ *   5 if its numbers are not ascending, are repeated, or lie outside the drive.
  *
  *
  * Example: one block of drive 80h to 0000:0200 of guest 2. The result is 0, AH of a BIOS refusal, or -1.
@@ -144,7 +159,7 @@
 #endif
 
 /* The version of this header. Each change request raises it by 1; edd_version() answers that of the library. */
-#define EDD_VERSION 4
+#define EDD_VERSION 5
 
 /* Asks the compiler to warn where the result of a call is ignored. Define it yourself, as nothing, to switch that off. */
 #ifndef EDD_NODISCARD
@@ -165,14 +180,16 @@ extern "C" {
 
 /* ---- sizes */
 
-#define EDD_DESK_SIZE 2704     /* bytes of a desk block; edd_desk_size() answers the same */
-#define EDD_READER_SIZE 816    /* bytes of a reader block; edd_reader_size() answers the same */
-#define EDD_BLOCK_SIZE 512     /* bytes of a block of the store */
-#define EDD_GUESTS 8           /* guests are 0 to 7 */
-#define EDD_DRIVES 8           /* drives of a table, at most */
-#define EDD_TABLE_SIZE_MAX 708 /* bytes of the longest table: eight drives of 68 + 20 and the end record of 4 */
-#define EDD_TURN_BLOCKS 16     /* blocks that one turn moves, at most */
-#define EDD_STACK_MAX 12288    /* bytes of stack that a call uses, at most */
+#define EDD_DESK_SIZE 3792      /* bytes of a desk block; edd_desk_size() answers the same */
+#define EDD_READER_SIZE 1954    /* bytes of a reader block; edd_reader_size() answers the same */
+#define EDD_BLOCK_SIZE 512      /* bytes of a block of the store */
+#define EDD_GUESTS 8            /* guests are 0 to 7 */
+#define EDD_DRIVES 8            /* drives of a table, at most */
+#define EDD_BAD_BLOCKS 16       /* bad blocks of a drive, at most */
+#define EDD_TABLE_SIZE_MAX 1780 /* bytes of the longest table: eight drives of 68 + 134 + 20 and the end record of 4 */
+#define EDD_TURN_BLOCKS 16      /* blocks that one turn moves, at most */
+#define EDD_STACK_MAX 24576     /* bytes of stack that a call uses, at most */
+#define EDD_STACK_DESK_MAX 4096 /* the same of all calls but edd_open and those of a reader */
 
 /* ---- results of every call */
 
@@ -186,14 +203,18 @@ extern "C" {
  * byte too many.
  */
 #define EDD_TABLE_CUT_OFF 1     /* the table stops inside a record or before the end record: lend or feed all of it */
-#define EDD_TABLE_LENGTH 2      /* the record's length is wrong for its kind: it must be 68, 20, or 4 for the end record */
-#define EDD_TABLE_KIND 3        /* unknown kind of record: this library knows drives (1), parameters (4) and the end (0) */
+#define EDD_TABLE_LENGTH 2      /* the record's length is wrong for its kind: it must be 68 for a drive, 6 + 8 n for n bad blocks,
+                                   n from 1 to 16, 20 for parameters, 4 for the end record */
+#define EDD_TABLE_KIND 3        /* unknown kind of record: this library knows drives (1), bad blocks (3), parameters (4) and the
+                                   end (0) */
 #define EDD_TABLE_NINTH_DRIVE 4 /* more than eight drives: use a second desk */
-#define EDD_TABLE_FIELD 5       /* a field of the drive breaks its rule: correct the record */
+#define EDD_TABLE_FIELD 5       /* a field of the drive breaks its rule, or bad blocks are not ascending, repeated or outside the
+                                   drive: correct the record */
 #define EDD_TABLE_STORE 6       /* the drive ends past the store: lend a longer store or correct the record */
 #define EDD_TABLE_OVERLAP 7     /* the drive shares a block with an earlier one: correct its first block */
 #define EDD_TABLE_TRAILING 8    /* a byte follows the end record: lend or feed the table without it */
-#define EDD_TABLE_NOT_LAST 9    /* the record of kind 4 does not name the last drive read, or repeats one: correct the table */
+#define EDD_TABLE_NOT_LAST 9    /* the record of kind 3 or 4 does not name the last drive read or repeats one, or one of kind 3
+                                   stands behind its drive's kind 4: correct the table */
 
 /* House refusals. Where several apply the order is 25, 24, 20, then 19, 21, 22 or 23, then 26. */
 #define EDD_BUFFER_SHORT 19      /* edd_write, edd_reader_write: the buffer is shorter than the table: EDD_TABLE_SIZE_MAX is
@@ -223,7 +244,15 @@ extern "C" {
 #define EDD_AH_NOT_FOUND 0x04       /* blocks outside the drive or its geometry */
 #define EDD_AH_NO_PARAMETERS 0x07   /* 08h on an unknown drive */
 #define EDD_AH_BUFFER 0x09          /* transfer buffer outside the window, or AL above 128 */
+#define EDD_AH_BAD_SECTOR 0x10      /* a read (02h, 42h) or a verify (44h) met a bad block */
 #define EDD_AH_WITHDRAWN 0x80       /* withdrawn by the host */
+#define EDD_AH_WRITE_FAULT 0xCC     /* a write (03h, 43h) met a bad block */
+
+/*
+ * With 10h, CCh and 80h part of the blocks may have been moved, the first ones of the request: AL of 02h and 03h, and the
+ * count word of the packet of 42h and 43h, say how many. The count word of 44h says how many blocks before the bad one are
+ * good. With every other code no block was moved.
+ */
 
 /* ---- the calls */
 
@@ -277,7 +306,8 @@ EDD_NODISCARD uint32_t edd_write(const uint8_t *desk, size_t desk_len, uint8_t *
  *   desk, desk_len         changed only when the request waits
  *   arena, arena_len       the whole arena. Only the guest's window is read. It is written in two cases: a 48h that
  *                          succeeds writes its result, and a 42h, 43h or 44h that is refused with a BIOS number, after the
- *                          size byte of its packet was found good, writes 0 to the packet's count word.
+ *                          size byte of its packet was found good, writes the packet's count word: 0, but for a 44h that
+ *                          meets a bad block the number of good blocks before it.
  *   store, store_len       the whole store. Only the length is looked at.
  *   guest                  0 to 7
  *   ax, bx, cx, dx, carry  read, and written on 0. The value of carry on the way in does not matter.
@@ -292,8 +322,13 @@ EDD_NODISCARD uint32_t edd_write(const uint8_t *desk, size_t desk_len, uint8_t *
  * parameter table. The information flags at offset 2 are those of the drive's record, with bits 4 to 6 (change line,
  * lockable, maximum geometry) as zero where bit 2 (removable) is clear: without it they mean nothing.
  *
+ * 44h tests its blocks at once: if one of them is bad, and all tests of its parameters passed, it is answered with carry 1
+ * and AH 10h, and AL stays. A count of 0 meets none. The bad blocks that a 02h, 03h, 42h or 43h names are not looked at
+ * here: the request waits, and a turn meets them. 47h and 48h do not heed them.
+ *
  * The packet is read here and never again, so from now on the guest may overwrite it. Its place is remembered: a
- * withdrawal writes the count word there. The guest leaves the buffer alone until the request has ended.
+ * withdrawal, or a turn that meets a bad block, writes the count word there. The guest leaves the buffer alone until the
+ * request has ended.
  */
 EDD_NODISCARD uint32_t edd_post(uint8_t *desk, size_t desk_len, uint8_t *arena, size_t arena_len, const uint8_t *store,
                                 size_t store_len, uint64_t guest, uint16_t *ax, uint16_t *bx, uint16_t *cx,
@@ -304,12 +339,21 @@ EDD_NODISCARD uint32_t edd_post(uint8_t *desk, size_t desk_len, uint8_t *arena, 
  * next 16 blocks, or what remains if fewer, in ascending order; then the pointer is the served guest plus 1, modulo 8.
  * When all blocks have been moved the row is finished, and the guest can collect.
  *
- *   desk, desk_len    the served row and the pointer change
- *   arena, arena_len  the whole arena. A read (02h, 42h) writes the blocks into the served guest's window.
- *   store, store_len  the whole store. A write (03h, 43h) writes the blocks.
- *   guest, moved      which guest was served, 0 to 7, and how many blocks were moved, 1 to 16
+ * If one of these blocks is bad, the turn moves the good ones before the first such block, which may be none, and the row is
+ * finished too: the guest collects carry 1 with AH 10h for a read, CCh for a write. A bad block is neither read nor written,
+ * nor is any block behind it. A request whose next bad block lies behind this turn's part goes on as any other.
  *
- * 0         a request was served.
+ *   desk, desk_len    the served row and the pointer change
+ *   arena, arena_len  the whole arena. A read (02h, 42h) writes the blocks into the served guest's window. At a bad block a 42h
+ *                     or 43h also writes two bytes there, the count word where the packet was at the post: how many blocks of
+ *                     the whole request were moved, in this turn and before it. They are written after the data, so they
+ *                     stand on top of it where the buffer covers the packet. A request that moves all its blocks does not
+ *                     write them.
+ *   store, store_len  the whole store. A write (03h, 43h) writes the blocks.
+ *   guest, moved      which guest was served, 0 to 7, and how many blocks this turn moved, 0 to 16. Fewer than 16, and than
+ *                     what remained, means a bad block: the request has ended.
+ *
+ * 0         a request was served, also if no block of it was moved.
  * 256       idle: no row waits. Nothing is written, and the pointer stays where it is.
  * 25, 24    refused, tested in this order. Nothing is written.
  */
@@ -323,7 +367,10 @@ EDD_NODISCARD uint32_t edd_turn(uint8_t *desk, size_t desk_len, uint8_t *arena, 
  *   guest           0 to 7
  *   ax to carry     only written. Carry is 0 or 1.
  *
- * 0           done. A request that was served to its end has the posted registers with carry 0 and AH 0.
+ * 0           done. A request whose blocks were all moved has the posted registers with carry 0 and AH 0. One that met a bad
+ *             block has the posted registers with carry 1 and AH 10h (02h, 42h) or CCh (03h, 43h). How many blocks were moved
+ *             before it, in the whole request: for 02h and 03h AL says it, less than the posted AL and possibly 0; for 42h and
+ *             43h, whose AL stays, the count word of the guest's packet.
  * 25, 20, 22  refused, tested in this order. Nothing is written.
  */
 EDD_NODISCARD uint32_t edd_collect(uint8_t *desk, size_t desk_len, uint64_t guest, uint16_t *ax, uint16_t *bx,

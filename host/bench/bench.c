@@ -54,7 +54,7 @@ static void turn_hot(struct times *t, int batch, enum mover mover, unsigned func
     uint64_t guest = 0, moved = 0;
     const struct service *s = &services[mover == MODEL ? 1 : 0];
 
-    place_open(&p, s, 8, 0, arena, 1 * MIB, store, 1 * MIB);
+    place_open(&p, s, 8, NOTHING, arena, 1 * MIB, store, 1 * MIB);
     struct registers r = place_packet(&p, function, 0, 0, EDD_TURN_BLOCKS, BUFFER, 0);
     expect(place_post(&p, s, 0, &r) == EDD_NOTHING_YET, "the post waits");
     memcpy(ready, p.desk, sizeof ready);
@@ -102,7 +102,7 @@ static void turn_cold(struct times *time, int batch, enum mover mover, unsigned 
         uint64_t start = round % (drive_blocks / WALK_BLOCKS) * WALK_BLOCKS;
         uint64_t guest = 0, moved = 0, total = 0;
 
-        place_open(&p, s, 8, 0, memory, WALK_ARENA, store, LARGE);
+        place_open(&p, s, 8, NOTHING, memory, WALK_ARENA, store, LARGE);
         for (unsigned g = 0; g < EDD_GUESTS; g++) {
             struct registers r = place_packet(&p, function, g, g, WALK_BLOCKS, buffer, start);
             expect(place_post(&p, s, g, &r) == EDD_NOTHING_YET, "the post waits");
@@ -198,7 +198,7 @@ static double whole_request(const struct service *s, unsigned function, unsigned
     uint64_t guest = 0, moved = 0;
     struct registers r;
 
-    place_open(&p, s, 8, 0, arena, 1 * MIB, store, 1 * MIB);
+    place_open(&p, s, 8, NOTHING, arena, 1 * MIB, store, 1 * MIB);
     struct registers packet = place_packet(&p, 0x42, 3, 3, count, BUFFER, 0);
     struct registers chs = { .ax = (uint16_t)(function << 8 | count), .bx = 0, .cx = 1, .dx = 0x83, .es = BUFFER / 16 };
     double begun = nanoseconds();
@@ -244,10 +244,10 @@ static void table_request(void)
     line();
 }
 
-/* ---- 3. to 6. each call by itself */
+/* ---- 3. to 7. each call by itself */
 
 /* In which stage guest 0's row must be before the call. */
-enum stage { VACANT, WAITING, WAITING_ONE, FINISHED, DAMAGED };
+enum stage { VACANT, WAITING, WAITING_ONE, WAITING_BAD, FINISHED, DAMAGED };
 
 struct call {
     const char *name;
@@ -272,6 +272,13 @@ static uint32_t post_48(struct place *p, const struct service *s)
     struct registers r = { .ax = 0x4800, .dx = 0x80, .si = 0x400 };
     p->arena[0x400] = 66;
     p->arena[0x401] = 0;
+    return place_post(p, s, 0, &r);
+}
+
+static uint32_t post_44(struct place *p, const struct service *s)
+{
+    struct registers r = packet_registers;
+    r.ax = 0x4400;
     return place_post(p, s, 0, &r);
 }
 
@@ -379,6 +386,7 @@ static uint32_t address(struct place *p, const struct service *s)
 static const struct call calls[] = {
     { "post 41h, answered at once", VACANT, 0, EDD_DONE, post_41 },
     { "post 48h, answered at once", VACANT, 1, EDD_DONE, post_48 },
+    { "post 44h, 16 blocks at once", VACANT, 1, EDD_DONE, post_44 },
     { "post 42h, 01h at once", VACANT, 0, EDD_DONE, post_unknown },
     { "post 42h, waits", VACANT, 1, EDD_NOTHING_YET, post_42 },
     { "post 02h, waits", VACANT, 1, EDD_NOTHING_YET, post_02 },
@@ -389,6 +397,7 @@ static const struct call calls[] = {
     { "turn, idle", VACANT, 0, EDD_NOTHING_YET, turn },
     { "turn, 1 block", WAITING_ONE, 1, EDD_DONE, turn },
     { "turn, 16 blocks", WAITING, 1, EDD_DONE, turn },
+    { "turn, at a bad block", WAITING_BAD, 1, EDD_DONE, turn },
     { "collect", FINISHED, 1, EDD_DONE, collect },
     { "collect refused, 22", VACANT, 0, EDD_NOT_FINISHED, collect },
     { "withdraw", WAITING, 1, EDD_DONE, withdraw },
@@ -410,14 +419,16 @@ struct setting {
     unsigned drives;
     size_t arena_length, store_length;
     int crowded; /* the rows of guests 1 to 7 wait, each with sixteen blocks */
-    int parameters; /* each drive has a record of kind 4 */
+    unsigned attached; /* what each drive's record has behind it */
     int placed; /* and the tables are placed for all eight guests */
 };
 
-/* With no drive nothing can wait, and while rows wait no turn is idle. */
+/* With no drive nothing can wait, while rows wait no turn is idle, and without a list no block is bad. */
 static int can(const struct call *c, const struct setting *at)
 {
     if (at->crowded && c->make == turn && c->answer == EDD_NOTHING_YET)
+        return 0;
+    if (c->stage == WAITING_BAD && !(at->attached & BAD_BLOCKS))
         return 0;
     return at->drives > 0 || !c->needs_drive;
 }
@@ -426,12 +437,13 @@ static int can(const struct call *c, const struct setting *at)
 static void prepare(struct place *p, const struct service *s, const struct call *c, const struct setting *at)
 {
     uint64_t guest, moved;
-    place_open(p, s, at->drives, at->parameters, arena, at->arena_length, store, at->store_length);
-    open_length = place_table(open_table, at->drives, at->parameters, at->store_length);
+    place_open(p, s, at->drives, at->attached, arena, at->arena_length, store, at->store_length);
+    open_length = place_table(open_table, at->drives, at->attached, at->store_length);
     for (unsigned g = 0; at->placed && g < EDD_GUESTS; g++)
         expect(place_tables(p, s, g, TABLES) == EDD_DONE, "the tables are placed");
-    packet_registers = place_packet(p, 0x42, 0, 0, c->stage == WAITING_ONE ? 1 : EDD_TURN_BLOCKS, BUFFER, 0);
-    if (c->stage == WAITING || c->stage == WAITING_ONE || c->stage == FINISHED) {
+    packet_registers = place_packet(p, 0x42, 0, 0, c->stage == WAITING_ONE ? 1 : EDD_TURN_BLOCKS, BUFFER,
+                                    c->stage == WAITING_BAD ? place_first_bad(p) : 0);
+    if (c->stage == WAITING || c->stage == WAITING_ONE || c->stage == WAITING_BAD || c->stage == FINISHED) {
         struct registers r = packet_registers;
         expect(place_post(p, s, 0, &r) == EDD_NOTHING_YET, "the post waits");
     }
@@ -550,13 +562,13 @@ static struct summary table_calls(const struct setting *settings, unsigned count
     return sum;
 }
 
-/* ---- 7. reading the longest table: as a whole, and as it arrives */
+/* ---- 8. reading the longest table: as a whole, and as it arrives */
 
 /* All of it by edd_open for a piece of 0; else by a reader in pieces of that size, from its opening to the table written out. */
 static double read_longest(const struct service *s, size_t piece)
 {
     static uint8_t desk[EDD_DESK_SIZE], reader[EDD_READER_SIZE], table[EDD_TABLE_SIZE_MAX], out[EDD_TABLE_SIZE_MAX];
-    const size_t length = place_table(table, EDD_DRIVES, 1, 1 * MIB);
+    const size_t length = place_table(table, EDD_DRIVES, BAD_BLOCKS | PARAMETERS, 1 * MIB);
     const unsigned rounds = piece == 0 ? 2000 : piece < 64 ? 10 : 200;
     uint64_t at = 0, written = 0;
     uint32_t wrong = EDD_DONE;
@@ -588,7 +600,7 @@ static void table_reading(void)
         { "reader, pieces of 64 bytes", 64 },
         { "reader, pieces of 1 byte", 1 },
     };
-    printf("7. Reading the longest table, %d bytes: by an opening, and by a reader that is opened, fed, told the end and written out.\n\n",
+    printf("8. Reading the longest table, %d bytes: by an opening, and by a reader that is opened, fed, told the end and written out.\n\n",
            EDD_TABLE_SIZE_MAX);
     printf("   %-28s   library / model      library, ns      model, ns\n", "");
     static struct times times[sizeof readings / sizeof readings[0]][2];
@@ -613,27 +625,31 @@ static void table_reading(void)
 int main(int argc, char **argv)
 {
     static const struct setting drives[] = {
-        { "no drive", 0, 1 * MIB, 1 * MIB, 0, 0, 0 },
-        { "1 drive", 1, 1 * MIB, 1 * MIB, 0, 0, 0 },
-        { "4 drives", 4, 1 * MIB, 1 * MIB, 0, 0, 0 },
-        { "8 drives", 8, 1 * MIB, 1 * MIB, 0, 0, 0 },
+        { "no drive", 0, 1 * MIB, 1 * MIB, 0, NOTHING, 0 },
+        { "1 drive", 1, 1 * MIB, 1 * MIB, 0, NOTHING, 0 },
+        { "4 drives", 4, 1 * MIB, 1 * MIB, 0, NOTHING, 0 },
+        { "8 drives", 8, 1 * MIB, 1 * MIB, 0, NOTHING, 0 },
     };
     static const struct setting sizes[] = {
-        { "1M, 1M", 8, 1 * MIB, 1 * MIB, 0, 0, 0 },
-        { "64M, 1M", 8, 64 * MIB, 1 * MIB, 0, 0, 0 },
-        { "1G, 1M", 8, LARGE, 1 * MIB, 0, 0, 0 },
+        { "1M, 1M", 8, 1 * MIB, 1 * MIB, 0, NOTHING, 0 },
+        { "64M, 1M", 8, 64 * MIB, 1 * MIB, 0, NOTHING, 0 },
+        { "1G, 1M", 8, LARGE, 1 * MIB, 0, NOTHING, 0 },
         { "1M, 64M", 8, 1 * MIB, 64 * MIB, 0, 0, 0 },
-        { "1M, 1G", 8, 1 * MIB, LARGE, 0, 0, 0 },
-        { "1G, 1G", 8, LARGE, LARGE, 0, 0, 0 },
+        { "1M, 1G", 8, 1 * MIB, LARGE, 0, NOTHING, 0 },
+        { "1G, 1G", 8, LARGE, LARGE, 0, NOTHING, 0 },
     };
     static const struct setting rows[] = {
-        { "0 waiting", 8, 1 * MIB, 1 * MIB, 0, 0, 0 },
-        { "7 waiting", 8, 1 * MIB, 1 * MIB, 1, 0, 0 },
+        { "0 waiting", 8, 1 * MIB, 1 * MIB, 0, NOTHING, 0 },
+        { "7 waiting", 8, 1 * MIB, 1 * MIB, 1, NOTHING, 0 },
     };
     static const struct setting tables[] = {
-        { "no record", 8, 1 * MIB, 1 * MIB, 0, 0, 0 },
-        { "8 records", 8, 1 * MIB, 1 * MIB, 0, 1, 0 },
-        { "placed", 8, 1 * MIB, 1 * MIB, 0, 1, 1 },
+        { "no record", 8, 1 * MIB, 1 * MIB, 0, NOTHING, 0 },
+        { "8 records", 8, 1 * MIB, 1 * MIB, 0, PARAMETERS, 0 },
+        { "placed", 8, 1 * MIB, 1 * MIB, 0, PARAMETERS, 1 },
+    };
+    static const struct setting lists[] = {
+        { "no list", 8, 1 * MIB, 1 * MIB, 0, NOTHING, 0 },
+        { "8 full lists", 8, 1 * MIB, 1 * MIB, 0, BAD_BLOCKS, 0 },
     };
     if (argc < 2 || argc > 3) {
         fprintf(stderr, "usage: bench LIBRARY.so [MODEL.so]\n");
@@ -669,21 +685,26 @@ int main(int argc, char **argv)
     printf("6. Each call, by the parameter tables, 8 drives; ns. Other rows vacant; placed: 8 records, placed for all guests. The model with\n"
            "   all placed.\n\n");
     struct summary by_tables = table_calls(tables, 3);
+    printf("7. Each call, by the lists of bad blocks, 8 drives; ns. Other rows vacant; a full list has 16 numbers, which lie behind all blocks\n"
+           "   that the calls name, but for the turn at a bad block. The model with full lists.\n\n");
+    struct summary by_lists = table_calls(lists, 2);
     table_reading();
 
     printf("Aims\n");
     printf("   a call below %.0f ns: the slowest takes %.0f (%s), with seven other rows waiting %.0f (%s), with parameter tables %.0f"
-           " (%s): %s\n", BELOW, by_drives.most, by_drives.slowest, by_rows.most, by_rows.slowest, by_tables.most, by_tables.slowest,
-           by_drives.most < BELOW && by_rows.most < BELOW && by_tables.most < BELOW ? "met" : "NOT met");
+           " (%s), with full lists %.0f (%s): %s\n", BELOW, by_drives.most, by_drives.slowest, by_rows.most, by_rows.slowest,
+           by_tables.most, by_tables.slowest, by_lists.most, by_lists.slowest,
+           by_drives.most < BELOW && by_rows.most < BELOW && by_tables.most < BELOW && by_lists.most < BELOW ? "met" : "NOT met");
     printf("   a turn of 16 blocks not in cache, at most %.1f times memcpy: read %.2f, write %.2f: %s\n", MEMCPY_TIMES, to_memcpy[0],
            to_memcpy[1], to_memcpy[0] <= MEMCPY_TIMES && to_memcpy[1] <= MEMCPY_TIMES ? "met" : "NOT met");
     if (service_count == 2) {
         printf("   and at most %.2f times the model: read %.2f, write %.2f: %s\n", MODEL_TURN, to_model[0], to_model[1],
                to_model[0] <= MODEL_TURN && to_model[1] <= MODEL_TURN ? "met" : "NOT met");
         printf("   a call that moves no blocks, at most %.1f times the model: the dearest %.2f (%s), with seven other rows waiting"
-               " %.2f (%s), with parameter tables %.2f (%s): %s\n", MODEL_CALL, by_drives.dearest, by_drives.dear, by_rows.dearest,
-               by_rows.dear, by_tables.dearest, by_tables.dear,
-               by_drives.dearest <= MODEL_CALL && by_rows.dearest <= MODEL_CALL && by_tables.dearest <= MODEL_CALL ? "met" : "NOT met");
+               " %.2f (%s), with parameter tables %.2f (%s), with full lists %.2f (%s): %s\n", MODEL_CALL, by_drives.dearest,
+               by_drives.dear, by_rows.dearest, by_rows.dear, by_tables.dearest, by_tables.dear, by_lists.dearest, by_lists.dear,
+               by_drives.dearest <= MODEL_CALL && by_rows.dearest <= MODEL_CALL && by_tables.dearest <= MODEL_CALL &&
+               by_lists.dearest <= MODEL_CALL ? "met" : "NOT met");
         printf("   an opening of 8 drives, at most %.1f times the model: %.2f: %s\n", MODEL_OPEN, by_drives.opening,
                by_drives.opening <= MODEL_OPEN ? "met" : "NOT met");
     }

@@ -18,7 +18,7 @@ static void put_word(uint8_t *at, unsigned bytes, uint64_t value)
         at[i] = (uint8_t)(value >> (8 * i));
 }
 
-size_t place_table(uint8_t table[EDD_TABLE_SIZE_MAX], unsigned drives, int parameters, size_t store_length)
+size_t place_table(uint8_t table[EDD_TABLE_SIZE_MAX], unsigned drives, unsigned attached, size_t store_length)
 {
     uint64_t blocks = store_length / EDD_BLOCK_SIZE / EDD_DRIVES;
     uint8_t *at = table;
@@ -33,7 +33,15 @@ size_t place_table(uint8_t table[EDD_TABLE_SIZE_MAX], unsigned drives, int param
         at[38] = 32;
         memcpy(at + 40, "PCI", 3);
         memcpy(at + 44, "ATA", 3);
-        if (parameters) {
+        if (attached & BAD_BLOCKS) {
+            put_word(at + 68, 2, 6 + 8 * EDD_BAD_BLOCKS);
+            put_word(at + 70, 2, 3);
+            put_word(at + 72, 2, i);
+            for (unsigned j = 0; j < EDD_BAD_BLOCKS; j++)
+                put_word(at + 74 + 8 * j, 8, blocks - EDD_BAD_BLOCKS + j);
+            at += 6 + 8 * EDD_BAD_BLOCKS;
+        }
+        if (attached & PARAMETERS) {
             put_word(at + 68, 2, 20);
             put_word(at + 70, 2, 4);
             put_word(at + 72, 2, i);
@@ -45,11 +53,11 @@ size_t place_table(uint8_t table[EDD_TABLE_SIZE_MAX], unsigned drives, int param
     return (size_t)(at - table) + 4;
 }
 
-void place_open(struct place *p, const struct service *s, unsigned drives, int parameters, uint8_t *arena, size_t arena_length,
+void place_open(struct place *p, const struct service *s, unsigned drives, unsigned attached, uint8_t *arena, size_t arena_length,
                 uint8_t *store, size_t store_length)
 {
     uint8_t table[EDD_TABLE_SIZE_MAX];
-    size_t length = place_table(table, drives, parameters, store_length);
+    size_t length = place_table(table, drives, attached, store_length);
     uint64_t at = 0;
     p->arena = arena;
     p->arena_length = arena_length;

@@ -17,12 +17,21 @@ struct registers {
     uint16_t ax, bx, cx, dx, ds, si, es, carry;
 };
 
-/* The table of so many drives, each an eighth of the store, with records of kind 4 or without. Returns its length. */
-size_t place_table(uint8_t table[EDD_TABLE_SIZE_MAX], unsigned drives, int parameters, size_t store_length);
+/* What the drives' records have behind them: either or both. The bad blocks are sixteen, the last ones of each drive. */
+enum attached { NOTHING = 0, PARAMETERS = 1, BAD_BLOCKS = 2 };
+
+/* The table of so many drives, each an eighth of the store. Returns its length. */
+size_t place_table(uint8_t table[EDD_TABLE_SIZE_MAX], unsigned drives, unsigned attached, size_t store_length);
 
 /* Opens a desk over an arena and a store. Stops the program if the table is refused. */
-void place_open(struct place *p, const struct service *s, unsigned drives, int parameters, uint8_t *arena, size_t arena_length,
+void place_open(struct place *p, const struct service *s, unsigned drives, unsigned attached, uint8_t *arena, size_t arena_length,
                 uint8_t *store, size_t store_length);
+
+/* The first bad block of every drive. */
+static inline uint64_t place_first_bad(const struct place *p)
+{
+    return p->store_length / EDD_BLOCK_SIZE / EDD_DRIVES - EDD_BAD_BLOCKS;
+}
 
 /* Lays a packet into the guest's window and gives the registers of 42h or 43h on it. Its place in the window is PACKET. */
 struct registers place_packet(struct place *p, unsigned function, unsigned guest, unsigned drive, unsigned count, uint64_t buffer,

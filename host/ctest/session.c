@@ -335,6 +335,75 @@ static void information_flags(machine *m)
     free(table);
 }
 
+/* document 01's drive with bad blocks 5 and 130, or others in their places: the number of the refusal, and the place */
+enum { WORN = 68 + 22 + 4 };
+
+static uint32_t open_worn(machine *m, uint8_t first, uint8_t second, uint8_t *table, uint64_t *place)
+{
+    memset(table, 0, WORN);
+    memcpy(table, paper_table, 68);
+    table[68] = 22, table[70] = 3, table[74] = first, table[82] = second, table[90] = 4;
+    return edd_open(m->desk, EDD_DESK_SIZE, table, WORN, ARENA, STORE, place);
+}
+
+/* rule: exports::edd_open exports::edd_write exports::edd_post exports::edd_turn exports::edd_collect badsRefusal ended */
+/* a worn disk: a read that stops, a write that stops in its second part, a first block that is bad, and 44h */
+static void worn_disk(machine *m)
+{
+    uint8_t *table = bytes(WORN, 0), *out = bytes(WORN, 0), *before = bytes(STORE, 0);
+    uint64_t place = 77, written = 77, guest = 77, moved = 77;
+    registers given = set(0x4233, 1, 2, 0x0080, 0, 0, 3), r = given, expected = given;
+
+    CHECK(open_worn(m, 130, 5, table, &place) == EDD_TABLE_FIELD && place == 68);
+    CHECK(open_worn(m, 5, 5, table, &place) == EDD_TABLE_FIELD && place == 68);
+    CHECK(open_worn(m, 5, 130, table, &place) == EDD_DONE);
+    CHECK(edd_write(m->desk, EDD_DESK_SIZE, out, WORN, &written) == EDD_DONE && written == WORN && memcmp(out, table, WORN) == 0);
+    memcpy(before, m->store, STORE);
+    /* 42h of twenty blocks from 0: five are good */
+    put_packet(m, 1, 20, 0);
+    memset(m->arena + WINDOW + 0x200, 0xEE, 20 * EDD_BLOCK_SIZE);
+    CHECK(post(m, 1, &r) == EDD_NOTHING_YET);
+    CHECK(turn(m, &guest, &moved) == EDD_DONE && guest == 1 && moved == 5);
+    expected.ax = EDD_AH_BAD_SECTOR << 8 | 0x33, expected.carry = 1;
+    CHECK(collect(m, 1, &r) == EDD_DONE && same(r, expected));
+    CHECK(m->arena[WINDOW + 2] == 5 && m->arena[WINDOW + 3] == 0);
+    CHECK(memcmp(m->arena + WINDOW + 0x200, m->store, 5 * EDD_BLOCK_SIZE) == 0);
+    CHECK(m->arena[WINDOW + 0x200 + 5 * EDD_BLOCK_SIZE] == 0xEE);
+    /* 43h of twenty blocks from 112: sixteen, then two more */
+    put_packet(m, 6, 20, 112);
+    r = expected = given = set(0x4300, 1, 2, 0x0080, 0, 0, 3);
+    CHECK(post(m, 6, &r) == EDD_NOTHING_YET);
+    CHECK(turn(m, &guest, &moved) == EDD_DONE && guest == 6 && moved == 16);
+    CHECK(collect(m, 6, &r) == EDD_NOT_FINISHED && m->arena[6 * WINDOW + 2] == 20);
+    CHECK(turn(m, &guest, &moved) == EDD_DONE && guest == 6 && moved == 2);
+    expected.ax = EDD_AH_WRITE_FAULT << 8, expected.carry = 1;
+    CHECK(collect(m, 6, &r) == EDD_DONE && same(r, expected) && m->arena[6 * WINDOW + 2] == 18);
+    memcpy(before + 112 * EDD_BLOCK_SIZE, m->arena + 6 * WINDOW + 0x200, 18 * EDD_BLOCK_SIZE);
+    CHECK(memcmp(m->store, before, STORE) == 0);
+    /* 02h from block 3, and 03h at block 5 itself: AL says how many */
+    r = expected = set(0x0204, 0x0200, 4, 0x0080, 6, 7, 0);
+    CHECK(post(m, 2, &r) == EDD_NOTHING_YET && turn(m, &guest, &moved) == EDD_DONE && guest == 2 && moved == 2);
+    expected.ax = EDD_AH_BAD_SECTOR << 8 | 2, expected.carry = 1;
+    CHECK(collect(m, 2, &r) == EDD_DONE && same(r, expected));
+    r = expected = set(0x0304, 0x0200, 6, 0x0080, 6, 7, 0);
+    CHECK(post(m, 2, &r) == EDD_NOTHING_YET && turn(m, &guest, &moved) == EDD_DONE && guest == 2 && moved == 0);
+    expected.ax = EDD_AH_WRITE_FAULT << 8, expected.carry = 1;
+    CHECK(collect(m, 2, &r) == EDD_DONE && same(r, expected) && memcmp(m->store, before, STORE) == 0);
+    /* 44h: at once, and AL stays */
+    put_packet(m, 3, 20, 120);
+    r = expected = set(0x4477, 1, 2, 0x0080, 0, 0, 3);
+    expected.ax = EDD_AH_BAD_SECTOR << 8 | 0x77, expected.carry = 1;
+    CHECK(post(m, 3, &r) == EDD_DONE && same(r, expected) && m->arena[3 * WINDOW + 2] == 10);
+    put_packet(m, 3, 10, 120);
+    r = expected = set(0x4477, 1, 2, 0x0080, 0, 0, 3);
+    expected.ax = 0x77, expected.carry = 0;
+    CHECK(post(m, 3, &r) == EDD_DONE && same(r, expected) && m->arena[3 * WINDOW + 2] == 10);
+    CHECK(edd_open(m->desk, EDD_DESK_SIZE, paper_table, 72, ARENA, STORE, &place) == EDD_DONE && place == 68);
+    free(before);
+    free(out);
+    free(table);
+}
+
 /* rule: exports::edd_write exports::edd_post exports::edd_turn exports::edd_collect exports::edd_withdraw */
 static void house_refusals(machine *m)
 {
@@ -357,8 +426,8 @@ static void house_refusals(machine *m)
     free(desk);
 }
 
-/* three drives of 512 blocks, the second with a record of kind 4, and the end record */
-enum { THREE = 3 * 68 + 20 + 4 };
+/* three drives of 512 blocks, the second with a record of kind 4, the third with three bad blocks, and the end record */
+enum { THREE = 3 * 68 + 20 + 30 + 4 };
 
 static uint8_t *three_drives(void)
 {
@@ -374,7 +443,8 @@ static uint8_t *three_drives(void)
             at += 20;
         }
     }
-    at[0] = 4;
+    at[0] = 30, at[2] = 3, at[4] = 2, at[6] = 7, at[14] = 9, at[23] = 1; /* 7, 9 and 256 */
+    at[30] = 4;
     return table;
 }
 
@@ -493,6 +563,12 @@ static void fragments_refused(void)
     refused_once_and_for_all(longer, THREE, 20, EDD_TABLE_OVERLAP, 68);
     longer[68 + 25] = 2, longer[136 + 4] = 0;
     refused_once_and_for_all(longer, 156, 155, EDD_TABLE_NOT_LAST, 136);
+    longer[136 + 4] = 1, longer[224 + 14] = 7; /* bad blocks: 7 twice; of another drive; of half a number */
+    refused_once_and_for_all(longer, 254, 253, EDD_TABLE_FIELD, 224);
+    longer[224 + 14] = 9, longer[224 + 4] = 1;
+    refused_once_and_for_all(longer, 254, 253, EDD_TABLE_NOT_LAST, 224);
+    longer[224 + 4] = 2, longer[224] = 26;
+    refused_once_and_for_all(longer, 228, 227, EDD_TABLE_LENGTH, 224);
     uint8_t *nine = bytes(9 * 68, 0);
     for (size_t i = 0; i < 9; i++) {
         memcpy(nine + 68 * i, table, 68);
@@ -542,7 +618,7 @@ static void readers_not_accepted(void)
     CHECK(edd_reader_open(reader, EDD_READER_SIZE, STORE) == EDD_DONE);
     CHECK(feed(reader, paper_table, 70, &place) == EDD_NOTHING_YET);
     static const size_t changed[] = {0,  7,  8,   15,  25,       31,       32,
-                                     39, 42, 107, 108, 108 + 39, 108 + 68, EDD_READER_SIZE - 1};
+                                     39, 42, 173, 174, 174 + 39, 174 + 68, EDD_READER_SIZE - 1};
     for (size_t i = 0; i < sizeof changed / sizeof changed[0]; i++) {
         reader[changed[i]] = (uint8_t)(reader[changed[i]] + 2);
         no_reader(reader, EDD_READER_SIZE);
@@ -612,6 +688,7 @@ int main(void)
     protected_drive(&m);
     parameter_tables(&m);
     information_flags(&m);
+    worn_disk(&m);
     house_refusals(&m);
     table_through_a_pipe(&m, 1);
     table_through_a_pipe(&m, 3);

@@ -1,6 +1,7 @@
 /*
  * How much stack a call uses: each runs on a stack of its own, filled with a pattern, and what it has overwritten is counted. The header
- * promises a limit to hosts whose threads have small stacks.
+ * promises two limits to hosts whose threads have small stacks. STANDIN: the model reads the whole desk in every call, and is held to the
+ * larger one only.
  */
 #include <stdio.h>
 #include <string.h>
@@ -18,7 +19,12 @@ static uint8_t arena[EDD_GUESTS * WINDOW], store[EDD_DRIVES * DRIVE_BLOCKS * EDD
 static uint16_t ax, bx, cx, dx, ds, si, es, carry;
 static uint64_t first, second;
 static uint32_t answer, small[3];
-static size_t most;
+#ifdef STANDIN
+enum { DESK_LIMIT = EDD_STACK_MAX };
+#else
+enum { DESK_LIMIT = EDD_STACK_DESK_MAX };
+#endif
+static size_t limit = EDD_STACK_MAX, most_of_all, most_at_desk, *most = &most_of_all;
 static int bad;
 
 static void do_open(void)
@@ -104,20 +110,21 @@ static void measure(void (*call)(void), const char *name, uint32_t expected)
     makecontext(&callee, call, 0);
     swapcontext(&caller, &callee);
     size_t used = used_stack();
-    if (answer != expected || used > EDD_STACK_MAX) {
+    if (answer != expected || used > limit) {
         printf("stack: %s: answer %u, %zu bytes of stack\n", name, (unsigned)answer, used);
         bad = 1;
     }
-    if (used > most)
-        most = used;
+    if (used > *most)
+        *most = used;
 }
 
-/* 42h of twenty blocks, with its packet in the window */
-static void set_request(void)
+/* 42h, 43h or 44h of twenty blocks, with its packet in the window; those from 48 on are bad */
+static void set_request(unsigned function, uint8_t start)
 {
     static const uint8_t packet[16] = { 16, 0, 20, 0, 0, 0x10 };
     memcpy(arena + 7 * WINDOW + PACKET, packet, sizeof packet);
-    ax = 0x4200, bx = cx = ds = es = 0, dx = 0x87, si = PACKET;
+    arena[7 * WINDOW + PACKET + 8] = start;
+    ax = (uint16_t)(function << 8), bx = cx = ds = es = 0, dx = 0x87, si = PACKET;
 }
 
 /* the whole table in pieces of one size: the last is shorter */
@@ -139,27 +146,39 @@ static void measure_reader(size_t size)
 int main(void)
 {
     for (unsigned i = 0; i < EDD_DRIVES; i++) {
-        uint8_t *drive = table + 88 * i, *parameters = drive + 68;
+        uint8_t *drive = table + 222 * i, *list = drive + 68, *parameters = drive + 202;
         drive[0] = 68, drive[2] = 1, drive[16] = DRIVE_BLOCKS, drive[34] = 4, drive[36] = 1, drive[38] = 16;
         drive[24] = (uint8_t)(DRIVE_BLOCKS * i), drive[25] = (uint8_t)(DRIVE_BLOCKS * i >> 8);
         memcpy(drive + 40, "PCI", 3);
         memcpy(drive + 44, "ATA", 3);
+        list[0] = 134, list[2] = 3, list[4] = (uint8_t)i;
+        for (unsigned j = 0; j < EDD_BAD_BLOCKS; j++)
+            list[6 + 8 * j] = (uint8_t)(DRIVE_BLOCKS - EDD_BAD_BLOCKS + j);
         parameters[0] = 20, parameters[2] = 4, parameters[4] = (uint8_t)i;
     }
-    table[88 * EDD_DRIVES] = 4;
+    table[222 * EDD_DRIVES] = 4;
 
     measure(do_open, "open", EDD_DONE);
+    limit = DESK_LIMIT, most = &most_at_desk;
     measure(do_write, "write", EDD_DONE);
     measure(do_turn, "idle turn", EDD_NOTHING_YET);
     measure(do_place, "place", EDD_DONE);
-    set_request();
+    set_request(0x42, 0);
     measure(do_post, "post 42h", EDD_NOTHING_YET);
     measure(do_post, "refused post", EDD_ROW_NOT_VACANT);
     measure(do_place, "refused place", EDD_ROW_NOT_VACANT);
     measure(do_turn, "turn", EDD_DONE);
     measure(do_turn, "last turn", EDD_DONE);
     measure(do_collect, "collect", EDD_DONE);
-    set_request();
+    for (unsigned function = 0x42; function <= 0x43; function++) {
+        set_request(function, 40);
+        measure(do_post, "post before a bad block", EDD_NOTHING_YET);
+        measure(do_turn, "turn at a bad block", EDD_DONE);
+        measure(do_collect, "collect after a bad block", EDD_DONE);
+    }
+    set_request(0x44, 40);
+    measure(do_post, "post 44h at a bad block", EDD_DONE);
+    set_request(0x42, 0);
     measure(do_post, "post 42h", EDD_NOTHING_YET);
     measure(do_withdraw, "withdraw", EDD_DONE);
     ax = 0x0214, bx = 0x1000, cx = 0x0001;
@@ -168,7 +187,10 @@ int main(void)
     arena[7 * WINDOW + PACKET] = 66;
     ax = 0x4800;
     measure(do_post, "post 48h", EDD_DONE);
+    measure(do_numbers, "window, block, address", EDD_DONE);
+    limit = EDD_STACK_MAX, most = &most_of_all;
     measure_reader(sizeof table);
+    measure_reader(133);
     measure_reader(67);
     measure_reader(1);
     measure(do_reader_open, "reader open", EDD_DONE);
@@ -176,7 +198,7 @@ int main(void)
     measure(do_reader_write, "reader write, refused", EDD_TABLE_CUT_OFF);
     reader[0] = 4;
     measure(do_reader_feed, "reader feed, not accepted", EDD_DESK_NOT_ACCEPTED);
-    measure(do_numbers, "window, block, address", EDD_DONE);
-    printf("stack: a call uses at most %zu bytes, the header allows %d: %s\n", most, EDD_STACK_MAX, bad ? "FAILED" : "ok");
+    printf("stack: opening a desk and a reader's calls use at most %zu bytes of %d, the other calls %zu of %d: %s\n", most_of_all,
+           EDD_STACK_MAX, most_at_desk, DESK_LIMIT, bad ? "FAILED" : "ok");
     return bad;
 }

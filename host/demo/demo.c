@@ -4,8 +4,8 @@
  * Every guest works on its own disk, keeps its own copy of what its memory and its disk must hold, and compares after each
  * request: the registers, what it laid down, what it read, and the blocks of the store that it named. At the end the whole
  * store is compared with those copies. Three disks have a device parameter table, which the host places for half of the
- * guests: they follow the pointer of 48h to it. The drive table comes from another process through a pipe, and is read as it
- * arrives. For a monitor of your own, copy host/example, not this.
+ * guests: they follow the pointer of 48h to it. One disk is worn: its guest meets bad blocks, gets the good ones before them,
+ * and reads on behind them. The drive table comes from another process through a pipe, and is read as it arrives. For a monitor of your own, copy host/example, not this.
  *
  *   demo [-r requests] [-s seed] [-p pause]
  */
@@ -252,6 +252,11 @@ static void print_table(const struct monitor *m, const struct guest *guests)
            "The longest time from one part of a request to its next: %llu turns of 8.\n"
            "The pointer of 48h was followed to a parameter table %llu times, and was FFFF:FFFF %llu times.\n",
            (unsigned long long)gap, (unsigned long long)followed, (unsigned long long)without);
+    const struct guest *worn = &guests[WORN_DISK];
+    printf("The disk of guest %u is worn, %u blocks of it are bad. They ended %llu reads with 10h and %llu writes with CCh, after the\n"
+           "good blocks before them had moved; %llu reads went on behind them, and 44h found them %llu times.\n", WORN_DISK,
+           disks[WORN_DISK].bad_count, (unsigned long long)worn->stopped_reads, (unsigned long long)worn->stopped_writes,
+           (unsigned long long)worn->went_on, (unsigned long long)worn->found);
 }
 
 /* ---- all together */

@@ -3,17 +3,28 @@
 #include <string.h>
 #include <unistd.h>
 
+#define NO_BAD 0, { 0 }
+
 const struct disk disks[EDD_DRIVES] = {
     /* C, H, S        first   blocks  flags   protected         record of kind 4: ports 1F0h and 3F6h, IRQ 14, and so on */
-    { 306, 4, 17,         3,  20808, 0x0000, 0, "ISA", "ATA", "\xf0\x01\xf6\x03\x00\xcb\x0e\x00\x00\x04\x00\x00\x00\x00" },
-    { 80, 2, 18,      20811,   2880, 0x0000, 0, "ISA", "ATA", NULL }, /* touches the disk before it */
-    { 40, 16, 63,     23700,  40960, 0x0078, 0, "PCI", "SCSI", NULL }, /* not removable: bits 4 to 6 mean nothing */
-    { 20, 16, 63,     64660,  20480, 0x0002, 0, "PCI", "ATA", "\x70\x01\x76\x03\x50\x07\x0f\x01\x22\x03\x31\x00\x00\x00" },
-    { 100, 7, 33,     86000,  24000, 0x000a, 0, "PCI", "1394", NULL },
-    { 33, 5, 61,     110000,  10100, 0x0008, 0, "PCI", "USB", NULL },
-    { 64, 2, 32,     120111,   4401, 0x0000, 0, "PCI", "FIBRE", "any bytes here" },
-    { 80, 2, 15,     124590,   2400, 0x0034, 1, "PCI", "ATAPI", NULL },
+    { 306, 4, 17,         3,  20808, 0x0000, 0, "ISA", "ATA", "\xf0\x01\xf6\x03\x00\xcb\x0e\x00\x00\x04\x00\x00\x00\x00", NO_BAD },
+    { 80, 2, 18,      20811,   2880, 0x0000, 0, "ISA", "ATA", NULL, NO_BAD }, /* touches the disk before it */
+    { 40, 16, 63,     23700,  40960, 0x0078, 0, "PCI", "SCSI", NULL, NO_BAD }, /* not removable: bits 4 to 6 mean nothing */
+    { 20, 16, 63,     64660,  20480, 0x0002, 0, "PCI", "ATA", "\x70\x01\x76\x03\x50\x07\x0f\x01\x22\x03\x31\x00\x00\x00", NO_BAD },
+    { 17, 7, 33,      86000,   4000, 0x000a, 0, "PCI", "1394", NULL, /* worn: single blocks, neighbours, and the last of all */
+      16, { 7, 250, 251, 777, 1023, 1024, 1039, 1500, 1900, 2222, 2500, 2750, 3000, 3500, 3926, 3999 } },
+    { 33, 5, 61,     110000,  10100, 0x0008, 0, "PCI", "USB", NULL, NO_BAD },
+    { 64, 2, 32,     120111,   4401, 0x0000, 0, "PCI", "FIBRE", "any bytes here", NO_BAD },
+    { 80, 2, 15,     124590,   2400, 0x0034, 1, "PCI", "ATAPI", NULL, NO_BAD },
 };
+
+uint64_t disk_good(const struct disk *disk, uint64_t start, uint64_t blocks)
+{
+    for (unsigned i = 0; i < disk->bad_count; i++)
+        if (disk->bad[i] >= start && disk->bad[i] - start < blocks)
+            return disk->bad[i] - start; /* they are in ascending order, so this is the first */
+    return blocks;
+}
 
 void put_word(uint8_t *at, unsigned bytes, uint64_t value)
 {
@@ -43,7 +54,19 @@ static void put_drive(uint8_t *at, const struct disk *disk)
     put_word(at + 60, 8, ~disk->first);
 }
 
-/* The record of kind 4 behind it, change request 2026-01. */
+/* The record of kind 3 behind it, change request 2026-04. Returns its length. */
+static size_t put_bad_blocks(uint8_t *at, const struct disk *disk)
+{
+    size_t length = 6 + 8 * (size_t)disk->bad_count;
+    put_word(at + 0, 2, length);
+    put_word(at + 2, 2, 3);
+    put_word(at + 4, 2, (uint64_t)(disk - disks));
+    for (unsigned i = 0; i < disk->bad_count; i++)
+        put_word(at + 6 + 8 * i, 8, disk->bad[i]);
+    return length;
+}
+
+/* The record of kind 4 behind that, change request 2026-01. */
 static void put_parameters(uint8_t *at, const struct disk *disk)
 {
     put_word(at + 0, 2, 20);
@@ -58,6 +81,8 @@ size_t disks_table(uint8_t table[EDD_TABLE_SIZE_MAX])
     for (unsigned i = 0; i < EDD_DRIVES; i++) {
         put_drive(table + length, &disks[i]);
         length += 68;
+        if (disks[i].bad_count)
+            length += put_bad_blocks(table + length, &disks[i]);
         if (disks[i].parameters) {
             put_parameters(table + length, &disks[i]);
             length += 20;

@@ -17,13 +17,16 @@ struct disk {
     uint8_t is_protected;
     const char *bus, *interface;
     const char *parameters;    /* the 14 bytes of its record of kind 4; NULL where it has none */
+    unsigned bad_count;        /* how many of its blocks are bad; 0 where it has no record of kind 3 */
+    uint64_t bad[EDD_BAD_BLOCKS];
 };
 
-/* Disk g is drive 80h + g. The last one is protected. Between the disks the store has blocks that belong to nobody. */
+/* Disk g is drive 80h + g. The last one is protected, and one is worn. Between the disks the store has blocks that belong to nobody. */
 extern const struct disk disks[EDD_DRIVES];
 
 #define STORE_BLOCKS 127000
 #define SHARED_DISK 7
+#define WORN_DISK 4
 #define PARAMETERS 14
 
 /* Lays out the drive table of the eight disks and returns its length. */
@@ -34,6 +37,9 @@ size_t disks_table(uint8_t table[EDD_TABLE_SIZE_MAX]);
  * from, or -1 with errno. The process has ended when all is read, or ends after the reading end was closed: wait for it.
  */
 int disks_send(void);
+
+/* How many of so many blocks of a disk, from one on, come before the first that is bad; all of them if none is. */
+uint64_t disk_good(const struct disk *disk, uint64_t start, uint64_t blocks);
 
 /* Little-endian words, as tables, packets and results have them. */
 void put_word(uint8_t *at, unsigned bytes, uint64_t value);

@@ -22,7 +22,7 @@ static const struct workload workloads[EDD_GUESTS] = {
     { "log",      {  0,  0, 10, 60, 10,  5,  2,  2,  0 },      4,  0 },
     { "solver",   {  0,  0, 45, 45,  2,  2,  2,  1,  0 },    127,  0 },
     { "tracks",   { 45, 45,  0,  0,  0,  0,  3,  2,  0 },    128,  0 },
-    { "mixed",    { 20, 20, 20, 20,  5,  5,  5,  5,  0 },    128,  0 },
+    { "worn",     { 20, 20, 20, 20,  8,  5,  5,  5,  0 },    128,  0 },
     { "hasty",    { 20, 20, 25, 25,  2,  2,  2,  2,  0 },    100, 50 },
     { "reader",   { 20,  5, 20,  5,  2,  2,  2,  1, 30 },     40,  0 },
     { "protected",{ 30, 15, 30, 15,  5,  5,  5, 10,  0 },     64,  0 },
@@ -105,7 +105,8 @@ struct request {
     struct part laid[2];      /* what the guest has put into its memory for this request */
     unsigned parts;
     uint64_t packet;          /* where the packet lies; 0 for none */
-    int clears_count;         /* the refusal writes 0 to the packet's count word */
+    int counts;               /* the refusal writes the packet's count word: 0, or for 44h the good blocks */
+    uint64_t count;
     uint8_t result[66];       /* what 48h lays over the start of the first part */
     unsigned result_length;
 
@@ -114,6 +115,7 @@ struct request {
     uint8_t *disk;            /* their place in the guest's copy of its disk; NULL when the disk is another's */
     const uint8_t *contents;  /* what they hold there */
     uint64_t blocks, buffer;
+    uint64_t good;            /* of the blocks, how many come before the first bad one */
     int patience;
 };
 
@@ -174,8 +176,8 @@ static void follow(struct guest *g, struct request *q, struct outcome outcome)
         memcpy(q->disk, g->memory + q->buffer, moved * EDD_BLOCK_SIZE);
     else if (moved)
         memcpy(g->memory + q->buffer, q->contents, moved * EDD_BLOCK_SIZE);
-    if (q->clears_count)
-        put_word(g->memory + q->packet + 2, 2, 0);
+    if (q->counts || (outcome.ending == FINISHED && q->packet && q->good < q->blocks))
+        put_word(g->memory + q->packet + 2, 2, q->counts ? q->count : q->good); /* after the data, and so on top of it */
     if (q->result_length)
         memcpy(g->memory + q->laid[0].at, q->result, q->result_length);
     if (outcome.ending == WITHDRAWN) {
@@ -188,13 +190,13 @@ static void follow(struct guest *g, struct request *q, struct outcome outcome)
 }
 
 /*
- * The number moved, and the registers. The guest, unlike the monitor, knows how many blocks it asked for: each turn moves
- * sixteen of them, and only the last may move fewer.
+ * The number moved, and the registers. The guest, unlike the monitor, knows how many blocks it asked for, and which are bad:
+ * each turn moves sixteen of them, and only the last may move fewer, or none where it meets a bad one.
  */
 static void check_answer(struct guest *g, const struct request *q, const struct registers *r, struct outcome o)
 {
-    uint64_t turns = (q->blocks + EDD_TURN_BLOCKS - 1) / EDD_TURN_BLOCKS;
-    int good = o.ending == FINISHED    ? q->blocks != 0 && o.moved == q->blocks && o.services == turns
+    uint64_t turns = q->good < q->blocks ? q->good / EDD_TURN_BLOCKS + 1 : (q->blocks + EDD_TURN_BLOCKS - 1) / EDD_TURN_BLOCKS;
+    int good = o.ending == FINISHED    ? q->blocks != 0 && o.moved == q->good && o.services == turns
                : o.ending == WITHDRAWN ? o.moved < q->blocks && o.moved == o.services * EDD_TURN_BLOCKS
                                        : o.moved == 0 && (q->blocks == 0 || q->wanted.carry);
     if (!good)
@@ -291,6 +293,7 @@ static void transfer(struct guest *g, struct request *q, unsigned drive, uint64_
 {
     q->blocks = blocks;
     q->buffer = buffer;
+    q->good = disk_good(&disks[drive], start, blocks);
     q->first = disks[drive].first + start;
     if (drive == g->number)
         q->disk = g->disk + start * EDD_BLOCK_SIZE;
@@ -301,18 +304,40 @@ static void transfer(struct guest *g, struct request *q, unsigned drive, uint64_
     }
 }
 
-/* A protected disk is not written: nothing moves, and the refusal is 03h. */
+/*
+ * A protected disk is not written: nothing moves, and the refusal is 03h. At a bad block the request ends with 10h or CCh, and
+ * AL, or the count word, says how many blocks have moved.
+ */
 static void want_transfer(struct request *q, const struct disk *disk)
 {
-    if (!q->write || !disk->is_protected) {
+    if (q->write && disk->is_protected) {
+        want(q, EDD_AH_WRITE_PROTECTED);
+        q->counts = q->packet != 0;
+        if (!q->packet)
+            set_al(&q->wanted, 0);
+    } else if (q->good < q->blocks) {
+        want(q, q->write ? EDD_AH_WRITE_FAULT : EDD_AH_BAD_SECTOR);
+        if (!q->packet)
+            set_al(&q->wanted, (unsigned)q->good);
+    } else {
         want(q, 0);
+    }
+}
+
+/* As a program on a worn disk does: it counts what it met, and goes on behind the bad block with its next request. */
+static void note_bad_block(struct guest *g, const struct request *q, uint64_t start)
+{
+    if (g->failed || q->good == q->blocks)
+        return;
+    if (q->write) {
+        g->stopped_writes++;
         return;
     }
-    want(q, EDD_AH_WRITE_PROTECTED);
-    if (q->packet)
-        q->clears_count = 1;
-    else
-        set_al(&q->wanted, 0);
+    g->stopped_reads++;
+    if (q->packet) {
+        g->left_start = start + q->good + 1;
+        g->left_blocks = q->blocks - q->good - 1;
+    }
 }
 
 /*
@@ -354,22 +379,21 @@ static void chs_transfer(struct guest *g, int write)
     as_pair(g, buffer, &q.given.es, &q.given.bx);
     want_transfer(&q, disk);
     make(g, &q);
+    note_bad_block(g, &q, start);
 }
 
-/* 42h and 43h; also of a disk that is not the guest's own, which is then read only */
-static void packet_transfer(struct guest *g, int write, unsigned drive)
+/* 42h and 43h of those blocks; also of a disk that is not the guest's own, which is then read only */
+static void packet_transfer_of(struct guest *g, int write, unsigned drive, uint64_t start, uint64_t blocks)
 {
     const struct disk *disk = &disks[drive];
     struct request q = begin(g, write ? 0x43 : 0x42);
-    uint64_t blocks = between(g, 1, 50) == 1 ? 0 : pick_blocks(g, 127);
-    uint64_t start = between(g, 0, disk->blocks - blocks);
     uint64_t buffer = buffer_place(g, blocks);
 
     q.write = write;
     q.patience = pick_patience(g, blocks);
     q.packet = low_place(g);
-    /* A read may put its data over its own packet, because the packet was read at the post and is not read again. A withdrawal
-     * then writes the number moved over the data. */
+    /* A read may put its data over its own packet, because the packet was read at the post and is not read again. A withdrawal,
+     * or the turn that meets a bad block, then writes the number moved over the data. */
     if (!write && blocks && between(g, 1, 8) == 1)
         q.packet = buffer + between(g, 0, EDD_BLOCK_SIZE * blocks - 16);
     transfer(g, &q, drive, start, blocks, buffer);
@@ -379,6 +403,22 @@ static void packet_transfer(struct guest *g, int write, unsigned drive)
         set_al(&q.given, (unsigned)between(g, 0, disk->flags & 0x08 ? 2 : 1));
     want_transfer(&q, disk);
     make(g, &q);
+    note_bad_block(g, &q, start);
+}
+
+static void packet_transfer(struct guest *g, int write, unsigned drive)
+{
+    uint64_t blocks = between(g, 1, 50) == 1 ? 0 : pick_blocks(g, 127);
+    packet_transfer_of(g, write, drive, between(g, 0, disks[drive].blocks - blocks), blocks);
+}
+
+/* Reads what a bad block left of a read. It may meet the next one. */
+static void go_on(struct guest *g)
+{
+    uint64_t start = g->left_start, blocks = g->left_blocks;
+    g->left_blocks = 0;
+    g->went_on++;
+    packet_transfer_of(g, 0, g->number, start, blocks);
 }
 
 /* 44h and 47h: a packet like that of a read, but nothing moves and no buffer is looked at */
@@ -387,10 +427,17 @@ static void packet_only(struct guest *g, unsigned function)
     const struct disk *disk = &disks[g->number];
     struct request q = begin(g, function);
     uint64_t count = between(g, 0, 127);
+    uint64_t start = between(g, 0, disk->blocks - count - 1);
 
     q.packet = low_place(g);
-    lay_packet(g, &q, 16, count, between(g, 0, WINDOW_SIZE - 1), between(g, 0, disk->blocks - count - 1));
+    lay_packet(g, &q, 16, count, between(g, 0, WINDOW_SIZE - 1), start);
     want(&q, 0);
+    q.count = disk_good(disk, start, count);
+    if (function == 0x44 && q.count < count) { /* 47h does not heed bad blocks */
+        want(&q, EDD_AH_BAD_SECTOR);
+        q.counts = 1;
+        g->found++;
+    }
     make(g, &q);
 }
 
@@ -519,7 +566,7 @@ static void wrong_chs(struct guest *g, unsigned al, uint64_t block, unsigned sec
 }
 
 static void wrong_packet(struct guest *g, unsigned function, unsigned size, uint64_t count, uint64_t buffer,
-                         uint64_t start, unsigned code, int clears_count)
+                         uint64_t start, unsigned code, int counts)
 {
     struct request q = begin(g, function);
     q.packet = low_place(g);
@@ -527,7 +574,7 @@ static void wrong_packet(struct guest *g, unsigned function, unsigned size, uint
     if (function == 0x43)
         set_al(&q.given, 3);
     want(&q, code);
-    q.clears_count = clears_count;
+    q.counts = counts;
     make(g, &q);
 }
 
@@ -576,6 +623,10 @@ static void one_request(struct guest *g)
 {
     const struct workload *w = g->workload;
     unsigned sum = 0, kind = 0;
+    if (g->left_blocks) {
+        go_on(g);
+        return;
+    }
     for (unsigned k = 0; k < KINDS; k++)
         sum += w->share[k];
     uint64_t at = between(g, 0, sum - 1);

@@ -26,6 +26,12 @@ struct guest {
     uint64_t followed;        /* pointers of 48h that it has followed to its disk's table */
     uint64_t without;         /* results of 48h whose pointer was FFFF:FFFF */
 
+    uint64_t stopped_reads;   /* reads that met a bad block of its disk: 10h, and the good blocks before it were read */
+    uint64_t stopped_writes;  /* writes that did: CCh */
+    uint64_t found;           /* 44h that found one: 10h */
+    uint64_t went_on;         /* reads of what was left behind such a block */
+    uint64_t left_start, left_blocks; /* what is left so of the last read by packet; its next request reads it */
+
     int failed;               /* it has seen something it must not; then it stops */
     char fault[160];          /* what that was */
 };

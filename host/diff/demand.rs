@@ -1,9 +1,15 @@
 //! Demand 3 on the calls of a run, seen from outside: by the answers, the guests' windows and the store. Every request that is accepted is
 //! followed to its end. It must be served in one of any eight turns, must finish in time, and its registers, window and named blocks must
-//! be those of the same request served alone, as long as nobody disturbed them.
+//! be those of the same request served alone, as long as nobody disturbed them. That a request finished is told from the answers alone: the
+//! numbers reach its n, or a turn that served it answered fewer than it should have moved, which is a bad block (change request 2026-04).
 
 use model::alone::{served_alone, Named};
+use model::parts::linear;
 use model::Registers;
+use std::collections::BTreeMap;
+
+/// "moves the next 16 blocks, or what remains if fewer".
+const TURN_BLOCKS: u64 = 16;
 
 struct Request {
     /// What served alone gives: registers, window and store afterwards, and the blocks that the request names.
@@ -11,6 +17,10 @@ struct Request {
     window: Vec<u8>,
     store: Vec<u8>,
     named: Named,
+    function: u8,
+    /// Of 42h and 43h: where packet and buffer lie in the window.
+    packet: u64,
+    buffer: u64,
     moved: u64,
     /// Turns not refused since it was accepted, and since it was last served.
     turns: u64,
@@ -35,6 +45,10 @@ pub struct Watch {
     pub compared: u64,
     pub at_once: u64,
     pub at_once_placed: u64,
+    /// How requests finished: by function and AH. Of those at a bad block: how many moved nothing, how many had moved a whole part before,
+    /// how many at their last block, and how many had the count word on top of their data.
+    pub endings: BTreeMap<(u8, u8), u64>,
+    pub stopped: [u64; 4],
 }
 
 impl Watch {
@@ -74,12 +88,25 @@ impl Watch {
 
     /// A post that waits wrote nothing, so window and store are as it found them. No function that waits looks at the placement.
     pub fn accepted(&mut self, guest: usize, posted: Registers, window: &[u8], store: &[u8]) -> Result<(), String> {
+        let (packet, buffer) = packet_and_buffer(&posted, window);
         let (mut window, mut store) = (window.to_vec(), store.to_vec());
         let placement = self.placements[guest].flatten();
         let Some((registers, Some(named))) = served_alone(&self.table, placement, posted, &mut window, &mut store) else {
             return Err(format!("guest {guest}: the row waits, but served alone answers at once"));
         };
-        let fresh = Request { registers, window, store, named, moved: 0, turns: 0, unserved: 0, undisturbed: true };
+        let fresh = Request {
+            registers,
+            window,
+            store,
+            named,
+            function: posted.ah(),
+            packet,
+            buffer,
+            moved: 0,
+            turns: 0,
+            unserved: 0,
+            undisturbed: true,
+        };
         self.waiting[guest] = Some(fresh);
         Ok(())
     }
@@ -110,21 +137,24 @@ impl Watch {
             let Some(request) = &mut self.waiting[guest] else { continue };
             request.turns += 1;
             request.unserved += 1;
+            let mut stopped = false;
             if let Some((_, moved)) = served.filter(|(whom, _)| *whom == guest as u64) {
                 request.unserved = 0;
+                stopped = moved < TURN_BLOCKS.min(request.named.count - request.moved);
                 request.moved += moved;
             }
-            let bound = 8 * request.named.count.div_ceil(16);
+            let finished = stopped || request.moved == request.named.count;
+            let bound = 8 * request.named.count.div_ceil(TURN_BLOCKS);
             if request.unserved >= 8 {
                 return Err(format!("guest {guest} was not served in eight turns"));
             }
-            if request.moved < request.named.count && request.turns >= bound || request.turns > bound {
+            if !finished && request.turns >= bound || request.turns > bound {
                 return Err(format!("guest {guest} still waits after {} turns", request.turns));
             }
             if request.moved > request.named.count {
                 return Err(format!("guest {guest}: {} blocks were moved of {}", request.moved, request.named.count));
             }
-            if request.moved == request.named.count {
+            if finished {
                 self.finish(guest, arena, store)?;
             }
         }
@@ -151,6 +181,10 @@ impl Watch {
         let Some(request) = self.waiting[guest].take() else { return Ok(()) };
         self.finished += 1;
         self.to_collect[guest] = Some(request.registers);
+        self.count_ending(&request);
+        if request.moved != request.named.good {
+            return Err(format!("guest {guest}: the turns answered {} blocks of {} good ones", request.moved, request.named.good));
+        }
         if !request.undisturbed {
             return Ok(());
         }
@@ -166,6 +200,24 @@ impl Watch {
         Ok(())
     }
 
+    fn count_ending(&mut self, request: &Request) {
+        *self.endings.entry((request.function, request.registers.ah())).or_default() += 1;
+        if request.moved == request.named.count {
+            return;
+        }
+        let by_packet = request.function >= 0x42;
+        let (at, moved) = (request.packet, request.buffer..request.buffer + 512 * request.moved);
+        let cases = [
+            request.moved == 0,
+            request.moved >= TURN_BLOCKS,
+            request.moved + 1 == request.named.count,
+            by_packet && !request.named.written && moved.contains(&(at + 2)) && moved.contains(&(at + 3)),
+        ];
+        for (times, met) in self.stopped.iter_mut().zip(cases) {
+            *times += u64::from(met);
+        }
+    }
+
     pub fn withdrawn(&mut self, guest: usize) {
         self.waiting[guest] = None;
     }
@@ -176,4 +228,14 @@ impl Watch {
             _ => Ok(()),
         }
     }
+}
+
+/// Where the packet of a 42h or 43h lies, and the buffer that it names; 0 for other functions.
+fn packet_and_buffer(posted: &Registers, window: &[u8]) -> (u64, u64) {
+    if posted.ah() < 0x42 {
+        return (0, 0);
+    }
+    let packet = linear(posted.ds, posted.si);
+    let word = |at: usize| u16::from_le_bytes(window[packet as usize + at..][..2].try_into().unwrap());
+    (packet, linear(word(6), word(4)))
 }

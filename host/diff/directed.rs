@@ -2,10 +2,11 @@
 //! the model, and says itself what must come out.
 //!
 //! Letters: a refusals, b functions, c the drive table, d the desk block, e windows and turns, g sums and threads, h change requests:
-//! parameter tables (2026-01), information flags (2026-02, from h15 on), a table in fragments (2026-03, from h18 on).
+//! parameter tables (2026-01), information flags (2026-02, from h15 on), a table in fragments (2026-03, from h18 on), bad blocks (2026-04,
+//! from h31 on).
 
 use crate::chance::Chance;
-use crate::drives::{self, paper_drive, Drive};
+use crate::drives::{self, paper_drive, Bad, Drive};
 use crate::random::Run;
 use crate::service::{Lent, Library, Model, Place, Service};
 use model::addresses::{Address, Geometry};
@@ -26,9 +27,15 @@ const PLACED: usize = 300;
 const ADDRESSES: usize = 308;
 const PRESENT: usize = 316;
 const PARAMETERS: usize = 8 * 324; // a byte
+const BAD_COUNTS: usize = 338;
+const BAD_LISTS: usize = 346;
 
-/// Eight drives with a record of kind 4 each, and the end record.
-const LONGEST_TABLE: usize = 8 * (68 + 20) + 4;
+/// Eight drives with a record of sixteen bad blocks and one of kind 4 each, and the end record; and the same without bad blocks.
+const LONGEST_TABLE: usize = 8 * (68 + 134 + 20) + 4;
+const PARAMETERS_TABLE: usize = 8 * (68 + 20) + 4;
+/// Where a reader block has its table, and how many bytes the longest record has.
+const READER_TABLE: usize = 40 + LONGEST_RECORD;
+const LONGEST_RECORD: usize = 134;
 
 fn row(guest: usize, word: usize) -> usize {
     23 * guest + word
@@ -238,6 +245,7 @@ impl<'a> Stand<'a> {
 
     fn accepted_with(&mut self, what: &str, word: usize, value: u64) {
         let old = self.word(word);
+        assert_ne!(old, value, "{what}: the word is already so");
         self.set_word(word, value);
         assert!(self.accepted(), "{what}: not accepted");
         self.set_word(word, old);
@@ -1020,7 +1028,7 @@ fn c7_written_back(service: &dyn Service) {
         let list = drives::drives(&mut chance, 100);
         let table = drives::table(&list);
         let stand = Stand::open(service, &list, 0, 100 * 512);
-        let mut out = Lent::holding(&[0x3C; 800], Place::END);
+        let mut out = Lent::holding(&[0x3C; 2000], Place::END);
         assert_eq!(stand.write(out.bytes_mut()), (DONE, table.len() as u64), "round {round}");
         assert!(out.margin_intact(), "the library wrote beside the buffer");
         assert!(out.bytes()[..table.len()] == table[..], "the bytes that were opened");
@@ -1651,8 +1659,8 @@ fn h1_not_the_last_drive(service: &dyn Service) {
     }
     let eight: Vec<u8> = (0..8).flat_map(|i| [d(i), p(i as u16)].concat()).collect();
     let with = |more: &[Vec<u8>]| [&eight[..], &more.concat(), &drives::END].concat();
-    assert_eq!(opened(service, &with(&[]), 9), (0, UNWRITTEN), "the longest table");
-    assert_eq!(with(&[]).len(), LONGEST_TABLE);
+    assert_eq!(opened(service, &with(&[]), 9), (0, UNWRITTEN), "eight drives with parameters");
+    assert_eq!(with(&[]).len(), PARAMETERS_TABLE);
     assert_eq!(opened(service, &with(&[p(7)]), 9), (9, 704), "a repeat after eight");
     assert_eq!(opened(service, &with(&[p(8)]), 9), (9, 704), "the ninth drive's");
     assert_eq!(opened(service, &with(&[d(8), p(8)]), 9), (4, 704), "a ninth drive comes first");
@@ -1671,7 +1679,7 @@ fn h1_checks_before_9(service: &dyn Service) {
         assert_eq!(at_68(&record), (2, 68), "length {length}");
         assert_eq!(at_68(&record[..4]), (2, 68), "length {length}, cut off");
     }
-    for kind in [2, 3, 5, 0x104, 0x400] {
+    for kind in [2, 5, 0x103, 0x104, 0x300, 0x400] {
         let mut record = bad.clone();
         record[2..4].copy_from_slice(&u16::to_le_bytes(kind));
         assert_eq!(at_68(&record), (3, 68), "kind {kind}");
@@ -1705,12 +1713,12 @@ fn h2_written_back_raw(service: &dyn Service) {
         let table = drives::table(&list);
         let mut stand = Stand::open(service, &list, 8 * 1024, 8 * 512);
         let raw = table.chunks(88).take(8).flat_map(|records| records[74..].to_vec()).collect::<Vec<u8>>();
-        assert!(stand.desk.bytes()[PARAMETERS..] == raw[..], "as the records have them");
+        assert!(stand.desk.bytes()[PARAMETERS..PARAMETERS + 112] == raw[..], "as the records have them");
         for placed in [false, true] {
-            let mut out = [0x3C; LONGEST_TABLE + 3];
-            assert_eq!(stand.write(&mut out), (DONE, LONGEST_TABLE as u64));
-            assert!(out[..LONGEST_TABLE] == table[..] && out[LONGEST_TABLE..] == [0x3C; 3], "placed: {placed}");
-            assert_eq!(stand.write(&mut [0; LONGEST_TABLE - 1]), (19, UNWRITTEN));
+            let mut out = [0x3C; PARAMETERS_TABLE + 3];
+            assert_eq!(stand.write(&mut out), (DONE, PARAMETERS_TABLE as u64));
+            assert!(out[..PARAMETERS_TABLE] == table[..] && out[PARAMETERS_TABLE..] == [0x3C; 3], "placed: {placed}");
+            assert_eq!(stand.write(&mut [0; PARAMETERS_TABLE - 1]), (19, UNWRITTEN));
             assert_eq!(stand.place(5, 0x100), DONE);
         }
     }
@@ -2192,7 +2200,7 @@ fn paper_table() -> Vec<u8> {
 }
 
 /// Eight drives with parameters, 708 bytes, for a store of eight blocks.
-fn longest_table() -> Vec<u8> {
+fn parameters_table() -> Vec<u8> {
     drives::table(&(0..8).map(|i| with_parameters(small_drive(i, 1), i as u8)).collect::<Vec<_>>())
 }
 
@@ -2204,8 +2212,8 @@ fn reader_block(course: u64, number: u64, store_blocks: u64, held: &[u8], record
         block[8 * i..8 * i + 8].copy_from_slice(&word.to_le_bytes());
     }
     block[40..40 + held.len()].copy_from_slice(held);
-    block[108..108 + records.len()].copy_from_slice(records);
-    block[108 + records.len()] = 4;
+    block[READER_TABLE..READER_TABLE + records.len()].copy_from_slice(records);
+    block[READER_TABLE + records.len()] = 4;
     block
 }
 
@@ -2233,7 +2241,7 @@ fn h18_cut_in_two(service: &dyn Service) {
 
 // rule: feedByte heldByte afterStep byCourse
 fn h19_byte_by_byte(service: &dyn Service) {
-    for (table, store_blocks) in [(paper_table(), 2048), (longest_table(), 8), (drives::table(&[]), 0), (drives::table(&gapped()), 64)] {
+    for (table, store_blocks) in [(paper_table(), 2048), (parameters_table(), 8), (drives::table(&[]), 0), (drives::table(&gapped()), 64)] {
         let mut reader = Arrival::open(service, store_blocks);
         for (i, byte) in table.iter().enumerate() {
             assert_eq!(reader.feed(&[*byte]), MORE, "byte {i} of {}", table.len());
@@ -2282,7 +2290,8 @@ fn h20_settling_bytes(service: &dyn Service) {
         // 3 and 2: with the fourth byte of the record
         for (header, number) in [
             ([0x44, 0, 2, 0], 3),
-            ([4, 0, 3, 0], 3),
+            ([4, 0, 3, 0], 2),
+            ([0x0E, 0, 3, 1], 3),
             ([5, 0, 9, 0], 3),
             ([4, 0, 0, 1], 3),
             ([0x44, 0, 1, 0xFF], 3),
@@ -2318,14 +2327,14 @@ fn h20_settling_bytes(service: &dyn Service) {
         settles(service, "a zero behind the end", &[&records(before)[..], &drives::END, &[0]].concat(), 64, at + 4, (8, at as u64 + 4));
     }
     // 4: with the last byte of a ninth drive, sound or not; 3 and 2 come before it, and so does 9
-    let eight = &longest_table()[..704];
+    let eight = &parameters_table()[..704];
     for ninth in [small_drive(8, 1), Drive { sectors: 0, ..small_drive(0, 1) }] {
         settles(service, "a ninth drive", &[eight, &ninth.record(), &drives::END].concat(), 9, 704 + 67, (4, 704));
     }
     settles(service, "a ninth drive of length 67", &[eight, &[0x43, 0, 1, 0, 9]].concat(), 9, 707, (2, 704));
     settles(service, "kind 2 after eight", &[eight, &[0x44, 0, 2, 0, 9]].concat(), 9, 707, (3, 704));
     settles(service, "parameters repeated", &[eight, &parameters_record(7), &[9]].concat(), 9, 704 + 19, (9, 704));
-    settles(service, "a byte behind the longest table", &[&longest_table()[..], &[0, 0]].concat(), 9, 708, (8, 708));
+    settles(service, "a byte behind eight drives with parameters", &[&parameters_table()[..], &[0, 0]].concat(), 9, 708, (8, 708));
 }
 
 // rule: endBy endFeed told soFar exports::edd_reader_end
@@ -2346,7 +2355,7 @@ fn h21_missing_only_at_the_end(service: &dyn Service) {
     let mut reader = Arrival::open(service, 64);
     assert_eq!(reader.end(), (1, 0), "nothing arrived");
     // a ninth drive that lacks its last byte is missing bytes first
-    let nine = [&longest_table()[..704], &small_drive(8, 1).record()].concat();
+    let nine = [&parameters_table()[..704], &small_drive(8, 1).record()].concat();
     let mut reader = Arrival::open(service, 9);
     assert_eq!(reader.feed(&nine[..771]), MORE);
     assert_eq!(reader.end(), (1, 704));
@@ -2370,7 +2379,7 @@ fn h22_empty_fragments(service: &dyn Service) {
 
 // rule: feedAll afterStep Arrives
 fn h23_several_records_in_one(service: &dyn Service) {
-    let table = longest_table();
+    let table = parameters_table();
     // the records that a fragment ends, and the rest of them in another
     for length in [69, 88, 89, 156, 176, 200, 352, 703, 704, 705, 707, 708] {
         let mut reader = Arrival::open(service, 8);
@@ -2480,7 +2489,7 @@ fn h26_written_out(service: &dyn Service) {
 // rule: readerOpenCall Feed.opened exports::edd_reader_open exports::edd_reader_size
 fn h27_size_and_store(service: &dyn Service) {
     assert_eq!(service.reader_size(), READER_SIZE as u64);
-    assert_eq!(READER_SIZE, 816);
+    assert_eq!(READER_SIZE, 1954);
     let good = Arrival::open(service, 64).block.bytes().to_vec();
     for size in [0, 1, 8, READER_SIZE - 8, READER_SIZE - 1, READER_SIZE + 1, READER_SIZE + 8, DESK_SIZE] {
         let mut bytes = good.clone();
@@ -2542,7 +2551,7 @@ fn h28_reader_block(service: &dyn Service) {
             is(&reader, what, reader_block(3, number, 64, &[], &table[..records]));
         }
     }
-    let longest = longest_table();
+    let longest = parameters_table();
     let mut reader = Arrival::open(service, 8);
     assert_eq!(reader.feed(&[&longest[..704], &longest[..67]].concat()), MORE);
     is(&reader, "full", reader_block(0, 0, 8, &longest[..67], &longest[..704]));
@@ -2552,7 +2561,7 @@ fn h28_reader_block(service: &dyn Service) {
 /// Each byte of some good blocks changed by one: every call answers as the model does, and leaves the same block.
 fn h29_every_byte_of_the_block(service: &dyn Service) {
     let list = [with_parameters(small_drive(0, 4), 0x30), small_drive(4, 4)];
-    let (table, longest) = (drives::table(&list), longest_table());
+    let (table, longest) = (drives::table(&list), parameters_table());
     let blocks = [
         reader_block(0, 0, 64, &[], &[]),
         reader_block(0, 0, 64, &table[88..118], &table[..88]),
@@ -2632,7 +2641,7 @@ fn h30_rules_of_the_block(service: &dyn Service) {
     }
     for held in [&[0xFF; 3][..], &[4, 0, 0], &drive[..4], &drive[..67], &parameters[..4], &parameters[..19], &[0x44, 0, 1, 0, 0xFF]] {
         says("a beginning", &reader_block(0, 0, 64, held, records), MORE);
-        says("a beginning, after eight drives", &reader_block(0, 0, 8, held, &longest_table()[..704]), MORE);
+        says("a beginning, after eight drives", &reader_block(0, 0, 8, held, &parameters_table()[..704]), MORE);
     }
     for held in [&[4, 0, 0, 0][..], &drive, &parameters, &[0x43, 0, 1, 0], &[0x44, 0, 2, 0], &[0x44, 0, 1, 1], &[4, 0, 0, 0, 0]] {
         refused("no beginning", &reader_block(0, 0, 64, held, records));
@@ -2641,7 +2650,7 @@ fn h30_rules_of_the_block(service: &dyn Service) {
     let mut block = reader_block(0, 0, 64, &drive[..41], records);
     block[24] = 40;
     refused("a byte past those held", &block);
-    for length in [68, 69, 256, 256 + 41, 1 << 32, (1 << 32) + 41, u64::MAX] {
+    for length in [68, 69, 133, 134, 135, 256, 256 + 41, 1 << 32, (1 << 32) + 41, u64::MAX] {
         block[24..32].copy_from_slice(&u64::to_le_bytes(length));
         refused("more held than there is room for", &block);
     }
@@ -2651,17 +2660,17 @@ fn h30_rules_of_the_block(service: &dyn Service) {
     says("any store without drives", &reader_block(0, 0, u64::MAX, &[], &[]), MORE);
     for (what, at, byte) in [("field", 39, 2), ("overlap", 88 + 24, 3), ("kind", 2, 2), ("parameters", 72, 1), ("end record", 156, 5)] {
         let mut block = reader_block(0, 0, 64, &[], records);
-        block[108 + at] = byte;
+        block[READER_TABLE + at] = byte;
         refused(what, &block);
     }
-    for length in [0, 4, 88, 92, 156, 159, 161, 708, 709, 160 + 256, 1 << 32 | 160, u64::MAX] {
+    for length in [0, 4, 88, 92, 156, 159, 161, 708, 709, 1780, 1781, 160 + 256, 1 << 32 | 160, u64::MAX] {
         let mut block = reader_block(0, 0, 64, &[], records);
         block[32..40].copy_from_slice(&u64::to_le_bytes(length));
         refused("another length of the table", &block);
     }
-    for at in [160, 161, 707] {
+    for at in [160, 161, 707, 1779] {
         let mut block = reader_block(0, 0, 64, &[], records);
-        block[108 + at] = 1;
+        block[READER_TABLE + at] = 1;
         refused("a byte behind the table", &block);
     }
     // a block that no bytes lead to goes on as one that they do: 9 on one that says 4 without a drive is still 4
@@ -2675,6 +2684,1024 @@ fn h30_rules_of_the_block(service: &dyn Service) {
     assert_eq!(going_on.feed(&drive[40..]), MORE);
     assert_eq!(going_on.feed(&drives::END), MORE);
     going_on.ends_with(&[records, &drive, &drives::END].concat());
+}
+
+// ---- h: disks with bad blocks (change request 2026-04)
+
+/// A drive with a record of kind 3.
+fn worn(drive: Drive, bad: &[u64]) -> Drive {
+    Drive { bad: Bad::of(bad), ..drive }
+}
+
+const MOVING: [u8; 4] = [0x02, 0x03, 0x42, 0x43];
+
+/// A request for `count` blocks, of which the first `good` are good; all of them if `good` is `count`. `first` is the store's block.
+#[derive(Clone, Copy, Debug)]
+struct Worn {
+    first: usize,
+    count: u64,
+    good: u64,
+    buffer: usize,
+}
+
+/// What the turns of a request answer when only its guest waits.
+fn parts_of(count: u64, good: u64) -> Vec<u64> {
+    let mut parts = Vec::new();
+    for moved in (0..count).step_by(16) {
+        let due = 16.min(count - moved);
+        parts.push(due.min(good - moved));
+        if good < moved + due {
+            break;
+        }
+    }
+    parts
+}
+
+/// The registers of a request that moved so many blocks of those it asked for.
+fn ended(given: Registers, count: u64, good: u64) -> Registers {
+    if good == count {
+        return succeeded(given);
+    }
+    let code = if matches!(given.ah(), 0x03 | 0x43) { 0xCC00 } else { 0x1000 };
+    let al = if given.ah() < 0x40 { good as u16 } else { given.ax & 0xFF };
+    Registers { ax: code | al, carry: 1, ..given }
+}
+
+impl Stand<'_> {
+    /// Turns until nothing waits: what each of them moved. Only that guest is served.
+    fn serve(&mut self, guest: usize) -> Vec<u64> {
+        let mut parts = Vec::new();
+        loop {
+            match self.turn() {
+                (DONE, served, moved) if served == guest as u64 => parts.push(moved),
+                (NOTHING_YET, ..) => return parts,
+                other => panic!("a turn answered {other:?}"),
+            }
+        }
+    }
+
+    /// Posts, serves and collects, and compares everything with what must come out. Any packet already lies in the window.
+    fn runs_to(&mut self, what: &str, guest: usize, given: Registers, asked: Worn) {
+        let Worn { first, count, good, buffer } = asked;
+        let (mut desk, mut arena, mut store) = self.all();
+        let window = guest * (arena.len() / 8);
+        assert_eq!(self.post(guest as u64, given), (NOTHING_YET, given), "{what}: nothing is tested at the post");
+        assert!((&self.all().1, &self.all().2) == (&arena, &store), "{what}: the post wrote memory");
+        assert_eq!(self.serve(guest), parts_of(count, good), "{what}: the turns");
+        let memory = window + buffer..window + buffer + 512 * good as usize;
+        let blocks = 512 * first..512 * (first + good as usize);
+        if matches!(given.ah(), 0x03 | 0x43) {
+            store[blocks].copy_from_slice(&arena[memory]);
+        } else {
+            arena[memory].copy_from_slice(&store[blocks]);
+        }
+        if good < count && given.ah() >= 0x40 {
+            let word = window + 16 * usize::from(given.ds) + usize::from(given.si) + 2;
+            arena[word..word + 2].copy_from_slice(&(good as u16).to_le_bytes());
+        }
+        assert!(self.arena.bytes() == arena, "{what}: the arena");
+        assert!(self.store.bytes() == store, "{what}: the store");
+        assert_eq!(self.collect(guest as u64), (DONE, ended(given, count, good)), "{what}: collected");
+        desk[8 * POINTER] = (guest as u8 + 1) % 8;
+        assert!(self.desk.bytes() == desk, "{what}: the desk, with a vacant row and the next pointer");
+    }
+
+    /// The same for a function of drive 80h from block `start`, buffer 0000:0200 and a packet at 0000:0000. The drive is the store's first.
+    fn runs(&mut self, what: &str, guest: usize, ah: u8, start: u64, count: u64, good: u64) {
+        self.packet(guest, 0, count as u16, (0, 0x200), start);
+        let given = if ah < 0x40 {
+            by_sector(ah, count as u8, 0, 0, start as u8 + 1)
+        } else {
+            Registers { ax: u16::from(ah) << 8 | 1, ..by_packet(ah, 0) }
+        };
+        self.runs_to(&format!("{what}, {ah:02x}h"), guest, given, Worn { first: start as usize, count, good, buffer: 0x200 });
+    }
+}
+
+// rule: badsRefusal hasBads namesLast
+fn h31_not_the_last_drive(service: &dyn Service) {
+    let (d, p) = (small_record, parameters_record);
+    let b = |number| drives::bad_record(number, &[0]);
+    let cases: [(&str, Vec<Vec<u8>>, (u32, u64)); 20] = [
+        ("no drive read", vec![b(0)], (9, 0)),
+        ("its own", vec![d(0), b(0)], ACCEPTED),
+        ("its own, and parameters", vec![d(0), b(0), p(0)], ACCEPTED),
+        ("after its drive's kind 4", vec![d(0), p(0), b(0)], (9, 88)),
+        ("after its drive's kind 4, once more", vec![d(0), b(0), p(0), b(0)], (9, 102)),
+        ("a repeat", vec![d(0), b(0), b(0)], (9, 82)),
+        ("parameters repeated behind it", vec![d(0), b(0), p(0), p(0)], (9, 102)),
+        ("a later drive", vec![d(0), b(1)], (9, 68)),
+        ("a later drive that follows", vec![d(0), b(1), d(1)], (9, 68)),
+        ("an earlier drive", vec![d(0), d(1), b(0)], (9, 136)),
+        ("an earlier drive that has one", vec![d(0), b(0), d(1), b(0)], (9, 150)),
+        ("a repeat of the second", vec![d(0), b(0), d(1), b(1), b(1)], (9, 164)),
+        ("two drives", vec![d(0), b(0), d(1), b(1)], ACCEPTED),
+        ("two drives, with parameters", vec![d(0), b(0), p(0), d(1), b(1), p(1)], ACCEPTED),
+        ("the second alone", vec![d(0), d(1), b(1)], ACCEPTED),
+        ("the first's kind 4 does not matter", vec![d(0), p(0), d(1), b(1)], ACCEPTED),
+        ("parameters of another drive behind it", vec![d(0), b(0), p(1)], (9, 82)),
+        ("counted from 80h", vec![d(0), b(0x80)], (9, 68)),
+        ("the high byte", vec![d(0), b(0x100)], (9, 68)),
+        ("2^16 - 1", vec![d(0), b(0xFFFF)], (9, 68)),
+    ];
+    for (what, records, expected) in cases {
+        let table = [records.concat(), drives::END.to_vec()].concat();
+        assert_eq!(opened(service, &table, 9), expected, "{what}");
+    }
+    let eight: Vec<u8> = (0..8).flat_map(|i| [d(i), b(i as u16)].concat()).collect();
+    let with = |more: &[Vec<u8>]| [&eight[..], &more.concat(), &drives::END].concat();
+    assert_eq!(opened(service, &with(&[]), 9), ACCEPTED, "eight");
+    assert_eq!(opened(service, &with(&[b(7)]), 9), (9, 656), "a repeat after eight");
+    assert_eq!(opened(service, &with(&[b(8)]), 9), (9, 656), "the ninth drive's");
+    assert_eq!(opened(service, &with(&[d(8), b(8)]), 9), (4, 656), "a ninth drive comes first");
+}
+
+// rule: headerOf lengthOk badLengthOk badsRefusal
+fn h32_order_of_the_checks(service: &dyn Service) {
+    let drive = small_record(0);
+    let at_68 = |record: &[u8]| opened(service, &[&drive[..], record].concat(), 9);
+    // one number, another drive's, outside: 9 comes before 5, and 1, 3, 2 and 1 before both
+    let bad = drives::bad_record(5, &[7]);
+    assert_eq!(opened(service, &bad[..13], 9), (1, 0), "cut off, and no drive read");
+    assert_eq!((at_68(&bad[..13]), at_68(&bad[..4]), at_68(&bad[..3])), ((1, 68), (1, 68), (1, 68)), "cut off");
+    assert_eq!(at_68(&bad), (9, 68), "9 before 5");
+    assert_eq!(at_68(&drives::bad_record(5, &[0, 0])), (9, 68), "9 before 5");
+    assert_eq!(opened(service, &drives::bad_record(0, &[1, 0]), 9), (9, 0), "9 before 5, without a drive");
+    assert_eq!(at_68(&drives::bad_record(0, &[7])), (5, 68), "outside");
+    assert_eq!(at_68(&drives::bad_record(0, &[0])), (1, 82), "no end record");
+    let good_and_bad = [drives::bad_record(0, &[0]), drives::bad_record(0, &[9])].concat();
+    assert_eq!(at_68(&good_and_bad), (9, 82), "a repeat that is outside: 9 before 5");
+    assert_eq!(at_68(&[parameters_record(0), drives::bad_record(0, &[9])].concat()), (9, 88), "behind kind 4 and outside: 9 before 5");
+    for kind in [0x103, 0x300, 0x303, 2, 5] {
+        let mut record = bad.clone();
+        record[2..4].copy_from_slice(&u16::to_le_bytes(kind));
+        assert_eq!(at_68(&record), (3, 68), "kind {kind:x}");
+    }
+    // before the drive behind it, and before the byte after the end
+    let faulty = Drive { sectors: 0, ..small_drive(1, 1) }.record();
+    assert_eq!(at_68(&[&drives::bad_record(0, &[1])[..], &faulty].concat()), (5, 68));
+    assert_eq!(at_68(&[&drives::bad_record(0, &[0])[..], &faulty].concat()), (5, 82));
+    assert_eq!(at_68(&[&drives::bad_record(0, &[0])[..], &[4, 0, 0, 0, 0]].concat()), (8, 86));
+}
+
+// rule: badLengthOk badCount badLength lengthOk
+fn h33_lengths(service: &dyn Service) {
+    let drive = small_drive(0, 40).record();
+    for length in 0..=300u16 {
+        let mut bytes = [&drive[..], &length.to_le_bytes(), &[3, 0, 0, 0]].concat();
+        // 0, 1, 2 and so on, as many as the length has room for
+        bytes.extend((0..40u64).flat_map(u64::to_le_bytes));
+        let numbers = (usize::from(length).saturating_sub(6)) / 8;
+        let good = numbers * 8 + 6 == usize::from(length) && (1..=16).contains(&numbers);
+        bytes.truncate(68 + if good { usize::from(length) } else { 4 });
+        if good {
+            assert_eq!(opened(service, &bytes[..bytes.len() - 1], 40), (1, 68), "length {length}, cut off");
+            bytes.extend(drives::END);
+            assert_eq!(opened(service, &bytes, 40), ACCEPTED, "length {length}");
+        } else {
+            assert_eq!(opened(service, &bytes, 40), (2, 68), "length {length}");
+        }
+    }
+    // by the whole word, and before 1 and 9
+    for length in [0x0E00, 0x010E, 0x0186, 0x8600, 0x8006, 0xFFFE, 0xFFFF] {
+        let bytes = [&drive[..], &u16::to_le_bytes(length), &[3, 0]].concat();
+        assert_eq!(opened(service, &bytes, 40), (2, 68), "length {length:x}");
+        assert_eq!(opened(service, &bytes[68..], 40), (2, 0), "length {length:x}, without a drive");
+    }
+}
+
+// rule: listOk ascends areBlocks badAt badsRefusal
+fn h34_lists(service: &dyn Service) {
+    let of = |blocks: u64, list: &[u64]| {
+        let drive = Drive { blocks, ..small_drive(0, 1) };
+        opened(service, &[drive.record(), drives::bad_record(0, list), drives::END.to_vec()].concat(), blocks)
+    };
+    let sixteen: Vec<u64> = (0..16).collect();
+    let spread: Vec<u64> = (0..16).map(|i| 6 * i + 9).collect();
+    for good in [&[0][..], &[99], &[0, 99], &[0, 1, 2], &[98, 99], &[5, 60, 61], &sixteen, &spread] {
+        assert_eq!(of(100, good), ACCEPTED, "{good:?}");
+    }
+    assert_eq!(of(1, &[0]), ACCEPTED);
+    assert_eq!(of(1, &[1]), (5, 68), "the only block is 0");
+    for bad in [
+        &[100][..],
+        &[101],
+        &[u64::MAX],
+        &[1 << 32],
+        &[0, 100],
+        &[99, 100],
+        &[5, 4],
+        &[5, 5],
+        &[0, 0],
+        &[0, 5, 5],
+        &[5, 6, 6, 7],
+        &[1, 0, 2],
+    ] {
+        assert_eq!(of(100, bad), (5, 68), "{bad:?}");
+    }
+    // each of the sixteen places
+    for at in 0..16 {
+        let with = |value: u64| {
+            let mut list = spread.clone();
+            list[at] = value;
+            of(100, &list)
+        };
+        assert_eq!(with(100), (5, 68), "number {at} outside");
+        assert_eq!(with(u64::MAX), (5, 68), "number {at} far outside");
+        if at > 0 {
+            assert_eq!(with(spread[at - 1]), (5, 68), "number {at} repeated");
+            assert_eq!(with(spread[at - 1] - 1), (5, 68), "number {at} below the one before");
+            assert_eq!(with(spread[at - 1] + 1), ACCEPTED, "number {at} just above the one before");
+        }
+        assert_eq!(with(spread[at] + (1 << 32)), (5, 68), "number {at}, its upper half");
+    }
+    // all eight bytes are compared
+    let vast = 1 << 54;
+    assert_eq!(of(vast, &[1, 1 << 32, (1 << 32) + 1, 1 << 40, vast - 1]), ACCEPTED);
+    assert_eq!(of(vast, &[1 << 32, 1]), (5, 68));
+    assert_eq!(of(vast, &[vast]), (5, 68));
+    assert_eq!(of(vast, &[0x0100, 0x00FF]), (5, 68), "little-endian");
+    assert_eq!(of(vast, &[0x00FF, 0x0100]), ACCEPTED, "little-endian");
+}
+
+// rule: openCall exports::edd_open
+fn h34_refused_changes_nothing(service: &dyn Service) {
+    let mut stand = Stand::open(service, &[worn(small_drive(0, 40), &[3])], 8 * 21_000, 40 * 512);
+    assert_eq!(stand.post_packet(2, 0x42, 20, 0).0, NOTHING_YET);
+    let before = stand.all();
+    for (list, number) in [(&[40][..], 5), (&[1, 1], 5), (&[], 2)] {
+        let table = [small_drive(0, 40).record(), drives::bad_record(0, list), drives::END.to_vec()].concat();
+        assert_eq!(stand.open_again(&table, 8 * 21_000, 40 * 512), (number, 68), "{list:?}");
+    }
+    let table = [small_drive(0, 40).record(), parameters_record(0), drives::bad_record(0, &[1]), drives::END.to_vec()].concat();
+    assert_eq!(stand.open_again(&table, 8 * 21_000, 40 * 512), (9, 88));
+    assert!(stand.all() == before, "something changed");
+    assert_eq!(stand.serve(2), [3], "the desk goes on with the list that it has");
+}
+
+/// Drives of sixty blocks each, with every number of bad blocks that there may be, and every second with parameters.
+fn worn_drives(counts: [usize; 8]) -> Vec<Drive> {
+    let of = |(i, count): (usize, &usize)| {
+        let list: Vec<u64> = (0..*count as u64).map(|j| 3 * j + i as u64).collect();
+        let drive = worn(small_drive(60 * i as u64, 60), &list);
+        if i % 2 == 0 {
+            with_parameters(drive, 0x11 * i as u8)
+        } else {
+            drive
+        }
+    };
+    counts.iter().enumerate().map(of).collect()
+}
+
+/// Eight drives of 60 blocks with sixteen bad blocks and parameters, 1780 bytes.
+fn longest_table() -> Vec<u8> {
+    let list: Vec<u64> = (0..16).map(|i| 3 * i + 1).collect();
+    drives::table(&(0..8).map(|i| with_parameters(worn(small_drive(60 * i, 60), &list), i as u8)).collect::<Vec<_>>())
+}
+
+// rule: slotRecords badRecord tableOf writeOut withBads badsWords
+fn h35_written_back(service: &dyn Service) {
+    for counts in [[0, 1, 2, 3, 4, 5, 6, 7], [8, 9, 10, 11, 12, 13, 14, 15], [16, 0, 16, 0, 1, 16, 0, 16], [16; 8], [1; 8], [0; 8]] {
+        let list = worn_drives(counts);
+        for drives_of in [&list[..], &list[..1], &list[..3], &[]] {
+            let table = drives::table(drives_of);
+            let stand = Stand::open(service, drives_of, 8 * 1024, 480 * 512);
+            let mut out = Lent::holding(&[0x3C; LONGEST_TABLE + 3], Place::END);
+            assert_eq!(stand.write(out.bytes_mut()), (DONE, table.len() as u64), "{counts:?}");
+            assert!(out.bytes()[..table.len()] == table[..], "{counts:?}: byte for byte");
+            assert!(out.bytes()[table.len()..].iter().all(|byte| *byte == 0x3C) && out.margin_intact(), "{counts:?}: bytes past it stay");
+            out.set_length(table.len(), Place::END);
+            assert_eq!(stand.write(out.bytes_mut()), (DONE, table.len() as u64), "{counts:?}: just long enough");
+            assert!(out.bytes() == &table[..]);
+            out.set_length(table.len() - 1, Place::END);
+            out.bytes_mut().fill(0x3C);
+            assert_eq!(stand.write(out.bytes_mut()), (19, UNWRITTEN), "{counts:?}: one byte less");
+            assert!(out.bytes().iter().all(|byte| *byte == 0x3C));
+            // and in the block: how many, then sixteen numbers of eight bytes for each slot, zeros behind the last
+            for slot in 0..8 {
+                let bad = drives_of.get(slot).map_or(&[][..], |drive| drive.bad.numbers());
+                assert_eq!(stand.word(BAD_COUNTS + slot), bad.len() as u64, "{counts:?}: slot {slot}");
+                let numbers: Vec<u64> = (0..16).map(|j| stand.word(BAD_LISTS + 16 * slot + j)).collect();
+                assert!(numbers[..bad.len()] == *bad && numbers[bad.len()..].iter().all(|number| *number == 0), "{counts:?}: slot {slot}");
+            }
+        }
+    }
+    assert_eq!(longest_table().len(), LONGEST_TABLE);
+    assert_eq!(opened(service, &longest_table(), 480), ACCEPTED, "the longest table");
+    assert_eq!(opened(service, &[&longest_table()[..], &[0]].concat(), 480), (8, 1780));
+    assert_eq!((DESK_SIZE, 8 * BAD_COUNTS, 8 * (BAD_LISTS + 128)), (3792, 2704, DESK_SIZE));
+}
+
+// rule: movesNow serve stageAfter ended badCode reported good isBad
+fn h36_first_block_bad(service: &dyn Service) {
+    for ah in MOVING {
+        for count in [1, 2, 16, 17, 40] {
+            let mut stand = Stand::open(service, &[worn(small_drive(0, 63), &[11])], 8 * 21_000, 64 * 512);
+            stand.runs("the first block", 5, ah, 11, count, 0);
+        }
+    }
+    // a turn of 0 is a turn: the row has finished, the pointer goes on, and the count word is the only byte of memory that changes
+    let mut stand = Stand::open(service, &[worn(small_drive(0, 63), &[11])], 8 * 21_000, 64 * 512);
+    let given = by_packet(0x43, 0x30);
+    stand.packet(7, 0x30, 0x17, (0, 0x200), 11);
+    assert_eq!(stand.post(7, given).0, NOTHING_YET);
+    let mut expected = stand.all();
+    assert_eq!(stand.turn(), (DONE, 7, 0));
+    expected.1[7 * 21_000 + 0x32..7 * 21_000 + 0x34].copy_from_slice(&[0, 0]);
+    expected.0[8 * row(7, 0)..8 * row(8, 0)].fill(0);
+    let finished = [0xCC00, 0xB0B1, 0xC0C1, 0xD080, 0, 0x30, 0xE5E6, 1];
+    for (word, value) in [(row(7, 0), 2), (POINTER, 0)].into_iter().chain((15..23).map(|k| (row(7, k), finished[k - 15]))) {
+        expected.0[8 * word..8 * word + 8].copy_from_slice(&u64::to_le_bytes(value));
+    }
+    assert!(stand.all() == expected, "a finished row with CCh and carry 1");
+    assert_eq!(stand.turn(), (NOTHING_YET, UNWRITTEN, UNWRITTEN), "nothing waits any more");
+    assert_eq!(stand.withdraw(7), (23, STALE), "it has finished");
+    assert_eq!(stand.post(7, given), (21, given), "until it is collected");
+    assert_eq!(stand.collect(7), (DONE, Registers { ax: 0xCC00, carry: 1, ..given }));
+    assert_eq!(stand.collect(7), (22, STALE));
+}
+
+// rule: good isBad before goodOf movesNow quota serve stageAfter goesOn movedBy beside reported endedWindow endedMemory ended badCode
+fn h37_where_the_bad_block_lies(service: &dyn Service) {
+    for ah in MOVING {
+        for (count, index) in [1, 7, 14, 15, 16, 17, 30, 31, 32, 33, 38, 39].map(|index| (40, index)).into_iter().chain([
+            (16, 15),
+            (17, 15),
+            (17, 16),
+            (32, 16),
+            (32, 31),
+            (33, 32),
+            (2, 1),
+        ]) {
+            let start = 9;
+            let mut stand = Stand::open(service, &[worn(small_drive(0, 63), &[start + index])], 8 * 21_000, 64 * 512);
+            stand.runs(&format!("bad at {index} of {count}"), 3, ah, start, count, index);
+            // none of the blocks asked for: just before them, just behind them
+            stand.runs("bad behind the last", 3, ah, start, index, index);
+            stand.runs("bad before the first", 3, ah, start + index + 1, 10, 10);
+        }
+        // the first bad one of several counts, also where a list has sixteen, and those before the range do not
+        let sixteen: Vec<u64> = (0..16).map(|i| 2 * i + 21).collect();
+        for (list, start, count, good) in [
+            (&[0, 1, 12, 13, 60][..], 2, 40, 10),
+            (&[0, 1, 12, 13, 60], 13, 40, 0),
+            (&[0, 1, 12, 13, 60], 14, 46, 46),
+            (&[0, 1, 12, 13, 60], 14, 47, 46),
+            (&[40, 41, 42], 8, 50, 32),
+            (&sixteen, 0, 63, 21),
+            (&sixteen, 0, 21, 21),
+            (&sixteen, 22, 30, 1),
+            (&sixteen, 50, 2, 1),
+            (&sixteen, 51, 1, 0),
+            (&sixteen, 52, 11, 11),
+        ] {
+            let mut stand = Stand::open(service, &[worn(small_drive(0, 63), list)], 8 * 33_000, 64 * 512);
+            stand.runs(&format!("{list:?} from {start}"), 0, ah, start, count, good);
+        }
+    }
+    // between the parts: what a turn answers, and that the row waits on with 16 moved
+    let mut stand = Stand::open(service, &[worn(small_drive(0, 63), &[16])], 8 * 21_000, 64 * 512);
+    let given = by_packet(0x42, 0);
+    assert_eq!(stand.post_packet(1, 0x42, 40, 0), (NOTHING_YET, given));
+    assert_eq!(stand.turn(), (DONE, 1, 16), "the bad block is not reached");
+    assert_eq!((stand.word(row(1, 0)), stand.word(row(1, 14))), (1, 16), "the row waits");
+    assert_eq!(stand.collect(1), (22, STALE));
+    assert!(stand.window(1)[2..4] == [40, 0], "the count word stays until it is");
+    assert_eq!(stand.turn(), (DONE, 1, 0));
+    assert!(stand.window(1)[2..4] == [16, 0], "of the whole request, not of this turn");
+    assert_eq!(stand.collect(1), (DONE, ended(given, 40, 16)));
+}
+
+// rule: reported beside endedWindow AfterData CountBytes
+fn h38_count_word_on_top_of_the_data(service: &dyn Service) {
+    // the buffer is the window's first forty blocks, and the packet lies in it: in the first block, across two blocks, in the last one that
+    // is moved, in the bad one, behind it; with no bad block among the forty the data stay
+    for ah in [0x42, 0x43] {
+        for index in [0, 1, 15, 16, 17, 31, 33, 39, 40] {
+            let last = 512 * index as usize;
+            for packet in [0, 0x20, 509, 512, 15 * 512 + 100, 8189, last.saturating_sub(3), last.saturating_sub(16), last, last + 3, 20_464]
+            {
+                let mut stand = Stand::open(service, &[worn(small_drive(0, 60), &[5 + index])], 8 * 21_000, 64 * 512);
+                stand.packet(4, packet, 40, (0, 0), 5);
+                let given = Registers { ax: u16::from(ah) << 8, ..by_packet(ah, packet as u16) };
+                let asked = Worn { first: 5, count: 40, good: index, buffer: 0 };
+                stand.runs_to(&format!("{ah:02x}h, bad at {index}, packet at {packet}"), 4, given, asked);
+            }
+        }
+        // at the place of the post, whatever the guest wrote there since
+        let mut stand = Stand::open(service, &[worn(small_drive(0, 60), &[20])], 8 * 21_000, 64 * 512);
+        stand.packet(4, 0x40, 40, (0, 0x200), 0);
+        assert_eq!(stand.post(4, by_packet(ah, 0x40)).0, NOTHING_YET);
+        assert_eq!(stand.turn(), (DONE, 4, 16));
+        stand.packet(4, 0x40, 0xFFFF, (0xFFFF, 0xFFFF), 20);
+        assert_eq!(stand.turn(), (DONE, 4, 4));
+        let mut packet = [0xFF; 16];
+        packet[..4].copy_from_slice(&[16, 0, 20, 0]);
+        packet[8..].copy_from_slice(&20u64.to_le_bytes());
+        assert!(stand.window(4)[0x40..0x50] == packet, "two bytes of what is there");
+        assert_eq!(stand.collect(4), (DONE, ended(by_packet(ah, 0x40), 40, 20)));
+    }
+}
+
+// rule: turnOf serve badsFor movedBy
+fn h39_two_guests(service: &dyn Service) {
+    // guest 2 meets block 20 in its second part, guest 5 does not; guest 6 writes what lies before it, guest 0 begins with it
+    for (ah, code) in [(0x42, 0x10), (0x43, 0xCC)] {
+        let mut stand = Stand::open(service, &[worn(small_drive(0, 120), &[20, 90])], 8 * 21_000, 120 * 512);
+        for (guest, count, start) in [(2, 40, 0), (5, 40, 40), (0, 1, 20), (6, 40, 50)] {
+            stand.packet(guest, 0, count, (0, 0x200), start);
+            assert_eq!(stand.post(guest as u64, by_packet(ah, 0)).0, NOTHING_YET);
+        }
+        let (_, arena, store) = stand.all();
+        let turns = [(0, 0), (2, 16), (5, 16), (6, 16), (2, 4), (5, 16), (6, 16), (5, 8), (6, 8)];
+        for (guest, moved) in turns {
+            assert_eq!(stand.turn(), (DONE, guest, moved), "{ah:02x}");
+            assert_eq!(stand.word(POINTER), guest + 1);
+        }
+        assert_eq!(stand.turn().0, NOTHING_YET);
+        for (guest, good, count) in [(0, 0, 1), (2, 20, 40), (5, 40, 40), (6, 40, 40)] {
+            let expected = ended(by_packet(ah, 0), count, good);
+            assert_eq!(stand.collect(guest), (DONE, expected), "guest {guest}");
+            assert_eq!(u64::from(expected.ah()), if good < count { code } else { 0 });
+            let word = stand.window(guest as usize)[2..4].to_vec();
+            assert_eq!(u16::from_le_bytes([word[0], word[1]]), good as u16, "guest {guest}: its count word");
+        }
+        // windows of guests without a request stay, and so does every block that no turn moved
+        for guest in [1, 3, 4, 7] {
+            assert!(stand.window(guest) == &arena[guest * 21_000..(guest + 1) * 21_000], "guest {guest}");
+        }
+        let untouched = |block: usize| stand.store.bytes()[512 * block..512 * (block + 1)] == store[512 * block..512 * (block + 1)];
+        assert!((20..40).chain(90..120).all(untouched), "the bad blocks and those behind them");
+        let mut moved = (0..20).chain(40..90);
+        assert!(if ah == 0x42 { moved.all(untouched) } else { !moved.any(untouched) }, "the blocks before them");
+    }
+    // one guest's count word does not end another's request on the same blocks
+    let mut stand = Stand::open(service, &[worn(small_drive(0, 60), &[16])], 8 * 21_000, 60 * 512);
+    for guest in 0..8 {
+        assert_eq!(stand.post_packet(guest, 0x42, 17, 0).0, NOTHING_YET);
+    }
+    for round in [16, 0] {
+        for guest in 0..8 {
+            assert_eq!(stand.turn(), (DONE, guest, round), "all eight at the same bad block");
+        }
+    }
+    for guest in 0..8 {
+        assert_eq!(stand.collect(guest), (DONE, ended(by_packet(0x42, 0), 17, 16)));
+    }
+}
+
+// rule: ended badCode goodOf sectorJob
+fn h40_by_al(service: &dyn Service) {
+    for ah in [0x02, 0x03] {
+        for (bad, good) in
+            [(10, 0), (11, 1), (25, 15), (26, 16), (27, 17), (121, 111), (122, 112), (136, 126), (137, 127), (138, 128), (9, 128)]
+        {
+            let mut stand = Stand::open(service, &[worn(paper_drive(), &[bad])], 8 * 67_000, 2048 * 512);
+            let given = by_sector(ah, 128, 0, 0, 11);
+            let what = format!("{ah:02x}h of 128, bad block {bad}");
+            stand.runs_to(&what, 6, given, Worn { first: 10, count: 128, good, buffer: 0x200 });
+        }
+        // across a track and a cylinder: the number is the block's, not the sector's
+        let mut stand = Stand::open(service, &[worn(paper_drive(), &[63, 1008 + 5])], 8 * 67_000, 2048 * 512);
+        let worn = |first, count, good| Worn { first, count, good, buffer: 0x200 };
+        stand.runs_to("track", 1, by_sector(ah, 20, 0, 0, 60), worn(59, 20, 4));
+        stand.runs_to("cylinder", 1, by_sector(ah, 20, 0, 15, 55), worn(999, 20, 14));
+        stand.runs_to("head", 1, by_sector(ah, 1, 0, 1, 1), worn(63, 1, 0));
+        stand.runs_to("sector", 1, by_sector(ah, 62, 0, 1, 2), worn(64, 62, 62));
+    }
+}
+
+// rule: verified packetTests goodOf packetPlan
+fn h41_verify(service: &dyn Service) {
+    let drive = worn(small_drive(3, 100), &[10, 20, 21, 99]);
+    let mut stand = Stand::open(service, &[drive], 8 * 4000, 110 * 512);
+    let verifies = |stand: &mut Stand, count: u16, start: u64, word: Option<u16>, code: u8| {
+        stand.packet(6, 0x77, count, (0xFFFF, 0xFFFF), start);
+        let given = Registers { ax: 0x44A7, ..by_packet(0x44, 0x77) };
+        let mut expected = stand.all();
+        if let Some(word) = word {
+            expected.1[6 * 4000 + 0x79..6 * 4000 + 0x7B].copy_from_slice(&word.to_le_bytes());
+        }
+        let answer = if code == 0 { succeeded(given) } else { refused(given, code) };
+        assert_eq!(stand.post(6, given), (DONE, answer), "{count} from {start}: at once, and AL stays");
+        assert!(stand.all() == expected, "{count} from {start}: the count word alone");
+        assert_eq!(stand.turn().0, NOTHING_YET);
+    };
+    // good ranges write nothing; the buffer does not matter
+    for (count, start) in [(0, 0), (0, 10), (0, 20), (0, 99), (0, 100), (10, 0), (9, 11), (77, 22), (1, 9), (1, 11), (1, 22), (1, 98)] {
+        verifies(&mut stand, count, start, None, 0);
+    }
+    for (count, start, good) in [
+        (11, 0, 10),
+        (100, 0, 10),
+        (1, 10, 0),
+        (50, 10, 0),
+        (2, 9, 1),
+        (10, 11, 9),
+        (89, 11, 9),
+        (1, 20, 0),
+        (1, 21, 0),
+        (78, 22, 77),
+        (1, 99, 0),
+        (2, 98, 1),
+    ] {
+        verifies(&mut stand, count, start, Some(good), 0x10);
+    }
+    // 01h and 04h come first, and write 0
+    for (count, start, code) in
+        [(101, 0, 0x04), (2, 99, 0x04), (1, 100, 0x04), (127, 10, 0x04), (128, 0, 0x01), (1, u64::MAX, 0x04), (0, 101, 0x04)]
+    {
+        verifies(&mut stand, count, start, Some(0), code);
+    }
+    // a protected drive is verified too, more than one turn's blocks at once
+    let drive = worn(protected(small_drive(0, 200)), &[126]);
+    let mut stand = Stand::open(service, &[drive], 8 * 4000, 200 * 512);
+    verifies(&mut stand, 127, 0, Some(126), 0x10);
+    verifies(&mut stand, 126, 0, None, 0);
+    verifies(&mut stand, 127, 73, Some(53), 0x10);
+}
+
+// rule: packetTests sectors verified steps seek
+fn h42_what_comes_first_and_what_heeds_no_list(service: &dyn Service) {
+    let all_bad: Vec<u64> = (0..16).collect();
+    let drive = worn(Drive { flags: 0x0A, ..small_drive(0, 16) }, &all_bad);
+    let mut stand = Stand::open(service, &[drive, worn(protected(small_drive(16, 16)), &all_bad)], 8 * 12_000, 32 * 512);
+    // refused at the post as before: 03h on a protected drive and not CCh, 04h, 09h, 01h
+    for (ah, code) in [(0x43, 0x03), (0x03, 0x03)] {
+        stand.packet(1, 0, 4, (0, 0x200), 0);
+        let given = if ah == 0x43 { by_packet(ah, 0) } else { by_sector(ah, 4, 0, 0, 1) };
+        let given = Registers { dx: given.dx & 0xFF00 | 0x81, ..given };
+        let answer = if ah == 0x43 { refused(given, code) } else { refused_sectors(given, code) };
+        assert_eq!(stand.post(1, given), (DONE, answer), "{ah:02x}h");
+    }
+    for ah in [0x42, 0x43] {
+        for (count, start, buffer, code) in
+            [(17, 0, 0x200, 0x04), (1, 16, 0x200, 0x04), (16, 0, 12_000 - 8191, 0x09), (128, 0, 0x200, 0x01)]
+        {
+            stand.packet(1, 0, count, (0, buffer), start);
+            assert_eq!(stand.post(1, by_packet(ah, 0)), (DONE, refused(by_packet(ah, 0), code)), "{ah:02x}h");
+            assert!(stand.window(1)[2..4] == [0, 0]);
+        }
+        // a count of 0 meets none, and is answered at once
+        stand.packet(1, 0, 0, (0, 0x200), 3);
+        let before = stand.all();
+        assert_eq!(stand.post(1, by_packet(ah, 0)), (DONE, succeeded(by_packet(ah, 0))));
+        assert!(stand.all() == before);
+    }
+    for (given, code) in [
+        (by_sector(0x02, 17, 0, 0, 1), 0x04),
+        (by_sector(0x02, 1, 0, 0, 17), 0x04),
+        (by_sector(0x02, 0, 0, 0, 1), 0x01),
+        (by_sector(0x02, 129, 0, 0, 1), 0x09),
+        (Registers { bx: 12_000 - 511, ..by_sector(0x02, 1, 0, 0, 1) }, 0x09),
+    ] {
+        assert_eq!(stand.post(1, given), (DONE, refused_sectors(given, code)));
+    }
+    // 43h with verification waits as any other
+    for al in [1, 2] {
+        stand.packet(1, 0, 4, (0, 0x200), 0);
+        let given = Registers { ax: 0x4300 | al, ..by_packet(0x43, 0) };
+        stand.runs_to("with verification", 1, given, Worn { first: 0, count: 4, good: 0, buffer: 0x200 });
+    }
+    // no list: 47h, 08h, 41h, 48h
+    let plain = |drive: Drive| Drive { bad: Bad::default(), ..drive };
+    let mut good = Stand::open(service, &[plain(drive), plain(protected(small_drive(16, 16)))], 8 * 12_000, 32 * 512);
+    for ah in [0x47, 0x08, 0x41, 0x48] {
+        for start in [0, 15, 16] {
+            let mut answers = Vec::new();
+            for stand in [&mut stand, &mut good] {
+                stand.window(1).fill(0x5A);
+                stand.packet(1, 0, 66, (0, 0x200), start);
+                let given = Registers { bx: 0x55AA, ..by_packet(ah, if ah == 0x48 { 2 } else { 0 }) };
+                answers.push((stand.post(1, given), stand.window(1).to_vec()));
+            }
+            assert!(answers[0] == answers[1], "{ah:02x}h at {start}: as without a list");
+            assert_eq!(answers[0].0 .1.carry, u16::from(ah == 0x47 && start == 16), "{ah:02x}h at {start}");
+        }
+    }
+}
+
+// rule: withdrawOf withdrawnWindow
+fn h43_withdrawn_before_the_bad_block(service: &dyn Service) {
+    for ah in MOVING {
+        for (turns, moved) in [(0, 0), (1, 16)] {
+            let mut stand = Stand::open(service, &[worn(small_drive(0, 60), &[20])], 8 * 21_000, 60 * 512);
+            stand.packet(3, 0, 40, (0, 0x200), 0);
+            let given = if ah < 0x40 { by_sector(ah, 40, 0, 0, 1) } else { by_packet(ah, 0) };
+            assert_eq!(stand.post(3, given).0, NOTHING_YET);
+            for _ in 0..turns {
+                assert_eq!(stand.turn(), (DONE, 3, 16));
+            }
+            let mut expected = stand.all();
+            expected.0[8 * row(3, 0)..8 * row(4, 0)].fill(0);
+            let al = if ah < 0x40 { moved } else { given.ax & 0xFF };
+            if ah >= 0x40 {
+                expected.1[3 * 21_000 + 2..3 * 21_000 + 4].copy_from_slice(&moved.to_le_bytes());
+            }
+            assert_eq!(stand.withdraw(3), (DONE, Registers { ax: 0x8000 | al, carry: 1, ..given }), "{ah:02x}h: 80h as before");
+            assert!(stand.all() == expected, "{ah:02x}h");
+            assert_eq!(stand.turn().0, NOTHING_YET);
+        }
+    }
+}
+
+// rule: openCall exports::edd_open movesNow
+fn h44_opened_with_another_list(service: &dyn Service) {
+    let lengths = (8 * 21_000, 60 * 512);
+    let mut stand = Stand::open(service, &[worn(small_drive(0, 60), &[20])], lengths.0 as usize, lengths.1 as usize);
+    stand.runs("with the list", 3, 0x42, 0, 40, 20);
+    assert_eq!(stand.open_again(&drives::table(&[small_drive(0, 60)]), lengths.0, lengths.1), ACCEPTED);
+    stand.runs("without the list", 3, 0x42, 0, 40, 40);
+    assert_eq!(stand.open_again(&drives::table(&[worn(small_drive(0, 60), &[7, 20])]), lengths.0, lengths.1), ACCEPTED);
+    stand.runs("with another", 3, 0x43, 0, 40, 7);
+    // a request that waited is lost, and the new list counts for the next
+    assert_eq!(stand.post_packet(3, 0x42, 40, 8).0, NOTHING_YET);
+    assert_eq!(stand.open_again(&drives::table(&[worn(small_drive(0, 60), &[30])]), lengths.0, lengths.1), ACCEPTED);
+    assert_eq!(stand.turn().0, NOTHING_YET);
+    stand.runs("opened while one waited", 3, 0x42, 8, 40, 22);
+}
+
+// rule: badsOf badsAt badsFor goodOf wornBlock
+fn h45_blocks_of_the_drive(service: &dyn Service) {
+    // the second drive begins at block 50 of the store: its block 4 is the store's 54; the third, at 10, has none; the fourth all of its own
+    let list = [
+        worn(small_drive(100, 30), &[4]),
+        worn(small_drive(50, 30), &[4, 20]),
+        small_drive(10, 30),
+        worn(small_drive(0, 9), &[0, 1, 2, 3, 4, 5, 6, 7, 8]),
+    ];
+    let mut stand = Stand::open(service, &list, 8 * 17_000, 130 * 512);
+    for (dl, first, start, count, good) in [
+        (0x80, 100, 0, 30, 4),
+        (0x80, 100, 5, 25, 25),
+        (0x80, 100, 4, 1, 0),
+        (0x81, 50, 0, 30, 4),
+        (0x81, 50, 5, 25, 15),
+        (0x81, 50, 21, 9, 9),
+        (0x82, 10, 0, 30, 30),
+        (0x82, 10, 4, 1, 1),
+        (0x82, 10, 10, 20, 20),
+        (0x83, 0, 3, 5, 0),
+        (0x83, 0, 8, 1, 0),
+    ] {
+        for ah in MOVING {
+            stand.packet(2, 0, count as u16, (0, 0x200), start);
+            let given = if ah < 0x40 { by_sector(ah, count as u8, 0, 0, start as u8 + 1) } else { by_packet(ah, 0) };
+            let given = Registers { dx: given.dx & 0xFF00 | dl, ..given };
+            let asked = Worn { first: first + start as usize, count, good, buffer: 0x200 };
+            stand.runs_to(&format!("{ah:02x}h of {dl:x} from {start}"), 2, given, asked);
+        }
+        stand.packet(2, 0, count as u16, (0, 0), start);
+        let given = Registers { dx: 0xD000 | dl, ..by_packet(0x44, 0) };
+        let answer = if good < count { refused(given, 0x10) } else { succeeded(given) };
+        assert_eq!(stand.post(2, given), (DONE, answer), "44h of {dl:x} from {start}");
+        assert_eq!(stand.window(2)[2], good as u8);
+    }
+}
+
+// rule: good isBad badAt
+fn h45_numbers_above_32_bits(service: &dyn Service) {
+    // a store of 5 TiB of which only what is touched takes memory; the drive begins at its block 7
+    let (first, blocks) = (7, 10 << 30);
+    let bad = [5, (1 << 32) + 5, (1 << 33) + 40, blocks - 1];
+    let drive = worn(Drive { first, blocks, ..small_drive(0, 63) }, &bad);
+    let mut stand = Stand::vast(service, &[drive], 8 * 22_000, (first + blocks) as usize * 512);
+    for (start, count, good) in [
+        ((1 << 32) + 6, 40, 40),
+        (1 << 32, 40, 5),
+        (1 << 33, 41, 40),
+        (1 << 33, 40, 40),
+        ((1 << 33) + 5, 1, 1),
+        (blocks - 2, 2, 1),
+        (blocks - 1, 1, 0),
+        (0, 40, 5),
+    ] {
+        stand.packet(1, 0, count as u16, (0, 0x200), start);
+        assert_eq!(stand.post(1, by_packet(0x44, 0)).1.carry, u16::from(good < count), "44h from {start}");
+        assert_eq!(u64::from(stand.window(1)[2]), good, "44h from {start}");
+        stand.packet(1, 0, count as u16, (0, 0x200), start);
+        assert_eq!(stand.post(1, by_packet(0x43, 0)).0, NOTHING_YET);
+        assert_eq!(stand.serve(1), parts_of(count, good), "43h from {start}");
+        assert_eq!(stand.collect(1), (DONE, ended(by_packet(0x43, 0), count, good)), "43h from {start}");
+    }
+}
+
+// rule: badsOk zeroPast ascends areBlocks listedTo listedAt badsGood isSound
+fn h46_lists_in_the_block(service: &dyn Service) {
+    let sixteen: Vec<u64> = (0..16).map(|i| 3 * i + 2).collect();
+    // of one sector each, so that fewer blocks break no other rule
+    let narrow = |first, blocks| Drive { sectors: 1, ..small_drive(first, blocks) };
+    let list = [worn(narrow(0, 50), &[7, 9, 30]), narrow(50, 50), worn(narrow(100, 50), &sixteen), worn(narrow(150, 1), &[0])];
+    let mut stand = Stand::open(service, &list, 8 * 1024, 151 * 512);
+    let (count, at) = (|slot: usize| BAD_COUNTS + slot, |slot: usize, j: usize| BAD_LISTS + 16 * slot + j);
+    // how many: one more or less than there are, more than sixteen, other bytes of the word
+    for slot in 0..8 {
+        let there = stand.word(count(slot));
+        for value in [17, 18, 255, 256, 1 << 32, 1 << 56, u64::MAX, there + 256, there | 1 << 32, there | 1 << 63] {
+            stand.refused_with("a count", count(slot), value);
+        }
+    }
+    stand.refused_with("one less: a number behind the last", count(0), 2);
+    stand.refused_with("none, and numbers", count(0), 0);
+    stand.refused_with("one more: 0 is not above 30", count(0), 4);
+    stand.accepted_with("block 0 as the only one", count(1), 1);
+    stand.refused_with("two times 0", count(1), 2);
+    stand.refused_with("fifteen of sixteen", count(2), 15);
+    stand.accepted_with("the only number of the last drive is 0: none", count(3), 0);
+    for slot in 4..8 {
+        for value in 1..=16 {
+            stand.refused_with("a list without a drive", count(slot), value);
+        }
+        for j in 0..16 {
+            for value in [1, 0xFF, 1 << 32, 1 << 63] {
+                stand.refused_with("a number without a drive", at(slot, j), value);
+            }
+        }
+    }
+    // the numbers: ascending, each below the drive's blocks
+    for (j, good, bad) in [
+        (0, &[0, 6, 8][..], &[9, 10, 30, 50, u64::MAX, 7 | 1 << 32, 7 | 1 << 63][..]),
+        (1, &[8, 10, 29], &[7, 6, 0, 30, 31, 50, u64::MAX, 9 | 1 << 40]),
+        (2, &[10, 31, 49], &[9, 8, 0, 50, 51, 1 << 32, u64::MAX, 30 | 1 << 56]),
+    ] {
+        good.iter().for_each(|value| stand.accepted_with("another number", at(0, j), *value));
+        bad.iter().for_each(|value| stand.refused_with("a bad number", at(0, j), *value));
+    }
+    for j in 0..16 {
+        let old = sixteen[j];
+        stand.accepted_with("one above", at(2, j), old + 1);
+        stand.refused_with("equal to the next", at(2, j), sixteen.get(j + 1).copied().unwrap_or(50));
+        if j > 0 {
+            stand.refused_with("equal to the one before", at(2, j), sixteen[j - 1]);
+        }
+    }
+    // behind the last number
+    for (slot, from) in [(0, 3), (1, 0), (3, 1)] {
+        for j in from..16 {
+            for value in [1, 31, 49, 50, 1 << 8, 1 << 32, 1 << 63, u64::MAX] {
+                stand.refused_with("a number behind the last", at(slot, j), value);
+            }
+        }
+    }
+    stand.refused_with("the last drive's block 1", at(3, 0), 1);
+    // by the drive's own blocks
+    for (slot, last) in [(0, 30), (2, 47)] {
+        stand.accepted_with("the last number just below the drive's end", drive_word(slot, 3), last + 1);
+        stand.refused_with("the last number at the drive's end", drive_word(slot, 3), last);
+    }
+    // a drive less: its list has no drive any more
+    for word in 0..14 {
+        stand.set_word(drive_word(3, word), 0);
+    }
+    stand.refused_with("a list past the drives", DRIVE_COUNT, 3);
+    stand.set_word(count(3), 0);
+    stand.set_word(DRIVE_COUNT, 3);
+    assert!(stand.accepted(), "three drives, and their lists");
+}
+
+// rule: badsOk badsGood listedTo exports::edd_write
+/// Each byte of the lists changed, in some blocks: every call answers as the model does, and leaves the same block and memory.
+fn h46_every_byte_of_the_lists(service: &dyn Service) {
+    let blocks = [[3, 0, 16, 1, 0, 2, 0, 0], [16; 8], [0; 8]].map(worn_drives);
+    for (which, list) in blocks.iter().enumerate() {
+        let drives_of = if which == 0 { &list[..6] } else { &list[..] };
+        let mut stand = Stand::open(service, drives_of, 8 * 1024, 480 * 512);
+        assert_eq!(stand.post_packet(2, 0x42, 1, 0).0, NOTHING_YET);
+        let mut accepted = 0;
+        for at in 8 * BAD_COUNTS..DESK_SIZE {
+            for change in [1, 0xFF, 0x80] {
+                let mut block = stand.desk.bytes().to_vec();
+                block[at] = block[at].wrapping_add(change);
+                let by = |service: &dyn Service| {
+                    let (mut written, mut served, mut out) = (UNWRITTEN, [UNWRITTEN; 2], vec![0; LONGEST_TABLE]);
+                    let write = service.write(&block, &mut out, &mut written);
+                    let (mut desk, mut arena, mut store) = (block.clone(), stand.arena.bytes().to_vec(), stand.store.bytes()[..].to_vec());
+                    let [guest, moved] = &mut served;
+                    let turn =
+                        if at % 64 == 0 || write == 0 { service.turn(&mut desk, &mut arena, &mut store, guest, moved) } else { write };
+                    ([write, turn], written, served, out, desk, arena)
+                };
+                let (got, wanted) = (by(service), by(&Model));
+                assert_eq!((got.0, got.1, got.2), (wanted.0, wanted.1, wanted.2), "block {which}, byte {at}: write, turn");
+                assert!(got == wanted, "block {which}, byte {at}: what they left");
+                accepted += u64::from(got.0[0] == 0);
+            }
+        }
+        assert!(accepted > 0, "block {which}: no changed byte is accepted");
+    }
+}
+
+// rule: jobOk movedOk Acceptable.accept movesNow
+fn h47_rows_and_lists(service: &dyn Service) {
+    // no rule of a waiting row speaks of bad blocks: one behind the moved number, or before it, is accepted
+    let mut stand = Stand::open(service, &[worn(small_drive(0, 60), &[3, 20])], 8 * 21_000, 60 * 512);
+    assert_eq!(stand.post_packet(4, 0x42, 40, 0).0, NOTHING_YET);
+    stand.set_word(row(4, 14), 16);
+    assert!(stand.accepted(), "sixteen moved over a bad block");
+    assert_eq!(stand.turn(), (DONE, 4, 4), "it goes on from there, and stops at the next");
+    assert!(stand.window(4)[2..4] == [20, 0]);
+    assert_eq!(stand.collect(4), (DONE, ended(by_packet(0x42, 0), 40, 20)));
+    assert_eq!(stand.post_packet(4, 0x43, 40, 4).0, NOTHING_YET);
+    stand.set_word(row(4, 14), 32);
+    assert_eq!(stand.turn(), (DONE, 4, 8), "behind both of them");
+    assert_eq!(stand.collect(4), (DONE, succeeded(by_packet(0x43, 0))));
+    // a list that is laid under a waiting request counts from the next turn on
+    assert_eq!(stand.post_packet(4, 0x42, 40, 20).0, NOTHING_YET);
+    stand.set_word(BAD_COUNTS, 1);
+    stand.set_word(BAD_LISTS, 37);
+    stand.set_word(BAD_LISTS + 1, 0);
+    assert_eq!(stand.serve(4), [16, 1]);
+    // finished rows may have carry 1 and any AH
+    for ax in [0x1001, 0xCC10, 0x80FF] {
+        stand.accepted_with("finished", row(4, 15), ax);
+    }
+    stand.refused_with("carry 2", row(4, 22), 2);
+    assert_eq!(stand.collect(4), (DONE, ended(by_packet(0x42, 0), 40, 17)));
+}
+
+// rule: feedByte feedAll Arrives afterStep
+fn h48_lists_in_fragments(service: &dyn Service) {
+    let list = [worn(small_drive(0, 40), &[1]), with_parameters(worn(small_drive(40, 40), &[0, 5, 39]), 7), small_drive(80, 40)];
+    let table = drives::table(&list);
+    for cut in 0..=table.len() {
+        let mut reader = Arrival::open(service, 120);
+        assert_eq!(reader.feed(&table[..cut]), MORE, "the first {cut} bytes");
+        let mut ended = Arrival::at(service, reader.block.bytes());
+        let whole = opened(service, &table[..cut], 120);
+        assert_eq!(ended.end(), whole, "ended after {cut} bytes");
+        assert_eq!(reader.feed(&table[cut..]), MORE, "the others after {cut}");
+        reader.ends_with(&table);
+    }
+    // the longest record in every two pieces, the longest table byte by byte and in pieces around the records' lengths
+    let longest = longest_table();
+    for cut in 68..=202 {
+        let mut reader = Arrival::open(service, 480);
+        for piece in [&longest[..cut], &longest[cut..]] {
+            assert_eq!(reader.feed(piece), MORE, "cut at {cut}");
+        }
+        reader.ends_with(&longest);
+    }
+    for length in [1, 3, 13, 14, 67, 68, 69, 133, 134, 135, 202, 221, 222, 223, 1776, 1779, 1780] {
+        let mut reader = Arrival::open(service, 480);
+        for piece in longest.chunks(length) {
+            assert_eq!(reader.feed(piece), MORE, "pieces of {length}");
+        }
+        reader.ends_with(&longest);
+        assert_eq!(reader.block.bytes()[READER_TABLE..], longest[..], "the whole of the block's table");
+    }
+}
+
+// rule: afterStep refusedAt badsRefusal Arrives
+fn h49_what_settles_a_list(service: &dyn Service) {
+    let drive = small_drive(0, 40);
+    let with_list = worn(drive, &[1, 30]);
+    let p = || parameters_record(0);
+    let b = drives::bad_record;
+    for (what, before, record, settling, number) in [
+        ("outside", drives::table(&[drive]), b(0, &[3, 40]), 21, 5),
+        ("not ascending", drives::table(&[drive]), b(0, &[3, 2, 9]), 29, 5),
+        ("repeated", drives::table(&[drive]), b(0, &[3, 3]), 21, 5),
+        ("sixteen, the last repeated", drives::table(&[drive]), b(0, &[0, 1, 2, 3, 4, 5, 6, 7, 8, 9, 10, 11, 12, 13, 14, 14]), 133, 5),
+        ("sixteen, the first two swapped", drives::table(&[drive]), b(0, &[1, 0, 2, 3, 4, 5, 6, 7, 8, 9, 10, 11, 12, 13, 14, 15]), 133, 5),
+        ("another drive's", drives::table(&[drive]), b(1, &[3]), 13, 9),
+        ("no drive", drives::table(&[]), b(0, &[3]), 13, 9),
+        ("the second of a drive", drives::table(&[with_list]), b(0, &[3]), 13, 9),
+        ("behind kind 4", [&drive.record()[..], &p(), &drives::END].concat(), b(0, &[3]), 13, 9),
+        ("17 numbers", drives::table(&[drive]), b(0, &[7; 17]), 3, 2),
+        ("no number", drives::table(&[drive]), b(0, &[]), 3, 2),
+        ("half a number", drives::table(&[drive]), vec![0x12, 0, 3, 0, 0, 0, 1], 3, 2),
+        ("kind 103h", drives::table(&[drive]), vec![0x0E, 0, 3, 1, 0, 0, 1], 3, 3),
+    ] {
+        let records = before.strip_suffix(&drives::END).unwrap();
+        let table = [records, &record, &drives::END].concat();
+        settles(service, what, &table, 40, records.len() + settling, (number, records.len() as u64));
+    }
+    // sixteen numbers that lack their last byte are missing bytes, whatever they are
+    for record in [b(0, &[50; 16]), b(3, &[1; 16])] {
+        let mut reader = Arrival::open(service, 40);
+        assert_eq!(reader.feed(&[&drive.record()[..], &record[..133]].concat()), MORE);
+        assert_eq!(reader.end(), (1, 68));
+    }
+}
+
+// rule: Reader.image headBytes tableBytes isCut Reader.accept Reader.accepted Reader.restZero
+fn h50_readers_of_lists(service: &dyn Service) {
+    let list = [worn(small_drive(0, 40), &[1, 30]), with_parameters(small_drive(40, 40), 7)];
+    let table = drives::table(&list);
+    let is = |reader: &Arrival, what: &str, block: Vec<u8>| {
+        let at = reader.block.bytes().iter().zip(&block).position(|(got, wanted)| got != wanted);
+        assert_eq!(at, None, "{what}: the first byte that differs");
+    };
+    // every stage, one byte after the other
+    let mut reader = Arrival::open(service, 80);
+    for length in 1..=table.len() {
+        assert_eq!(reader.feed(&table[length - 1..length]), MORE);
+        let taken = [178, 158, 90, 68, 0].into_iter().find(|place| *place <= length).unwrap();
+        let whole = length == table.len();
+        let held = if whole { &[][..] } else { &table[taken..length] };
+        is(&reader, "reading", reader_block(u64::from(whole), 0, 80, held, &table[..taken]));
+    }
+    // refused in a list: the drives before it
+    for (list, refusal) in [(&[1, 1][..], (5, 68)), (&[40], (5, 68)), (&[], (2, 68))] {
+        let mut reader = Arrival::open(service, 80);
+        assert_eq!(reader.feed(&[&table[..68], &drives::bad_record(0, list)].concat()), refusal);
+        is(&reader, "refused", reader_block(3, u64::from(refusal.0), 80, &[], &table[..68]));
+    }
+    // a full block: the longest record but for its last byte, after the longest table
+    let longest = longest_table();
+    let mut reader = Arrival::open(service, 480);
+    assert_eq!(reader.feed(&[&longest[..1776], &longest[68..201]].concat()), MORE);
+    is(&reader, "full", reader_block(0, 0, 480, &longest[68..201], &longest[..1776]));
+    assert_eq!(reader.feed(&longest[201..202]), (9, 1776));
+    is(&reader, "refused when full", reader_block(3, 9, 480, &[], &longest[..1776]));
+
+    // what may be held: any beginning of a list, of one to sixteen numbers
+    let refused = |what: &str, block: &[u8]| Arrival::at(service, block).refused_everywhere(what);
+    let says = |what: &str, block: &[u8], answer: (u32, u64)| {
+        let mut reader = Arrival::at(service, block);
+        reader.unchanged(what, |reader| assert_eq!(reader.feed(&[]), answer, "{what}"));
+    };
+    for numbers in 1..=16 {
+        let record = drives::bad_record(0xFFFF, &vec![u64::MAX; numbers]);
+        for held in [4, 5, 6, 13, record.len() - 1] {
+            says("a beginning", &reader_block(0, 0, 80, &record[..held], &table[..68]), MORE);
+            says("a beginning without a drive", &reader_block(0, 0, 80, &record[..held], &[]), MORE);
+        }
+        if numbers < 16 {
+            refused("a whole list", &reader_block(0, 0, 80, &record, &table[..68]));
+        }
+        let mut longer = record.clone();
+        longer.push(0);
+        if longer.len() <= LONGEST_RECORD {
+            refused("more than a list", &reader_block(0, 0, 80, &longer, &table[..68]));
+        }
+    }
+    let mut block = reader_block(0, 0, 80, &[], &table[..68]);
+    block[40..174].copy_from_slice(&drives::bad_record(0, &[u64::MAX; 16]));
+    block[24] = 134;
+    refused("a whole list of sixteen", &block);
+    block[24] = 133;
+    refused("a byte past those held", &block);
+    for header in [
+        [6, 0, 3, 0],
+        [13, 0, 3, 0],
+        [15, 0, 3, 0],
+        [142, 0, 3, 0],
+        [14, 1, 3, 0],
+        [14, 0, 3, 1],
+        [68, 0, 3, 0],
+        [14, 0, 4, 0],
+        [14, 0, 1, 0],
+    ] {
+        refused("no beginning", &reader_block(0, 0, 80, &header, &table[..68]));
+    }
+    // the table in it: its lists obey their rules
+    for (what, at, byte) in [("repeated", 82, 1), ("outside", 82, 40), ("another drive", 72, 1), ("length", 68, 21), ("high byte", 81, 1)] {
+        let mut block = reader_block(0, 0, 80, &[], &table[..178]);
+        block[READER_TABLE + at] = byte;
+        refused(what, &block);
+    }
+    let mut block = reader_block(0, 0, 80, &[], &table[..178]);
+    block[READER_TABLE + 82] = 39;
+    says("another list", &block, MORE);
+    let swapped = [&table[..68], &table[158..178], &table[68..90]].concat();
+    refused("kind 3 behind kind 4", &reader_block(2, 0, 80, &[], &swapped));
+    // a reader on the way to a list goes on, and judges it by the drive that it has
+    for (last, answer) in [(39, MORE), (40, (5, 68))] {
+        let record = drives::bad_record(0, &[0, last]);
+        let mut going_on = Arrival::at(service, &reader_block(0, 0, 80, &record[..20], &table[..68]));
+        assert_eq!(going_on.feed(&record[20..]), answer);
+    }
+}
+
+// rule: exports::edd_turn exports::edd_post movesNow
+/// A turn at a bad block touches neither that block nor those behind it, and 44h no block at all.
+fn h51_no_other_memory_is_touched(service: &dyn Service) {
+    const WINDOW: usize = 16 * 4096;
+    let drive = Drive { first: 16, blocks: 256, cylinders: 4, heads: 1, sectors: 63, ..paper_drive() };
+    for (bad, turns) in [(32, &[(48, 0)][..]), (40, &[(48, 8)]), (48, &[(48, 16), (64, 0)]), (56, &[(48, 16), (64, 8)])] {
+        let mut stand = Stand::open(service, &[worn(drive, &[bad])], 8 * WINDOW, 300 * 4096);
+        for guest in 0..8 {
+            for ah in [0x42, 0x43, 0x02, 0x03] {
+                // blocks 32 to 71 of the drive, which lies at block 16 of the store; eight of them are a page
+                stand.packet(guest, 0, 40, (0, 0x1000), 32);
+                let given = if ah < 0x40 { Registers { bx: 0x1000, ..by_sector(ah, 40, 0, 0, 33) } } else { by_packet(ah, 0) };
+                stand.arena.keep_only(Some(guest * WINDOW..(guest + 1) * WINDOW));
+                stand.store.keep_only(Some(0..0));
+                assert_eq!(stand.post(guest as u64, by_packet(0x44, 0)), (DONE, refused(by_packet(0x44, 0), 0x10)));
+                stand.packet(guest, 0, 40, (0, 0x1000), 32);
+                assert_eq!(stand.post(guest as u64, given).0, NOTHING_YET);
+                for (from, blocks) in turns {
+                    stand.store.keep_only(Some(512 * from..512 * (from + blocks)));
+                    assert_eq!(stand.turn(), (DONE, guest as u64, *blocks as u64));
+                }
+                stand.arena.keep_only(Some(0..0));
+                assert_eq!(stand.collect(guest as u64), (DONE, ended(given, 40, bad - 32)));
+                stand.arena.keep_only(None);
+                stand.store.keep_only(None);
+            }
+        }
+    }
 }
 
 macro_rules! cases {
@@ -2769,6 +3796,30 @@ const CASES: &[(&str, fn(&dyn Service))] = cases![
     h28_reader_block,
     h29_every_byte_of_the_block,
     h30_rules_of_the_block,
+    h31_not_the_last_drive,
+    h32_order_of_the_checks,
+    h33_lengths,
+    h34_lists,
+    h34_refused_changes_nothing,
+    h35_written_back,
+    h36_first_block_bad,
+    h37_where_the_bad_block_lies,
+    h38_count_word_on_top_of_the_data,
+    h39_two_guests,
+    h40_by_al,
+    h41_verify,
+    h42_what_comes_first_and_what_heeds_no_list,
+    h43_withdrawn_before_the_bad_block,
+    h44_opened_with_another_list,
+    h45_blocks_of_the_drive,
+    h45_numbers_above_32_bits,
+    h46_lists_in_the_block,
+    h46_every_byte_of_the_lists,
+    h47_rows_and_lists,
+    h48_lists_in_fragments,
+    h49_what_settles_a_list,
+    h50_readers_of_lists,
+    h51_no_other_memory_is_touched,
 ];
 
 /// The case that runs, for the message when the machine stops it.

@@ -1,7 +1,25 @@
 //! Drive tables for the tests: good ones, and the ways to damage them. The records are laid out here again from document 01 and change
-//! request 2026-01, so that a fault in the model's writer is not hidden.
+//! requests 2026-01 and 2026-04, so that a fault in the model's writer is not hidden.
 
 use crate::chance::Chance;
+
+/// The numbers of a record of kind 3, sixteen at most; with none there is no record.
+#[derive(Clone, Copy, Debug, Default)]
+pub struct Bad {
+    list: [u64; 16],
+    count: usize,
+}
+
+impl Bad {
+    pub fn of(numbers: &[u64]) -> Bad {
+        let mut bad = Bad { count: numbers.len(), ..Bad::default() };
+        bad.list[..numbers.len()].copy_from_slice(numbers);
+        bad
+    }
+    pub fn numbers(&self) -> &[u64] {
+        &self.list[..self.count]
+    }
+}
 
 #[derive(Clone, Copy, Debug)]
 pub struct Drive {
@@ -17,6 +35,7 @@ pub struct Drive {
     pub interface_type: [u8; 8],
     pub interface_path: [u8; 8],
     pub device_path: [u8; 8],
+    pub bad: Bad,
     /// Of its record of kind 4, if it has one.
     pub parameters: Option<[u8; 14]>,
 }
@@ -48,6 +67,15 @@ impl Drive {
     }
 }
 
+/// The record of kind 3 that gives a drive, counted from 0, its bad blocks: any numbers, and any number of them.
+pub fn bad_record(number: u16, blocks: &[u64]) -> Vec<u8> {
+    let mut record = (4 + 2 + 8 * blocks.len() as u16).to_le_bytes().to_vec();
+    record.extend([3, 0]);
+    record.extend(number.to_le_bytes());
+    blocks.iter().for_each(|block| record.extend(block.to_le_bytes()));
+    record
+}
+
 /// The record of kind 4 that gives a drive, counted from 0, its parameters.
 pub fn parameters_record(number: u16, parameters: [u8; 14]) -> Vec<u8> {
     let mut record = vec![20, 0, 4, 0];
@@ -56,9 +84,10 @@ pub fn parameters_record(number: u16, parameters: [u8; 14]) -> Vec<u8> {
     record
 }
 
-/// The records of all drives, each drive's parameters behind it.
+/// The records of all drives, each drive's bad blocks and then its parameters behind it.
 fn records(drives: &[Drive]) -> Vec<Vec<u8>> {
-    let of = |(i, d): (usize, &Drive)| [Some(d.record()), d.parameters.map(|bytes| parameters_record(i as u16, bytes))];
+    let bad = |i: usize, d: &Drive| (d.bad.count > 0).then(|| bad_record(i as u16, d.bad.numbers()));
+    let of = |(i, d): (usize, &Drive)| [Some(d.record()), bad(i, d), d.parameters.map(|bytes| parameters_record(i as u16, bytes))];
     drives.iter().enumerate().flat_map(of).flatten().collect()
 }
 
@@ -88,12 +117,28 @@ pub fn paper_drive() -> Drive {
         interface_type: *b"ATA\0\0\0\0\0",
         interface_path: [0, 0x1F, 1, 0, 0, 0, 0, 0],
         device_path: [0; 8],
+        bad: Bad::default(),
         parameters: None,
     }
 }
 
 const BUSES: [[u8; 4]; 2] = [*b"ISA\0", *b"PCI\0"];
 const TYPES: [[u8; 8]; 6] = [*b"ATA\0\0\0\0\0", *b"ATAPI\0\0\0", *b"SCSI\0\0\0\0", *b"USB\0\0\0\0\0", *b"1394\0\0\0\0", *b"FIBRE\0\0\0"];
+
+/// A list for a drive of that many blocks: none, a few numbers, a run of neighbours, or as many as there may be.
+pub fn bad_blocks(chance: &mut Chance, blocks: u64) -> Bad {
+    let wanted = chance.weighed(&[(10, 0), (5, 1), (4, 2), (2, 5), (1, 15), (2, 16)]).min(blocks);
+    let mut numbers = std::collections::BTreeSet::new();
+    if chance.percent(25) {
+        let first = chance.between(0, blocks - wanted);
+        numbers.extend(first..first + wanted);
+    }
+    while (numbers.len() as u64) < wanted {
+        let any = chance.below(blocks);
+        numbers.insert(chance.weighed(&[(12, any), (1, 0), (2, blocks - 1)]));
+    }
+    Bad::of(&numbers.into_iter().collect::<Vec<_>>())
+}
 
 /// A drive of that many blocks, with a geometry that fits.
 fn drive(chance: &mut Chance, first: u64, blocks: u64) -> Drive {
@@ -118,6 +163,7 @@ fn drive(chance: &mut Chance, first: u64, blocks: u64) -> Drive {
         interface_type: chance.one_of(&TYPES),
         interface_path: paths[..8].try_into().unwrap(),
         device_path: paths[8..].try_into().unwrap(),
+        bad: bad_blocks(chance, blocks),
         parameters: chance.percent(40).then_some(parameters),
     }
 }
@@ -147,6 +193,10 @@ fn damaged_drive(chance: &mut Chance, drives: &mut [Drive], store_blocks: u64) {
         return;
     }
     let which = chance.below(drives.len() as u64) as usize;
+    if chance.percent(60) {
+        // else its list may be refused after it
+        drives[which].bad = Bad::default();
+    }
     let other = drives[chance.below(drives.len() as u64) as usize];
     let d = &mut drives[which];
     match chance.below(14) {
@@ -167,18 +217,47 @@ fn damaged_drive(chance: &mut Chance, drives: &mut [Drive], store_blocks: u64) {
     }
 }
 
-/// A record of kind 4 that names any drive, repeats one, or stands elsewhere.
-fn damaged_parameters(chance: &mut Chance, records: &mut Vec<Vec<u8>>) {
+/// A record of kind 3 or 4 that names any drive, repeats one, or stands elsewhere.
+fn damaged_attached(chance: &mut Chance, records: &mut Vec<Vec<u8>>, kind: u8) {
     let near = chance.below(9) as u16;
     let number = chance.weighed(&[(6, near), (1, 0x100), (1, 0xFFFF)]);
-    let mut record = parameters_record(number, chance.bytes(14).try_into().unwrap());
-    let of_kind_4: Vec<usize> = (0..records.len()).filter(|i| records[*i][2] == 4).collect();
-    if !of_kind_4.is_empty() && chance.percent(60) {
-        let from = chance.one_of(&of_kind_4);
+    let mut record = match kind {
+        3 => bad_record(number, &[0, 1][..chance.between(1, 2) as usize]),
+        _ => parameters_record(number, chance.bytes(14).try_into().unwrap()),
+    };
+    let of_kind: Vec<usize> = (0..records.len()).filter(|i| records[*i][2] == kind).collect();
+    if !of_kind.is_empty() && chance.percent(60) {
+        let from = chance.one_of(&of_kind);
         record = if chance.percent(50) { records.remove(from) } else { records[from].clone() };
     }
     let at = chance.below(records.len() as u64 + 1) as usize;
     records.insert(at, record);
+}
+
+/// The list of a drive that is not ascending, repeated, outside the drive, empty or too long, or the same drive's again; or nearly.
+fn damaged_list(chance: &mut Chance, drives: &[Drive], records: &mut [Vec<u8>]) {
+    let of_kind: Vec<usize> = (0..records.len()).filter(|i| records[*i][2] == 3).collect();
+    if of_kind.is_empty() {
+        return;
+    }
+    let record = &mut records[chance.one_of(&of_kind)];
+    let number = u16::from_le_bytes([record[4], record[5]]);
+    // the drive itself may be damaged already
+    let blocks = drives[usize::from(number)].blocks;
+    let below = blocks.wrapping_sub(1);
+    let mut list: Vec<u64> = record[6..].chunks(8).map(|bytes| u64::from_le_bytes(bytes.try_into().unwrap())).collect();
+    let at = chance.below(list.len() as u64) as usize;
+    match chance.below(8) {
+        0 => list[at] = chance.one_of(&[blocks, below, blocks.wrapping_add(1), u64::MAX, 1 << 63, blocks.wrapping_add(1 << 32)]),
+        1 => *list.last_mut().unwrap() = chance.one_of(&[blocks, below]),
+        2 => list.insert(at, list[at]),
+        3 => list.swap(0, at),
+        4 => list[at] = list[0],
+        5 => list.clear(),
+        6 => list = (0..chance.between(15, 18)).collect(),
+        _ => list.push(list[at].wrapping_add(1)),
+    }
+    *record = bad_record(number, &list);
 }
 
 /// The bytes of a table, good or not, for a store of that many blocks.
@@ -203,8 +282,11 @@ pub fn any_table(chance: &mut Chance, store_blocks: u64) -> Vec<u8> {
         _ => {}
     }
     let mut records = records(&list);
-    if chance.percent(15) {
-        damaged_parameters(chance, &mut records);
+    match chance.below(20) {
+        0..=2 => damaged_attached(chance, &mut records, 4),
+        3..=5 => damaged_attached(chance, &mut records, 3),
+        6..=7 => damaged_list(chance, &list, &mut records),
+        _ => {}
     }
     let starts: Vec<usize> = (0..=records.len()).map(|i| records[..i].concat().len()).collect();
     let mut bytes = records.concat();
@@ -222,7 +304,7 @@ pub fn any_table(chance: &mut Chance, store_blocks: u64) -> Vec<u8> {
         5 => {
             // the length word or the kind of a record
             let at = chance.one_of(&starts) + chance.below(4) as usize;
-            bytes[at] = chance.one_of(&[0, 1, 2, 3, 4, 5, 0x13, 0x14, 0x15, 0x43, 0x44, 0x45, 0xFF]);
+            bytes[at] = chance.one_of(&[0, 1, 2, 3, 4, 5, 6, 0x0D, 0x0E, 0x13, 0x14, 0x15, 0x16, 0x43, 0x44, 0x45, 0x86, 0x8E, 0xFF]);
         }
         6 if chance.percent(20) => bytes.clear(),
         7 if chance.percent(30) => {

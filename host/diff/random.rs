@@ -155,8 +155,15 @@ pub struct Run {
     spare: Spare,
 }
 
-const TABLE_ROOM: usize = 2048;
-const LONGEST_TABLE: usize = 708;
+const TABLE_ROOM: usize = 4096;
+const LONGEST_TABLE: usize = 8 * (68 + 134 + 20) + 4;
+/// Where a reader block has its table: behind five words and the bytes held, of the longest record one less.
+const LONGEST_RECORD: usize = 134;
+const READER_TABLE: usize = 40 + LONGEST_RECORD;
+
+/// Words of the desk block that change request 2026-04 put behind the others: how many bad blocks each slot has, and sixteen for each.
+const BAD_COUNTS: usize = 338;
+const BAD_LISTS: usize = BAD_COUNTS + 8;
 const SPARE_ROOM: usize = 1 << 17;
 
 impl World {
@@ -796,7 +803,7 @@ impl Run {
         }
         // table and lengths as they were; rows, pointer and placements may be others
         let own_table =
-            |b: &[u8]| [184..297, 298..300, 316..338].into_iter().all(|w| b[8 * w.start..8 * w.end] == kept[8 * w.start..8 * w.end]);
+            |b: &[u8]| [184..297, 298..300, 316..474].into_iter().all(|w| b[8 * w.start..8 * w.end] == kept[8 * w.start..8 * w.end]);
         let accepted = self.world.rows().is_some();
         if accepted && own_table(&self.world.model_desk) && self.chance.percent(30) {
             self.world.watch.forget();
@@ -811,7 +818,7 @@ impl Run {
     fn change_block(&mut self, bytes: &mut [u8]) {
         let guest = self.chance.below(8) as usize;
         let row = 23 * self.waiting_row().unwrap_or(guest);
-        let at = match self.chance.below(17) {
+        let at = match self.chance.below(19) {
             0 => {
                 let at = self.chance.below(DESK_SIZE as u64) as usize;
                 bytes[at] ^= 1 << self.chance.below(8);
@@ -824,6 +831,7 @@ impl Run {
             9..=10 => 184 + 14 * self.chance.below(self.world.drives.len().max(1) as u64) as usize + self.chance.below(14) as usize,
             11 => 296 + self.chance.below(4) as usize,
             12..=14 => return self.change_tables(bytes, guest),
+            15..=16 => return self.change_bad_blocks(bytes),
             _ => self.chance.below(DESK_SIZE as u64 / 8) as usize,
         };
         let old = word_at(bytes, at);
@@ -857,6 +865,38 @@ impl Run {
                 bytes[raw..raw + 14].fill(0);
                 if present {
                     self.chance.fill(&mut bytes[raw..raw + 14]);
+                }
+            }
+        }
+    }
+
+    /// Changes a slot's bad blocks: how many, one of the numbers, what stands behind them, or the whole list.
+    fn change_bad_blocks(&mut self, bytes: &mut [u8]) {
+        let slots = if self.chance.percent(70) { self.world.drives.len().max(1) as u64 } else { 8 };
+        let slot = self.chance.below(slots) as usize;
+        let blocks = self.world.drives.get(slot).map_or(0, |drive| drive.blocks);
+        let old = word_at(bytes, BAD_COUNTS + slot);
+        let (first, last) = (BAD_LISTS + 16 * slot, BAD_LISTS + 16 * slot + old.clamp(1, 16) as usize - 1);
+        let any = BAD_LISTS + 16 * slot + self.chance.below(16) as usize;
+        match self.chance.below(9) {
+            0 => set_word_at(bytes, BAD_COUNTS + slot, self.chance.one_of(&[0, 1, 2, 15, 16, 17, 256, 1 << 32, u64::MAX])),
+            1 => set_word_at(bytes, BAD_COUNTS + slot, self.chance.one_of(&[old.wrapping_add(1), old.wrapping_sub(1), old | 1 << 56])),
+            2 => set_word_at(bytes, last, self.chance.one_of(&[blocks, blocks.wrapping_sub(1), u64::MAX, 1 << 63, blocks | 1 << 32])),
+            3 => set_word_at(bytes, any, word_at(bytes, any).wrapping_add(self.chance.one_of(&[1, u64::MAX]))),
+            4 => set_word_at(bytes, any, word_at(bytes, self.chance.between(first as u64, last as u64) as usize)),
+            5 => {
+                let (a, b) = (word_at(bytes, first), word_at(bytes, last));
+                set_word_at(bytes, first, b);
+                set_word_at(bytes, last, a);
+            }
+            6 => bytes[8 * any + self.chance.below(8) as usize] = self.chance.one_of(&[1, 0x80, 0xFF]),
+            kind => {
+                // a good list, or none, for the drive of the slot
+                let bad = if kind == 7 && blocks > 0 { drives::bad_blocks(&mut self.chance, blocks) } else { drives::Bad::default() };
+                bytes[8 * first..8 * (first + 16)].fill(0);
+                set_word_at(bytes, BAD_COUNTS + slot, bad.numbers().len() as u64);
+                for (i, number) in bad.numbers().iter().enumerate() {
+                    set_word_at(bytes, first + i, *number);
                 }
             }
         }
@@ -999,7 +1039,7 @@ impl Run {
             1..=3 => 1,
             4..=5 => self.chance.between(1, 5),
             6..=7 => self.chance.between(5, 70),
-            8 => self.chance.one_of(&[3, 4, 19, 20, 67, 68, 69, 88]),
+            8 => self.chance.one_of(&[3, 4, 13, 14, 19, 20, 67, 68, 69, 88, 133, 134, 135, 202, 222]),
             9 => self.chance.between(60, 300),
             _ => coming.len() as u64,
         };
@@ -1067,7 +1107,27 @@ impl Run {
             1 => (0, self.chance.one_of(&[0, 1, 2, 3, 4, 256, 1 << 63])),
             2 => (1, self.chance.one_of(&[0, 1, 5, 9, 10, 257, 1 << 32])),
             3 => (2, self.chance.one_of(&[0, 1, word_at(block, 2).wrapping_sub(1), 40, 400, u64::MAX])),
-            4 => (3, self.chance.one_of(&[0, 1, 3, 4, 19, 20, 67, 68, 69, 1 << 32, u64::MAX, word_at(block, 3).wrapping_sub(1)])),
+            4 => (3, {
+                let old = word_at(block, 3);
+                self.chance.one_of(&[
+                    0,
+                    1,
+                    3,
+                    4,
+                    19,
+                    20,
+                    67,
+                    68,
+                    69,
+                    133,
+                    134,
+                    135,
+                    1 << 32,
+                    u64::MAX,
+                    old.wrapping_sub(1),
+                    old.wrapping_add(1),
+                ])
+            }),
             5 => (
                 4,
                 self.chance.one_of(&[
@@ -1078,8 +1138,8 @@ impl Run {
                     92,
                     table_length.wrapping_sub(68),
                     table_length.wrapping_add(1),
-                    708,
-                    709,
+                    LONGEST_TABLE as u64,
+                    LONGEST_TABLE as u64 + 1,
                     1 << 32,
                     u64::MAX,
                 ]),
@@ -1087,7 +1147,7 @@ impl Run {
             6..=7 => {
                 // without held bytes it may be on any course
                 block[24..32].fill(0);
-                block[40..108].fill(0);
+                block[40..READER_TABLE].fill(0);
                 let course = self.chance.below(4);
                 set_word_at(block, 1, if course == 3 { self.chance.between(1, 9) } else { 0 });
                 (0, course)
@@ -1095,36 +1155,41 @@ impl Run {
             8..=10 => return self.change_held(block),
             11 => return self.change_table(block),
             12 => {
-                block[(108 + table_length.min(707) + self.chance.below(3)).min(815) as usize] = self.chance.byte();
+                let at = READER_TABLE as u64 + table_length.min(LONGEST_TABLE as u64) + self.chance.below(3);
+                block[(at as usize).min(READER_SIZE - 1)] = self.chance.byte();
                 return;
             }
-            _ => (self.chance.below(102) as usize, self.chance.any() >> self.chance.below(64)),
+            _ => (self.chance.below(READER_SIZE as u64 / 8) as usize, self.chance.any() >> self.chance.below(64)),
         };
         set_word_at(block, at, value);
     }
 
     /// The beginning of a record as the bytes held, of a good one, nearly whole or whole, or with another length or kind.
     fn change_held(&mut self, block: &mut [u8]) {
-        let mut record = self.chance.bytes(68);
-        let (length, kind) = self.chance.one_of(&[(68, 1), (68, 1), (20, 4), (20, 4), (4, 0), (67, 1), (20, 1), (4, 2), (0x144, 1)]);
+        let mut record = self.chance.bytes(LONGEST_RECORD);
+        let (length, kind) = if self.chance.percent(40) {
+            (self.chance.one_of(&[6, 14, 14, 22, 30, 126, 134, 134, 134, 142, 13, 15, 133, 0x10E]), 3)
+        } else {
+            self.chance.one_of(&[(68, 1), (68, 1), (20, 4), (20, 4), (4, 0), (67, 1), (20, 1), (4, 2), (0x144, 1)])
+        };
         record[..4].copy_from_slice(&[length as u8, (length >> 8) as u8, kind, 0]);
-        let held = self.chance.one_of(&[0, 1, 3, 4, 5, 19, 20, 21, 66, 67, 68]);
+        let held = self.chance.one_of(&[0, 1, 3, 4, 5, 13, 14, 19, 20, 21, 66, 67, 68, 125, 126, 132, 133, 134]);
         set_word_at(block, 3, held as u64);
         if self.chance.percent(70) {
             set_word_at(block, 0, 0);
             set_word_at(block, 1, 0);
         }
-        block[40..108].fill(0);
+        block[40..READER_TABLE].fill(0);
         block[40..40 + held].copy_from_slice(&record[..held]);
     }
 
     /// Another table in the block, good or not, with its length; it may be that of more drives than a table has.
     fn change_table(&mut self, block: &mut [u8]) {
         let table = drives::any_table(&mut self.chance, word_at(block, 2).min(1 << 55));
-        let length = table.len().min(708);
+        let length = table.len().min(LONGEST_TABLE);
         set_word_at(block, 4, length as u64);
-        block[108..].fill(0);
-        block[108..108 + length].copy_from_slice(&table[..length]);
+        block[READER_TABLE..].fill(0);
+        block[READER_TABLE..READER_TABLE + length].copy_from_slice(&table[..length]);
     }
 
     // ---- windows and addresses
@@ -1163,8 +1228,8 @@ impl Run {
     }
 }
 
-fn known(drives: &model::parts::Drives, slot: usize) -> Drive {
-    let drive = drives.slot[slot];
+fn known(known: &model::parts::Drives, slot: usize) -> Drive {
+    let drive = known.slot[slot];
     Drive {
         physical: [drive.physical_cylinders, drive.physical_heads, drive.physical_sectors],
         blocks: drive.blocks,
@@ -1178,7 +1243,8 @@ fn known(drives: &model::parts::Drives, slot: usize) -> Drive {
         interface_type: drive.interface_type,
         interface_path: drive.interface_path,
         device_path: drive.device_path,
-        parameters: drives.parameters[slot],
+        bad: drives::Bad::of(known.bad[slot].numbers()),
+        parameters: known.parameters[slot],
     }
 }
 
@@ -1226,14 +1292,16 @@ fn difference(what: &str, lent: &Lent, model: &[u8]) -> Option<String> {
             308..=315 => format!(" (word {word}: guest {}, address of placement)", word - 308),
             316..=323 => format!(" (word {word}: drive place {}, mark of parameters)", word - 316),
             324..=337 => format!(" (drive place {}, byte {} of its parameters)", (at - 8 * 324) / 14, (at - 8 * 324) % 14),
+            338..=345 => format!(" (drive place {}, how many bad blocks)", word - BAD_COUNTS),
+            346..=473 => format!(" (drive place {}, bad block {})", (word - BAD_LISTS) / 16, (word - BAD_LISTS) % 16),
             _ => format!(" (word {word})"),
         };
     }
     if what == "reader" {
         text += &match at {
             0..=39 => format!(" (word {})", at / 8),
-            40..=107 => format!(" (held byte {})", at - 40),
-            _ => format!(" (table byte {})", at - 108),
+            40..READER_TABLE => format!(" (held byte {})", at - 40),
+            _ => format!(" (table byte {})", at - READER_TABLE),
         };
     }
     Some(text)

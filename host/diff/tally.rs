@@ -11,6 +11,9 @@ pub struct Tally {
     answers: BTreeMap<(&'static str, u32), u64>,
     codes: BTreeMap<(u8, u32), u64>,
     withdrawn: BTreeMap<u8, u64>,
+    /// Requests followed to their end, by function and AH, and those of them at a bad block, by the cases of `Watch::stopped`.
+    endings: BTreeMap<(u8, u8), u64>,
+    stopped: [u64; 4],
     parts: BTreeMap<u64, u64>,
     hostile_accepted: u64,
     hostile_refused: u64,
@@ -59,11 +62,16 @@ const EXPECTED_CODES: [(u8, &[u32]); 10] = [
     (0x41, &[0x30, 0x01]),
     (0x42, &[0x00, 0x01, 0x04, 0x09, WAITS]),
     (0x43, &[0x00, 0x01, 0x03, 0x04, 0x09, WAITS]),
-    (0x44, &[0x00, 0x01, 0x04]),
+    (0x44, &[0x00, 0x01, 0x04, 0x10]),
     (0x47, &[0x00, 0x01, 0x04]),
     (0x48, &[0x00, 0x01]),
     (UNKNOWN, &[0x01]),
 ];
+
+/// "10h and CCh only as said".
+const EXPECTED_ENDINGS: [(u8, u8); 8] =
+    [(0x02, 0x00), (0x02, 0x10), (0x03, 0x00), (0x03, 0xCC), (0x42, 0x00), (0x42, 0x10), (0x43, 0x00), (0x43, 0xCC)];
+const STOPPED: [&str; 4] = ["before any block", "after a whole part", "at the last block", "with the count word on top of the data"];
 
 impl Tally {
     pub fn add(&mut self, call: &Call, outcome: &Outcome) {
@@ -134,6 +142,12 @@ impl Tally {
         self.compared += watch.compared;
         self.at_once += watch.at_once;
         self.at_once_placed += watch.at_once_placed;
+        for (ending, times) in &watch.endings {
+            *self.endings.entry(*ending).or_default() += times;
+        }
+        for (sum, times) in self.stopped.iter_mut().zip(watch.stopped) {
+            *sum += times;
+        }
     }
 
     /// What the run should have met and did not.
@@ -146,7 +160,11 @@ impl Tally {
             let never = codes.iter().filter(|c| !self.codes.contains_key(&(function, **c)));
             missing.extend(never.map(|c| format!("{function:02x}h answered {}", code_name(*c))));
         }
-        missing.extend((1..=16).filter(|k| !self.parts.contains_key(k)).map(|k| format!("a turn that moves {k}")));
+        missing.extend((0..=16).filter(|k| !self.parts.contains_key(k)).map(|k| format!("a turn that moves {k}")));
+        let never = EXPECTED_ENDINGS.iter().filter(|ending| !self.endings.contains_key(ending));
+        missing.extend(never.map(|(function, ah)| format!("a request of {function:02x}h that ends with {ah:02x}h")));
+        let never = STOPPED.iter().zip(self.stopped).filter(|(_, times)| *times == 0);
+        missing.extend(never.map(|(case, _)| format!("a request stopped {case}")));
         if self.hostile_accepted == 0 || self.hostile_refused == 0 {
             missing.push("hostile blocks of both kinds".into());
         }
@@ -191,6 +209,10 @@ impl Tally {
              with placement",
             self.finished, self.compared, self.at_once, self.at_once_placed
         );
+        let endings: Vec<String> = self.endings.iter().map(|((f, ah), times)| format!("{f:02x}h with {ah:02x}h: {times}")).collect();
+        println!("requests that ended {}", endings.join(", "));
+        let stopped: Vec<String> = STOPPED.iter().zip(self.stopped).map(|(case, times)| format!("{case}: {times}")).collect();
+        println!("of them stopped by a bad block {}", stopped.join(", "));
         let placed: Vec<String> = self.placed.iter().map(|(n, times)| format!("{n}: {times}")).collect();
         println!("tables of a placement {}", placed.join(", "));
         let extensions: Vec<String> = self.extensions.iter().map(|(cx, times)| format!("{cx:04x}h: {times}")).collect();

@@ -23,7 +23,7 @@ struct monitor {
 };
 
 /*
- * Opens the desk over the caller's arena and store. 0: done, and the caller closes it at the end. 1 to 8: the table is bad, and
+ * Opens the desk over the caller's arena and store. 0: done, and the caller closes it at the end. 1 to 9: the table is bad, and
  * *place says where. 25: the library is of another version than edd_desk.h.
  */
 uint32_t monitor_open(struct monitor *m, const uint8_t *table, size_t table_length, uint8_t *arena, size_t arena_length,

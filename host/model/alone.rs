@@ -1,14 +1,16 @@
-//! Document 01, "The words of demand 3": served alone, a plain machine without rows, pointer and turns.
+//! Document 01, "The words of demand 3": served alone, a plain machine without rows, pointer and turns, with the endings at
+//! a bad block from change request 2026-04.
 
 use crate::parts::{Registers, BLOCK_SIZE};
-use crate::steps::{steps, succeeded, Function, Outcome};
+use crate::steps::{set_count, steps, stopped, succeeded, Function, Outcome};
 use crate::table;
 
-/// Where the blocks that a request names lie in the store, and how many they are.
+/// Where the blocks that a request names lie in the store, how many they are, and how many of them come before the first bad one.
 #[derive(Clone, Copy, PartialEq, Eq, Debug)]
 pub struct Named {
     pub first: u64,
     pub count: u64,
+    pub good: u64,
     pub written: bool,
 }
 
@@ -27,8 +29,10 @@ pub fn served_alone(
         Outcome::Waits(request) => request,
     };
     let first = drives.numbered(request.drive)?.first + request.start;
-    let written = Function::of(posted.ah())?.writes();
-    for i in 0..request.count {
+    let function = Function::of(posted.ah())?;
+    let written = function.writes();
+    let good = drives.bad_of(request.drive).good(request.start, request.count);
+    for i in 0..good {
         let memory = &mut window[(request.buffer + BLOCK_SIZE * i) as usize..][..BLOCK_SIZE as usize];
         let block = &mut store[(BLOCK_SIZE * (first + i)) as usize..][..BLOCK_SIZE as usize];
         if written {
@@ -37,5 +41,12 @@ pub fn served_alone(
             memory.copy_from_slice(block);
         }
     }
-    Some((succeeded(posted), Some(Named { first, count: request.count, written })))
+    let named = Named { first, count: request.count, good, written };
+    if good == request.count {
+        return Some((succeeded(posted), Some(named)));
+    }
+    if function.has_packet() {
+        set_count(window, request.packet, good as u16);
+    }
+    Some((stopped(posted, function.bad_code(), good), Some(named)))
 }

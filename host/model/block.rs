@@ -1,6 +1,7 @@
 //! The desk as a block of bytes (docs/BLOCK.md), and document 01's rule when a block is accepted ("Calls the host makes"), with the words
-//! and the rule of change request 2026-01.
+//! and the rule of change request 2026-01 and the lists of 2026-04.
 
+use crate::bad::{BadBlocks, MOST_BAD};
 use crate::parameters::{may_lie, Parameters};
 use crate::parts::{inside, window_length, Desk, Drive, Drives, Registers, Request, Row, BLOCK_SIZE, GUESTS, MOST_DRIVES};
 use crate::steps::Function;
@@ -18,7 +19,9 @@ const ADDRESSES_AT: usize = PLACED_AT + GUESTS;
 const PRESENT_AT: usize = ADDRESSES_AT + GUESTS;
 const PARAMETERS_AT: usize = PRESENT_AT + MOST_DRIVES;
 const PARAMETERS_SIZE: usize = size_of::<Parameters>();
-const WORDS: usize = PARAMETERS_AT + MOST_DRIVES * PARAMETERS_SIZE / 8;
+const BAD_COUNTS_AT: usize = PARAMETERS_AT + MOST_DRIVES * PARAMETERS_SIZE / 8;
+const BAD_AT: usize = BAD_COUNTS_AT + MOST_DRIVES;
+const WORDS: usize = BAD_AT + MOST_DRIVES * MOST_BAD;
 pub const DESK_SIZE: usize = 8 * WORDS;
 
 const VACANT: u64 = 0;
@@ -60,6 +63,7 @@ pub fn read(bytes: &[u8]) -> Option<Desk> {
         Desk { rows: [Row::Vacant; GUESTS], drives: Drives::default(), pointer, placements: [None; GUESTS], arena_length, store_length };
     read_drives(bytes, count, store_length / BLOCK_SIZE, &mut desk.drives)?;
     read_parameters(bytes, &mut desk.drives)?;
+    read_bad_blocks(bytes, &mut desk.drives)?;
     for guest in 0..GUESTS {
         desk.placements[guest] = read_placement(bytes, guest, &desk.drives, window_length(arena_length))?;
     }
@@ -136,6 +140,22 @@ fn read_parameters(bytes: &[u8], drives: &mut Drives) -> Option<()> {
         } else if raw != [0; PARAMETERS_SIZE] {
             return None;
         }
+    }
+    Some(())
+}
+
+/// The lists of the records of kind 3: at most sixteen numbers that obey the table's rule, zeros behind them, none without a drive.
+fn read_bad_blocks(bytes: &[u8], drives: &mut Drives) -> Option<()> {
+    for slot in 0..MOST_DRIVES {
+        let [count] = words(bytes, BAD_COUNTS_AT + slot);
+        let list: Words<MOST_BAD> = words(bytes, BAD_AT + MOST_BAD * slot);
+        let count = usize::try_from(count).ok().filter(|count| *count <= MOST_BAD)?;
+        let (numbers, behind) = list.split_at(count);
+        let bad = BadBlocks::of(numbers.iter().copied());
+        if slot >= drives.count && count > 0 || !bad.obey(drives.slot[slot].blocks) || !all_zero(behind) {
+            return None;
+        }
+        drives.bad[slot] = bad;
     }
     Some(())
 }
@@ -284,5 +304,11 @@ pub fn write(bytes: &mut [u8], desk: &Desk) {
     for (slot, parameters) in desk.drives.parameters.iter().enumerate() {
         put(bytes, PRESENT_AT + slot, &[u64::from(parameters.is_some())]);
         bytes[parameters_at(slot)].copy_from_slice(&parameters.unwrap_or_default());
+    }
+    for (slot, bad) in desk.drives.bad.iter().enumerate() {
+        let mut list = [0; MOST_BAD];
+        list[..bad.numbers().len()].copy_from_slice(bad.numbers());
+        put(bytes, BAD_COUNTS_AT + slot, &[bad.numbers().len() as u64]);
+        put(bytes, BAD_AT + MOST_BAD * slot, &list);
     }
 }

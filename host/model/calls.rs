@@ -1,5 +1,5 @@
-//! Document 01, "Calls the host makes", with the house numbers of "Numbers given back", the placement of change request 2026-01 and the
-//! reader of 2026-03. The calls of include/edd_desk.h, with slices and references for its pointers.
+//! Document 01, "Calls the host makes", with the house numbers of "Numbers given back", the placement of change request 2026-01, the
+//! reader of 2026-03 and the bad blocks of 2026-04. The calls of include/edd_desk.h, with slices and references for its pointers.
 
 use crate::addresses::{Address, Geometry};
 use crate::block;
@@ -57,7 +57,7 @@ fn number(call: impl FnOnce() -> Result<u32, u32>) -> u32 {
 
 /// The header's EDD_VERSION; each change request raises both.
 pub fn version() -> u32 {
-    4
+    5
 }
 
 pub fn desk_size() -> u64 {
@@ -137,6 +137,17 @@ fn move_blocks(desk: &Desk, request: &Request, blocks: u64, window: &mut [u8], s
     }
 }
 
+/// "A turn that reaches a bad block moves the good ones before it and finishes the request: carry set, AH = 10h for a read, CCh for a
+/// write, the packet's count word (AL for 02h and 03h) giving the good blocks moved in the whole request. The count word is written after
+/// the data".
+fn stop_at_bad_block(request: &Request, moved: u64, window: &mut [u8]) -> Registers {
+    let function = Function::of(request.registers.ah()).expect("an acceptable row has a function that waits");
+    if function.has_packet() {
+        steps::set_count(window, request.packet, moved as u16);
+    }
+    steps::stopped(request.registers, function.bad_code(), moved)
+}
+
 pub fn turn(desk: &mut [u8], arena: &mut [u8], store: &mut [u8], guest: &mut u64, moved: &mut u64) -> u32 {
     number(|| {
         let read = accepted(desk)?;
@@ -144,10 +155,14 @@ pub fn turn(desk: &mut [u8], arena: &mut [u8], store: &mut [u8], guest: &mut u64
         let Some((row, request)) = next_waiting(&read) else {
             return Ok(NOTHING_YET);
         };
-        let blocks = TURN_BLOCKS.min(request.count - request.moved);
-        move_blocks(&read, &request, blocks, parts::window(arena, row as u64), store);
+        let due = TURN_BLOCKS.min(request.count - request.moved);
+        let blocks = read.drives.bad_of(request.drive).good(request.start + request.moved, due);
+        let window = parts::window(arena, row as u64);
+        move_blocks(&read, &request, blocks, window, store);
         let after = request.moved + blocks;
-        let next = if after == request.count {
+        let next = if blocks < due {
+            Row::Finished(stop_at_bad_block(&request, after, window))
+        } else if after == request.count {
             Row::Finished(steps::succeeded(request.registers))
         } else {
             Row::Waiting(Request { moved: after, ..request })

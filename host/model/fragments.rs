@@ -1,8 +1,9 @@
 //! Change request 2026-03: the table is read as it arrives. The reader keeps everything that arrived until it is settled, and decides by
 //! reading that as a whole; and the reader as a block of bytes, whose words, held bytes and table are taken from the same whole reading.
 
+use crate::bad::MOST_BAD;
 use crate::parts::MOST_DRIVES;
-use crate::table::{self, qword, word, Refusal};
+use crate::table::{self, bad_blocks_length, qword, word, Refusal};
 
 /// "Missing bytes are reported only at the end of input".
 const MISSING: u32 = 1;
@@ -10,9 +11,9 @@ const MISSING: u32 = 1;
 const TRAILING: u32 = 8;
 const END_RECORD: [u8; 4] = [4, 0, 0, 0];
 
-/// "keeps at most one unfinished record": room for the longest.
-const LONGEST_RECORD: usize = 68;
-const LONGEST_TABLE: usize = MOST_DRIVES * (68 + 20) + END_RECORD.len();
+/// "keeps at most one unfinished record": room for the longest, one of sixteen bad blocks.
+const LONGEST_RECORD: usize = bad_blocks_length(MOST_BAD);
+const LONGEST_TABLE: usize = MOST_DRIVES * (68 + LONGEST_RECORD + 20) + END_RECORD.len();
 
 // where the parts of the block stand
 const COURSE: usize = 0;
@@ -94,12 +95,14 @@ fn held_may_be(held: &[u8]) -> bool {
     if held.len() < 4 {
         return true;
     }
-    let whole = match word(held, 2) {
-        1 => 68,
-        4 => 20,
-        _ => return false,
+    let whole = usize::from(word(held, 0));
+    let may_be = match word(held, 2) {
+        1 => whole == 68,
+        3 => (1..=MOST_BAD).any(|n| whole == bad_blocks_length(n)),
+        4 => whole == 20,
+        _ => false,
     };
-    usize::from(word(held, 0)) == whole && held.len() < whole
+    may_be && held.len() < whole
 }
 
 fn all_zero(bytes: &[u8]) -> bool {

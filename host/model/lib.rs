@@ -1,4 +1,4 @@
-//! Document 01 and change requests 2026-01 to 2026-03 once more. It follows the papers, the tables of words in docs/BLOCK.md, the C
+//! Document 01 and change requests 2026-01 to 2026-04 once more. It follows the papers, the tables of words in docs/BLOCK.md, the C
 //! interface and the readings in docs/DECISIONS.md, and shares no code with the crates. The differential test (host/diff) compares the library
 //! with it, and the benchmark measures against it.
 //!
@@ -10,6 +10,7 @@
 //!   block      the desk as a block of bytes, and when it is accepted, from "Calls the host makes"
 //!   calls      Calls the host makes, with the house numbers of "Numbers given back"
 //!   alone      served alone, from "The words of demand 3"
+//!   bad        the bad blocks of a drive, from change request 2026-04
 //!   parameters the device parameter table, from change request 2026-01
 //!   fragments  the reader of fragments, by value and as a block of bytes, from change request 2026-03
 //!
@@ -17,6 +18,7 @@
 
 pub mod addresses;
 pub mod alone;
+pub mod bad;
 pub mod block;
 pub mod calls;
 pub mod fragments;

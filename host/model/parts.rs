@@ -1,5 +1,6 @@
-//! Document 01, "Parts of the desk", and what change request 2026-01 adds to them.
+//! Document 01, "Parts of the desk", and what change requests 2026-01 and 2026-04 add to them.
 
+use crate::bad::BadBlocks;
 use crate::parameters::Parameters;
 
 pub const GUESTS: usize = 8;
@@ -67,10 +68,11 @@ impl Drive {
     }
 }
 
-/// The drives in table order, and what their records of kind 4 hold; slots past the count are blank.
+/// The drives in table order, and what their records of kinds 3 and 4 hold; slots past the count are blank.
 #[derive(Clone, Copy, PartialEq, Eq, Debug, Default)]
 pub struct Drives {
     pub slot: [Drive; MOST_DRIVES],
+    pub bad: [BadBlocks; MOST_DRIVES],
     pub parameters: [Option<Parameters>; MOST_DRIVES],
     pub count: usize,
 }
@@ -85,6 +87,10 @@ impl Drives {
     }
     pub fn numbered(&self, number: u64) -> Option<&Drive> {
         self.slot_of(number).map(|slot| &self.slot[slot])
+    }
+    /// The bad blocks of the drive of a BIOS number, counted from its block 0.
+    pub fn bad_of(&self, number: u64) -> &BadBlocks {
+        self.slot_of(number).map_or(&BadBlocks::NONE, |slot| &self.bad[slot])
     }
 }
 

@@ -1,4 +1,5 @@
-//! Document 01, "Steps of each function", and the BIOS answers of "Numbers given back". 41h and 48h as change request 2026-01 has them.
+//! Document 01, "Steps of each function", and the BIOS answers of "Numbers given back". 41h and 48h as change request 2026-01 has them,
+//! and what a bad block is answered with, from 2026-04.
 
 use crate::addresses::{address_in, Geometry};
 use crate::parameters::{extensions_of, pointer_to};
@@ -11,6 +12,9 @@ const OUTSIDE: u8 = 0x04;
 const NO_PARAMETERS: u8 = 0x07;
 const BAD_BUFFER: u8 = 0x09;
 pub const WITHDRAWN: u8 = 0x80;
+/// "AH = 10h for a read, CCh for a write".
+const BAD_SECTOR: u8 = 0x10;
+const WRITE_FAULT: u8 = 0xCC;
 
 const PACKET_SIZE: u64 = 16;
 const PACKET_COUNT: usize = 2;
@@ -47,6 +51,14 @@ impl Function {
     pub fn writes(self) -> bool {
         matches!(self, Function::WriteSectors | Function::WriteBlocks)
     }
+    /// AH of a request that met a bad block.
+    pub fn bad_code(self) -> u8 {
+        if self.writes() {
+            WRITE_FAULT
+        } else {
+            BAD_SECTOR
+        }
+    }
     pub fn has_packet(self) -> bool {
         matches!(self, Function::ReadBlocks | Function::WriteBlocks)
     }
@@ -80,7 +92,8 @@ pub fn succeeded(given: Registers) -> Registers {
     out
 }
 
-/// "BIOS answers set carry and AH = code". 02h and 03h also set AL: to 0 here, to the blocks moved when withdrawn.
+/// "BIOS answers set carry and AH = code". 02h and 03h also set AL: to 0 when refused, to the blocks moved when withdrawn
+/// or stopped by a bad block.
 pub fn stopped(given: Registers, code: u8, moved: u64) -> Registers {
     let mut out = Registers { carry: 1, ..given };
     if matches!(given.ah(), 0x02 | 0x03) {
@@ -169,7 +182,10 @@ fn blocks_by_packet(drives: &Drives, window: &mut [u8], given: Registers) -> Out
         set_count(window, asked.place, 0);
         return Outcome::Answered(refused(given, code));
     }
-    if given.ah() == 0x44 || asked.count == 0 {
+    if given.ah() == 0x44 {
+        return Outcome::Answered(verify(drives, window, given, &asked));
+    }
+    if asked.count == 0 {
         return Outcome::Answered(succeeded(given));
     }
     Outcome::Waits(Request {
@@ -181,6 +197,16 @@ fn blocks_by_packet(drives: &Drives, window: &mut [u8], given: Registers) -> Out
         packet: asked.place,
         moved: 0,
     })
+}
+
+/// "44h reports the first bad block of its range at once with 10h, after the 04h check, the count word giving the good blocks before it."
+fn verify(drives: &Drives, window: &mut [u8], given: Registers, asked: &Packet) -> Registers {
+    let good = drives.bad_of(u64::from(given.dl())).good(asked.start, asked.count);
+    if good == asked.count {
+        return succeeded(given);
+    }
+    set_count(window, asked.place, good as u16);
+    stopped(given, BAD_SECTOR, good)
 }
 
 fn seek(drives: &Drives, window: &[u8], given: Registers) -> Registers {

@@ -1,5 +1,6 @@
-//! Document 01, "The drive table", with the record of kind 4 that change request 2026-01 adds.
+//! Document 01, "The drive table", with the record of kind 4 that change request 2026-01 adds and that of kind 3 of 2026-04.
 
+use crate::bad::{BadBlocks, MOST_BAD};
 use crate::parameters::Parameters;
 use crate::parts::{inside, Drive, Drives, MOST_DRIVES};
 
@@ -7,6 +8,12 @@ const HEADER: usize = 4;
 const END: (u16, usize) = (0, 4);
 const DRIVE: (u16, usize) = (1, 68);
 const PARAMETERS: (u16, usize) = (4, 20);
+/// "record kind 3, length 4 + 2 + 8 times n".
+const BAD_BLOCKS: u16 = 3;
+
+pub const fn bad_blocks_length(n: usize) -> usize {
+    4 + 2 + 8 * n
+}
 
 /// A refusal: its number, 1 to 9, and the place.
 #[derive(Clone, Copy, PartialEq, Eq, Debug)]
@@ -18,6 +25,7 @@ pub struct Refusal {
 enum Record {
     End,
     Drive,
+    BadBlocks,
     Parameters,
 }
 
@@ -33,25 +41,23 @@ pub fn qword(bytes: &[u8], at: usize) -> u64 {
     u64::from_le_bytes(bytes[at..at + 8].try_into().unwrap())
 }
 
-/// "1 fewer than 4 bytes left; 3 unknown kind; 2 wrong length for the kind; 1 record cut off".
-fn header(left: &[u8]) -> Result<Record, u32> {
+/// "1 fewer than 4 bytes left; 3 unknown kind; 2 wrong length for the kind; 1 record cut off". The record's kind, and all its bytes.
+fn header(left: &[u8]) -> Result<(Record, &[u8]), u32> {
     if left.len() < HEADER {
         return Err(1);
     }
-    let kind = word(left, 2);
-    let (record, length) = match kind {
-        k if k == END.0 => (Record::End, END.1),
-        k if k == DRIVE.0 => (Record::Drive, DRIVE.1),
-        k if k == PARAMETERS.0 => (Record::Parameters, PARAMETERS.1),
+    let length = usize::from(word(left, 0));
+    let (record, may_be) = match word(left, 2) {
+        k if k == END.0 => (Record::End, length == END.1),
+        k if k == DRIVE.0 => (Record::Drive, length == DRIVE.1),
+        k if k == PARAMETERS.0 => (Record::Parameters, length == PARAMETERS.1),
+        BAD_BLOCKS => (Record::BadBlocks, (1..=MOST_BAD).any(|n| length == bad_blocks_length(n))),
         _ => return Err(3),
     };
-    if usize::from(word(left, 0)) != length {
+    if !may_be {
         return Err(2);
     }
-    if left.len() < length {
-        return Err(1);
-    }
-    Ok(record)
+    Ok((record, left.get(..length).ok_or(1u32)?))
 }
 
 /// The fields of a drive's record, by their places.
@@ -139,6 +145,20 @@ pub fn check_drive(drive: &Drive, earlier: &[Drive], store_blocks: u64) -> Resul
     }
 }
 
+/// The numbers of a record of kind 3: "table 9 as in 2026-01 and for a kind 3 after its drive's kind 4, table 5 for a list unsorted,
+/// repeated or outside the drive".
+fn bad_blocks_of(record: &[u8], drives: &Drives) -> Result<BadBlocks, u32> {
+    let named = usize::from(word(record, 4));
+    if named + 1 != drives.count || !drives.bad[named].is_empty() || drives.parameters[named].is_some() {
+        return Err(9);
+    }
+    let bad = BadBlocks::of(record[6..].chunks_exact(8).map(|number| qword(number, 0)));
+    if !bad.obey(drives.slot[named].blocks) {
+        return Err(5);
+    }
+    Ok(bad)
+}
+
 /// The fourteen bytes of a record of kind 4, if the drive it names is the last one read and has none yet; else 9.
 fn parameters_of(record: &[u8], drives: &Drives) -> Result<Parameters, u32> {
     let named = usize::from(word(record, 4));
@@ -154,28 +174,29 @@ pub fn read(table: &[u8], store_blocks: u64) -> Result<Drives, Refusal> {
     let mut place = 0;
     loop {
         let refused = |number| Refusal { number, place: place as u64 };
-        match header(&table[place..]).map_err(refused)? {
+        let (kind, record) = header(&table[place..]).map_err(refused)?;
+        match kind {
             Record::End if table.len() == place + END.1 => return Ok(drives),
             Record::End => return Err(Refusal { number: 8, place: (place + END.1) as u64 }),
             Record::Drive => {
-                let drive = drive_of(&table[place..place + DRIVE.1]);
+                let drive = drive_of(record);
                 check_drive(&drive, drives.known(), store_blocks).map_err(refused)?;
                 drives.slot[drives.count] = drive;
                 drives.count += 1;
-                place += DRIVE.1;
             }
+            Record::BadBlocks => drives.bad[drives.count.saturating_sub(1)] = bad_blocks_of(record, &drives).map_err(refused)?,
             Record::Parameters => {
-                let parameters = parameters_of(&table[place..place + PARAMETERS.1], &drives).map_err(refused)?;
-                drives.parameters[drives.count - 1] = Some(parameters);
-                place += PARAMETERS.1;
+                drives.parameters[drives.count.saturating_sub(1)] = Some(parameters_of(record, &drives).map_err(refused)?);
             }
         }
+        place += record.len();
     }
 }
 
 /// The length of the drives as a table.
 pub fn length(drives: &Drives) -> usize {
-    DRIVE.1 * drives.count + PARAMETERS.1 * drives.parameters.iter().flatten().count() + END.1
+    let bad_blocks: usize = drives.bad.iter().filter(|bad| !bad.is_empty()).map(|bad| bad_blocks_length(bad.numbers().len())).sum();
+    DRIVE.1 * drives.count + bad_blocks + PARAMETERS.1 * drives.parameters.iter().flatten().count() + END.1
 }
 
 /// Lays the drives out as a table again; the caller has made sure that there is room.
@@ -184,6 +205,16 @@ pub fn write(drives: &Drives, out: &mut [u8]) {
     for (slot, drive) in drives.known().iter().enumerate() {
         record_of(drive, &mut out[place..place + DRIVE.1]);
         place += DRIVE.1;
+        let numbers = drives.bad[slot].numbers();
+        if !numbers.is_empty() {
+            let record = &mut out[place..place + bad_blocks_length(numbers.len())];
+            put_header(record, (BAD_BLOCKS, record.len()));
+            record[4..6].copy_from_slice(&(slot as u16).to_le_bytes());
+            for (at, number) in record[6..].chunks_exact_mut(8).zip(numbers) {
+                at.copy_from_slice(&number.to_le_bytes());
+            }
+            place += bad_blocks_length(numbers.len());
+        }
         if let Some(parameters) = &drives.parameters[slot] {
             put_header(&mut out[place..], PARAMETERS);
             out[place + 4..place + 6].copy_from_slice(&(slot as u16).to_le_bytes());

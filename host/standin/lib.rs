@@ -37,6 +37,100 @@ mod words {
     }
 }
 
+/// What the faults of bad blocks need to know.
+#[allow(dead_code)]
+mod worn {
+    use super::words;
+    use model::parts::{linear, Registers, Request, Row};
+
+    /// Words of the block: how many bad blocks each slot has, and sixteen for each.
+    pub const COUNTS: usize = 338;
+    pub const LISTS: usize = 346;
+
+    /// The list of a slot, of a block that is a desk's.
+    pub fn list(desk: &[u8], slot: usize) -> Vec<u64> {
+        (0..words::get(desk, COUNTS + slot).min(16) as usize).map(|j| words::get(desk, LISTS + 16 * slot + j)).collect()
+    }
+
+    pub fn set_list(desk: &mut [u8], slot: usize, numbers: &[u64]) {
+        words::set(desk, COUNTS + slot, numbers.len() as u64);
+        for j in 0..16 {
+            words::set(desk, LISTS + 16 * slot + j, numbers.get(j).copied().unwrap_or(0));
+        }
+    }
+
+    /// The next turn of a block: its guest and request, where its blocks lie in the store, how many are due; and what the window has in
+    /// the high byte of the count word.
+    pub struct Service {
+        pub guest: u64,
+        pub request: Request,
+        pub high: Option<u8>,
+        pub first: usize,
+        pub due: u64,
+        pub writes: bool,
+        pub by_packet: bool,
+    }
+
+    pub fn next(block: &[u8], arena: &[u8]) -> Option<Service> {
+        let desk = model::block::read(block)?;
+        let (guest, request) = (0..8).map(|i| (desk.pointer + i) % 8).find_map(|guest| match desk.rows[guest as usize] {
+            Row::Waiting(request) => Some((guest, request)),
+            _ => None,
+        })?;
+        let first = (desk.drives.numbered(request.drive)?.first + request.start + request.moved) as usize;
+        let due = 16.min(request.count - request.moved);
+        let ah = request.registers.ah();
+        let by_packet = ah >= 0x42;
+        let high = arena.get(guest as usize * (arena.len() / 8) + request.packet as usize + 3).copied().filter(|_| by_packet);
+        Some(Service { guest, request, high, first, due, writes: matches!(ah, 0x03 | 0x43), by_packet })
+    }
+
+    impl Service {
+        /// Moves blocks of this turn once more, from one on.
+        pub fn move_again(&self, from: u64, blocks: u64, arena: &mut [u8], store: &mut [u8]) {
+            let window = self.guest as usize * (arena.len() / 8);
+            let at = window + (self.request.buffer + 512 * (self.request.moved + from)) as usize;
+            let block = 512 * (self.first + from as usize);
+            let (memory, blocks) = (&mut arena[at..at + 512 * blocks as usize], &mut store[block..block + 512 * blocks as usize]);
+            if self.writes {
+                blocks.copy_from_slice(memory);
+            } else {
+                memory.copy_from_slice(blocks);
+            }
+        }
+        pub fn set_count(&self, arena: &mut [u8], count: u64) {
+            model::steps::set_count(model::parts::window(arena, self.guest), self.request.packet, count as u16);
+        }
+    }
+
+    /// The start and the count of a packet that was posted, and the slot of its drive.
+    pub fn asked(window: &[u8], given: &Registers) -> (u64, u64, usize) {
+        let packet = &window[linear(given.ds, given.si) as usize..][..16];
+        let start = u64::from_le_bytes(packet[8..16].try_into().unwrap());
+        (start, u64::from(u16::from_le_bytes([packet[2], packet[3]])), usize::from(given.dl() - 0x80))
+    }
+
+    /// The table with the list of the record at a place changed; `None` if that is no record of kind 3.
+    pub fn with_list(table: &[u8], place: u64, change: impl FnOnce(&mut Vec<u64>)) -> Option<Vec<u8>> {
+        let (before, record) = table.split_at_checked(place as usize)?;
+        let good = record.len() >= 14 && record[1..4] == [0, 3, 0] && record[0] >= 14 && record.len() >= usize::from(record[0]);
+        if !good {
+            return None;
+        }
+        let (record, after) = record.split_at(usize::from(record[0]));
+        let mut list = record[6..].chunks_exact(8).map(|n| u64::from_le_bytes(n.try_into().unwrap())).collect();
+        change(&mut list);
+        let mut out = before.to_vec();
+        if !list.is_empty() {
+            out.extend([(6 + 8 * list.len()) as u8, 0, 3, 0]);
+            out.extend(&record[4..6]);
+            list.iter().for_each(|number| out.extend(number.to_le_bytes()));
+        }
+        out.extend(after);
+        Some(out)
+    }
+}
+
 #[no_mangle]
 pub extern "C" fn edd_version() -> u32 {
     model::version()
@@ -68,12 +162,13 @@ pub unsafe extern "C" fn edd_open(
     }
     #[cfg(fault = "store_length_narrowed")]
     let store_length = u64::from(store_length as u32);
-    #[cfg(fault = "placements_survive")]
+    #[cfg(any(fault = "placements_survive", fault = "lists_survive"))]
     let before = desk.to_vec();
     let answer = model::open(desk, table, arena_length, store_length, place);
     #[cfg(fault = "bad_parameters_skipped")]
     if answer == 9 {
-        let without = [&table[..*place as usize], &table[*place as usize + 20..]].concat();
+        let length = usize::from(table[*place as usize]);
+        let without = [&table[..*place as usize], &table[*place as usize + length..]].concat();
         return model::open(desk, &without, arena_length, store_length, place);
     }
     #[cfg(fault = "flags_masked_at_open")]
@@ -81,9 +176,53 @@ pub unsafe extern "C" fn edd_open(
         let flags = words::get(desk, at);
         words::set(desk, at, if flags & 4 == 0 { flags & !0x70 } else { flags });
     }
+    #[cfg(fault = "equal_neighbours_taken")]
+    if let (5, Some(other)) = (answer, worn::with_list(table, *place, |list| list.dedup())) {
+        return model::open(desk, &other, arena_length, store_length, place);
+    }
+    #[cfg(fault = "unsorted_list_taken")]
+    if let (5, Some(other)) = (answer, worn::with_list(table, *place, |list| list.sort())) {
+        return model::open(desk, &other, arena_length, store_length, place);
+    }
+    #[cfg(fault = "last_block_but_one_taken")]
+    if let (5, Some(other)) = (answer, worn::with_list(table, *place, |list| *list.last_mut().unwrap() -= 1)) {
+        // a number that is the drive's blocks is taken, as the one below it
+        return model::open(desk, &other, arena_length, store_length, place);
+    }
+    #[cfg(fault = "list_after_parameters_taken")]
+    if answer == 9 && *place >= 20 {
+        let at = *place as usize;
+        if table[at..].starts_with(&[table[at], 0, 3, 0]) && table[at - 20..].starts_with(&[20, 0, 4, 0]) {
+            let end = at + usize::from(table[at]);
+            let other = [&table[..at - 20], &table[at..end], &table[at - 20..at], &table[end..]].concat();
+            return model::open(desk, &other, arena_length, store_length, place);
+        }
+    }
+    #[cfg(fault = "list_before_its_drive_judged")]
+    if let (9, Some(_)) = (answer, worn::with_list(table, *place, |_| ())) {
+        // 5 before 9: a list that is not ascending, whatever drive it names
+        let mut ascends = true;
+        worn::with_list(table, *place, |list| ascends = list.windows(2).all(|pair| pair[0] < pair[1]));
+        if !ascends {
+            return 5;
+        }
+    }
+    #[cfg(fault = "empty_list_taken")]
+    if answer == 2 && table[*place as usize..].starts_with(&[6, 0, 3, 0]) && table.len() >= *place as usize + 6 {
+        let other = [&table[..*place as usize], &table[*place as usize + 6..]].concat();
+        return model::open(desk, &other, arena_length, store_length, place);
+    }
     #[cfg(fault = "placements_survive")]
     if answer == 0 && model::block::read(&before).is_some() {
         desk[8 * 300..8 * 316].copy_from_slice(&before[8 * 300..8 * 316]);
+    }
+    #[cfg(fault = "lists_survive")]
+    if answer == 0 && model::block::read(&before).is_some() && worn::list(desk, 0).is_empty() {
+        // the first drive keeps the list that it had, where it still may
+        let (old, blocks) = (worn::list(&before, 0), words::get(desk, 184 + 3));
+        if old.iter().all(|number| *number < blocks) {
+            worn::set_list(desk, 0, &old);
+        }
     }
     answer
 }
@@ -97,7 +236,15 @@ pub unsafe extern "C" fn edd_write(desk: *const u8, desk_len: usize, out: *mut u
     }
     #[cfg(fault = "packet_word_free")]
     let desk = &packet_words_cleared(desk)[..];
+    #[cfg(any(fault = "bad_count_by_its_low_byte", fault = "past_list_not_judged"))]
+    let desk = &lists_cleared(desk)[..];
     let answer = model::write(desk, out, written);
+    #[cfg(fault = "list_not_written")]
+    if answer == 0 && worn::list(desk, 0).len() == 1 && *written >= 82 {
+        // the first drive's list of one number
+        out.copy_within(82..*written as usize, 68);
+        *written -= 14;
+    }
     #[cfg(fault = "placed_bytes_written")]
     if answer == 0 && *written >= 92 && out[70] == 4 {
         out[78] |= 0xA0;
@@ -126,6 +273,22 @@ fn packet_words_cleared(desk: &[u8]) -> Vec<u8> {
             if words::get(desk, 23 * guest) == 1 && matches!(words::get(desk, 23 * guest + 1) >> 8, 2 | 3) {
                 words::set(&mut copy, 23 * guest + 13, 0);
             }
+        }
+    }
+    copy
+}
+
+/// A reader of the block that does not look at all of a count, or at what stands behind the numbers of a list.
+#[cfg(any(fault = "bad_count_by_its_low_byte", fault = "past_list_not_judged"))]
+fn lists_cleared(desk: &[u8]) -> Vec<u8> {
+    let mut copy = desk.to_vec();
+    for slot in (0..8).filter(|_| desk.len() == DESK_SIZE) {
+        let count = words::get(desk, worn::COUNTS + slot);
+        if cfg!(fault = "bad_count_by_its_low_byte") {
+            words::set(&mut copy, worn::COUNTS + slot, count & 0xFF);
+        } else if (1..16).contains(&count) {
+            let list = worn::list(desk, slot);
+            worn::set_list(&mut copy, slot, &list);
         }
     }
     copy
@@ -167,7 +330,58 @@ pub unsafe extern "C" fn edd_post(
         store
     };
     let mut out = given;
+    #[cfg(any(fault = "verify_before_the_range", fault = "protected_write_fault"))]
+    let found = model::parts::window(arena, guest).to_vec();
     let answer = model::post(desk, arena, store, guest, &mut out);
+    #[cfg(fault = "bad_block_at_the_post")]
+    if answer == 256 && given.ax >> 8 == 0x42 {
+        let (start, _, slot) = worn::asked(model::parts::window(arena, guest), &given);
+        if worn::list(desk, slot).contains(&start) {
+            desk[8 * 23 * guest as usize..8 * 23 * (guest as usize + 1)].fill(0);
+            model::steps::set_count(model::parts::window(arena, guest), model::parts::linear(ds, si), 0);
+            (*ax, *carry) = (0x1000 | given.ax & 0xFF, 1);
+            return 0;
+        }
+    }
+    #[cfg(fault = "verify_count_zero")]
+    if answer == 0 && given.ax >> 8 == 0x44 && out.ah() == 0x10 {
+        model::steps::set_count(model::parts::window(arena, guest), model::parts::linear(ds, si), 0);
+    }
+    #[cfg(fault = "verify_sets_al")]
+    if answer == 0 && given.ax >> 8 == 0x44 && out.ah() == 0x10 {
+        let (_, good, _) = worn::asked(model::parts::window(arena, guest), &given);
+        out.set_al(good as u8);
+    }
+    #[cfg(fault = "verify_before_the_range")]
+    if answer == 0 && given.ax >> 8 == 0x44 && out.ah() == 0x04 {
+        // 10h where a bad block lies in the part inside the drive
+        let (start, count, slot) = worn::asked(&found, &given);
+        if let Some(bad) = worn::list(desk, slot).iter().find(|bad| **bad >= start && **bad - start < count) {
+            model::steps::set_count(model::parts::window(arena, guest), model::parts::linear(ds, si), (bad - start) as u16);
+            out.set_ah(0x10);
+        }
+    }
+    #[cfg(fault = "verify_first_turn_only")]
+    if answer == 0 && given.ax >> 8 == 0x44 && out.ah() == 0x10 {
+        let (_, good, _) = worn::asked(model::parts::window(arena, guest), &given);
+        if good >= 16 {
+            out = model::steps::succeeded(given);
+        }
+    }
+    #[cfg(fault = "protected_write_fault")]
+    if answer == 0 && given.ax >> 8 == 0x43 && out.ah() == 0x03 {
+        let (start, count, slot) = worn::asked(&found, &given);
+        if worn::list(desk, slot).iter().any(|bad| *bad >= start && *bad - start < count) {
+            out.set_ah(0xCC);
+        }
+    }
+    #[cfg(fault = "seek_heeds_the_list")]
+    if answer == 0 && given.ax >> 8 == 0x47 && out.carry == 0 {
+        let (start, _, slot) = worn::asked(model::parts::window(arena, guest), &given);
+        if worn::list(desk, slot).contains(&start) {
+            out = Registers { ax: 0x1000 | given.ax & 0xFF, carry: 1, ..given };
+        }
+    }
     #[cfg(fault = "al_kept")]
     if answer == 0 && given.ax >> 8 == 2 && out.carry == 1 {
         out.set_al(given.al());
@@ -262,7 +476,39 @@ pub unsafe extern "C" fn edd_turn(
     }
     #[cfg(fault = "search_from_zero")]
     let pointer = if desk.len() == DESK_SIZE { std::mem::replace(&mut desk[8 * 297], 0) } else { 0 };
+    #[cfg(any(fault = "list_of_the_store", fault = "next_part_not_searched"))]
+    let lists = lists_moved(desk);
+    #[cfg(any(
+        fault = "bad_block_moved",
+        fault = "count_word_before_the_data",
+        fault = "count_of_this_turn",
+        fault = "bad_sector_for_writes",
+        fault = "whole_part_answered",
+        fault = "al_kept_at_a_bad_block",
+        fault = "al_set_by_packet",
+        fault = "count_word_on_success",
+        fault = "bad_count_one_byte"
+    ))]
+    let next = worn::next(desk, arena);
     let answer = model::turn(desk, arena, store, guest, moved);
+    #[cfg(any(fault = "list_of_the_store", fault = "next_part_not_searched"))]
+    if desk.len() == DESK_SIZE {
+        desk[8 * worn::COUNTS..].copy_from_slice(&lists);
+    }
+    #[cfg(any(
+        fault = "bad_block_moved",
+        fault = "count_word_before_the_data",
+        fault = "count_of_this_turn",
+        fault = "bad_sector_for_writes",
+        fault = "whole_part_answered",
+        fault = "al_kept_at_a_bad_block",
+        fault = "al_set_by_packet",
+        fault = "count_word_on_success",
+        fault = "bad_count_one_byte"
+    ))]
+    if answer == 0 {
+        spoil_ending(&next.unwrap(), desk, arena, store, moved);
+    }
     #[cfg(fault = "search_from_zero")]
     if desk.len() == DESK_SIZE && answer != 0 {
         desk[8 * 297] = pointer;
@@ -282,6 +528,71 @@ pub unsafe extern "C" fn edd_turn(
         *guest = 0;
     }
     answer
+}
+
+/// Bad blocks counted from the store's first block, or only those in a request's first part: the lists of the block, and how they were.
+#[cfg(any(fault = "list_of_the_store", fault = "next_part_not_searched"))]
+fn lists_moved(desk: &mut [u8]) -> Vec<u8> {
+    let old = if desk.len() == DESK_SIZE { desk[8 * worn::COUNTS..].to_vec() } else { Vec::new() };
+    let Some(read) = model::block::read(desk) else { return old };
+    for (slot, drive) in read.drives.known().iter().enumerate() {
+        let list = worn::list(desk, slot);
+        let kept: Vec<u64> = if cfg!(fault = "list_of_the_store") {
+            list.iter().filter(|bad| **bad >= drive.first && **bad - drive.first < drive.blocks).map(|bad| bad - drive.first).collect()
+        } else {
+            // forgets a bad block that the next request to be served reaches in a later part
+            let next = (0..8).map(|i| read.rows[(read.pointer as usize + i) % 8]).find_map(|row| match row {
+                model::parts::Row::Waiting(request) => Some(request),
+                _ => None,
+            });
+            list.into_iter().filter(|_| next.map_or(true, |request| request.moved == 0)).collect()
+        };
+        worn::set_list(desk, slot, &kept);
+    }
+    old
+}
+
+/// A turn that did something else where it met a bad block, or where it ended a request.
+#[allow(dead_code)]
+fn spoil_ending(served: &worn::Service, desk: &mut [u8], arena: &mut [u8], store: &mut [u8], moved: &mut u64) {
+    let row = 23 * served.guest as usize;
+    let ax = row + 15;
+    if *moved == served.due {
+        if cfg!(fault = "count_word_on_success") && served.by_packet && words::get(desk, row) == 2 {
+            served.set_count(arena, served.request.count);
+        }
+        return;
+    }
+    if cfg!(fault = "bad_block_moved") {
+        served.move_again(*moved, 1, arena, store);
+    }
+    if cfg!(fault = "count_word_before_the_data") && !served.writes {
+        served.move_again(0, *moved, arena, store);
+    }
+    let registers = words::get(desk, ax);
+    if cfg!(fault = "count_of_this_turn") {
+        if served.by_packet {
+            served.set_count(arena, *moved);
+        } else {
+            words::set(desk, ax, registers & 0xFF00 | *moved);
+        }
+    }
+    if cfg!(fault = "bad_sector_for_writes") {
+        words::set(desk, ax, 0x1000 | registers & 0xFF);
+    }
+    if cfg!(fault = "al_kept_at_a_bad_block") {
+        words::set(desk, ax, registers & 0xFF00 | u64::from(served.request.registers.al()));
+    }
+    if cfg!(fault = "al_set_by_packet") {
+        words::set(desk, ax, registers & 0xFF00 | served.request.moved + *moved);
+    }
+    if let (true, Some(high)) = (cfg!(fault = "bad_count_one_byte"), served.high) {
+        let window = model::parts::window(arena, served.guest);
+        window[served.request.packet as usize + 3] = high;
+    }
+    if cfg!(fault = "whole_part_answered") {
+        *moved = served.due;
+    }
 }
 
 #[no_mangle]
@@ -440,6 +751,11 @@ pub unsafe extern "C" fn edd_reader_feed(reader: *mut u8, reader_len: usize, byt
         words::set(reader, 0, 0);
         words::set(reader, 1, 0);
     }
+    #[cfg(fault = "held_list_refused")]
+    if reader.len() == READER_SIZE && words::get(reader, 3) >= 68 {
+        // room for a drive's record only
+        return 25;
+    }
     #[cfg(fault = "empty_fragment_ends")]
     if bytes.is_empty() {
         return model::reader_end(reader, place);
@@ -451,7 +767,9 @@ pub unsafe extern "C" fn edd_reader_feed(reader: *mut u8, reader_len: usize, byt
         fault = "kind_when_whole",
         fault = "held_after_refusal",
         fault = "place_in_fragment",
-        fault = "drives_after_refusal"
+        fault = "drives_after_refusal",
+        fault = "list_judged_at_the_end",
+        fault = "list_judged_by_its_first_bytes"
     ))]
     let before = reader.to_vec();
     let answer = model::reader_feed(reader, bytes, place);
@@ -463,10 +781,30 @@ pub unsafe extern "C" fn edd_reader_feed(reader: *mut u8, reader_len: usize, byt
     if answer == (if cfg!(fault = "length_when_whole") { 2 } else { 3 }) && words::get(&before, 0) == 0 {
         // nothing is said before so many bytes of the record arrived as the longest has
         let arrived = words::get(&before, 4) - 4 + words::get(&before, 3) + bytes.len() as u64;
-        if arrived - *place < 68 {
+        if arrived - *place < 134 {
             reader.copy_from_slice(&before);
             return 256;
         }
+    }
+    #[cfg(fault = "list_judged_at_the_end")]
+    if answer == 5 && words::get(&before, 0) == 0 && words::get(&before, 3) >= 4 && before[42] == 3 {
+        // a list that is not taken is told with the next byte only
+        let kept = reader.to_vec();
+        reader.copy_from_slice(&before);
+        if bytes.len() == 1 {
+            return 256;
+        }
+        reader.copy_from_slice(&kept);
+    }
+    #[cfg(fault = "list_judged_by_its_first_bytes")]
+    if answer == 256 && words::get(reader, 0) == 0 && words::get(reader, 3) >= 6 && reader[42] == 3 && words::get(reader, 4) == 4 {
+        // 9 for a list without a drive as soon as its number is there
+        *place = 0;
+        words::set(reader, 0, 3);
+        words::set(reader, 1, 9);
+        words::set(reader, 3, 0);
+        reader[40..174].fill(0);
+        return 9;
     }
     #[cfg(fault = "trailing_before_a_byte")]
     if answer == 256 && words::get(reader, 0) == 1 {
@@ -478,13 +816,13 @@ pub unsafe extern "C" fn edd_reader_feed(reader: *mut u8, reader_len: usize, byt
     }
     #[cfg(fault = "held_after_refusal")]
     if (2..=9).contains(&answer) && words::get(&before, 0) == 0 {
-        reader[40..108].copy_from_slice(&before[40..108]);
+        reader[40..174].copy_from_slice(&before[40..174]);
     }
     #[cfg(fault = "drives_after_refusal")]
     if (2..=9).contains(&answer) && words::get(&before, 0) == 0 {
         // the drives of the refused fragment are forgotten
         reader[32..40].copy_from_slice(&before[32..40]);
-        reader[108..].copy_from_slice(&before[108..]);
+        reader[174..].copy_from_slice(&before[174..]);
     }
     #[cfg(fault = "place_in_fragment")]
     if (2..=9).contains(&answer) && words::get(&before, 0) < 2 {
@@ -534,7 +872,7 @@ pub unsafe extern "C" fn edd_reader_write(reader: *const u8, reader_len: usize, 
     #[cfg(fault = "reader_size_untested")]
     let reader = if reader.len() > READER_SIZE { &reader[..READER_SIZE] } else { reader };
     #[cfg(fault = "held_not_judged")]
-    if reader.len() == READER_SIZE && words::get(reader, 0) == 0 && words::get(reader, 3) < 68 {
+    if reader.len() == READER_SIZE && words::get(reader, 0) == 0 && words::get(reader, 3) < 134 {
         // only the bytes past those held are looked at
         let mut copy = reader.to_vec();
         let held = words::get(reader, 3) as usize;
@@ -543,10 +881,10 @@ pub unsafe extern "C" fn edd_reader_write(reader: *const u8, reader_len: usize, 
         return model::reader_write(&copy, out, written);
     }
     #[cfg(fault = "past_held_not_judged")]
-    if reader.len() == READER_SIZE && words::get(reader, 3) < 68 {
+    if reader.len() == READER_SIZE && words::get(reader, 3) < 134 {
         let mut copy = reader.to_vec();
         let held = words::get(reader, 3) as usize;
-        copy[40 + held..108].fill(0);
+        copy[40 + held..174].fill(0);
         return model::reader_write(&copy, out, written);
     }
     #[cfg(fault = "written_before_the_end")]

@@ -5,7 +5,8 @@
  *   post, withdraw,  the window of their guest, and no byte of the store
  *   place
  *   turn             the window of the guest that it serves and the store blocks that it moves. A read only reads the blocks, a write
- *                    only reads the window.
+ *                    only reads the window; but where a 43h meets a bad block, the count word of its packet is written. The bad block
+ *                    and those behind it are not touched.
  *   reader calls     the reader block, and the fragment or the buffer that they are lent. A fragment is only read, and so is the
  *                    block when the table is written out; a buffer is touched only where the table is written into it.
  *
@@ -89,19 +90,30 @@ static void must(int good, const char *what)
 
 /* ---- requests */
 
+/* good: how many of its blocks come before a bad one; all of them in the first rows, the others meet one */
 struct request {
-    unsigned function, count, start;
+    unsigned function, count, start, good;
     int waits;
     const char *name;
 };
 
+/* Sixteen of each drive. The first two begin a page, so that the bad block lies in a page that the turn must not touch. */
+static const unsigned bad_blocks[EDD_BAD_BLOCKS] = { 208, 256, 269, 280, 281, 282, 283, 284, 285, 286, 287, 288, 289, 290, 291, 383 };
+
 /* Each drive is a whole number of pages. A start that is no multiple of eight lets a transfer begin inside a page. */
 static const struct request requests[] = {
-    { 0x02, 1, 0, 1, "02h" },     { 0x02, 128, 3, 1, "02h" },   { 0x03, 17, 5, 1, "03h" },     { 0x03, 128, 0, 1, "03h" },
-    { 0x42, 1, 511, 1, "42h" },   { 0x42, 127, 9, 1, "42h" },   { 0x43, 16, 8, 1, "43h" },     { 0x43, 127, 385, 1, "43h" },
-    { 0x42, 0, 512, 0, "42h" },   { 0x42, 1, 512, 0, "42h" },   { 0x43, 128, 0, 0, "43h" },    { 0x44, 100, 400, 0, "44h" },
-    { 0x47, 9, 511, 0, "47h" },   { 0x48, 0, 0, 0, "48h" },     { 0x08, 0, 0, 0, "08h" },      { 0x41, 0, 0, 0, "41h" },
-    { 0x02, 129, 0, 0, "02h" },   { 0x15, 0, 0, 0, "15h" },
+    { 0x02, 1, 0, 1, 1, "02h" },        { 0x02, 128, 3, 128, 1, "02h" },    { 0x03, 17, 5, 17, 1, "03h" },
+    { 0x03, 128, 0, 128, 1, "03h" },    { 0x42, 1, 511, 1, 1, "42h" },      { 0x42, 127, 9, 127, 1, "42h" },
+    { 0x43, 16, 8, 16, 1, "43h" },      { 0x43, 127, 385, 127, 1, "43h" },  { 0x42, 0, 512, 0, 0, "42h" },
+    { 0x42, 1, 512, 0, 0, "42h" },      { 0x43, 128, 0, 0, 0, "43h" },      { 0x44, 100, 400, 0, 0, "44h" },
+    { 0x47, 9, 511, 0, 0, "47h" },      { 0x48, 0, 0, 0, 0, "48h" },        { 0x08, 0, 0, 0, 0, "08h" },
+    { 0x41, 0, 0, 0, 0, "41h" },        { 0x02, 129, 0, 0, 0, "02h" },      { 0x15, 0, 0, 0, 0, "15h" },
+    /* before any block, inside a part, at the end of a part and in the third one */
+    { 0x42, 20, 208, 0, 1, "42h" },     { 0x43, 20, 208, 0, 1, "43h" },     { 0x02, 20, 208, 0, 1, "02h" },
+    { 0x03, 20, 208, 0, 1, "03h" },     { 0x42, 20, 200, 8, 1, "42h" },     { 0x43, 20, 200, 8, 1, "43h" },
+    { 0x02, 20, 200, 8, 1, "02h" },     { 0x03, 20, 200, 8, 1, "03h" },     { 0x42, 40, 192, 16, 1, "42h" },
+    { 0x43, 40, 192, 16, 1, "43h" },    { 0x42, 127, 216, 40, 1, "42h" },   { 0x43, 127, 216, 40, 1, "43h" },
+    { 0x03, 128, 216, 40, 1, "03h" },   { 0x43, 13, 257, 12, 1, "43h" },    { 0x44, 127, 216, 0, 0, "44h" },
 };
 #define REQUESTS (sizeof requests / sizeof requests[0])
 
@@ -145,30 +157,36 @@ static void post(unsigned guest, const struct request *q)
     must(answer == (q->waits ? EDD_NOTHING_YET : EDD_DONE), "another answer than expected");
 }
 
-/* A turn that must serve this guest, whose request has moved so many blocks. Returns the blocks moved after it. */
-static unsigned turn(unsigned guest, const struct request *q, unsigned moved)
+/* A turn that must serve this guest, whose request has moved so many blocks. Says whether the request has finished. */
+static int turn(unsigned guest, const struct request *q, unsigned *moved)
 {
     uint64_t served = 0, number = 0;
-    unsigned part = q->count - moved < EDD_TURN_BLOCKS ? q->count - moved : EDD_TURN_BLOCKS;
-    unsigned first = guest * DRIVE_BLOCKS + q->start + moved, last = first + part - 1;
-    uint8_t *pages = store + (size_t)(first / PAGE_BLOCKS) * PAGE_BLOCKS * EDD_BLOCK_SIZE;
-    size_t length = (size_t)(last / PAGE_BLOCKS - first / PAGE_BLOCKS + 1) * PAGE_BLOCKS * EDD_BLOCK_SIZE;
+    unsigned due = q->count - *moved < EDD_TURN_BLOCKS ? q->count - *moved : EDD_TURN_BLOCKS;
+    unsigned part = q->good - *moved < due ? q->good - *moved : due;
+    unsigned first = guest * DRIVE_BLOCKS + q->start + *moved;
+    uint8_t *pages = store + (size_t)(first / PAGE_BLOCKS) * PAGE;
 
-    snprintf(doing, sizeof doing, "turn of %s, blocks %u to %u, guest %u", q->name, q->start + moved, q->start + moved + part - 1,
-             guest);
+    snprintf(doing, sizeof doing, "turn of %s, %u blocks from %u, guest %u", q->name, part, q->start + *moved, guest);
     only_window(guest, is_write(q) ? PROT_READ : PROT_READ | PROT_WRITE);
-    allow(pages, length, is_write(q) ? PROT_READ | PROT_WRITE : PROT_READ);
+    if (part < due && q->function == 0x43) /* the page of the packet; the buffer lies in others */
+        allow(arena + guest * WINDOW, PAGE, PROT_READ | PROT_WRITE);
+    if (part > 0) {
+        size_t length = (size_t)((first + part - 1) / PAGE_BLOCKS - first / PAGE_BLOCKS + 1) * PAGE;
+        allow(pages, length, is_write(q) ? PROT_READ | PROT_WRITE : PROT_READ);
+    }
     uint32_t answer = edd_turn(desk, sizeof desk, arena, ARENA, store, STORE, &served, &number);
     open_all();
     calls++;
     must(answer == EDD_DONE && served == guest && number == part, "another guest or number than expected");
-    return moved + part;
+    *moved += part;
+    return part < due || *moved == q->count;
 }
 
-static void collect(unsigned guest)
+static void collect(unsigned guest, const struct request *q)
 {
     uint16_t r[8];
     must(edd_collect(desk, sizeof desk, guest, &r[0], &r[1], &r[2], &r[3], &r[4], &r[5], &r[6], &r[7]) == EDD_DONE, "no collect");
+    must(r[7] == (q->good < q->count), "carry is not 1 after a bad block, or is");
 }
 
 static void withdraw(unsigned guest)
@@ -299,9 +317,10 @@ static void one_by_one(void)
             post(g, q);
             if (!q->waits)
                 continue;
-            for (unsigned moved = 0; moved < q->count;)
-                moved = turn(g, q, moved);
-            collect(g);
+            unsigned moved = 0;
+            while (!turn(g, q, &moved)) {
+            }
+            collect(g, q);
         }
     }
 }
@@ -319,11 +338,12 @@ static void placements(void)
         for (unsigned i = 0; i < REQUESTS; i++)
             if (requests[i].function == 0x41 || requests[i].function == 0x48)
                 post(g, &requests[i]);
+        unsigned moved = 0;
         post(g, &requests[0]);
         place(g, 0, EDD_ROW_NOT_VACANT);
-        turn(g, &requests[0], 0);
+        turn(g, &requests[0], &moved);
         place(g, 0, EDD_DONE);
-        collect(g);
+        collect(g, &requests[0]);
     }
 }
 
@@ -336,7 +356,7 @@ static void together(const struct request *q)
         post(g, q);
     for (unsigned round = 0; round < 2; round++)
         for (unsigned g = 0; g < EDD_GUESTS; g++)
-            moved[g] = turn(g, q, moved[g]);
+            turn(g, q, &moved[g]);
     for (unsigned g = 0; g < EDD_GUESTS; g++)
         withdraw(g);
 }
@@ -362,12 +382,12 @@ static void nothing(void)
          block == EDD_DESK_NOT_ACCEPTED, "another answer than expected");
 }
 
-/* Eight drives with a record of kind 4 each. */
+/* Eight drives with sixteen bad blocks and a record of kind 4 each. */
 static void full_table(uint8_t table[EDD_TABLE_SIZE_MAX])
 {
     memset(table, 0, EDD_TABLE_SIZE_MAX);
     for (unsigned i = 0; i < EDD_DRIVES; i++) {
-        uint8_t *at = table + 88 * i;
+        uint8_t *at = table + 222 * i;
         put_word(at + 0, 4, 0x00010044); /* length 68, kind 1 */
         put_word(at + 16, 8, DRIVE_BLOCKS);
         put_word(at + 24, 8, DRIVE_BLOCKS * i);
@@ -376,10 +396,14 @@ static void full_table(uint8_t table[EDD_TABLE_SIZE_MAX])
         at[38] = SECTORS;
         memcpy(at + 40, "PCI", 3);
         memcpy(at + 44, "ATA", 3);
-        put_word(at + 68, 4, 0x00040014); /* length 20, kind 4 */
+        put_word(at + 68, 4, 0x00030086); /* length 134, kind 3 */
         put_word(at + 72, 2, i);
+        for (unsigned j = 0; j < EDD_BAD_BLOCKS; j++)
+            put_word(at + 74 + 8 * j, 8, bad_blocks[j]);
+        put_word(at + 202, 4, 0x00040014); /* length 20, kind 4 */
+        put_word(at + 206, 2, i);
     }
-    put_word(table + 88 * EDD_DRIVES, 4, 4);
+    put_word(table + 222 * EDD_DRIVES, 4, 4);
 }
 
 static void open_desk(void)
@@ -425,7 +449,7 @@ int main(void)
     one_by_one();
     placements();
     for (unsigned i = 0; i < REQUESTS; i++) {
-        if (requests[i].waits && requests[i].count > 2 * EDD_TURN_BLOCKS) {
+        if (requests[i].waits && requests[i].good > 2 * EDD_TURN_BLOCKS) {
             open_desk(); /* so that the turn pointer is 0 */
             together(&requests[i]);
         }
@@ -433,7 +457,7 @@ int main(void)
     nothing();
     uint8_t table[EDD_TABLE_SIZE_MAX];
     full_table(table);
-    static const size_t pieces[] = { 1, 67, 68, 69, EDD_TABLE_SIZE_MAX };
+    static const size_t pieces[] = { 1, 67, 68, 69, 133, 134, 135, EDD_TABLE_SIZE_MAX };
     for (unsigned i = 0; i < sizeof pieces / sizeof pieces[0]; i++) {
         fragments(table, sizeof table, pieces[i], 0);
         fragments(table, sizeof table, pieces[i], 1);

@@ -30,7 +30,7 @@ record-stores s i p l m e₁ e₂ e₃ e₄ =
 -- ---- from bytes to number and parameters and back
 
 -- adjoining parts are one
-glue : (r : List ℕ) (k n at : ℕ) {x y : List ℕ} → x ≡ part k r at → y ≡ part n r (at + k) → x ++ y ≡ part (k + n) r at
+pub glue : (r : List ℕ) (k n at : ℕ) {x y : List ℕ} → x ≡ part k r at → y ≡ part n r (at + k) → x ++ y ≡ part (k + n) r at
 glue r k n at p q = rw (p, q, take-add k n (drop at r), drop-drop k at r)
 
 -- the bytes of a record are those of its number and its parameters

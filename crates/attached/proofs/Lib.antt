@@ -1,2 +1,3 @@
 pub mod AttachedLaws
+pub mod BadLaws
 pub mod Vectors

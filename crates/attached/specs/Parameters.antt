@@ -19,7 +19,7 @@ parametersLength = 20
 abbrev pub givenLength : ℕ
 givenLength = 14
 
--- offset 4: the number of the drive, counted from 0
+-- offset 4: the number of the drive, counted from 0; of kind 3 too (2026-04)
 abbrev pub numberIn : List ℕ → ℕ
 numberIn r = le 2 r 4
 

@@ -8,7 +8,7 @@ use types.Run.{OneOf}
 use denote.Enum.Declared.{tagOf}
 use Rattle.desk.proofs.Stage as stage
 use native.Mathlib.Numerals.{add-one}
-use Prim.Native.Nat.{ℕ, zero, suc, _+_, _-_, _*_, _%_, _≤_, _<_}
+use Prim.Native.Nat.{ℕ, zero, suc, _+_, _-_, _*_, _%_, _^_, _≤_, _<_}
 use native.Mathlib.Decide.{ℕ-discrete}
 use native.Mathlib.Omega.{arith}
 use lib.ListN.{length, length-take}
@@ -18,9 +18,9 @@ use Rattle.logic.specs.Logic.{pick, both, either}
 use Rattle.logic.proofs.LogicLaws.{both-true, both-intro, all-more}
 use Rattle.drive.specs.declared.Drive.{Drive}
 use Rattle.chs.specs.Chs.{size}
-use Rattle.drive.specs.Drive.{geometryOf, isProtected, same, blankNumbers, blankNames, isBlank}
+use Rattle.drive.specs.Drive.{geometryOf, isProtected}
 use Rattle.table.specs.declared.Table.{Table}
-use Rattle.table.specs.Table.{soundTo, blankTo, attachedTo, isSound, drivesOf}
+use Rattle.table.specs.Table.{isSound, drivesOf}
 use Rattle.table.proofs.Sound.{Obeys, good-obeys}
 use Rattle.int13.specs.declared.Registers.{Registers}
 use Rattle.int13.specs.declared.Job.{Job}
@@ -34,7 +34,7 @@ use Rattle.desk.specs.declared.Stage.the-variants.{Vacant, Waiting, Fini
 use Rattle.desk.specs.declared.Row.{Row}
 use Rattle.desk.specs.declared.Desk.{Desk}
 use Rattle.desk.specs.Parts.{windowSize, storeBlocks, stageIn, placementAt}
-use Rattle.desk.specs.Acceptable.{isTransfer, packetOk, jobRules, jobOk, movedOk, requestOk, stageOk, rowsOk, placementOk, placementsOk, accept}
+use Rattle.desk.specs.Acceptable.{isTransfer, packetOk, jobRules, jobOk, movedOk, requestOk, stageOk, rowsOk, placementOk, placementsOk, accept, Servable}
 use Rattle.desk.specs.Calls.{closed}
 
 -- ---- the parts of the test
@@ -131,6 +131,12 @@ drive-obeys b store n s k =
     let high : n < 128 + length (drivesOf b) = ltb-true n (128 + length (drivesOf b)) (q .1) in
     good-obeys b store (n - 128) s (omega (arith, length-take (b .count) (b .drives)))
 
+-- the blocks of a waiting request on one, whose store has so many blocks
+pub waits-servable : (b : Table) (M store : ℕ) (q : Request) → isSound b store ≡ true → store < 2 ^ 64 → Waits b M q → Servable q
+waits-servable b M store q s f w =
+    let o = drive-obeys b store (q .job .drive) s (w .job .drive) in
+    record { start = omega (arith, w .job .range, o .inside); count = w .job .count; moved = w .moved }
+
 -- ---- the tests of the code, one by one
 
 -- what goes by the stage, of a row that a `let .. else` finds not waiting
@@ -169,5 +175,9 @@ job-tests d M j ef es ec c ew et ei eg ep eb ek el en er eo ex =
 
 -- at a desk whose opening was refused every call is 25
 pub closed-refused : (arena store : ℕ) → accept (closed arena store) ≡ false
-unfolding accept isSound soundTo blankTo attachedTo isBlank blankNumbers blankNames same rowsOk
-closed-refused arena store = refl
+unfolding accept
+closed-refused arena store = by-table (isSound (closed arena store .table) (storeBlocks (closed arena store)))
+  where
+    by-table : (t : Bool) → both t false ≡ false
+    by-table true = refl
+    by-table false = refl

@@ -6,14 +6,17 @@ use mathlib.Core.Bool.{Bool, true, false}
 use mathlib.Core.List.{List, [], _∷_}
 use types.Run.{OneOf}
 use denote.Enum.Declared.{tagOf}
-use Prim.Native.Nat.{ℕ, zero, suc, _-_, _/_, _^_, _<_}
+use Prim.Native.Nat.{ℕ, zero, suc, _+_, _-_, _/_, _^_, _≤_, _<_}
 use native.Mathlib.Omega.{arith}
 use lib.ListN.{length}
 use lib.Dec.{ltb, eqb}
-use borrow.Author.Tests.{ltb-true, eqb-true}
+use borrow.Author.Tests.{eqb-true}
 use Rattle.logic.specs.Logic.{pick}
 use Rattle.logic.proofs.LogicLaws.{both-true, impossible}
 use Rattle.memory.specs.Window.{windowLength, windowOf, withWindow}
+use Rattle.memory.proofs.WindowLaws.{length-with-window}
+use Rattle.attached.specs.declared.Bads.{Bads}
+use Rattle.attached.proofs.BadLaws.{good-most}
 use Rattle.table.specs.declared.Written.the-variants.{Refused as WriteRefused}
 use Rattle.table.specs.Table.{writeAnswer, writeOut}
 use Rattle.int13.specs.declared.Registers.{Registers}
@@ -42,9 +45,10 @@ use Rattle.desk.specs.declared.WithdrawAnswer.the-variants.{Refused as W
 use Rattle.desk.specs.declared.PlaceAnswer.{PlaceAnswer}
 use Rattle.desk.specs.declared.PlaceAnswer.the-variants.{Placed, Refused as PlaceRefused}
 use Rattle.desk.specs.Parts.{windowSize, ownWindow, withOwn, stageIn, stageAt, withStage, isWaiting, next, withPointer, placementAt, withPlacement}
-use Rattle.desk.specs.Acceptable.{packetOk, InRange, placeOk, accept}
-use Rattle.desk.specs.Calls.{houseTests, houseNumber, isLent, done, writtenOf, writtenOut, postChecked, postRow, postOf, firstWaiting, quota, serviceOf, Transferred, serve, serveStage, turnNext, turnOf, collectStage, collectOf, withdrawnWindow, withdrawStage, withdrawOf, tablesIn, placeTables, placeStage, placeOf}
-use Rattle.desk.proofs.AcceptableLaws.{accept-true, rowsOk-at, Waits, waits-facts, not-waiting, drive-obeys}
+use Rattle.desk.specs.Acceptable.{packetOk, placeOk, accept, Servable, InRange}
+use Rattle.desk.specs.Calls.{houseTests, houseNumber, isLent, done, writtenOf, writtenOut, postChecked, postRow, postOf, firstWaiting, quota, movesNow, serviceOf, beside, badsFor, movedFrom, Transferred, serveBy, serveStage, turnNext, turnOf, collectStage, collectOf, withdrawnWindow, withdrawStage, withdrawOf, tablesIn, placeTables, placeStage, placeOf}
+use Rattle.desk.proofs.AcceptableLaws.{accept-true, rowsOk-at, Waits, waits-facts, not-waiting, drive-obeys, waits-servable}
+use Rattle.desk.proofs.Transfers.{length-moved, ending-laid}
 
 -- ---- stages that a `let .. else` leaves
 
@@ -148,14 +152,19 @@ module _ (d : Desk) (arena store : List ℕ) (p : Passed (accept d) (isLent d ar
   pub turn-other : (g : ℕ) → firstWaiting (d .rows) 8 (d .pointer) ≡ Guest g → OneOf (0 ∷ 2 ∷ []) (tagOf stage.the-type (stageAt d g)) → done d Idle arena store ≡ turnOf d arena store
   turn-other g e k = not-waiting (λ s. serveStage d g s arena store) (stageAt d g) k refl (λ r. refl) ∙ turn-guest g e
 
-  pub turn-served : {s : Service} {desk : Desk} {answer : TurnAnswer} {arena′ store′ : List ℕ} (g : ℕ) (q : Request) → firstWaiting (d .rows) 8 (d .pointer) ≡ Guest g → stageAt d g ≡ Waiting q
-      → s ≡ serviceOf q → desk ≡ withPointer (withStage d g (s .stage)) (next g) → answer ≡ Served g (s .moved)
-      → Transferred (driveAt (d .table) (q .job .drive) .first) q (s .moved) g arena store arena′ store′
+  pub turn-served : {s : Service} {desk : Desk} {answer : TurnAnswer} {arena₁ arena′ store′ : List ℕ} (g : ℕ) (q : Request) → firstWaiting (d .rows) 8 (d .pointer) ≡ Guest g → stageAt d g ≡ Waiting q
+      → s ≡ serviceOf (badsFor d q) q → desk ≡ withPointer (withStage d g (s .stage)) (next g) → answer ≡ Served g (s .moved)
+      → Transferred (driveAt (d .table) (q .job .drive) .first) q (s .moved) g arena store arena₁ store′
+      → arena′ ≡ withOwn arena₁ g (beside q (s .moved) (ownWindow arena₁ g))
       → done desk answer arena′ store′ ≡ turnOf d arena store
-  turn-served g q e w es e₁ e₂ t =
-      let after : ℕ → ℕ → Memory = λ k m. moves (q .job) (storeBlock (d .table) (q .job)) (q .moved) k (record { window = windowOf arena g m; store = store }) in
-      rw (e₁, e₂, t .0, t .1, es)
-      (ap (λ (n : ℕ). done (serve d g q [] [] .desk) (serve d g q [] [] .answer) (withWindow arena g n (after (quota q) n .window)) (after (quota q) n .store)) (own-length d arena store (p .lent))
+  turn-served {s} {arena′ = arena′} g q e w es e₁ e₂ t x =
+      let first : ℕ = driveAt (d .table) (q .job .drive) .first in
+      let k : ℕ = movesNow (badsFor d q) q in
+      let after : ℕ → Memory = λ m. moves (q .job) (storeBlock (d .table) (q .job)) (q .moved) k (record { window = windowOf arena g m; store = store }) in
+      let laid : arena′ ≡ withOwn arena g (beside q (s .moved) (movedFrom first q (s .moved) g arena store .window))
+      = ending-laid q (s .moved) g arena (movedFrom first q (s .moved) g arena store .window) (length-moved first q (s .moved) g arena store) (t .0) x in
+      rw (e₁, e₂, laid, t .1, es)
+      (ap (λ (n : ℕ). done (serveBy d g q k [] [] .desk) (serveBy d g q k [] [] .answer) (withWindow arena g n (beside q k (after n .window))) (after n .store)) (own-length d arena store (p .lent))
       ∙ ap (λ (s : Stage). serveStage d g s arena store) (sym w) ∙ turn-guest g e)
 
 module _ (d : Desk) (g : ℕ) (arena store : List ℕ) (p : Passed (accept d) (isLent d arena store) (ltb g 8)) where
@@ -232,27 +241,54 @@ seek-below rows (suc k) p g h e = by-row (isWaiting (stageIn rows p)) e (λ q. s
 pub waiting-facts : (d : Desk) (g : ℕ) (q : Request) → accept d ≡ true → g < 8 → stageAt d g ≡ Waiting q → Waits (d .table) (windowSize d) q
 waiting-facts d g q a b e = waits-facts (d .table) (windowSize d) q (rw e at (rowsOk-at 8 (d .rows) (d .table) (windowSize d) g b (accept-true d a .rows)))
 
--- and of the row that a turn serves
-pub in-range : {s : Service} (d : Desk) (arena store : List ℕ) (g : ℕ) (q : Request) → Passed (accept d) (isLent d arena store) true → g < 8 → stageAt d g ≡ Waiting q
-    → length arena < 2 ^ 64 → length store < 2 ^ 64 → s ≡ serviceOf q
-    → InRange (driveAt (d .table) (q .job .drive) .first) q (s .moved) g (length arena) (length store)
-in-range d arena store g q p b e fa fs es =
-    let A = accept-true d (p .acceptable) in
-    let la = lent-arena d arena store (p .lent) in
-    let ls = lent-store d arena store (p .lent) in
-    let w = waiting-facts d g q (p .acceptable) b e in
-    let o = drive-obeys (d .table) (d .store / 512) (q .job .drive) (A .sound) (w .job .drive) in
-    let k = ap (λ (x : Service). x .moved) es in
-    record { guest = b; part = omega (arith, k, w .moved); buffer = rw la (w .job .buffer); blocks = omega (arith, o .inside, w .job .range, ls); arena = fa; store = fs }
+-- no turn moves more than its blocks
+pub moves-most : (l : Bads) (q : Request) → movesNow l q ≤ quota q
+unfolding movesNow
+moves-most l q = good-most l (q .job .start + q .moved) (quota q)
 
--- the row that a withdrawal ends
+-- and of the row that a turn serves
+module _ (d : Desk) (arena store : List ℕ) (g : ℕ) (q : Request) (p : Passed (accept d) (isLent d arena store) true) (b : g < 8) (e : stageAt d g ≡ Waiting q) where
+  pub servable : length store < 2 ^ 64 → Servable q
+  servable fs =
+      let ls = lent-store d arena store (p .lent) in
+      waits-servable (d .table) (windowSize d) (d .store / 512) q (accept-true d (p .acceptable) .sound) (omega (arith, ls)) (waiting-facts d g q (p .acceptable) b e)
+
+  pub in-range : {s : Service} → length arena < 2 ^ 64 → length store < 2 ^ 64 → s ≡ serviceOf (badsFor d q) q
+      → InRange (driveAt (d .table) (q .job .drive) .first) q (s .moved) g (length arena) (length store)
+  in-range fa fs es =
+      let A = accept-true d (p .acceptable) in
+      let la = lent-arena d arena store (p .lent) in
+      let ls = lent-store d arena store (p .lent) in
+      let w = waiting-facts d g q (p .acceptable) b e in
+      let o = drive-obeys (d .table) (d .store / 512) (q .job .drive) (A .sound) (w .job .drive) in
+      let k = ap (λ (x : Service). x .moved) es in
+      record {
+        guest = b;
+        part = omega (arith, k, moves-most (badsFor d q) q, w .moved);
+        buffer = rw la (w .job .buffer);
+        blocks = omega (arith, o .inside, w .job .range, ls);
+        arena = fa;
+        store = fs;
+      }
+
+-- the row whose moved blocks are reported
 pub record Report (q : Request) (g n : ℕ) : Type 0 where
   pub guest : g < 8
   pub packet : packetOk (ah (q .job .registers)) (q .job .packet) (windowLength n) ≡ true
   pub moved : q .moved < 128
 
-pub report-facts : (d : Desk) (arena store : List ℕ) (g : ℕ) (q : Request) → Passed (accept d) (isLent d arena store) (ltb g 8) → stageAt d g ≡ Waiting q → Report q g (length arena)
-report-facts d arena store g q p e =
-    let b = ltb-true g 8 (p .guest) in
-    let w = waiting-facts d g q (p .acceptable) b e in
-    record { guest = b; packet = ap (packetOk (ah (q .job .registers)) (q .job .packet)) (own-length d arena store (p .lent)) ∙ w .job .packet; moved = omega (arith, w .moved, w .job .count) }
+pub report-facts : (d : Desk) (arena store : List ℕ) (g : ℕ) (q : Request) → accept d ≡ true → isLent d arena store ≡ true → g < 8 → stageAt d g ≡ Waiting q → Report q g (length arena)
+report-facts d arena store g q a l b e =
+    let w = waiting-facts d g q a b e in
+    record { guest = b; packet = ap (packetOk (ah (q .job .registers)) (q .job .packet)) (own-length d arena store l) ∙ w .job .packet; moved = omega (arith, w .moved, w .job .count) }
+
+-- what a turn's ending asks, of the arena that its blocks have moved in
+pub ending-facts : {s : Service} {arena₁ store₁ : List ℕ} (d : Desk) (arena store : List ℕ) (first g : ℕ) (q : Request) → accept d ≡ true → isLent d arena store ≡ true → g < 8
+    → stageAt d g ≡ Waiting q → s ≡ serviceOf (badsFor d q) q → Transferred first q (s .moved) g arena store arena₁ store₁
+    → (g < 8) × (packetOk (ah (q .job .registers)) (q .job .packet) (windowLength (length arena₁)) ≡ true) × (q .moved + s .moved ≤ 128)
+ending-facts {s} d arena store first g q a l b e es t =
+    let f = report-facts d arena store g q a l b e in
+    let w = waiting-facts d g q a b e in
+    let k = ap (λ (x : Service). x .moved) es in
+    let n = ap length (t .0) ∙ length-with-window arena g (windowLength (length arena)) (movedFrom first q (s .moved) g arena store .window) in
+    (b, ap (λ (m : ℕ). packetOk (ah (q .job .registers)) (q .job .packet) (windowLength m)) n ∙ f .packet, omega (arith, k, moves-most (badsFor d q) q, w .moved, w .job .count))

@@ -43,7 +43,7 @@ use Rattle.desk.specs.declared.PlaceAnswer.{PlaceAnswer}
 use Rattle.desk.specs.declared.PlaceAnswer.the-variants.{Placed, Refused as PlaceRefused}
 use Rattle.desk.specs.Parts.{stageAt, placementAt}
 use Rattle.desk.specs.Acceptable.{placeOk, accept}
-use Rattle.desk.specs.Calls.{houseTests, isLent, Done, done, openAnswer, openOf, writtenOf, writtenOut, postChecked, postRow, postOf, firstWaiting, serveStage, turnNext, turnOf, collectStage, collectOf, withdrawStage, withdrawOf, placeTables, placeStage, placeOf}
+use Rattle.desk.specs.Calls.{houseTests, isLent, Done, done, openAnswer, openOf, writtenOf, writtenOut, postChecked, postRow, postOf, firstWaiting, movesNow, serveStage, turnNext, turnOf, collectStage, collectOf, withdrawStage, withdrawOf, placeTables, placeStage, placeOf}
 use Rattle.desk.specs.Numbers.{openNumbers, postNumbers, turnNumbers, collectNumbers, withdrawNumbers, placeNumbers, houseFirst, openGiven, writeGiven, postStepsGiven, postRowGiven, postGiven, turnRowGiven, turnNextGiven, turnGiven, collectRowGiven, collectGiven, withdrawRowGiven, withdrawGiven, placeTestsGiven, placeRowGiven, placeGiven}
 
 -- numbers go through the tests before the row's
@@ -102,8 +102,8 @@ post-answered d g r arena store e =
 abbrev turns : Done TurnAnswer → List ℕ
 turns x = turnNumbers (x .answer)
 
-turn-row : (d : Desk) (g : ℕ) (s : Stage) (arena store : List ℕ) → turns (serveStage d g s arena store) ≡ turnRowGiven g s
-unfolding turnNumbers
+turn-row : (d : Desk) (g : ℕ) (s : Stage) (arena store : List ℕ) → turns (serveStage d g s arena store) ≡ turnRowGiven (d .table) g s
+unfolding turnNumbers movesNow
 turn-row d g Vacant arena store = refl
 turn-row d g (Waiting q) arena store = refl
 turn-row d g (Finished r) arena store = refl

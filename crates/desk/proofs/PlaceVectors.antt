@@ -3,15 +3,16 @@
 use mathlib.Core.Path.{_≡_, refl}
 use mathlib.Core.Bool.{Bool, true, false}
 use mathlib.Core.List.{List, [], _∷_, _++_, map}
-use Prim.Native.Nat.{ℕ, zero, suc, _+_, _*_}
+use Prim.Native.Nat.{ℕ, zero, suc, _+_, _*_, _/_}
 use lib.ListN.{length, replicate, set}
 use Rattle.words.specs.Words.{le, leBytes}
 use Rattle.chs.specs.Chs.{inLimits}
 use Rattle.memory.specs.Window.{spanStart, spanLength, windowOf}
 use Rattle.drive.specs.declared.Drive.{Drive}
 use Rattle.drive.specs.Drive.{isBlank, blankNumbers, blankNames, same, busOk, interfaceOk, geometryFits, fieldsOk, inStore, overlap, pci, ata}
+use Rattle.attached.specs.Bad.{heldOf, ascends, areBlocks, listOk, zeroPast, badsOk}
 use Rattle.table.specs.declared.Table.{Table}
-use Rattle.table.specs.Table.{zeroDrive, overlapsAny, refusal, soundTo, blankTo, attachedTo, isSound, parametersTo}
+use Rattle.table.specs.Table.{zeroDrive, overlapsAny, refusal, soundTo, blankTo, attachedTo, listedTo, isSound, parametersTo}
 use Rattle.layout.specs.ParameterTable.{placedBytes, parameterTable}
 use Rattle.layout.specs.ResultBuffer.{returnedSize, parameterBytes, blockBytes, interfaceBytes, pathBytes, sum, wholeResult, resultBytes, resultAnswer}
 use Rattle.int13.specs.declared.Registers.{Registers}
@@ -49,15 +50,21 @@ drive first = record {
   device = replicate 8 0;
 }
 
+-- a table of drives without bad blocks
+abbrev unworn : List Drive → ℕ → List Bool → List ℕ → Table
+unworn drives count present parameters =
+    record { drives = drives; count = count; present = present; parameters = parameters; counts = replicate 8 0; bad = replicate 1024 0 }
+
 abbrev table : Table
-table = record {
-  drives = drive 0 ∷ drive 1 ∷ drive 2 ∷ replicate 5 zeroDrive;
-  count = 3;
-  present = true ∷ false ∷ true ∷ replicate 5 false;
-  parameters =
-      1 ∷ 2 ∷ 3 ∷ 4 ∷ 74 ∷ 6 ∷ 7 ∷ 8 ∷ 9 ∷ 10 ∷ 11 ∷ 12 ∷ 13 ∷ 14 ∷ 0 ∷ 0 ∷ 0 ∷ 0 ∷ 0 ∷ 0 ∷ 0 ∷ 0 ∷ 0 ∷ 0 ∷ 0 ∷ 0 ∷ 0 ∷ 0
-      ∷ 101 ∷ 102 ∷ 103 ∷ 104 ∷ 159 ∷ 106 ∷ 107 ∷ 108 ∷ 109 ∷ 110 ∷ 111 ∷ 112 ∷ 113 ∷ 114 ∷ replicate 70 0;
-}
+table =
+    unworn (drive 0 ∷ drive 1 ∷ drive 2 ∷ replicate 5 zeroDrive) 3 (true ∷ false ∷ true ∷ replicate 5 false)
+    (1 ∷ 2 ∷ 3 ∷ 4 ∷ 74 ∷ 6 ∷ 7 ∷ 8 ∷ 9 ∷ 10 ∷ 11 ∷ 12 ∷ 13 ∷ 14 ∷ 0 ∷ 0 ∷ 0 ∷ 0 ∷ 0 ∷ 0 ∷ 0 ∷ 0 ∷ 0 ∷ 0 ∷ 0 ∷ 0 ∷ 0 ∷ 0
+    ∷ 101 ∷ 102 ∷ 103 ∷ 104 ∷ 159 ∷ 106 ∷ 107 ∷ 108 ∷ 109 ∷ 110 ∷ 111 ∷ 112 ∷ 113 ∷ 114 ∷ replicate 70 0)
+
+-- it is sound: said once for all the calls below
+sound : isSound table (1536 / 512) ≡ true
+unfolding isSound soundTo blankTo attachedTo listedTo badsOk listOk ascends areBlocks heldOf zeroPast le refusal overlapsAny overlap inStore fieldsOk geometryFits inLimits busOk interfaceOk isBlank blankNumbers blankNames same
+sound = refl
 
 -- their tables: bits 7 and 5 of byte 4 set, revision 11h, the checksum
 abbrev firstTable : List ℕ
@@ -109,27 +116,27 @@ module _ (arena store : List ℕ) (la : length arena ≡ 4355) (ls : length stor
       ∷ numbers (at (replicate 8 vacantRow) 0) 3 16 arena store
       ∷ []
       ≡ (25 ∷ 25 ∷ []) ∷ (24 ∷ 24 ∷ []) ∷ (24 ∷ 24 ∷ []) ∷ (20 ∷ 20 ∷ []) ∷ (21 ∷ 21 ∷ []) ∷ (26 ∷ 26 ∷ []) ∷ (0 ∷ 0 ∷ []) ∷ []
-  unfolding placeOf placeGiven placeNumbers accept rowsOk requestOk placementsOk placeOk parametersTo isDrive isSound soundTo blankTo attachedTo refusal overlapsAny overlap inStore fieldsOk geometryFits inLimits busOk interfaceOk isBlank blankNumbers blankNames same
-  place-order = rw (la, ls)
+  unfolding placeOf placeGiven placeNumbers accept rowsOk requestOk placementsOk placeOk parametersTo isDrive
+  place-order = rw (sound, la, ls)
 
   -- a waiting row refuses, a finished one and a vacant one do not; of the others the rows do not matter
   abbrev mixed : List Row
   mixed = waiting ∷ waiting ∷ waiting ∷ waiting ∷ finished ∷ vacantRow ∷ waiting ∷ waiting ∷ []
 
   pub place-stages : map (λ (g : ℕ). numbers (at mixed 7) g 32 arena store) (3 ∷ 4 ∷ 5 ∷ 7 ∷ []) ≡ (21 ∷ 21 ∷ []) ∷ (0 ∷ 0 ∷ []) ∷ (0 ∷ 0 ∷ []) ∷ (21 ∷ 21 ∷ []) ∷ []
-  unfolding placeOf placeGiven placeNumbers accept rowsOk requestOk placementsOk placeOk parametersTo isDrive isSound soundTo blankTo attachedTo refusal overlapsAny overlap inStore fieldsOk geometryFits inLimits busOk interfaceOk isBlank blankNumbers blankNames same
-  place-stages = rw (la, ls)
+  unfolding placeOf placeGiven placeNumbers accept rowsOk requestOk placementsOk placeOk parametersTo isDrive
+  place-stages = rw (sound, la, ls)
 
   -- a refusal changes nothing
   pub place-refused : placeOf (at mixed 7) 3 32 arena store ∷ placeOf (at mixed 7) 5 40 arena store ∷ placeOf (at mixed 7) 5 528 arena store ∷ []
       ≡ done (at mixed 7) (PlaceRefused 21) arena store ∷ done (at mixed 7) (PlaceRefused 26) arena store ∷ done (at mixed 7) (PlaceRefused 26) arena store ∷ []
-  unfolding placeOf accept rowsOk requestOk placementsOk placeOk parametersTo isDrive isSound soundTo blankTo attachedTo refusal overlapsAny overlap inStore fieldsOk geometryFits inLimits busOk interfaceOk isBlank blankNumbers blankNames same
-  place-refused = rw (la, ls)
+  unfolding placeOf accept rowsOk requestOk placementsOk placeOk parametersTo isDrive
+  place-refused = rw (sound, la, ls)
 
   -- so there are placements at which the pointer leads to the table: for a finished row, by an arena whose last three bytes are nobody's
   placed-there : placeOf (at mixed 7) 4 32 arena store .answer ≡ Placed
-  unfolding placeOf accept rowsOk requestOk placementsOk placeOk parametersTo isDrive isSound soundTo blankTo attachedTo refusal overlapsAny overlap inStore fieldsOk geometryFits inLimits busOk interfaceOk isBlank blankNumbers blankNames same
-  placed-there = rw (la, ls)
+  unfolding placeOf accept rowsOk requestOk placementsOk placeOk parametersTo isDrive
+  placed-there = rw (sound, la, ls)
 
   pub found-there : Leads table 4 544 32 (windowOf arena 4 544) (placeOf (at mixed 7) 4 32 arena store)
   found-there = leads (at mixed 7) 4 32 arena store (record { drives = refl; parameters = refl; placed = refl; addresses = refl }) placed-there
@@ -138,7 +145,7 @@ module _ (arena store : List ℕ) (la : length arena ≡ 4355) (ls : length stor
 
 -- a table of drives that have the records marked
 abbrev marked : List Bool → Table
-marked present = record { drives = replicate 8 zeroDrive; count = 8; present = present; parameters = replicate 112 0 }
+marked present = unworn (replicate 8 zeroDrive) 8 present (replicate 112 0)
 
 abbrev bare : List Bool → ℕ → Desk
 bare present arena =
@@ -195,8 +202,8 @@ place-segments = refl
 -- the same of the places that a desk block has, in windows of 200000h bytes with two tables
 pub accepted-segments : map (λ (address : ℕ). accept (desk (replicate 8 vacantRow) 0 0x1000000 (set marks 2 true) (set places 2 address))) (0 ∷ 0xFFFE0 ∷ 0xFFFE8 ∷ 0xFFFF0 ∷ 0x100000 ∷ [])
     ≡ true ∷ true ∷ false ∷ false ∷ false ∷ []
-unfolding accept rowsOk requestOk placementsOk placeOk parametersTo isDrive isSound soundTo blankTo attachedTo refusal overlapsAny overlap inStore fieldsOk geometryFits inLimits busOk interfaceOk isBlank blankNumbers blankNames same
-accepted-segments = refl
+unfolding accept rowsOk requestOk placementsOk placeOk parametersTo isDrive
+accepted-segments = rw sound
 
 -- ---- what is written: windows of 64 bytes, guest 2's from byte 128 on
 
@@ -216,14 +223,14 @@ small placed addresses = desk (replicate 8 vacantRow) 7 515 placed addresses
 -- guest 2's tables stand one after another from address 16 on, and nothing else changes; guest 5's placement stays
 pub tables-written : placeOf (small marks places) 2 16 before zeros
     ≡ done (small (set marks 2 true) (set places 2 16)) Placed (around (replicate 16 5 ++ (firstTable ++ (lastTable ++ replicate 16 7)))) zeros
-unfolding placeOf tablesTo parameterTable placedBytes sum spanStart spanLength accept rowsOk requestOk placementsOk placeOk parametersTo isDrive isSound soundTo blankTo attachedTo refusal overlapsAny overlap inStore fieldsOk geometryFits inLimits busOk interfaceOk isBlank blankNumbers blankNames same
-tables-written = refl
+unfolding placeOf tablesTo parameterTable placedBytes sum spanStart spanLength accept rowsOk requestOk placementsOk placeOk parametersTo isDrive
+tables-written = rw sound
 
 -- placed anew, at address 0: the new address stands for the old one, and the bytes of the old tables stay where no new ones are laid
 pub placed-anew : placeOf (small (set marks 2 true) (set places 2 16)) 2 0 (around (replicate 16 5 ++ (firstTable ++ (lastTable ++ replicate 16 7)))) zeros
     ≡ done (small (set marks 2 true) places) Placed (around (firstTable ++ (lastTable ++ (lastTable ++ replicate 16 7)))) zeros
-unfolding placeOf tablesTo parameterTable placedBytes sum spanStart spanLength accept rowsOk requestOk placementsOk placeOk parametersTo isDrive isSound soundTo blankTo attachedTo refusal overlapsAny overlap inStore fieldsOk geometryFits inLimits busOk interfaceOk isBlank blankNumbers blankNames same
-placed-anew = refl
+unfolding placeOf tablesTo parameterTable placedBytes sum spanStart spanLength accept rowsOk requestOk placementsOk placeOk parametersTo isDrive
+placed-anew = rw sound
 
 -- with no record nothing is written, and the placement is kept: at the window's end
 pub none-written : placeTables (bare none 515) 2 64 before []
@@ -252,8 +259,8 @@ pub table-supported : map support (2 ∷ 3 ∷ 5 ∷ [])
     ∷ (given 1 0x80 ∷ given 1 0x81 ∷ given 1 0x82 ∷ given 1 0x80 ∷ given 1 0x82 ∷ [])
     ∷ (given 5 0x80 ∷ given 1 0x81 ∷ given 5 0x82 ∷ given 5 0x80 ∷ given 5 0x82 ∷ [])
     ∷ []
-unfolding postOf postGiven postNumbers begin steps extensions shownOf beginGiven stepsGiven checkGiven spanStart spanLength accept rowsOk requestOk placementsOk placeOk parametersTo isDrive isSound soundTo blankTo attachedTo refusal overlapsAny overlap inStore fieldsOk geometryFits inLimits busOk interfaceOk isBlank blankNumbers blankNames same
-table-supported = refl
+unfolding postOf postGiven postNumbers begin steps extensions shownOf beginGiven stepsGiven checkGiven spanStart spanLength accept rowsOk requestOk placementsOk placeOk parametersTo isDrive
+table-supported = rw sound
 
 -- 48h: offset and segment of the pointer, at offset 26 of the result, which stands at place 34 of the guest's window
 -- so many words of 30: every window asks for 30 bytes there
@@ -272,5 +279,5 @@ pub pointers : map (λ (g : ℕ). map (pointer g) (0x80 ∷ 0x81 ∷ 0x82 ∷ []
     ∷ ((0xFFFF ∷ 0xFFFF ∷ []) ∷ (0xFFFF ∷ 0xFFFF ∷ []) ∷ (0xFFFF ∷ 0xFFFF ∷ []) ∷ [])
     ∷ ((0 ∷ 2 ∷ []) ∷ (0xFFFF ∷ 0xFFFF ∷ []) ∷ (0 ∷ 3 ∷ []) ∷ [])
     ∷ []
-unfolding postOf begin steps result shownOf returnedSize parameterBytes blockBytes interfaceBytes pathBytes sum wholeResult resultBytes resultAnswer le leBytes spanStart spanLength accept rowsOk requestOk placementsOk placeOk parametersTo isDrive isSound soundTo blankTo attachedTo refusal overlapsAny overlap inStore fieldsOk geometryFits inLimits busOk interfaceOk isBlank blankNumbers blankNames same
-pointers = refl
+unfolding postOf begin steps result shownOf returnedSize parameterBytes blockBytes interfaceBytes pathBytes sum wholeResult resultBytes resultAnswer le leBytes spanStart spanLength accept rowsOk requestOk placementsOk placeOk parametersTo isDrive
+pointers = rw sound

@@ -3,7 +3,7 @@
 use mathlib.Core.Path.{_≡_, refl}
 use mathlib.Core.Bool.{true, false}
 use mathlib.Core.List.{List, [], _∷_, _++_, map}
-use Prim.Native.Nat.{ℕ}
+use Prim.Native.Nat.{ℕ, _/_}
 use lib.ListN.{length, replicate, set, take}
 use Rattle.words.specs.Words.{leBytes}
 use Rattle.chs.specs.Chs.{inLimits, isValid, blockOf}
@@ -11,14 +11,16 @@ use Rattle.memory.specs.Window.{spanStart, spanLength}
 use Rattle.layout.specs.Packet.{readPacket}
 use Rattle.layout.specs.ResultBuffer.{returnedSize, parameterBytes, blockBytes, interfaceBytes, pathBytes, sum, wholeResult, resultBytes, resultAnswer}
 use Rattle.drive.specs.Drive.{driveOf, isBlank, blankNumbers, blankNames, same, busOk, interfaceOk, geometryFits, fieldsOk, inStore, overlap}
-use Rattle.table.specs.Table.{emptyTable, headerOf, headerAt, overlapsAny, refusal, recordRefusal, withRecord, recordStep, endStep, stepOf, stepAt, readFrom, readTable, recordsOf, bytesOf, tableOf, writeAnswer, writeOut, writtenNumbers, writeNumbers, soundTo, blankTo, attachedTo, isSound}
+use Rattle.attached.specs.Bad.{heldOf, ascends, areBlocks, listOk, zeroPast, badsOk, isBad, good}
+use Rattle.table.specs.Table.{emptyTable, headerOf, headerAt, overlapsAny, refusal, recordRefusal, withRecord, recordStep, endStep, stepOf, stepAt, readFrom, readTable, recordsOf, bytesOf, tableOf, writeAnswer, writeOut, writtenNumbers, writeNumbers, soundTo, blankTo, attachedTo, listedTo, isSound}
 use Rattle.words.specs.Words.{le}
 use Rattle.int13.specs.declared.Registers.{Registers}
 use Rattle.int13.specs.declared.Outcome.{Outcome}
 use Rattle.int13.specs.declared.Outcome.the-variants.{Answered, Waits}
 use Rattle.int13.specs.Placement.{noPlacement}
 use Rattle.int13.specs.Numbers.{checkGiven, bufferGiven, stepsGiven, beginGiven}
-use Rattle.int13.specs.Steps.{isDrive, fed, parameters, extensions, packetPlan, seek as seekSteps, sectors, result, steps, begin}
+use Rattle.int13.specs.Alone.{reported}
+use Rattle.int13.specs.Steps.{isDrive, badsOf, fed, parameters, extensions, packetPlan, seek as seekSteps, sectors, result, steps, begin}
 use Rattle.desk.specs.declared.Row.{Row}
 use Rattle.desk.specs.declared.Stage.{Stage}
 use Rattle.desk.specs.declared.Stage.the-variants.{Vacant, Waiting, Finished}
@@ -44,6 +46,11 @@ desk s pointer = record { rows = set (replicate 8 vacantRow) 3 (row s); pointer 
 
 abbrev arena : List ℕ
 arena = replicate 8 7
+
+-- its table is sound: said once for all the calls
+sound : isSound emptyTable (0 / 512) ≡ true
+unfolding isSound soundTo blankTo attachedTo listedTo badsOk listOk ascends areBlocks heldOf zeroPast le isBlank blankNumbers blankNames same
+sound = refl
 
 -- the house numbers of post, turn, collect, withdraw and write at a desk, for a guest, an arena, a store and a buffer; then the same by the
 -- second promise of each call
@@ -71,8 +78,8 @@ pub order : houses (desk Vacant 8) 8 [] arena []
     ∷ ((20 ∷ []) ∷ (256 ∷ []) ∷ (20 ∷ []) ∷ (20 ∷ []) ∷ (19 ∷ []) ∷ [])
     ∷ ((0 ∷ 0x0107 ∷ 0x55AA ∷ 3 ∷ 0x80 ∷ 4 ∷ 5 ∷ 6 ∷ 1 ∷ []) ∷ (256 ∷ []) ∷ (22 ∷ []) ∷ (23 ∷ []) ∷ (0 ∷ 4 ∷ []) ∷ [])
     ∷ [])
-unfolding postOf turnOf collectOf withdrawOf writtenOf postNumbers turnNumbers collectNumbers withdrawNumbers writtenNumbers writeAnswer tableOf bytesOf recordsOf leBytes accept rowsOk placementsOk isSound soundTo blankTo attachedTo isBlank blankNumbers blankNames same firstWaiting begin steps isDrive parameters extensions writeNumbers beginGiven stepsGiven checkGiven writeGiven postGiven turnGiven collectGiven withdrawGiven
-order = refl
+unfolding postOf turnOf collectOf withdrawOf writtenOf postNumbers turnNumbers collectNumbers withdrawNumbers writtenNumbers writeAnswer tableOf bytesOf recordsOf leBytes accept rowsOk placementsOk firstWaiting begin steps isDrive parameters extensions writeNumbers beginGiven stepsGiven checkGiven writeGiven postGiven turnGiven collectGiven withdrawGiven
+order = rw sound
 
 -- a finished row refuses a post (21) and a withdrawal (23), and is collected once; any registers may stand in it
 abbrev finished : Desk
@@ -88,8 +95,8 @@ pub finished-row : postNumbers (postOf finished 3 registers arena [] .answer)
     ∷ []
     ≡ (21 ∷ []) ∷ (23 ∷ []) ∷ (0 ∷ 0x4107 ∷ 0x55AA ∷ 3 ∷ 0x80 ∷ 4 ∷ 5 ∷ 6 ∷ 1 ∷ []) ∷ (22 ∷ [])
     ∷ (21 ∷ []) ∷ (23 ∷ []) ∷ (0 ∷ 0x4107 ∷ 0x55AA ∷ 3 ∷ 0x80 ∷ 4 ∷ 5 ∷ 6 ∷ 1 ∷ []) ∷ []
-unfolding postOf collectOf withdrawOf postNumbers collectNumbers withdrawNumbers postGiven collectGiven withdrawGiven accept rowsOk placementsOk isSound soundTo blankTo attachedTo isBlank blankNumbers blankNames same
-finished-row = refl
+unfolding postOf collectOf withdrawOf postNumbers collectNumbers withdrawNumbers postGiven collectGiven withdrawGiven accept rowsOk placementsOk
+finished-row = rw (sound, sound)
 
 -- a request that waits, whatever it asks
 abbrev waiting : Row
@@ -113,8 +120,8 @@ openings = refl
 -- a table write lays four bytes and leaves the rest of the buffer; a short buffer stays
 pub writes : writtenOut (desk Vacant 0) (9 ∷ 9 ∷ 9 ∷ 9 ∷ 9 ∷ 9 ∷ []) ∷ writtenOut (desk Vacant 0) (9 ∷ 9 ∷ 9 ∷ []) ∷ writtenOut (desk Vacant 8) (9 ∷ 9 ∷ 9 ∷ 9 ∷ []) ∷ []
     ≡ (4 ∷ 0 ∷ 0 ∷ 0 ∷ 9 ∷ 9 ∷ []) ∷ (9 ∷ 9 ∷ 9 ∷ []) ∷ (9 ∷ 9 ∷ 9 ∷ 9 ∷ []) ∷ []
-unfolding writtenOut writeOut tableOf bytesOf recordsOf leBytes accept rowsOk placementsOk isSound soundTo blankTo attachedTo isBlank blankNumbers blankNames same
-writes = refl
+unfolding writtenOut writeOut tableOf bytesOf recordsOf leBytes accept rowsOk placementsOk
+writes = rw sound
 
 -- ---- a waiting row, in calls that have passed their tests; windows of 16 bytes, with the packet at place 0
 
@@ -156,7 +163,7 @@ pub waiting-row : postNumbers (postRow small 1 registers (replicate 128 7) [] (p
     ∷ (0 ∷ 0x8005 ∷ 0 ∷ 3 ∷ 0x80 ∷ 0 ∷ 8 ∷ 6 ∷ 1 ∷ [])
     ∷ (7 ∷ 7 ∷ 7 ∷ 7 ∷ 7 ∷ 7 ∷ 7 ∷ 7 ∷ 7 ∷ 7 ∷ 7 ∷ 7 ∷ 7 ∷ 7 ∷ 7 ∷ 7 ∷ 7 ∷ 7 ∷ 16 ∷ 0 ∷ 7 ∷ 7 ∷ 7 ∷ 7 ∷ [])
     ∷ []
-unfolding postNumbers collectNumbers withdrawNumbers leBytes spanStart spanLength
+unfolding postNumbers collectNumbers withdrawNumbers reported leBytes spanStart spanLength
 waiting-row = refl
 
 -- the same by the second promises, and the numbers of a turn that serves and of a post that waits
@@ -164,7 +171,7 @@ pub waiting-given : postRowGiven small 1 registers (replicate 128 7) (partly pac
     ∷ collectRowGiven (partly packetCall 0)
     ∷ withdrawRowGiven (partly sectorCall 0)
     ∷ withdrawRowGiven (partly packetCall 0)
-    ∷ turnRowGiven 3 (partly packetCall 0)
+    ∷ turnRowGiven emptyTable 3 (partly packetCall 0)
     ∷ turnNumbers (Served 3 16)
     ∷ postNumbers PostWaits
     ∷ []
@@ -176,7 +183,7 @@ pub waiting-given : postRowGiven small 1 registers (replicate 128 7) (partly pac
     ∷ (0 ∷ 3 ∷ 16 ∷ [])
     ∷ (256 ∷ [])
     ∷ []
-unfolding turnNumbers postNumbers
+unfolding turnNumbers postNumbers badsOf isDrive good isBad heldOf
 waiting-given = refl
 
 -- ---- a post that is answered at once and writes the guest's window: 48h of guest 3, whose window is bytes 99 to 131, with the size 26 at place 4

@@ -109,6 +109,12 @@ accept d =
     (both (ltb (d .pointer) guests)
     (both (rowsOk guests (d .rows) (d .table) (windowSize d)) (placementsOk guests (tableCount (d .table)) (windowSize d) d)))
 
+-- what acceptance says of the blocks of a waiting request: their numbers fit a word, and they are few
+pub record Servable (q : Request) : Type 0 where
+  pub start : q .job .start + q .job .count < 2 ^ 64
+  pub count : q .job .count ≤ mostRun
+  pub moved : q .moved < q .job .count
+
 -- what acceptance says of the row that a turn serves, for k blocks of it, its drive's first store block, an arena of a bytes and a store of s
 pub record InRange (first : ℕ) (q : Request) (k g a s : ℕ) : Type 0 where
   pub guest : g < guests

@@ -10,6 +10,8 @@ use lib.Seq.{sets}
 use Rattle.logic.specs.Logic.{pick, both}
 use Rattle.memory.specs.Window.{guests, windowOf, withWindow}
 use Rattle.memory.specs.Blocks.{blockLength, blocks}
+use Rattle.attached.specs.declared.Bads.{Bads}
+use Rattle.attached.specs.Bad.{good}
 use Rattle.table.specs.declared.Table.{Table}
 use Rattle.table.specs.declared.Answer.{Answer}
 use Rattle.table.specs.declared.Answer.the-variants.{Accepted, Refused as TableRefused}
@@ -21,10 +23,10 @@ use Rattle.int13.specs.declared.Registers.{Registers}
 use Rattle.int13.specs.declared.Job.{Job}
 use Rattle.int13.specs.declared.Outcome.{Outcome}
 use Rattle.int13.specs.declared.Outcome.the-variants.{Answered, Waits}
-use Rattle.int13.specs.Answers.{ah, isSectors, succeed, withdraw}
+use Rattle.int13.specs.Answers.{ended, withdraw}
 use Rattle.int13.specs.Placement.{tablesOf, tableCount}
-use Rattle.int13.specs.Steps.{Checked, withCount, fed, begin}
-use Rattle.int13.specs.Alone.{Memory, storeBlock, moves}
+use Rattle.int13.specs.Steps.{Checked, fed, badsOf, begin}
+use Rattle.int13.specs.Alone.{Memory, storeBlock, moves, reported, endedWindow}
 use Rattle.desk.specs.declared.Request.{Request}
 use Rattle.desk.specs.declared.Stage.{Stage}
 use Rattle.desk.specs.declared.Stage.the-variants.{Vacant, Waiting, Finished}
@@ -197,25 +199,38 @@ quota q = min turnBlocks (q .job .count - q .moved)
 abbrev pub later : Request → ℕ → Request
 later q k = record { job = q .job; moved = q .moved + k }
 
--- finished when all are moved
-unfoldable pub stageAfter : Request → Stage
-stageAfter q = pick (ltb (q .moved + quota q) (q .job .count)) (Waiting (later q (quota q))) (Finished (succeed (q .job .registers)))
+-- the blocks that it moves now: all of those, or where it reaches a bad block "the good ones before it" (document 02, 2026-04); l are the bad blocks
+-- of its drive
+unfoldable pub movesNow : Bads → Request → ℕ
+movesNow l q = good l (q .job .start + q .moved) (quota q)
+
+-- k moved, it goes on waiting: it met no bad block, and more remain
+abbrev pub goesOn : Request → ℕ → Bool
+goesOn q k = both (leb (quota q) k) (ltb (q .moved + k) (q .job .count))
+
+-- the stage of the row after k blocks: finished when all are moved, or at a bad block, with the blocks moved in the whole request
+unfoldable pub stageAfter : Request → ℕ → Stage
+stageAfter q k = pick (goesOn q k) (Waiting (later q k)) (Finished (ended (q .job .count) (q .moved + k) (q .job .registers)))
 
 -- the blocks that it moves now, and the stage of the row after it
-abbrev pub serviceOf : Request → Service
-serviceOf q = record { moved = quota q; stage = stageAfter q }
+abbrev pub serviceOf : Bads → Request → Service
+serviceOf l q = record { moved = movesNow l q; stage = stageAfter q (movesNow l q) }
 
--- what it writes in the window beside the data: nothing
-abbrev pub beside : Request → List ℕ → List ℕ
-beside q w = w
+-- what it writes in the window after the data: at a bad block the count word, else nothing
+abbrev pub beside : Request → ℕ → List ℕ → List ℕ
+beside q k w = pick (goesOn q k) w (endedWindow (q .job) (q .moved + k) w)
 
 -- what a turn works on: the served guest's window and the store
 abbrev pub memoryOf : Desk → ℕ → List ℕ → List ℕ → Memory
 memoryOf d g arena store = record { window = windowOf arena g (windowSize d); store = store }
 
--- window and store after the turn has moved its blocks
-abbrev pub movedBy : Desk → ℕ → Request → List ℕ → List ℕ → Memory
-movedBy d g q arena store = moves (q .job) (storeBlock (d .table) (q .job)) (q .moved) (serviceOf q .moved) (memoryOf d g arena store)
+-- the bad blocks of a request's drive
+abbrev pub badsFor : Desk → Request → Bads
+badsFor d q = badsOf (d .table) (q .job .drive)
+
+-- window and store after the turn has moved k blocks
+abbrev pub movedBy : Desk → ℕ → Request → ℕ → List ℕ → List ℕ → Memory
+movedBy d g q k arena store = moves (q .job) (storeBlock (d .table) (q .job)) (q .moved) k (memoryOf d g arena store)
 
 -- k blocks between a place of guest g's window and a place of the store: what arena and store hold then
 abbrev pub Copied : Bool → ℕ → ℕ → ℕ → ℕ → List ℕ → List ℕ → List ℕ → List ℕ → Type 0
@@ -232,15 +247,19 @@ abbrev pub Transferred : ℕ → Request → ℕ → ℕ → List ℕ → List �
 Transferred first q k g arena store arena′ store′ =
     (arena′ ≡ withOwn arena g (movedFrom first q k g arena store .window)) × (store′ ≡ movedFrom first q k g arena store .store)
 
--- a turn that serves guest g: it moves the next blocks, answers the guest and their number, and the pointer becomes g plus 1, modulo 8
-abbrev pub serve : Desk → ℕ → Request → List ℕ → List ℕ → Done TurnAnswer
-serve d g q arena store =
+-- a turn that moves k blocks for guest g: it answers the guest and their number, and the pointer becomes g plus 1, modulo 8
+abbrev pub serveBy : Desk → ℕ → Request → ℕ → List ℕ → List ℕ → Done TurnAnswer
+serveBy d g q k arena store =
     record {
-      desk = withPointer (withStage d g (serviceOf q .stage)) (next g);
-      answer = Served g (serviceOf q .moved);
-      arena = withWindow arena g (windowSize d) (beside q (movedBy d g q arena store .window));
-      store = movedBy d g q arena store .store;
+      desk = withPointer (withStage d g (stageAfter q k)) (next g);
+      answer = Served g k;
+      arena = withWindow arena g (windowSize d) (beside q k (movedBy d g q k arena store .window));
+      store = movedBy d g q k arena store .store;
     }
+
+-- a turn that serves guest g
+abbrev pub serve : Desk → ℕ → Request → List ℕ → List ℕ → Done TurnAnswer
+serve d g q arena store = serveBy d g q (movesNow (badsFor d q) q) arena store
 
 -- only a waiting row is served; the search finds no other, so the other two clauses are never met
 abbrev pub serveStage : Desk → ℕ → Stage → List ℕ → List ℕ → Done TurnAnswer
@@ -277,7 +296,7 @@ collectOf d g arena store =
 
 -- blocks moved are written to the packet's count word; for 02h and 03h they are in AL
 abbrev pub withdrawnWindow : Request → List ℕ → List ℕ
-withdrawnWindow q w = pick (isSectors (ah (q .job .registers))) w (withCount w (q .job .packet) (q .moved))
+withdrawnWindow q w = reported (q .job) (q .moved) w
 
 -- a waiting request ends with carry set and AH = 80h, and its row becomes vacant; any other row is 23
 abbrev pub withdrawStage : Desk → ℕ → Stage → List ℕ → List ℕ → Done WithdrawAnswer

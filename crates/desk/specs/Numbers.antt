@@ -8,9 +8,12 @@ use lib.ListN.{getD}
 use lib.Dec.{leb, ltb, eqb}
 use Rattle.logic.specs.Logic.{pick, both, either}
 use Rattle.memory.specs.Window.{windowOf}
+use Rattle.attached.specs.Bad.{good}
+use Rattle.table.specs.declared.Table.{Table}
 use Rattle.table.specs.Table.{parametersTo, tableNumbers, writeNumbers}
 use Rattle.int13.specs.declared.Registers.{Registers}
 use Rattle.int13.specs.Answers.{ah, al, isSectors, nothingYet, registerNumbers}
+use Rattle.int13.specs.Steps.{badsOf}
 use Rattle.int13.specs.Numbers.{beginGiven}
 use Rattle.desk.specs.declared.Request.{Request}
 use Rattle.desk.specs.declared.Stage.{Stage}
@@ -97,16 +100,16 @@ postRowGiven d g r arena (Finished x) = 21 ∷ []
 unfoldable pub postGiven : Desk → ℕ → Registers → List ℕ → List ℕ → List ℕ
 postGiven d g r arena store = houseFirst (accept d) (isLent d arena store) (ltb g 8) (postRowGiven d g r arena (stageAt d g))
 
--- 0, the guest and the next 16 blocks, or what remains if fewer
-abbrev pub turnRowGiven : ℕ → Stage → List ℕ
-turnRowGiven g Vacant = 256 ∷ []
-turnRowGiven g (Waiting q) = 0 ∷ g ∷ min 16 (q .job .count - q .moved) ∷ []
-turnRowGiven g (Finished r) = 256 ∷ []
+-- 0, the guest and the next 16 blocks, or what remains if fewer, or of those the ones before the first bad block of the drive
+abbrev pub turnRowGiven : Table → ℕ → Stage → List ℕ
+turnRowGiven b g Vacant = 256 ∷ []
+turnRowGiven b g (Waiting q) = 0 ∷ g ∷ good (badsOf b (q .job .drive)) (q .job .start + q .moved) (min 16 (q .job .count - q .moved)) ∷ []
+turnRowGiven b g (Finished r) = 256 ∷ []
 
 -- of the first waiting row at or after the pointer; 256 where no row waits
 abbrev pub turnNextGiven : Desk → Next → List ℕ
 turnNextGiven d Nobody = 256 ∷ []
-turnNextGiven d (Guest g) = turnRowGiven g (stageAt d g)
+turnNextGiven d (Guest g) = turnRowGiven (d .table) g (stageAt d g)
 
 -- turn: 25, 24, then the row
 unfoldable pub turnGiven : Desk → List ℕ → List ℕ → List ℕ

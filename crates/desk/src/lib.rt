@@ -1,5 +1,6 @@
 // The desk: a guest posts, the host gives turns, the guest collects. The desk goes from call to call as a record that is handed in and
 // handed back with the answer.
+use attached::Bads;
 use drive::Drive;
 use int13::Job;
 use int13::Outcome;
@@ -17,7 +18,7 @@ ghost use Rattle.logic.specs.Logic.{pick, both};
 ghost use Rattle.chs.specs.Chs.{size};
 ghost use Rattle.drive.specs.Drive.{geometryOf};
 ghost use Rattle.desk.specs.Parts.{ownWindow, withOwn, stageIn, withStage, isWaiting, next, withPointer, placementAt, withPlacement};
-ghost use Rattle.desk.specs.Acceptable.{packetOk, movedOk, jobRules, requestOk, stageOk, rowsOk, placeOk, placementOk, placementsOk, accept, InRange};
+ghost use Rattle.desk.specs.Acceptable.{packetOk, movedOk, jobRules, requestOk, stageOk, rowsOk, placeOk, placementOk, placementsOk, accept, Servable, InRange};
 ghost use mathlib.Core.List.{List, []};
 ghost use Rattle.table.specs.Table.{writtenNumbers};
 ghost use Rattle.layout.specs.Packet.{packetLength};
@@ -26,8 +27,9 @@ ghost use Rattle.memory.specs.Blocks.{blockLength};
 ghost use Rattle.int13.specs.Answers.{ah, withdraw};
 ghost use Rattle.int13.specs.Placement.{tableCount};
 ghost use Rattle.int13.specs.Steps.{mostBlocks, mostRun, fed, begin};
+ghost use Rattle.int13.specs.Alone.{reported};
 ghost use Rattle.desk.specs.declared.TurnAnswer.the-variants.{Served};
-ghost use Rattle.desk.specs.Calls.{houseNumber, done, opened, openOf, writtenOf, writtenOut, postChecked, postOf, firstWaiting, quota, serviceOf, Copied, Transferred, turnOf, collectOf, withdrawnWindow, withdrawOf, tablesIn, placeOf};
+ghost use Rattle.desk.specs.Calls.{houseNumber, done, opened, openOf, writtenOf, writtenOut, postChecked, postOf, firstWaiting, quota, movesNow, goesOn, serviceOf, beside, Copied, Transferred, turnOf, collectOf, withdrawOf, tablesIn, placeOf};
 ghost use Rattle.desk.specs.Numbers.{openNumbers, postNumbers, turnNumbers, collectNumbers, withdrawNumbers, placeNumbers, openGiven, writeGiven, postGiven, turnGiven, collectGiven, withdrawGiven, placeGiven};
 
 // A request with the number of blocks that have moved.
@@ -404,13 +406,31 @@ fn quota_of(q: Request) -> u64
     }
 }
 
-pub fn service_of(q: Request) -> Service
-    ensures { λ r. ⌜ r ≡ serviceOf q ⌝ }
+// The same before the first bad block of its drive. Its blocks have been found in range, so that their numbers do not wrap.
+fn moves_now(q: Request, bads: Bads) -> u64
+    requires { ⌜ Servable q ⌝ }
+    ensures { λ r. ⌜ (r ≡ movesNow bads q) × (r ≤ quota q) ⌝ }
 {
-    let k = quota_of(q);
+    attached::good(bads, q.job.start + q.moved, quota_of(q))
+}
+
+// k blocks moved, the request goes on waiting: it met no bad block, and more remain.
+fn goes_on(q: Request, k: u64) -> bool
+    requires { ⌜ q .moved + k < 2 ^ 64 ⌝ }
+    ensures { λ r. ⌜ r ≡ goesOn q k ⌝ }
+{
+    logic::and(quota_of(q) <= k, q.moved + k < q.job.count)
+}
+
+// What a turn does to a request on a drive with those bad blocks. Acceptance has found it in range.
+pub fn service_of(q: Request, bads: Bads) -> Service
+    requires { ⌜ Servable q ⌝ }
+    ensures { λ r. ⌜ r ≡ serviceOf bads q ⌝ }
+{
+    let k = moves_now(q, bads);
     let moved = q.moved + k;
     let job = q.job;
-    if moved < job.count {
+    if goes_on(q, k) {
         return Service {
             moved: k,
             stage: Stage::Waiting(Request { job, moved }),
@@ -419,7 +439,7 @@ pub fn service_of(q: Request) -> Service
     let registers = job.registers;
     Service {
         moved: k,
-        stage: Stage::Finished(int13::succeed(registers)),
+        stage: Stage::Finished(int13::ended(job.count, moved, registers)),
     }
 }
 
@@ -481,23 +501,40 @@ fn count_place(packet: u64) -> usize
     (packet + 2) as usize
 }
 
-// ---- what a withdrawal gives back
+// ---- what an ending writes
 
-// The blocks moved go to the packet's count word; for 02h and 03h, which have no packet, they go to AL alone. Acceptance has found the
+// A number of blocks moved goes to the packet's count word; 02h and 03h, which have no packet, have it in AL alone. Acceptance has found the
 // packet inside the window.
-pub fn report_moved(q: Request, guest: usize, arena: &mut [u8])
-    requires { ⌜ (guest < guests) × (packetOk (ah (q .job .registers)) (q .job .packet) (windowLength (length (now arena))) ≡ true) × (q .moved < mostRun) ⌝ }
-    ensures { λ _. ⌜ now (arena .exit) ≡ withOwn (now (arena .entry)) guest (withdrawnWindow q (ownWindow (now (arena .entry)) guest)) ⌝ }
+pub fn report_moved(job: Job, moved: u64, guest: usize, arena: &mut [u8])
+    requires { ⌜ (guest < guests) × (packetOk (ah (job .registers)) (job .packet) (windowLength (length (now arena))) ≡ true) × (moved ≤ mostRun) ⌝ }
+    ensures { λ _. ⌜ now (arena .exit) ≡ withOwn (now (arena .entry)) guest (reported job moved (ownWindow (now (arena .entry)) guest)) ⌝ }
 {
-    let job = q.job;
     let registers = job.registers;
     if int13::is_sectors(int13::function_of(registers)) {
         return;
     }
     let m = memory::window_length(arena.len());
     let at = count_place(job.packet);
-    memory::put_word_in(arena, guest, m, at, q.moved as u16);
+    memory::put_word_in(arena, guest, m, at, moved as u16);
 }
+
+// After the data of a turn that moved k blocks: at a bad block the blocks moved in the whole request, else nothing.
+pub fn report_ending(q: Request, k: u64, guest: usize, arena: &mut [u8])
+    requires { ⌜ (guest < guests) × (packetOk (ah (q .job .registers)) (q .job .packet) (windowLength (length (now arena))) ≡ true) × (q .moved + k ≤ mostRun) ⌝ }
+    ensures { λ _. ⌜ now (arena .exit) ≡ withOwn (now (arena .entry)) guest (beside q k (ownWindow (now (arena .entry)) guest)) ⌝ }
+{
+    if goes_on(q, k) {
+        return;
+    }
+    let moved = q.moved + k;
+    let job = q.job;
+    if job.count <= moved {
+        return;
+    }
+    report_moved(job, moved, guest, arena);
+}
+
+// ---- what a withdrawal gives back
 
 pub fn given_back(q: Request) -> Registers
     requires { ⌜ q .moved < mostRun ⌝ }
@@ -696,8 +733,9 @@ impl Desk {
         };
         let b = self.table;
         let d = int13::drive_at(b, q.job.drive);
-        let service = service_of(q);
+        let service = service_of(q, int13::bads_of(b, q.job.drive));
         transfer(d.first, q, service.moved, guest, arena, store);
+        report_ending(q, service.moved, guest, arena);
         self.served(guest, service)
     }
 
@@ -755,7 +793,7 @@ impl Desk {
                 answer: WithdrawAnswer::Refused(NOT_WAITING),
             };
         };
-        report_moved(q, guest, arena);
+        report_moved(q.job, q.moved, guest, arena);
         Withdrawn {
             desk: self.with_stage(guest, Stage::Vacant),
             answer: WithdrawAnswer::Given(given_back(q)),

@@ -8,9 +8,10 @@ use Prim.Native.Nat.{ℕ, _<_}
 use lib.Dec.{eqb}
 use Rattle.logic.specs.Logic.{pick, both}
 use Rattle.drive.specs.declared.Drive.{Drive}
+use Rattle.attached.specs.declared.Bads.{Bads}
 use Rattle.table.specs.declared.Table.{Table}
 use Rattle.int13.specs.Placement.{tableCount}
-use Rattle.int13.specs.Steps.{firstDrive, isDrive, driveAt}
+use Rattle.int13.specs.Steps.{firstDrive, isDrive, driveAt, badsOf}
 use Rattle.desk.specs.declared.Stage.{Stage}
 use Rattle.desk.specs.declared.Desk.{Desk}
 use Rattle.desk.specs.declared.Next.{Next}
@@ -61,6 +62,9 @@ module _ (b : List ℕ) (a : accept (deskOf b) ≡ true) where
       let r = block b a .desk in
       let known : isDrive (readDesk b .table) n ≡ true = ap (λ (d : Desk). isDrive (d .table) n) (sym r) ∙ k in
       e ∙ ap (λ (t : Bool). driveAt (readDesk b .table) (pick t n firstDrive)) known ∙ ap (λ (d : Desk). driveAt (d .table) n) (sym r)
+
+  pub bads-read : {l : Bads} (n : ℕ) → l ≡ badsOf (readDesk b .table) n → l ≡ badsOf (deskOf b .table) n
+  bads-read n e = e ∙ ap (λ (d : Desk). badsOf (d .table) n) (sym (block b a .desk))
 
   -- ---- what is written
 

@@ -1,8 +1,8 @@
 -- Document 01's 72 bytes in five fragments, of which one is empty and two cut a record, at a block that held sevens: the theorem's conditions can be
 -- met, and its answers are these numbers.
 -- Assumes nothing.
-use mathlib.Core.Path.{_≡_, refl, _∙_}
-use mathlib.Core.Bool.{Bool, true, false}
+use mathlib.Core.Path.{_≡_, refl}
+use mathlib.Core.Bool.{Bool, true}
 use mathlib.Core.List.{List, [], _∷_, _++_}
 use Prim.Native.Nat.{ℕ, zero, suc, _-_}
 use native.Mathlib.Omega.{arith}
@@ -12,9 +12,10 @@ use borrow.Author.Tests.{ltb-true}
 use Rattle.logic.specs.Logic.{both}
 use Rattle.logic.proofs.LogicLaws.{both-true}
 use Rattle.chs.specs.Chs.{inLimits}
-use Rattle.words.specs.Words.{Bytes, le, leBytes, part}
+use Rattle.words.specs.Words.{Bytes, le, leBytes}
 use Rattle.drive.specs.Drive.{driveOf, recordOf, geometryBytes, sizeBytes, nameBytes, same, busOk, interfaceOk, geometryFits, fieldsOk, inStore, overlap, blankNumbers, blankNames, isBlank}
-use Rattle.table.specs.Table.{headerOf, headerAt, overlapsAny, refusal, parametersRefusal, recordRefusal, withRecord, recordStep, endStep, stepOf, stepAt, readFrom, readTable, answerNumbers, recordsOf, bytesOf, tableOf, nextPlace, writeAnswer, writeOut, writtenNumbers, soundTo, blankTo, attachedTo, isSound}
+use Rattle.attached.specs.Bad.{heldOf, ascends, areBlocks, listOk, zeroPast, badsOk}
+use Rattle.table.specs.Table.{headerOf, headerAt, overlapsAny, refusal, parametersRefusal, recordRefusal, withRecord, recordStep, endStep, stepOf, stepAt, readFrom, readTable, answerNumbers, recordsOf, bytesOf, tableOf, nextPlace, writeAnswer, writeOut, writtenNumbers, soundTo, blankTo, attachedTo, listedTo, isSound}
 use Rattle.table.proofs.Vectors.{record₁, end}
 use Rattle.feed.specs.Feed.{opened, afterStep, heldByte, byCourse, feedByte, feedAll, endBy, endFeed, refusedAt, answerBy, answerOf, fedNumbers}
 use Rattle.feed.specs.Arrives.{joined}
@@ -101,7 +102,7 @@ padded n l = l ++ replicate (n - length l) 0
 
 -- a block: course, refusal, a store of 2048 blocks, how many bytes are held, the length of the table; the bytes held; the table
 abbrev block : ℕ → ℕ → List ℕ → List ℕ → List ℕ
-block course refusal held t = word course ++ word refusal ++ (0 ∷ 8 ∷ replicate 6 0) ++ word (length held) ++ word (length t) ++ padded 68 held ++ padded 708 t
+block course refusal held t = word course ++ word refusal ++ (0 ∷ 8 ∷ replicate 6 0) ++ word (length held) ++ word (length t) ++ padded 134 held ++ padded 1780 t
 
 -- open, with a store of 2048 blocks and 511 bytes: 0, and the block of a reader that reads
 pub open-call : readerOpenCall sevens 1049087 ≡ effect (0 ∷ []) (block 0 0 [] end ∷ [])
@@ -109,58 +110,58 @@ unfolding leBytes recordsOf bytesOf tableOf image opened laid readerOpenCall
 open-call = refl
 
 -- a block that is a byte short, and one that is a byte longer: 25, and it stays
-pub open-refused : (readerOpenCall (replicate 815 7) 1049087 ≡ effect (25 ∷ []) (replicate 815 7 ∷ [])) × (readerOpenCall (replicate 817 7) 1049087 ≡ effect (25 ∷ []) (replicate 817 7 ∷ []))
+pub open-refused : (readerOpenCall (replicate 1953 7) 1049087 ≡ effect (25 ∷ []) (replicate 1953 7 ∷ [])) × (readerOpenCall (replicate 1955 7) 1049087 ≡ effect (25 ∷ []) (replicate 1955 7 ∷ []))
 unfolding readerOpenCall
 open-refused = (refl, refl)
 
 -- feed: 256, and what stood behind `place` stays
 pub feed-call : readerFeedCall (block 0 0 (4 ∷ 0 ∷ []) (record₁ ++ end)) (0 ∷ []) 9 ≡ effect (256 ∷ 9 ∷ []) (block 0 0 (4 ∷ 0 ∷ 0 ∷ []) (record₁ ++ end) ∷ [])
-unfolding le leBytes inLimits driveOf same busOk interfaceOk geometryFits fieldsOk inStore overlap headerOf headerAt overlapsAny refusal parametersRefusal recordRefusal withRecord recordStep endStep stepOf stepAt recordOf geometryBytes sizeBytes nameBytes recordsOf bytesOf tableOf image blankNumbers blankNames isBlank soundTo blankTo attachedTo isSound readFrom readTable readReader restZero courseOk accept accepted nextPlace refusedAt afterStep heldByte byCourse feedByte feedAll answerBy answerOf fedNumbers laid over readerFeedCall
+unfolding le leBytes inLimits driveOf same busOk interfaceOk geometryFits fieldsOk inStore overlap headerOf headerAt overlapsAny refusal parametersRefusal recordRefusal withRecord recordStep endStep stepOf stepAt recordOf geometryBytes sizeBytes nameBytes recordsOf bytesOf tableOf image blankNumbers blankNames isBlank soundTo blankTo attachedTo listedTo heldOf ascends areBlocks listOk zeroPast badsOk isSound readFrom readTable readReader restZero courseOk accept accepted nextPlace refusedAt afterStep heldByte byCourse feedByte feedAll answerBy answerOf fedNumbers laid over readerFeedCall
 feed-call = refl
 
 -- a wrong length: 2 at 68, which the block keeps; and the bytes behind it, and those of the next call, are ignored
 pub feed-refused : (readerFeedCall (block 0 0 [] (record₁ ++ end)) (67 ∷ 0 ∷ 1 ∷ 0 ∷ 7 ∷ []) 9 ≡ effect (2 ∷ 68 ∷ []) (block 3 2 [] (record₁ ++ end) ∷ []))
     × (readerFeedCall (block 3 2 [] (record₁ ++ end)) (7 ∷ []) 9 ≡ effect (2 ∷ 68 ∷ []) (block 3 2 [] (record₁ ++ end) ∷ []))
-unfolding le leBytes inLimits driveOf same busOk interfaceOk geometryFits fieldsOk inStore overlap headerOf headerAt overlapsAny refusal parametersRefusal recordRefusal withRecord recordStep endStep stepOf stepAt recordOf geometryBytes sizeBytes nameBytes recordsOf bytesOf tableOf image blankNumbers blankNames isBlank soundTo blankTo attachedTo isSound readFrom readTable readReader restZero courseOk accept accepted nextPlace refusedAt afterStep heldByte byCourse feedByte feedAll answerBy answerOf fedNumbers laid over readerFeedCall
+unfolding le leBytes inLimits driveOf same busOk interfaceOk geometryFits fieldsOk inStore overlap headerOf headerAt overlapsAny refusal parametersRefusal recordRefusal withRecord recordStep endStep stepOf stepAt recordOf geometryBytes sizeBytes nameBytes recordsOf bytesOf tableOf image blankNumbers blankNames isBlank soundTo blankTo attachedTo listedTo heldOf ascends areBlocks listOk zeroPast badsOk isSound readFrom readTable readReader restZero courseOk accept accepted nextPlace refusedAt afterStep heldByte byCourse feedByte feedAll answerBy answerOf fedNumbers laid over readerFeedCall
 feed-refused = (refl, refl)
 
 -- a block of a reader that breaks a rule, refused with no number, and one that is no image, of course 4: 25, and it stays, as does what stood behind
 -- `place`
 pub feed-no-reader : (readerFeedCall (block 3 0 [] end) end 9 ≡ effect (25 ∷ 9 ∷ []) (block 3 0 [] end ∷ []))
     × (readerFeedCall (block 4 1 [] end) end 9 ≡ effect (25 ∷ 9 ∷ []) (block 4 1 [] end ∷ []))
-unfolding le leBytes inLimits driveOf same busOk interfaceOk geometryFits fieldsOk inStore overlap headerOf headerAt overlapsAny refusal parametersRefusal recordRefusal withRecord recordStep endStep stepOf stepAt recordOf geometryBytes sizeBytes nameBytes recordsOf bytesOf tableOf image blankNumbers blankNames isBlank soundTo blankTo attachedTo isSound readFrom readTable readReader restZero courseOk accept accepted nextPlace refusedAt afterStep heldByte byCourse feedByte feedAll answerBy answerOf fedNumbers laid over readerFeedCall
+unfolding le leBytes inLimits driveOf same busOk interfaceOk geometryFits fieldsOk inStore overlap headerOf headerAt overlapsAny refusal parametersRefusal recordRefusal withRecord recordStep endStep stepOf stepAt recordOf geometryBytes sizeBytes nameBytes recordsOf bytesOf tableOf image blankNumbers blankNames isBlank soundTo blankTo attachedTo listedTo heldOf ascends areBlocks listOk zeroPast badsOk isSound readFrom readTable readReader restZero courseOk accept accepted nextPlace refusedAt afterStep heldByte byCourse feedByte feedAll answerBy answerOf fedNumbers laid over readerFeedCall
 feed-no-reader = (refl, refl)
 
 -- end: after the end record 0, and what stood behind `place` stays
 pub end-call : readerEndCall (block 1 0 [] (record₁ ++ end)) 9 ≡ effect (0 ∷ 9 ∷ []) (block 2 0 [] (record₁ ++ end) ∷ [])
-unfolding le leBytes inLimits driveOf same busOk interfaceOk geometryFits fieldsOk inStore overlap headerOf headerAt overlapsAny refusal parametersRefusal recordRefusal withRecord recordStep endStep stepOf stepAt recordOf geometryBytes sizeBytes nameBytes recordsOf bytesOf tableOf image blankNumbers blankNames isBlank soundTo blankTo attachedTo isSound readFrom readTable readReader restZero courseOk accept accepted nextPlace refusedAt endBy endFeed answerBy answerOf fedNumbers laid over readerEndCall
+unfolding le leBytes inLimits driveOf same busOk interfaceOk geometryFits fieldsOk inStore overlap headerOf headerAt overlapsAny refusal parametersRefusal recordRefusal withRecord recordStep endStep stepOf stepAt recordOf geometryBytes sizeBytes nameBytes recordsOf bytesOf tableOf image blankNumbers blankNames isBlank soundTo blankTo attachedTo listedTo heldOf ascends areBlocks listOk zeroPast badsOk isSound readFrom readTable readReader restZero courseOk accept accepted nextPlace refusedAt endBy endFeed answerBy answerOf fedNumbers laid over readerEndCall
 end-call = refl
 
 -- before it, with three bytes held: 1 at 68, which the block keeps
 pub end-refused : readerEndCall (block 0 0 (4 ∷ 0 ∷ 0 ∷ []) (record₁ ++ end)) 9 ≡ effect (1 ∷ 68 ∷ []) (block 3 1 [] (record₁ ++ end) ∷ [])
-unfolding le leBytes inLimits driveOf same busOk interfaceOk geometryFits fieldsOk inStore overlap headerOf headerAt overlapsAny refusal parametersRefusal recordRefusal withRecord recordStep endStep stepOf stepAt recordOf geometryBytes sizeBytes nameBytes recordsOf bytesOf tableOf image blankNumbers blankNames isBlank soundTo blankTo attachedTo isSound readFrom readTable readReader restZero courseOk accept accepted nextPlace refusedAt endBy endFeed answerBy answerOf fedNumbers laid over readerEndCall
+unfolding le leBytes inLimits driveOf same busOk interfaceOk geometryFits fieldsOk inStore overlap headerOf headerAt overlapsAny refusal parametersRefusal recordRefusal withRecord recordStep endStep stepOf stepAt recordOf geometryBytes sizeBytes nameBytes recordsOf bytesOf tableOf image blankNumbers blankNames isBlank soundTo blankTo attachedTo listedTo heldOf ascends areBlocks listOk zeroPast badsOk isSound readFrom readTable readReader restZero courseOk accept accepted nextPlace refusedAt endBy endFeed answerBy answerOf fedNumbers laid over readerEndCall
 end-refused = refl
 
 -- the same two blocks: 25
 pub end-no-reader : (readerEndCall (block 3 0 [] end) 9 ≡ effect (25 ∷ 9 ∷ []) (block 3 0 [] end ∷ []))
     × (readerEndCall (block 4 1 [] end) 9 ≡ effect (25 ∷ 9 ∷ []) (block 4 1 [] end ∷ []))
-unfolding le leBytes inLimits driveOf same busOk interfaceOk geometryFits fieldsOk inStore overlap headerOf headerAt overlapsAny refusal parametersRefusal recordRefusal withRecord recordStep endStep stepOf stepAt recordOf geometryBytes sizeBytes nameBytes recordsOf bytesOf tableOf image blankNumbers blankNames isBlank soundTo blankTo attachedTo isSound readFrom readTable readReader restZero courseOk accept accepted nextPlace refusedAt endBy endFeed answerBy answerOf fedNumbers laid over readerEndCall
+unfolding le leBytes inLimits driveOf same busOk interfaceOk geometryFits fieldsOk inStore overlap headerOf headerAt overlapsAny refusal parametersRefusal recordRefusal withRecord recordStep endStep stepOf stepAt recordOf geometryBytes sizeBytes nameBytes recordsOf bytesOf tableOf image blankNumbers blankNames isBlank soundTo blankTo attachedTo listedTo heldOf ascends areBlocks listOk zeroPast badsOk isSound readFrom readTable readReader restZero courseOk accept accepted nextPlace refusedAt endBy endFeed answerBy answerOf fedNumbers laid over readerEndCall
 end-no-reader = (refl, refl)
 
 -- write: the 72 bytes of an accepted table at the start of 74; 71 are too few: 19
 pub write-call : (readerWriteCall (block 2 0 [] (record₁ ++ end)) (replicate 74 5) 9 ≡ effect (0 ∷ 72 ∷ []) ((record₁ ++ end ++ (5 ∷ 5 ∷ [])) ∷ []))
     × (readerWriteCall (block 2 0 [] (record₁ ++ end)) (replicate 71 5) 9 ≡ effect (19 ∷ 9 ∷ []) (replicate 71 5 ∷ []))
-unfolding le leBytes inLimits driveOf same busOk interfaceOk geometryFits fieldsOk inStore overlap headerOf headerAt overlapsAny refusal parametersRefusal recordRefusal withRecord recordStep endStep stepOf stepAt recordOf geometryBytes sizeBytes nameBytes recordsOf bytesOf tableOf image blankNumbers blankNames isBlank soundTo blankTo attachedTo isSound readFrom readTable readReader restZero courseOk accept accepted nextPlace refusedAt answerBy answerOf writeAnswer writeOut writtenNumbers over readerWriteEffect readerWriteCall
+unfolding le leBytes inLimits driveOf same busOk interfaceOk geometryFits fieldsOk inStore overlap headerOf headerAt overlapsAny refusal parametersRefusal recordRefusal withRecord recordStep endStep stepOf stepAt recordOf geometryBytes sizeBytes nameBytes recordsOf bytesOf tableOf image blankNumbers blankNames isBlank soundTo blankTo attachedTo listedTo heldOf ascends areBlocks listOk zeroPast badsOk isSound readFrom readTable readReader restZero courseOk accept accepted nextPlace refusedAt answerBy answerOf writeAnswer writeOut writtenNumbers over readerWriteEffect readerWriteCall
 write-call = (refl, refl)
 
 -- before the end was told, closed or not: 256
 pub write-early : (readerWriteCall (block 0 0 [] (record₁ ++ end)) (replicate 74 5) 9 ≡ effect (256 ∷ 9 ∷ []) (replicate 74 5 ∷ []))
     × (readerWriteCall (block 1 0 [] (record₁ ++ end)) (replicate 74 5) 9 ≡ effect (256 ∷ 9 ∷ []) (replicate 74 5 ∷ []))
-unfolding le leBytes inLimits driveOf same busOk interfaceOk geometryFits fieldsOk inStore overlap headerOf headerAt overlapsAny refusal parametersRefusal recordRefusal withRecord recordStep endStep stepOf stepAt recordOf geometryBytes sizeBytes nameBytes recordsOf bytesOf tableOf image blankNumbers blankNames isBlank soundTo blankTo attachedTo isSound readFrom readTable readReader restZero courseOk accept accepted nextPlace refusedAt answerBy answerOf writeAnswer writeOut writtenNumbers over readerWriteEffect readerWriteCall
+unfolding le leBytes inLimits driveOf same busOk interfaceOk geometryFits fieldsOk inStore overlap headerOf headerAt overlapsAny refusal parametersRefusal recordRefusal withRecord recordStep endStep stepOf stepAt recordOf geometryBytes sizeBytes nameBytes recordsOf bytesOf tableOf image blankNumbers blankNames isBlank soundTo blankTo attachedTo listedTo heldOf ascends areBlocks listOk zeroPast badsOk isSound readFrom readTable readReader restZero courseOk accept accepted nextPlace refusedAt answerBy answerOf writeAnswer writeOut writtenNumbers over readerWriteEffect readerWriteCall
 write-early = (refl, refl)
 
 -- refused with 2: 2; of a block that is no reader's: 25
 pub write-refused : (readerWriteCall (block 3 2 [] (record₁ ++ end)) (replicate 74 5) 9 ≡ effect (2 ∷ 9 ∷ []) (replicate 74 5 ∷ []))
     × (readerWriteCall (block 3 0 [] (record₁ ++ end)) (replicate 74 5) 9 ≡ effect (25 ∷ 9 ∷ []) (replicate 74 5 ∷ []))
-unfolding le leBytes inLimits driveOf same busOk interfaceOk geometryFits fieldsOk inStore overlap headerOf headerAt overlapsAny refusal parametersRefusal recordRefusal withRecord recordStep endStep stepOf stepAt recordOf geometryBytes sizeBytes nameBytes recordsOf bytesOf tableOf image blankNumbers blankNames isBlank soundTo blankTo attachedTo isSound readFrom readTable readReader restZero courseOk accept accepted nextPlace refusedAt answerBy answerOf writeAnswer writeOut writtenNumbers over readerWriteEffect readerWriteCall
+unfolding le leBytes inLimits driveOf same busOk interfaceOk geometryFits fieldsOk inStore overlap headerOf headerAt overlapsAny refusal parametersRefusal recordRefusal withRecord recordStep endStep stepOf stepAt recordOf geometryBytes sizeBytes nameBytes recordsOf bytesOf tableOf image blankNumbers blankNames isBlank soundTo blankTo attachedTo listedTo heldOf ascends areBlocks listOk zeroPast badsOk isSound readFrom readTable readReader restZero courseOk accept accepted nextPlace refusedAt answerBy answerOf writeAnswer writeOut writtenNumbers over readerWriteEffect readerWriteCall
 write-refused = (refl, refl)

@@ -41,9 +41,9 @@ use Rattle.reader.specs.Reader.{readerSize, readReader, accepted as readerAccep
 
 -- ---- the version, ours and in no paper: a block is for the library of its version, since a change request may give it another form
 
--- 1 is the base; each change request adds 1: 2 has 2026-01, 3 has 2026-02, 4 has 2026-03
+-- 1 is the base; each change request adds 1: 2 has 2026-01, 3 has 2026-02, 4 has 2026-03, 5 has 2026-04
 abbrev pub version : ℕ
-version = 4
+version = 5
 
 -- what a call leaves: the number that it returns and the values behind its pointers, in the order of its parameters; and the bytes of each
 -- slice that was lent for change, in that order

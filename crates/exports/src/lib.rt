@@ -53,7 +53,7 @@ const NOT_WAITING: u32 = desk::NOT_WAITING as u32;
 const BAD_PLACE: u32 = desk::BAD_PLACE as u32;
 
 // The version of the interface and of the block's form: 1 is the base, and each change request adds 1.
-const VERSION: u32 = 4;
+const VERSION: u32 = 5;
 
 // Bytes of a block of the store.
 const BLOCK_LENGTH: u64 = memory::BLOCK_LENGTH as u64;
@@ -153,8 +153,9 @@ fn steps_at(desk: &[u8], guest: usize, r: Registers, window: &mut [u8]) -> Outco
     let known = image::is_drive(desk, n);
     let count = image::count_of(desk);
     let d = image::drive_named(desk, n);
+    let bads = image::bads_of(desk, n);
     let shown = image::shown_of(desk, guest, n);
-    int13::steps(known, count, d, shown, r, window)
+    int13::steps(known, count, d, bads, shown, r, window)
 }
 
 // The same in the guest's window of the arena.
@@ -261,8 +262,9 @@ pub extern "C" fn edd_turn(
         return NOTHING_YET;
     };
     let d = image::drive_named(desk, q.job.drive);
-    let service = desk::service_of(q);
+    let service = desk::service_of(q, image::bads_of(desk, q.job.drive));
     desk::transfer(d.first, q, service.moved, g, arena, store);
+    desk::report_ending(q, service.moved, g, arena);
     let after = service.stage;
     put_served(desk, g, after);
     *guest = g as u64;
@@ -349,7 +351,7 @@ pub extern "C" fn edd_withdraw(
     let Stage::Waiting(q) = stage else {
         return NOT_WAITING;
     };
-    desk::report_moved(q, g, arena);
+    desk::report_moved(q.job, q.moved, g, arena);
     image::put_stage(desk, g, Stage::Vacant);
     let given = desk::given_back(q);
     hand(given, ax, bx, cx, dx, ds, si, es, carry);

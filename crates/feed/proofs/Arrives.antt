@@ -33,17 +33,17 @@ use Rattle.feed.specs.Arrives.{joined, told, soFar, Settles, Stays, Arri
 -- while it reads: the bytes of its drives' records and those held, which settle nothing, and the reading of whatever they begin goes on from there
 record IsReading (t : List ℕ) (f : Feed) : Type 0 where
   so : So (f .store) (f .table)
-  room : length (f .held) ≡ 68
+  room : length (f .held) ≡ 134
   all : length t ≡ nextPlace (f .table) + f .filled
   rest : drop (nextPlace (f .table)) t ≡ take (f .filled) (f .held)
   part : Begin (take (f .filled) (f .held))
-  reads : (q : List ℕ) → readFrom 17 (t ++ q) (f .store) (nextPlace (f .table)) (f .table) ≡ readTable (t ++ q) (f .store)
+  reads : (q : List ℕ) → readFrom 25 (t ++ q) (f .store) (nextPlace (f .table)) (f .table) ≡ readTable (t ++ q) (f .store)
 
 -- behind the end record: a table, and 8 with any byte more
 record IsClosed (t : List ℕ) (f : Feed) : Type 0 where
   whole : readTable t (f .store) ≡ reading TableAccepted (f .table)
   byte : (x : ℕ) (q : List ℕ) → readTable (t ++ (x ∷ q)) (f .store) ≡ reading (TableRefused 8 (nextPlace (f .table) + 4)) (f .table)
-  few : length t ≤ 708
+  few : length t ≤ 1780
   bare : f .filled ≡ 0
 
 -- refused: so is whatever they begin
@@ -66,7 +66,7 @@ record Tracks (store : ℕ) (t : List ℕ) (f : Feed) : Type 0 where
 -- ---- a byte more
 
 -- a reading by its first step
-read-step : (s : Stepped) (t : List ℕ) (store at : ℕ) (b : Table) → stepAt t at b store ≡ s → readFrom 17 t store at b ≡ goOn (s .step) (s .table) (readFrom 16 t store)
+read-step : (s : Stepped) (t : List ℕ) (store at : ℕ) (b : Table) → stepAt t at b store ≡ s → readFrom 25 t store at b ≡ goOn (s .step) (s .table) (readFrom 24 t store)
 unfolding readFrom
 read-step s t store at b e = rw e
 
@@ -80,7 +80,7 @@ module _ (t : List ℕ) (f : Feed) (x : ℕ) (i : IsReading t f) where
   abbrev begins : List ℕ
   begins = take (f .filled + 1) (heldWith f x)
 
-  in-room : f .filled < 68
+  in-room : f .filled < 134
   in-room = omega (arith, begin-few (take (f .filled) (f .held)) (i .part), length-take (f .filled) (f .held), i .room)
 
   begins-whole : begins ≡ take (f .filled) (f .held) ++ (x ∷ [])
@@ -95,7 +95,7 @@ module _ (t : List ℕ) (f : Feed) (x : ℕ) (i : IsReading t f) where
   follows-on : (q : List ℕ) → drop at (bytes ++ q) ≡ begins ++ q
   follows-on q = drop-append-le at bytes q (omega (arith, all-bytes)) ∙ ap (λ (l : List ℕ). l ++ q) follows
 
-  on : (q : List ℕ) → readFrom 17 (bytes ++ q) (f .store) at (f .table) ≡ readTable (bytes ++ q) (f .store)
+  on : (q : List ℕ) → readFrom 25 (bytes ++ q) (f .store) at (f .table) ≡ readTable (bytes ++ q) (f .store)
   on q = rw (append-assoc t (x ∷ []) q) (i .reads ((x ∷ []) ++ q))
 
   byte-stays : Begin begins → Tracks (f .store) bytes (holding f x)
@@ -143,7 +143,7 @@ module _ (t : List ℕ) (f : Feed) (x : ℕ) (i : IsReading t f) where
               rest = drop-of-length-le bytes {i = nextPlace next} (omega arith);
               part = begin-none;
               reads = λ q.
-                  rw (k .place) (one-more 16 (bytes ++ q) (f .store) (at + m) next (k .so .most) (k .so .marks) (omega (arith, k .some))
+                  rw (k .place) (one-more 24 (bytes ++ q) (f .store) (at + m) next (k .so .marks) (k .so .counts) (k .some)
                   ∙ sym (read-step _ (bytes ++ q) (f .store) at (f .table) (steps (bytes ++ q) q at (follows-on q))) ∙ on q);
             };
       }
@@ -159,7 +159,7 @@ module _ (t : List ℕ) (f : Feed) (x : ℕ) (i : IsReading t f) where
 
 byte-by : (t : List ℕ) (f : Feed) (x : ℕ) (c : Course) → f .course ≡ c → By c t f → Tracks (f .store) (t ++ (x ∷ [])) (byCourse c f x)
 unfolding byCourse refusedAt
-byte-by t f x Reading e i = rw (lt-ltb (f .filled) 68 (in-room t f x i)) (byte-held t f x i)
+byte-by t f x Reading e i = rw (lt-ltb (f .filled) 134 (in-room t f x i)) (byte-held t f x i)
 byte-by t f x Closed e i = record { kept = refl; by = record { other = λ z. omega arith; reads = λ q. rw (append-assoc t (x ∷ []) q) (i .byte x q); bare = refl } }
 byte-by t f x Accepted e i = absurd i
 byte-by t f x (Refused n) e i = record { kept = refl; by = rw e (record { other = i .other; reads = λ q. rw (append-assoc t (x ∷ []) q) (i .reads ((x ∷ []) ++ q)); bare = i .bare }) }
@@ -271,7 +271,7 @@ module _ (t : List ℕ) (f : Feed) where
   refused-by Accepted e i n at z = absurd i
   refused-by (Refused m) e i n at z = refused-stays m f e
 
-  few-by : (c : Course) → By c t f → answerBy c (f .table) ≡ More → length t < 772
+  few-by : (c : Course) → By c t f → answerBy c (f .table) ≡ More → length t < 1910
   unfolding answerBy
   few-by Reading i z = omega (arith, i .all, place-most (f .store) (f .table) (i .so), in-room t f 0 i)
   few-by Closed i z = omega (arith, i .few)
@@ -296,7 +296,7 @@ zeros (suc n) zero = omega arith
 zeros (suc n) (suc i) = zeros n i
 
 -- as many bytes as a table of eight drives and one record more are not cut off
-long : (t : List ℕ) (f : Feed) (c : Course) → By c t f → 772 ≤ length t → (p : ℕ) → readTable t (f .store) .answer ≡ TableRefused 1 p → ⊥
+long : (t : List ℕ) (f : Feed) (c : Course) → By c t f → 1910 ≤ length t → (p : ℕ) → readTable t (f .store) .answer ≡ TableRefused 1 p → ⊥
 long t f Reading i l p e = omega (arith, l, i .all, place-most (f .store) (f .table) (i .so), in-room t f 0 i)
 long t f Closed i l p e = omega (arith, l, i .few)
 long t f Accepted i l p e = absurd i
@@ -306,7 +306,7 @@ long t f (Refused n) i l p e = i .other (number n (refusedAt n (f .table)) 1 p (
     number n p m q e = cc
 
 -- so 1 is never settled
-cut-unsettled : (t : List ℕ) (f : Feed) (q : List ℕ) → 772 ≤ length q → Bytes q → Tracks (f .store) t f → (p : ℕ) → Follows t (f .store) 1 p → ⊥
+cut-unsettled : (t : List ℕ) (f : Feed) (q : List ℕ) → 1910 ≤ length q → Bytes q → Tracks (f .store) t f → (p : ℕ) → Follows t (f .store) 1 p → ⊥
 cut-unsettled t f q l h s p z =
     let s′ = tracks-all (f .store) q t f s in
     long (t ++ q) (feedAll f q) (feedAll f q .course) (s′ .by) (omega (arith, l, length-append t q)) p (rw (s′ .kept) (z q h))
@@ -319,7 +319,7 @@ unsettled-by t f c i s n at z = by-course c i (rw (append-nil t) at (z [] (zeros
     by-course Reading i e =
         let cut-off : TableRefused 1 (nextPlace (f .table)) ≡ TableRefused n at = sym (ap (λ (r : TableReading). r .answer) (cut t f i)) ∙ e in
         let one : 1 ≡ n = cc in
-        absurd (cut-unsettled t f (replicate 772 0) (rw length-replicate (omega arith)) (zeros 772) s at (rw one z))
+        absurd (cut-unsettled t f (replicate 1910 0) (rw length-replicate (omega arith)) (zeros 1910) s at (rw one z))
     by-course Closed i e = let accepted : TableAccepted ≡ TableRefused n at = sym (ap (λ (r : TableReading). r .answer) (i .whole)) ∙ e in impossible (cc)
     by-course Accepted i e = absurd i
     by-course (Refused m) i e =

@@ -1,5 +1,5 @@
--- The reader that is fed by number: document 01's 72 bytes however they are cut, each refusal at the byte that settles it, and what is said once
--- the end is told.
+-- The reader that is fed by number: document 01's 72 bytes however they are cut, each refusal at the byte that settles it, records of bad blocks, and
+-- what is said once the end is told.
 -- Assumes nothing.
 use mathlib.Core.Path.{_≡_, refl}
 use mathlib.Core.Bool.{true, false}
@@ -11,9 +11,11 @@ use Rattle.chs.specs.Chs.{inLimits}
 use Rattle.drive.specs.declared.Drive.{Drive}
 use Rattle.drive.specs.Drive.{driveOf, recordOf, geometryBytes, sizeBytes, nameBytes, same, busOk, interfaceOk, geometryFits, fieldsOk, inStore, overlap}
 use Rattle.attached.specs.Parameters.{parametersRecord}
+use Rattle.attached.specs.Bad.{badCount, badLengthOk, badsIn, heldOf, badRecord, ascends, areBlocks, listOk}
+use Rattle.table.specs.declared.Table.{Table}
 use Rattle.table.specs.declared.Answer.the-variants.{Accepted as TableAccepted, Refused as TableRefused}
-use Rattle.table.specs.Table.{emptyTable, headerOf, headerAt, isUnfinished, overlapsAny, refusal, parametersRefusal, recordRefusal, withRecord, recordStep, endStep, stepOf, stepAt, readFrom, readTable, recordsOf, nextPlace}
-use Rattle.table.proofs.Vectors.{record₁, end, store, but, from, drives, given-bytes, attach, attached}
+use Rattle.table.specs.Table.{emptyTable, headerOf, headerAt, isUnfinished, overlapsAny, refusal, parametersRefusal, badsRefusal, recordRefusal, withRecord, recordStep, endStep, stepOf, stepAt, readFrom, readTable, recordsOf, nextPlace}
+use Rattle.table.proofs.Vectors.{record₁, end, store, but, from, drives, given-bytes, attach, bads, sixteen, full as most}
 use Rattle.feed.specs.declared.Course.the-variants.{Reading, Closed, Accepted, Refused}
 use Rattle.feed.specs.declared.Feed.{Feed}
 use Rattle.feed.specs.Feed.{nothing, opened, staysOpen, isOver, afterStep, heldByte, byCourse, feedByte, feedAll, feeds, endBy, endFeed, refusedAt, answerBy, answerOf, fedNumbers}
@@ -156,10 +158,80 @@ pub cut-off : map (λ (l : List ℕ). said (after l)) ([] ∷ take 3 record₁ �
 unfolding le leBytes inLimits driveOf same busOk interfaceOk geometryFits fieldsOk inStore overlap headerOf headerAt overlapsAny refusal parametersRefusal recordRefusal withRecord recordStep endStep stepOf stepAt recordOf geometryBytes sizeBytes nameBytes parametersRecord recordsOf nextPlace refusedAt opened afterStep heldByte byCourse feedByte feedAll answerBy answerOf fedNumbers endBy endFeed
 cut-off = refl
 
--- eight drives with parameters each, 704 bytes, and 67 more: nothing is settled; with the next byte, the 772nd: 4 at 704
-pub longest : along (after (attached 8)) record₁
-    ≡ unsettled 67 ++ ((4 ∷ 704 ∷ []) ∷ [])
-unfolding le leBytes inLimits driveOf same busOk interfaceOk geometryFits fieldsOk inStore overlap headerOf headerAt overlapsAny refusal parametersRefusal recordRefusal withRecord recordStep endStep stepOf stepAt recordOf geometryBytes sizeBytes nameBytes parametersRecord recordsOf nextPlace refusedAt opened afterStep heldByte byCourse feedByte feedAll answerBy answerOf fedNumbers
+-- ---- records of bad blocks, after a drive of 68 bytes
+
+-- a drive with bad blocks 5 and 7 and with parameters: its bytes, 114 with the end record
+abbrev listed : List ℕ
+listed = record₁ ++ bads 0 (5 ∷ 7 ∷ []) ++ attach 0 ++ end
+
+-- cut in two within the record, 68 to 90: in its header, behind it, in its drive's number, in the list, and behind the last number; nothing is
+-- settled, and 0 once the end is told
+pub bads-in-two : map (λ (n : ℕ). said (feeds (opened store) (cut listed n))) (68 ∷ 69 ∷ 72 ∷ 73 ∷ 75 ∷ 82 ∷ 85 ∷ 89 ∷ 90 ∷ [])
+    ++ map (λ (n : ℕ). said (endFeed (feeds (opened store) (cut listed n)))) (68 ∷ 69 ∷ 72 ∷ 73 ∷ 75 ∷ 82 ∷ 85 ∷ 89 ∷ 90 ∷ [])
+    ≡ unsettled 9 ++ replicate 9 (0 ∷ [])
+unfolding le leBytes inLimits driveOf same busOk interfaceOk geometryFits fieldsOk inStore overlap headerOf headerAt overlapsAny refusal parametersRefusal recordRefusal withRecord recordStep endStep stepOf stepAt badCount badLengthOk badsIn heldOf ascends areBlocks listOk badsRefusal recordOf geometryBytes sizeBytes nameBytes parametersRecord badRecord recordsOf nextPlace refusedAt opened afterStep heldByte byCourse feedByte feedAll answerBy answerOf fedNumbers feeds endBy endFeed
+bads-in-two = refl
+
+-- with the bad blocks and the parameters of the whole: read whole, cut in the list, cut between the numbers, and in fragments of one byte
+abbrev listings : List Table
+listings = readTable listed store .table ∷ endFeed (feeds (opened store) (cut listed 75)) .table ∷ endFeed (feeds (opened store) (cut listed 82)) .table ∷ endFeed (feeds (opened store) (single listed)) .table ∷ []
+
+pub bads-in-two-counts : map (λ (b : Table). b .counts) listings ≡ replicate 4 (2 ∷ replicate 7 0)
+unfolding le leBytes inLimits driveOf same busOk interfaceOk geometryFits fieldsOk inStore overlap headerOf headerAt overlapsAny refusal parametersRefusal recordRefusal withRecord recordStep endStep stepOf stepAt badCount badLengthOk badsIn heldOf ascends areBlocks listOk badsRefusal readFrom readTable opened afterStep heldByte byCourse feedByte feedAll feeds endBy endFeed
+bads-in-two-counts = refl
+
+pub bads-in-two-lists : map (λ (b : Table). take 24 (b .bad)) listings ≡ replicate 4 (5 ∷ replicate 7 0 ++ (7 ∷ replicate 15 0))
+unfolding le leBytes inLimits driveOf same busOk interfaceOk geometryFits fieldsOk inStore overlap headerOf headerAt overlapsAny refusal parametersRefusal recordRefusal withRecord recordStep endStep stepOf stepAt badCount badLengthOk badsIn heldOf ascends areBlocks listOk badsRefusal readFrom readTable opened afterStep heldByte byCourse feedByte feedAll feeds endBy endFeed
+bads-in-two-lists = refl
+
+pub bads-in-two-parameters : map (λ (b : Table). take 14 (b .parameters)) listings ≡ replicate 4 given-bytes
+unfolding le leBytes inLimits driveOf same busOk interfaceOk geometryFits fieldsOk inStore overlap headerOf headerAt overlapsAny refusal parametersRefusal recordRefusal withRecord recordStep endStep stepOf stepAt badCount badLengthOk badsIn heldOf ascends areBlocks listOk badsRefusal readFrom readTable opened afterStep heldByte byCourse feedByte feedAll feeds endBy endFeed
+bads-in-two-parameters = refl
+
+-- 2 by the fourth byte
+--   of no number, length 6: 2 at 68
+--   length 15: 2 at 68
+--   of seventeen numbers, length 142: 2 at 68
+pub bads-two : along (after record₁) (6 ∷ 0 ∷ 3 ∷ 0 ∷ []) ++ along (after record₁) (15 ∷ 0 ∷ 3 ∷ 0 ∷ []) ++ along (after record₁) (142 ∷ 0 ∷ 3 ∷ 0 ∷ [])
+    ≡ unsettled 3 ++ ((2 ∷ 68 ∷ []) ∷ []) ++ (unsettled 3 ++ ((2 ∷ 68 ∷ []) ∷ [])) ++ (unsettled 3 ++ ((2 ∷ 68 ∷ []) ∷ []))
+unfolding le leBytes inLimits driveOf same busOk interfaceOk geometryFits fieldsOk inStore overlap headerOf headerAt overlapsAny refusal parametersRefusal recordRefusal withRecord recordStep endStep stepOf stepAt badCount badLengthOk badsIn heldOf ascends areBlocks listOk badsRefusal recordOf geometryBytes sizeBytes nameBytes parametersRecord badRecord recordsOf nextPlace refusedAt opened afterStep heldByte byCourse feedByte feedAll answerBy answerOf fedNumbers
+bads-two = refl
+
+-- 9 by the last byte only
+--   for a later drive: 9 at 68
+--   repeated: 9 at 90
+--   behind the drive's parameters: 9 at 88
+pub bads-nine : along (after record₁) (bads 1 (5 ∷ 7 ∷ [])) ++ along (after record₁) (bads 0 (5 ∷ 7 ∷ []) ++ bads 0 (9 ∷ [])) ++ along (after record₁) (attach 0 ++ bads 0 (9 ∷ []))
+    ≡ unsettled 21 ++ ((9 ∷ 68 ∷ []) ∷ []) ++ (unsettled 35 ++ ((9 ∷ 90 ∷ []) ∷ [])) ++ (unsettled 33 ++ ((9 ∷ 88 ∷ []) ∷ []))
+unfolding le leBytes inLimits driveOf same busOk interfaceOk geometryFits fieldsOk inStore overlap headerOf headerAt overlapsAny refusal parametersRefusal recordRefusal withRecord recordStep endStep stepOf stepAt badCount badLengthOk badsIn heldOf ascends areBlocks listOk badsRefusal recordOf geometryBytes sizeBytes nameBytes parametersRecord badRecord recordsOf nextPlace refusedAt opened afterStep heldByte byCourse feedByte feedAll answerBy answerOf fedNumbers
+bads-nine = refl
+
+-- 5 by the last byte only
+--   not in order: 5 at 68
+--   repeated: 5 at 68
+--   the first of two past the drive's blocks: 5 at 68
+pub bads-five : along (after record₁) (bads 0 (7 ∷ 5 ∷ [])) ++ along (after record₁) (bads 0 (5 ∷ 5 ∷ [])) ++ along (after record₁) (bads 0 (2048 ∷ 2049 ∷ []))
+    ≡ unsettled 21 ++ ((5 ∷ 68 ∷ []) ∷ []) ++ (unsettled 21 ++ ((5 ∷ 68 ∷ []) ∷ [])) ++ (unsettled 21 ++ ((5 ∷ 68 ∷ []) ∷ []))
+unfolding le leBytes inLimits driveOf same busOk interfaceOk geometryFits fieldsOk inStore overlap headerOf headerAt overlapsAny refusal parametersRefusal recordRefusal withRecord recordStep endStep stepOf stepAt badCount badLengthOk badsIn heldOf ascends areBlocks listOk badsRefusal recordOf geometryBytes sizeBytes nameBytes parametersRecord badRecord recordsOf nextPlace refusedAt opened afterStep heldByte byCourse feedByte feedAll answerBy answerOf fedNumbers
+bads-five = refl
+
+-- the longest record, of sixteen: held to its 133rd byte, and then none of it
+--   the bytes held after 132, 133 and 134 of it
+pub bads-kept : map (λ (n : ℕ). after (record₁ ++ take n (bads 0 sixteen)) .filled) (132 ∷ 133 ∷ 134 ∷ []) ≡ 132 ∷ 133 ∷ 0 ∷ []
+unfolding le leBytes inLimits driveOf same busOk interfaceOk geometryFits fieldsOk inStore overlap headerOf headerAt overlapsAny refusal parametersRefusal recordRefusal withRecord recordStep endStep stepOf stepAt badCount badLengthOk badsIn heldOf ascends areBlocks listOk badsRefusal opened afterStep heldByte byCourse feedByte feedAll
+bads-kept = refl
+
+--   which, after 133: 1 at 68 once the end is told there; after 134 its numbers are the drive's, and 1 is at 202
+pub bads-held : after (record₁ ++ take 133 (bads 0 sixteen)) .held ∷ take 128 (after (record₁ ++ bads 0 sixteen) .table .bad)
+    ∷ said (told (record₁ ++ take 133 (bads 0 sixteen))) ∷ said (told (record₁ ++ bads 0 sixteen)) ∷ []
+    ≡ (take 133 (bads 0 sixteen) ++ (0 ∷ [])) ∷ drop 6 (bads 0 sixteen) ∷ (1 ∷ 68 ∷ []) ∷ (1 ∷ 202 ∷ []) ∷ []
+unfolding le leBytes inLimits driveOf same busOk interfaceOk geometryFits fieldsOk inStore overlap headerOf headerAt overlapsAny refusal parametersRefusal recordRefusal withRecord recordStep endStep stepOf stepAt badCount badLengthOk badsIn heldOf ascends areBlocks listOk badsRefusal recordOf geometryBytes sizeBytes nameBytes parametersRecord badRecord recordsOf nextPlace refusedAt opened afterStep heldByte byCourse feedByte feedAll answerBy answerOf fedNumbers endBy endFeed
+bads-held = refl
+
+-- eight drives with sixteen bad blocks and parameters each, 1776 bytes, and 133 more: nothing is settled; with the next byte, the 1910th: 9 at 1776
+pub longest : along (after (most 8)) (bads 8 sixteen)
+    ≡ unsettled 133 ++ ((9 ∷ 1776 ∷ []) ∷ [])
+unfolding le leBytes inLimits driveOf same busOk interfaceOk geometryFits fieldsOk inStore overlap headerOf headerAt overlapsAny refusal parametersRefusal recordRefusal withRecord recordStep endStep stepOf stepAt badCount badLengthOk badsIn heldOf ascends areBlocks listOk badsRefusal recordOf geometryBytes sizeBytes nameBytes parametersRecord badRecord recordsOf nextPlace refusedAt opened afterStep heldByte byCourse feedByte feedAll answerBy answerOf fedNumbers
 longest = refl
 
 -- ---- fragments
@@ -244,7 +316,7 @@ points-filled = refl
 
 -- and which: zeros behind them, and of a record that was taken no byte
 pub points-held : map (λ (f : Feed). f .held) points
-    ≡ replicate 68 0 ∷ (68 ∷ 0 ∷ 1 ∷ 0 ∷ 2 ∷ replicate 63 0) ∷ replicate 68 0 ∷ (4 ∷ replicate 67 0) ∷ (4 ∷ replicate 67 0) ∷ replicate 5 (replicate 68 0)
+    ≡ replicate 134 0 ∷ (68 ∷ 0 ∷ 1 ∷ 0 ∷ 2 ∷ replicate 129 0) ∷ replicate 134 0 ∷ (4 ∷ replicate 133 0) ∷ (4 ∷ replicate 133 0) ∷ replicate 5 (replicate 134 0)
 unfolding le leBytes inLimits driveOf same busOk interfaceOk geometryFits fieldsOk inStore overlap headerOf headerAt overlapsAny refusal parametersRefusal recordRefusal withRecord recordStep endStep stepOf stepAt opened afterStep heldByte byCourse feedByte feedAll feeds endBy endFeed
 points-held = refl
 
@@ -256,11 +328,11 @@ points-store = refl
 
 -- a reader that no bytes lead to, whose record is whole and not taken
 abbrev full : Feed
-full = record { table = emptyTable; store = store; held = replicate 68 7; filled = 68; course = Reading }
+full = record { table = emptyTable; store = store; held = replicate 134 7; filled = 134; course = Reading }
 
 -- a byte more: it stays, and nothing is said
 pub full-stays : said (feedByte full 9) ∷ (feedByte full 9 .filled ∷ []) ∷ feedByte full 9 .held ∷ []
-    ≡ (256 ∷ []) ∷ (68 ∷ []) ∷ replicate 68 7 ∷ []
+    ≡ (256 ∷ []) ∷ (134 ∷ []) ∷ replicate 134 7 ∷ []
 unfolding le leBytes inLimits driveOf same busOk interfaceOk geometryFits fieldsOk inStore overlap headerOf headerAt overlapsAny refusal parametersRefusal recordRefusal withRecord recordStep endStep stepOf stepAt recordOf geometryBytes sizeBytes nameBytes parametersRecord recordsOf nextPlace refusedAt opened afterStep heldByte byCourse feedByte feedAll answerBy answerOf fedNumbers
 full-stays = refl
 
@@ -286,13 +358,20 @@ answers = refl
 --   the fourth of a header with kind 9, with kind 257 and with length 67: false
 --   the 67th of a drive: true
 --   the 68th: false
+--   the fourth of a header of sixteen bad blocks: true
+--   of one of length 135: false
+--   the 133rd byte of sixteen bad blocks: true
+--   the 134th: false
 --   past the longest record: false
 --   behind the end record, once accepted, once refused: false
-pub opens : staysOpen Reading nothing 0 68 ∷ staysOpen Reading (68 ∷ 0 ∷ 1 ∷ replicate 65 0) 3 0 ∷ staysOpen Reading (68 ∷ 0 ∷ 9 ∷ replicate 65 0) 3 0
-    ∷ staysOpen Reading (68 ∷ 0 ∷ 1 ∷ replicate 65 0) 3 1 ∷ staysOpen Reading (67 ∷ 0 ∷ 1 ∷ replicate 65 0) 3 0 ∷ staysOpen Reading (take 66 record₁ ++ (0 ∷ 0 ∷ [])) 66 0 ∷ staysOpen Reading (take 67 record₁ ++ (0 ∷ [])) 67 0
-    ∷ staysOpen Reading record₁ 68 0 ∷ staysOpen Closed nothing 0 68 ∷ staysOpen Accepted nothing 0 68 ∷ staysOpen (Refused 3) nothing 0 68 ∷ []
-    ≡ true ∷ true ∷ false ∷ false ∷ false ∷ true ∷ false ∷ false ∷ false ∷ false ∷ false ∷ []
-unfolding staysOpen isUnfinished headerAt headerOf le
+pub opens : staysOpen Reading nothing 0 68 ∷ staysOpen Reading (68 ∷ 0 ∷ 1 ∷ replicate 131 0) 3 0 ∷ staysOpen Reading (68 ∷ 0 ∷ 9 ∷ replicate 131 0) 3 0
+    ∷ staysOpen Reading (68 ∷ 0 ∷ 1 ∷ replicate 131 0) 3 1 ∷ staysOpen Reading (67 ∷ 0 ∷ 1 ∷ replicate 131 0) 3 0
+    ∷ staysOpen Reading (take 66 record₁ ++ replicate 68 0) 66 0 ∷ staysOpen Reading (take 67 record₁ ++ replicate 67 0) 67 0
+    ∷ staysOpen Reading (134 ∷ 0 ∷ 3 ∷ replicate 131 0) 3 0 ∷ staysOpen Reading (135 ∷ 0 ∷ 3 ∷ replicate 131 0) 3 0
+    ∷ staysOpen Reading (take 132 (bads 0 sixteen) ++ (0 ∷ 0 ∷ [])) 132 0 ∷ staysOpen Reading (take 133 (bads 0 sixteen) ++ (0 ∷ [])) 133 0
+    ∷ staysOpen Reading (bads 0 sixteen) 134 0 ∷ staysOpen Closed nothing 0 68 ∷ staysOpen Accepted nothing 0 68 ∷ staysOpen (Refused 3) nothing 0 68 ∷ []
+    ≡ true ∷ true ∷ false ∷ false ∷ false ∷ true ∷ false ∷ true ∷ false ∷ true ∷ false ∷ false ∷ false ∷ false ∷ false ∷ []
+unfolding staysOpen isUnfinished headerAt headerOf le leBytes badCount badLengthOk
 opens = refl
 
 -- bytes are ignored once the end was told or it is refused, and not before

@@ -7,14 +7,17 @@ use native.Mathlib.Omega.{arith}
 use mathlib.Core.Path.{_≡_, refl, sym, _∙_, ap}
 use mathlib.Core.Bool.{Bool, true, false}
 use mathlib.Core.List.{List, [], _∷_}
-use lib.ListN.{length, drop, getD, length-take}
-use lib.Seq.{ext-getD, getD-take, getD-drop}
+use lib.ListN.{length, take, drop, getD, length-take}
+use lib.Seq.{ext-getD, getD-take, getD-drop, take-take, drop-drop}
 use lib.Dec.{leb, ltb, eqb}
 use Rattle.logic.specs.Logic.{pick, both}
 use Rattle.logic.proofs.LogicLaws.{impossible, both-true, all-ext}
-use Rattle.words.specs.Words.{le}
+use Rattle.words.specs.Words.{le, part}
+use Rattle.drive.specs.declared.Drive.{Drive}
+use Rattle.attached.specs.declared.Bads.{Bads}
+use Rattle.attached.specs.Bad.{badsOk}
 use Rattle.table.specs.declared.Table.{Table}
-use Rattle.table.specs.Table.{noDrive, hasParameters, attachedAt, parametersTo}
+use Rattle.table.specs.Table.{noDrive, hasParameters, attachedAt, badsAt, listedAt, parametersTo}
 use Rattle.int13.specs.declared.Placement.{Placement}
 use Rattle.int13.specs.declared.Shown.{Shown}
 use Rattle.int13.specs.Placement.{notShown}
@@ -23,7 +26,7 @@ use Rattle.int13.proofs.StepsLaws.{isDrive-true}
 use Rattle.desk.specs.declared.Stage.the-variants.{Vacant, Waiting, Finished}
 use Rattle.desk.specs.declared.Row.{Row}
 use Rattle.desk.specs.Parts.{vacantRow, stageIn, stageAt, isWaiting, placementAt}
-use Rattle.image.specs.Image.{each, listed, marksWords, rowAt, slotAt, markAt, addressAt, presentAt, bytesAt, countAt, requestPlace, finishedPlace, registersAt, requestAt, readStage, readRow, readDrive, readMarks, readAddresses, readDesk}
+use Rattle.image.specs.Image.{each, listed, marksWords, rowAt, slotAt, markAt, addressAt, presentAt, bytesAt, badsCountAt, badsListAt, countAt, requestPlace, finishedPlace, registersAt, requestAt, readStage, readRow, readDrive, readMarks, readAddresses, readCounts, readDesk}
 use Rattle.image.specs.Judged.{zeroBytes}
 
 pub listed-at : {A : Type 0} (f : ℕ → A) (i n k : ℕ) (e : A) → k < n → getD (listed f i n) k e ≡ f (i + k)
@@ -105,6 +108,35 @@ attached-of b i h =
     rw (present-of b i h)
     (ap (λ (t : Bool). pick (eqb (getD b (presentAt i) 0) 1) (ltb i (le 8 b countAt)) t)
     (all-ext 14 _ (λ j. eqb (getD b (bytesAt i + j) 0) 0) (λ j l. ap (λ (x : ℕ). eqb x 0) (byte-of b i j h l))))
+
+-- a part of a part
+part-part : (k n i : ℕ) (s : List ℕ) → i + k ≤ n → take k (drop i (take n s)) ≡ take k (drop i s)
+part-part k n zero s h = take-take k n s (omega arith)
+part-part k zero (suc i) s h = absurd (omega arith)
+part-part k (suc n) (suc i) [] h = refl
+part-part k (suc n) (suc i) (x ∷ s) h = part-part k n i s (omega arith)
+
+-- a slot's count of bad blocks
+pub bads-count-of : (b : List ℕ) (i : ℕ) → i < 8 → getD (readCounts b) i 0 ≡ getD b (badsCountAt i) 0
+bads-count-of b i h = listed-at (λ k. getD b (badsCountAt k) 0) 0 8 i 0 h ∙ ap (λ (k : ℕ). getD b (badsCountAt k) 0) (zero-add i)
+
+-- a slot's bad blocks: its count, and its list as it stands at its place
+pub bads-at : {l : Bads} (b : List ℕ) (i : ℕ) → i < 8 → l .count ≡ getD b (badsCountAt i) 0 → l .list ≡ part 128 b (badsListAt i) → l ≡ badsAt (readDesk b .table) i
+unfolding readDesk
+bads-at b i h e f =
+    let n = e ∙ sym (bads-count-of b i h) in
+    let m = f ∙ sym (part-part 128 1024 (128 * i) (drop (badsListAt 0) b) (omega arith) ∙ ap (take 128) (drop-drop (128 * i) (badsListAt 0) b)) in
+    λ j. record { count = n j; list = m j }
+
+-- the blocks of a slot's drive
+blocks-of : (b : List ℕ) (i : ℕ) → i < 8 → getD (readDesk b .table .drives) i noDrive .blocks ≡ le 8 b (slotAt i + 24)
+unfolding readDrive
+blocks-of b i h = ap (λ (d : Drive). d .blocks) (slot-of b i h)
+
+-- a slot has bad blocks of its drive only, from what the code read
+pub listed-of : {l : Bads} {blocks : ℕ} {r : Bool} (b : List ℕ) (i : ℕ) → i < 8 → l ≡ badsAt (readDesk b .table) i → blocks ≡ le 8 b (slotAt i + 24) → r ≡ badsOk l blocks
+    → r ≡ listedAt (readDesk b .table) i
+listed-of b i h e f g = rw (blocks-of b i h, ← e, ← f) g
 
 -- one slot more
 pub count-more : {r : ℕ} (b : List ℕ) (n : ℕ) → n < 8 → r ≡ parametersTo n (readDesk b .table) + pick (eqb (getD b (presentAt n) 0) 1) 1 0 → r ≡ parametersTo (n + 1) (readDesk b .table)

@@ -16,7 +16,7 @@ use Rattle.desk.specs.declared.Stage.{Stage}
 use Rattle.desk.specs.declared.Stage.the-variants.{Vacant, Waiting, Finished}
 use Rattle.desk.specs.declared.Row.{Row}
 use Rattle.desk.specs.declared.Desk.{Desk}
-use Rattle.image.specs.Image.{each, flat, listed, stageWords, rowWords, rowsWords, driveWords, slotsWords, tailWords, marksWords, placesWords, givenWords, parametersWords, deskWords, image, rowAt, slotAt, tailAt, markAt, deskSize}
+use Rattle.image.specs.Image.{each, flat, listed, stageWords, rowWords, rowsWords, driveWords, slotsWords, tailWords, marksWords, placesWords, givenWords, parametersWords, listWords, badsWords, deskWords, image, rowAt, slotAt, tailAt, markAt, deskSize}
 use Rattle.image.proofs.Fields.{length-listed, length-marks}
 
 module _ {A : Type 0} (f : A → List ℕ) where
@@ -96,6 +96,9 @@ length-parameters b e =
     length-append (marksWords (b .present)) (givenWords (b .parameters))
     ∙ omega (arith, length-marks (b .present), length-listed (λ j. le 8 (b .parameters) (8 * j)) 0 14)
 
+pub length-bads : (b : Table) → length (b .counts) ≡ 8 → length (badsWords b) ≡ 8 + 128
+length-bads b e = length-append (b .counts) (listWords (b .bad)) ∙ omega (arith, length-listed (λ j. le 8 (b .bad) (8 * j)) 0 128)
+
 -- bytes as words, eight a word
 words-from : (p : List ℕ) (i n : ℕ) → Bytes p → 8 * i + 8 * n ≡ length p → flat (listed (λ j. le 8 p (8 * j)) i n) ≡ drop (8 * i) p
 unfolding each
@@ -104,44 +107,63 @@ words-from p i (suc n) h e =
     let z : 8 * i + 8 ≡ 8 * suc i = omega arith in
     rw (write-read 8 p (8 * i) h (omega arith), words-from p (suc i) n h (omega arith), ← z, ← drop-drop 8 (8 * i) p) (take-append-drop 8 (drop (8 * i) p))
 
-pub flat-words : (p : List ℕ) → Bytes p → length p ≡ 112 → flat (givenWords p) ≡ p
-flat-words p h e = words-from p 0 14 h (omega arith)
+pub flat-words : (p : List ℕ) (n : ℕ) → Bytes p → length p ≡ 8 * n → flat (listed (λ j. le 8 p (8 * j)) 0 n) ≡ p
+flat-words p n h e = words-from p 0 n h (omega arith)
 
 -- the sections, laid one after the other
 
+-- the counts of bad blocks as words, and the bytes of the lists as they are
+pub bads-laid : {o₁ o₂ : List ℕ} (s : List ℕ) (at : ℕ) (counts bad : List ℕ) → length counts ≡ 8 → Bytes bad → length bad ≡ 1024
+    → o₁ ≡ sets s at (flat counts) → o₂ ≡ sets o₁ (at + 64) bad → o₂ ≡ sets s at (flat (counts ++ listWords bad))
+bads-laid s at counts bad e h m p q =
+    let w : flat (listWords bad) ≡ bad = flat-words bad 128 h (omega arith) in
+    let l : length (flat counts) ≡ 64 = length-flat counts ∙ omega arith in
+    rw (q, p) (ap (sets (sets s at (flat counts)) (at + 64)) (sym w)
+    ∙ sets-next s at 64 (flat counts) (flat (listWords bad)) l
+    ∙ ap (sets s at) (sym (each-append (leBytes 8) counts (listWords bad))))
+
 -- those behind the last words
 pub more-laid : (s : List ℕ) (at : ℕ) (d : Desk) → length (d .placed) ≡ 8 → length (d .addresses) ≡ 8 → length (d .table .present) ≡ 8
-    → sets (sets (sets (sets s at (flat (marksWords (d .placed)))) (at + 64) (flat (d .addresses))) (at + 128) (flat (marksWords (d .table .present)))) (at + 192) (flat (givenWords (d .table .parameters)))
-    ≡ sets s at (flat (placesWords d ++ parametersWords (d .table)))
+    → sets (sets (sets (sets (sets s at (flat (marksWords (d .placed)))) (at + 64) (flat (d .addresses))) (at + 128) (flat (marksWords (d .table .present)))) (at + 192) (flat (givenWords (d .table .parameters))))
+    (at + 304) (flat (badsWords (d .table)))
+    ≡ sets s at (flat (placesWords d ++ (parametersWords (d .table) ++ badsWords (d .table))))
 more-laid s at d p a n =
     let P = marksWords (d .placed) in
     let A = d .addresses in
     let N = marksWords (d .table .present) in
     let W = givenWords (d .table .parameters) in
+    let B = badsWords (d .table) in
     let lp : length (flat P) ≡ 64 = length-flat P ∙ omega (arith, length-marks (d .placed)) in
     let la : length (flat P ++ flat A) ≡ 128 = length-append (flat P) (flat A) ∙ omega (arith, length-flat A) in
-    let parts : flat ((P ++ A) ++ (N ++ W)) ≡ (flat P ++ flat A) ++ (flat N ++ flat W) =
-    rw (each-append (leBytes 8) (P ++ A) (N ++ W), each-append (leBytes 8) P A, each-append (leBytes 8) N W) in
     let ln : length ((flat P ++ flat A) ++ flat N) ≡ 192 = length-append (flat P ++ flat A) (flat N) ∙ omega (arith, length-flat N, length-marks (d .table .present)) in
-    ap (λ (x : List ℕ). sets (sets x (at + 128) (flat N)) (at + 192) (flat W)) (sets-next s at 64 (flat P) (flat A) lp)
-    ∙ ap (λ (x : List ℕ). sets x (at + 192) (flat W)) (sets-next s at 128 (flat P ++ flat A) (flat N) la)
-    ∙ sets-next s at 192 ((flat P ++ flat A) ++ flat N) (flat W) ln
-    ∙ ap (sets s at) (append-assoc (flat P ++ flat A) (flat N) (flat W) ∙ sym parts)
+    let lw : length (((flat P ++ flat A) ++ flat N) ++ flat W) ≡ 304 =
+    length-append ((flat P ++ flat A) ++ flat N) (flat W) ∙ omega (arith, length-flat W, length-listed (λ j. le 8 (d .table .parameters) (8 * j)) 0 14) in
+    let parts : flat ((P ++ A) ++ ((N ++ W) ++ B)) ≡ (flat P ++ flat A) ++ ((flat N ++ flat W) ++ flat B) =
+    rw (each-append (leBytes 8) (P ++ A) ((N ++ W) ++ B), each-append (leBytes 8) P A, each-append (leBytes 8) (N ++ W) B, each-append (leBytes 8) N W) in
+    ap (λ (x : List ℕ). sets (sets (sets x (at + 128) (flat N)) (at + 192) (flat W)) (at + 304) (flat B)) (sets-next s at 64 (flat P) (flat A) lp)
+    ∙ ap (λ (x : List ℕ). sets (sets x (at + 192) (flat W)) (at + 304) (flat B)) (sets-next s at 128 (flat P ++ flat A) (flat N) la)
+    ∙ ap (λ (x : List ℕ). sets x (at + 304) (flat B)) (sets-next s at 192 ((flat P ++ flat A) ++ flat N) (flat W) ln)
+    ∙ sets-next s at 304 (((flat P ++ flat A) ++ flat N) ++ flat W) (flat B) lw
+    ∙ ap (sets s at) (ap (λ (x : List ℕ). x ++ flat B) (append-assoc (flat P ++ flat A) (flat N) (flat W)) ∙ append-assoc (flat P ++ flat A) (flat N ++ flat W) (flat B) ∙ sym parts)
 
 pub laid-out : (s : List ℕ) (d : Desk) → length s ≡ deskSize → length (d .rows) ≡ 8 → length (d .table .drives) ≡ 8
-    → length (d .placed) ≡ 8 → length (d .addresses) ≡ 8 → length (d .table .present) ≡ 8
-    → sets (sets (sets (sets s (rowAt 0) (flat (rowsWords (d .rows)))) (slotAt 0) (flat (slotsWords (d .table .drives)))) (tailAt 0) (flat (tailWords d))) (markAt 0) (flat (placesWords d ++ parametersWords (d .table)))
+    → length (d .placed) ≡ 8 → length (d .addresses) ≡ 8 → length (d .table .present) ≡ 8 → length (d .table .counts) ≡ 8
+    → sets (sets (sets (sets s (rowAt 0) (flat (rowsWords (d .rows)))) (slotAt 0) (flat (slotsWords (d .table .drives)))) (tailAt 0) (flat (tailWords d)))
+    (markAt 0) (flat (placesWords d ++ (parametersWords (d .table) ++ badsWords (d .table))))
     ≡ image d
 unfolding image deskWords
-laid-out s d n r t p a q =
+laid-out s d n r t p a q c =
     let R = rowsWords (d .rows) in
     let D = slotsWords (d .table .drives) in
     let T = tailWords d in
-    let M = placesWords d ++ parametersWords (d .table) in
+    let Q = parametersWords (d .table) in
+    let B = badsWords (d .table) in
+    let M = placesWords d ++ (Q ++ B) in
     let lr : length (flat R) ≡ slotAt 0 = length-flat R ∙ omega (arith, length-rows (d .rows) r) in
     let ld : length (flat R ++ flat D) ≡ tailAt 0 = length-append (flat R) (flat D) ∙ omega (arith, length-flat D, length-slots (d .table .drives) t) in
     let lt : length ((flat R ++ flat D) ++ flat T) ≡ markAt 0 = length-append (flat R ++ flat D) (flat T) ∙ omega (arith, length-flat T) in
-    let lm : length M ≡ 38 = length-append (placesWords d) (parametersWords (d .table)) ∙ omega (arith, length-places d p a, length-parameters (d .table) q) in
+    let lm : length M ≡ 174 =
+    length-append (placesWords d) (Q ++ B) ∙ omega (arith, length-append Q B, length-places d p a, length-parameters (d .table) q, length-bads (d .table) c) in
     let l : length (((flat R ++ flat D) ++ flat T) ++ flat M) ≡ length s = length-append ((flat R ++ flat D) ++ flat T) (flat M) ∙ omega (arith, length-flat M) in
     ap (λ (x : List ℕ). sets (sets x (tailAt 0) (flat T)) (markAt 0) (flat M)) (sets-next s 0 (slotAt 0) (flat R) (flat D) lr)
     ∙ ap (λ (x : List ℕ). sets x (markAt 0) (flat M)) (sets-next s 0 (tailAt 0) (flat R ++ flat D) (flat T) ld)

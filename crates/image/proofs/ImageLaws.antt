@@ -8,7 +8,7 @@ use mathlib.Core.Logic.{⊎-elim}
 use mathlib.Core.Bool.{Bool, true, false}
 use mathlib.Core.List.{List, [], _∷_, _++_, append-assoc, append-nil}
 use lib.ListN.{length, take, getD, replicate, length-append, List·getD-append, List·getD-eq-default}
-use lib.Seq.{getD-append-add, drop-at, take-all}
+use lib.Seq.{getD-append-add, drop-at, take-at, take-all}
 use lib.Dec.{eqb}
 use borrow.Author.Tests.{eq-eqb, eqb-true}
 use Rattle.logic.proofs.LogicLaws.{true≢false, lt-or-le}
@@ -30,9 +30,9 @@ use Rattle.desk.specs.Acceptable.{accept}
 use Rattle.desk.specs.Calls.{closed}
 use Rattle.desk.proofs.AcceptableLaws.{closed-refused}
 use Rattle.memory.proofs.Sets.{length-part}
-use Rattle.image.specs.Image.{each, flat, requestWords, stageWords, rowWords, rowsWords, driveWords, slotsWords, tailWords, marksWords, placesWords, givenWords, parametersWords, deskWords, image, slotSize, rowAt, slotAt, tailAt, markAt, addressAt, presentAt, bytesAt, deskSize, countAt, pointerAt, arenaAt, storeAt, requestPlace, finishedPlace, registersAt, requestAt, readStage, readRow, readDrive, readRows, readSlots, readMarks, readAddresses, readDesk, isImage, deskOf, accepted, FitsRegisters, FitsRequest, FitsStage, FitsDrive, FitsTable, FitsDesk, ImageOf, Exact}
-use Rattle.image.proofs.Fill.{each-append, length-each, length-flat, length-row, length-drive, length-rows, length-slots, length-places, length-parameters, flat-words}
-use Rattle.image.proofs.Fields.{listed-is, length-marks, row-of, slot-of, address-of}
+use Rattle.image.specs.Image.{each, flat, listed, requestWords, stageWords, rowWords, rowsWords, driveWords, slotsWords, tailWords, marksWords, placesWords, parametersWords, badsWords, deskWords, image, slotSize, rowAt, slotAt, tailAt, markAt, addressAt, presentAt, bytesAt, badsCountAt, badsListAt, deskSize, countAt, pointerAt, arenaAt, storeAt, requestPlace, finishedPlace, registersAt, requestAt, readStage, readRow, readDrive, readRows, readSlots, readMarks, readAddresses, readCounts, readDesk, isImage, deskOf, accepted, FitsRegisters, FitsRequest, FitsStage, FitsDrive, FitsTable, FitsDesk, ImageOf, Exact}
+use Rattle.image.proofs.Fill.{each-append, length-each, length-flat, length-row, length-drive, length-rows, length-slots, length-places, length-parameters, length-bads, flat-words}
+use Rattle.image.proofs.Fields.{listed-is, length-marks, row-of, slot-of, address-of, bads-count-of}
 
 -- ---- members of a list that is put together
 
@@ -208,15 +208,19 @@ says-flat ws j m l q =
     let z : 0 + 8 * j + m ≡ 8 * j + m = omega arith in
     rw (z, ← append-nil (flat ws)) (each-at (leBytes 8) 8 (length-leBytes 8) 0 ws [] j m l q)
 
-bytes-append : (a b : List ℕ) → Bytes a → Bytes b → Bytes (a ++ b)
+pub bytes-append : (a b : List ℕ) → Bytes a → Bytes b → Bytes (a ++ b)
 bytes-append [] b p q i = q i
 bytes-append (x ∷ a) b p q zero = p 0
 bytes-append (x ∷ a) b p q (suc i) = bytes-append a b (λ j. p (suc j)) q i
 
-bytes-flat : (ws : List ℕ) → Bytes (flat ws)
+pub bytes-flat : (ws : List ℕ) → Bytes (flat ws)
 unfolding each
 bytes-flat [] i = omega arith
 bytes-flat (x ∷ ws) i = bytes-append (leBytes 8 x) (flat ws) (bytes-leBytes 8 x) (bytes-flat ws) i
+
+pub bytes-image : (d : Desk) → Bytes (image d)
+unfolding image
+bytes-image d = bytes-flat (deskWords d)
 
 module _ (d : Desk) (fit : FitsDesk d) where
   pub length-image : length (image d) ≡ deskSize
@@ -226,6 +230,7 @@ module _ (d : Desk) (fit : FitsDesk d) where
       let S = slotsWords (d .table .drives) in
       let P = placesWords d in
       let Q = parametersWords (d .table) in
+      let B = badsWords (d .table) in
       length-flat (deskWords d)
       ∙ omega (
         arith,
@@ -233,25 +238,27 @@ module _ (d : Desk) (fit : FitsDesk d) where
         length-slots (d .table .drives) (fit .table .eight),
         length-places d (fit .placed) (fit .addresses),
         length-parameters (d .table) (fit .table .present),
-        length-append R (S ++ (tailWords d ++ (P ++ Q))),
-        length-append S (tailWords d ++ (P ++ Q)),
-        length-append (tailWords d) (P ++ Q),
-        length-append P Q,
+        length-bads (d .table) (fit .table .counts),
+        length-append R (S ++ (tailWords d ++ (P ++ (Q ++ B)))),
+        length-append S (tailWords d ++ (P ++ (Q ++ B))),
+        length-append (tailWords d) (P ++ (Q ++ B)),
+        length-append P (Q ++ B),
+        length-append Q B,
       )
 
   -- the words of each section
 
-  says-rows : Says (image d) (rowAt 0) (rowsWords (d .rows) ++ (slotsWords (d .table .drives) ++ (tailWords d ++ (placesWords d ++ parametersWords (d .table)))))
+  says-rows : Says (image d) (rowAt 0) (rowsWords (d .rows) ++ (slotsWords (d .table .drives) ++ (tailWords d ++ (placesWords d ++ (parametersWords (d .table) ++ badsWords (d .table))))))
   unfolding image deskWords
   says-rows = says-flat (deskWords d)
 
-  says-slots : Says (image d) (slotAt 0) (slotsWords (d .table .drives) ++ (tailWords d ++ (placesWords d ++ parametersWords (d .table))))
+  says-slots : Says (image d) (slotAt 0) (slotsWords (d .table .drives) ++ (tailWords d ++ (placesWords d ++ (parametersWords (d .table) ++ badsWords (d .table)))))
   says-slots = says-right (image d) (rowAt 0) (slotAt 0) (rowsWords (d .rows)) _ (omega (arith, length-rows (d .rows) (fit .eight))) says-rows
 
-  says-tail : Says (image d) (tailAt 0) (tailWords d ++ (placesWords d ++ parametersWords (d .table)))
+  says-tail : Says (image d) (tailAt 0) (tailWords d ++ (placesWords d ++ (parametersWords (d .table) ++ badsWords (d .table))))
   says-tail = says-right (image d) (slotAt 0) (tailAt 0) (slotsWords (d .table .drives)) _ (omega (arith, length-slots (d .table .drives) (fit .table .eight))) says-slots
 
-  says-more : Says (image d) (markAt 0) (placesWords d ++ parametersWords (d .table))
+  says-more : Says (image d) (markAt 0) (placesWords d ++ (parametersWords (d .table) ++ badsWords (d .table)))
   says-more = says-right (image d) (tailAt 0) (markAt 0) (tailWords d) _ (omega arith) says-tail
 
   says-places : Says (image d) (markAt 0) (placesWords d)
@@ -260,9 +267,16 @@ module _ (d : Desk) (fit : FitsDesk d) where
   says-addresses : Says (image d) (addressAt 0) (d .addresses)
   says-addresses = says-right (image d) (markAt 0) (addressAt 0) (marksWords (d .placed)) (d .addresses) (omega (arith, fit .placed, length-marks (d .placed))) says-places
 
+  says-behind : Says (image d) (presentAt 0) (parametersWords (d .table) ++ badsWords (d .table))
+  says-behind = says-right (image d) (markAt 0) (presentAt 0) (placesWords d) _ (omega (arith, length-places d (fit .placed) (fit .addresses))) says-more
+
   says-parameters : Says (image d) (presentAt 0) (parametersWords (d .table))
-  says-parameters =
-      says-right (image d) (markAt 0) (presentAt 0) (placesWords d) (parametersWords (d .table)) (omega (arith, length-places d (fit .placed) (fit .addresses))) says-more
+  says-parameters = says-left (image d) (presentAt 0) (parametersWords (d .table)) _ says-behind
+
+  says-counts : Says (image d) (badsCountAt 0) (d .table .counts)
+  says-counts =
+      says-left (image d) (badsCountAt 0) (d .table .counts) _
+      (says-right (image d) (presentAt 0) (badsCountAt 0) (parametersWords (d .table)) (badsWords (d .table)) (omega (arith, length-parameters (d .table) (fit .table .present))) says-behind)
 
   -- each section is read back
 
@@ -274,12 +288,11 @@ module _ (d : Desk) (fit : FitsDesk d) where
       (says-each rowWords 23 length-row vacantRow (image d) (rowAt 0) (rowAt g) (d .rows) _ g (omega (arith, fit .eight)) (omega arith) says-rows) (fit .each g l)))
 
   slots-read : readSlots (image d) ≡ d .table .drives
-  unfolding image
   slots-read =
       listed-is (λ i. readDrive (image d) (slotAt i)) (d .table .drives) 8 noDrive (fit .table .eight) (λ i l.
       drive-read (image d) (slotAt i) (getD (d .table .drives) i noDrive)
       (says-each driveWords 14 length-drive noDrive (image d) (slotAt 0) (slotAt i) (d .table .drives) _ i (omega (arith, fit .table .eight)) (omega arith) says-slots)
-      (fit .table .each i l) (bytes-flat (deskWords d)) (omega (arith, length-image)))
+      (fit .table .each i l) (bytes-image d) (omega (arith, length-image)))
 
   tail-read : (j v : ℕ) → j < 4 → getD (tailWords d) j 0 ≡ v → v < 256 ^ 8 → le 8 (image d) (tailAt j) ≡ v
   tail-read j v l e f = field (image d) (tailAt 0) (tailWords d) (says-left (image d) (tailAt 0) (tailWords d) _ says-tail) 8 j v (omega arith) l e f
@@ -289,19 +302,68 @@ module _ (d : Desk) (fit : FitsDesk d) where
       listed-is (λ g. le 8 (image d) (addressAt g)) (d .addresses) 8 0 (fit .addresses) (λ g l.
       field (image d) (addressAt 0) (d .addresses) says-addresses 8 g (getD (d .addresses) g 0) (omega arith) (omega (arith, fit .addresses)) refl (fit .address g))
 
-  -- the last section is the bytes as they are
+  counts-read : readCounts (image d) ≡ d .table .counts
+  counts-read =
+      listed-is (λ i. getD (image d) (badsCountAt i) 0) (d .table .counts) 8 0 (fit .table .counts) (λ i l.
+      byte (image d) (badsCountAt 0) (d .table .counts) says-counts i (getD (d .table .counts) i 0) (omega (arith, fit .table .counts)) refl (fit .table .fewBads i))
+
+  -- words that are the bytes p as they are, behind others and before others
+  given-read : (p : List ℕ) (n k at : ℕ) (F T : List ℕ) → deskWords d ≡ F ++ (listed (λ j. le 8 p (8 * j)) 0 n ++ T) → Bytes p → length p ≡ k → k ≡ 8 * n → 8 * length F ≡ at
+      → part k (image d) at ≡ p
+  unfolding image
+  given-read p n k at F T e h l m f =
+      let W = listed (λ j. le 8 p (8 * j)) 0 n in
+      let w : flat W ≡ p = flat-words p n h (l ∙ m) in
+      let whole : image d ≡ flat F ++ (p ++ flat T) =
+      ap flat e ∙ each-append (leBytes 8) F (W ++ T) ∙ ap (λ (x : List ℕ). flat F ++ x) (each-append (leBytes 8) W T ∙ ap (λ (x : List ℕ). x ++ flat T) w) in
+      ap (λ (s : List ℕ). part k s at) whole
+      ∙ ap (take k) (drop-at (flat F) (p ++ flat T) at (length-flat F ∙ f))
+      ∙ take-at p (flat T) k l
+
+  -- the bytes of the parameters and of the bad blocks are as they are
   parameters-read : part 112 (image d) (bytesAt 0) ≡ d .table .parameters
-  unfolding image deskWords
+  unfolding deskWords
   parameters-read =
-      let p = d .table .parameters in
-      let W = givenWords p in
-      let F = rowsWords (d .rows) ++ (slotsWords (d .table .drives) ++ (tailWords d ++ (placesWords d ++ marksWords (d .table .present)))) in
-      let e : deskWords d ≡ F ++ W = simp append-assoc in
-      let w : flat W ≡ p = flat-words p (fit .table .bytes) (fit .table .parameters) in
-      let l : length (flat F) ≡ bytesAt 0 = omega (arith, length-image, ap length (ap flat e ∙ each-append (leBytes 8) F W) ∙ length-append (flat F) (flat W), ap length w, fit .table .parameters) in
-      ap (λ (s : List ℕ). part 112 s (bytesAt 0)) (ap flat e ∙ each-append (leBytes 8) F W)
-      ∙ ap (take 112) (drop-at (flat F) (flat W) (bytesAt 0) l ∙ w)
-      ∙ take-all 112 p (omega (arith, fit .table .parameters))
+      let R = rowsWords (d .rows) in
+      let S = slotsWords (d .table .drives) in
+      let P = placesWords d in
+      let N = marksWords (d .table .present) in
+      given-read (d .table .parameters) 14 112 (bytesAt 0) (R ++ (S ++ (tailWords d ++ (P ++ N)))) (badsWords (d .table)) (simp append-assoc)
+      (fit .table .bytes) (fit .table .parameters) refl (omega (
+        arith,
+        length-rows (d .rows) (fit .eight),
+        length-slots (d .table .drives) (fit .table .eight),
+        length-places d (fit .placed) (fit .addresses),
+        length-marks (d .table .present),
+        fit .table .present,
+        length-append R (S ++ (tailWords d ++ (P ++ N))),
+        length-append S (tailWords d ++ (P ++ N)),
+        length-append (tailWords d) (P ++ N),
+        length-append P N,
+      ))
+
+  bads-read : part 1024 (image d) (badsListAt 0) ≡ d .table .bad
+  unfolding deskWords
+  bads-read =
+      let R = rowsWords (d .rows) in
+      let S = slotsWords (d .table .drives) in
+      let P = placesWords d in
+      let Q = parametersWords (d .table) in
+      let C = d .table .counts in
+      given-read (d .table .bad) 128 1024 (badsListAt 0) (R ++ (S ++ (tailWords d ++ (P ++ (Q ++ C))))) [] (simp (append-assoc, append-nil))
+      (fit .table .lists) (fit .table .bad) refl (omega (
+        arith,
+        length-rows (d .rows) (fit .eight),
+        length-slots (d .table .drives) (fit .table .eight),
+        length-places d (fit .placed) (fit .addresses),
+        length-parameters (d .table) (fit .table .present),
+        fit .table .counts,
+        length-append R (S ++ (tailWords d ++ (P ++ (Q ++ C)))),
+        length-append S (tailWords d ++ (P ++ (Q ++ C))),
+        length-append (tailWords d) (P ++ (Q ++ C)),
+        length-append P (Q ++ C),
+        length-append Q C,
+      ))
 
   pub read-image : readDesk (image d) ≡ d
   unfolding readDesk
@@ -317,12 +379,19 @@ module _ (d : Desk) (fit : FitsDesk d) where
         addresses-read,
         marks-read (image d) (presentAt 0) (d .table .present) _ (fit .table .present) says-parameters,
         parameters-read,
+        counts-read,
+        bads-read,
       )
 
 -- the desk of a desk's image is the desk
 pub desk-image : (d : Desk) → FitsDesk d → deskOf (image d) ≡ d
 unfolding deskOf isImage
 desk-image d fit = rw (eq-eqb _ _ (length-image d fit), read-image d fit, same-refl)
+
+-- and is accepted where the desk is acceptable
+pub accepted-image : (d : Desk) → FitsDesk d → accepted (image d) ≡ accept d
+unfolding accepted
+accepted-image d fit = ap accept (desk-image d fit)
 
 -- ---- what is read from bytes fits its fields
 
@@ -387,6 +456,13 @@ module _ (b : List ℕ) (h : Bytes b) where
         device = bytes-part 8 b (i + 104) h;
       }
 
+  counts-fit : (i : ℕ) → getD (readCounts b) i 0 < 256
+  counts-fit i =
+      ⊎-elim
+      (λ l. rw (bads-count-of b i l) (h (badsCountAt i)))
+      (λ l. rw (List·getD-eq-default (readCounts b) 0 {n = i} l) (omega arith))
+      (lt-or-le i 8)
+
   table-fits : length b ≡ deskSize → FitsTable (readDesk b .table)
   unfolding readDesk
   table-fits l =
@@ -397,6 +473,10 @@ module _ (b : List ℕ) (h : Bytes b) where
         present = refl;
         parameters = length-part 112 b (bytesAt 0) (omega arith);
         bytes = bytes-part 112 b (bytesAt 0) h;
+        counts = refl;
+        fewBads = counts-fit;
+        bad = length-part 1024 b (badsListAt 0) (omega arith);
+        lists = bytes-part 1024 b (badsListAt 0) h;
       }
 
   addresses-fit : (g : ℕ) → getD (readAddresses b) g 0 < 256 ^ 8
@@ -451,10 +531,8 @@ only b h e =
     rw (w .desk) (record { fits = read-fits b h (w .size); acceptable = w .accept; image = w .image })
 
 every : (b : List ℕ) (d : Desk) → ImageOf b d → (accepted b ≡ true) × (deskOf b ≡ d)
-unfolding accepted
 every b d i =
-    let e : deskOf b ≡ d = ap deskOf (sym (i .image)) ∙ desk-image d (i .fits) in
-    (ap accept e ∙ i .acceptable, e)
+    (ap accepted (sym (i .image)) ∙ accepted-image d (i .fits) ∙ i .acceptable, ap deskOf (sym (i .image)) ∙ desk-image d (i .fits))
 
 -- both ways round
 pub exact : Exact

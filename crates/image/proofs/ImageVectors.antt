@@ -1,4 +1,4 @@
--- The desk block by number: a desk in which every field has a value of its own, and its 338 words as docs/BLOCK.md has them.
+-- The desk block by number: a desk in which every field has a value of its own, and its 474 words as docs/BLOCK.md has them.
 -- Assumes nothing.
 use mathlib.Core.Path.{_≡_, refl}
 use mathlib.Core.Bool.{Bool, true, false}
@@ -13,7 +13,7 @@ use Rattle.desk.specs.declared.Stage.the-variants.{Waiting, Finished}
 use Rattle.desk.specs.declared.Row.{Row}
 use Rattle.desk.specs.declared.Desk.{Desk}
 use Rattle.desk.specs.Parts.{vacantRow}
-use Rattle.image.specs.Image.{each, listed, deskWords, image, markAt, addressAt, presentAt, bytesAt, deskSize, readStage, readDrive, readDesk, putPlacement}
+use Rattle.image.specs.Image.{each, flat, listed, deskWords, image, markAt, addressAt, presentAt, bytesAt, badsCountAt, badsListAt, deskSize, readStage, readDrive, readDesk, putPlacement}
 
 -- the first n words of a block: word w begins at byte 8 w, lowest byte first
 abbrev words : ℕ → List ℕ → List ℕ
@@ -68,7 +68,8 @@ last = record {
 }
 
 -- waiting, finished and vacant rows with carry set and clear; drives in the first slot and the last; marks of placement and of parameters that
--- are no mirror of each other, an address for every guest, and a value of its own for each of the 112 bytes, 10h to 7Fh
+-- are no mirror of each other, an address for every guest, and a value of its own for each of the 112 bytes, 10h to 7Fh; and a count of bad blocks for
+-- every slot and a value of its own for each of the 128 numbers
 abbrev desk : Desk
 desk = record {
   rows =
@@ -86,6 +87,8 @@ desk = record {
     count = 7;
     present = false ∷ true ∷ true ∷ false ∷ false ∷ false ∷ true ∷ true ∷ [];
     parameters = listed (λ k. 0x10 + k) 0 112;
+    counts = 0xA1 ∷ 0xA2 ∷ 0xA3 ∷ 0xA4 ∷ 0xA5 ∷ 0xA6 ∷ 0xA7 ∷ 0xA8 ∷ [];
+    bad = flat (listed (λ k. 0x3000000000000000 + k) 0 128);
   };
   arena = 0x7172737475767778;
   store = 0x8182838485868788;
@@ -136,19 +139,27 @@ parameterWords =
     ∷ 0x1716151413121110 ∷ 0x1F1E1D1C1B1A1918 ∷ 0x2726252423222120 ∷ 0x2F2E2D2C2B2A2928 ∷ 0x3736353433323130 ∷ 0x3F3E3D3C3B3A3938 ∷ 0x4746454443424140
     ∷ 0x4F4E4D4C4B4A4948 ∷ 0x5756555453525150 ∷ 0x5F5E5D5C5B5A5958 ∷ 0x6766656463626160 ∷ 0x6F6E6D6C6B6A6968 ∷ 0x7776757473727170 ∷ 0x7F7E7D7C7B7A7978 ∷ []
 
+-- the slots' counts of bad blocks, and sixteen numbers for each
+abbrev badWords : List ℕ
+badWords = 0xA1 ∷ 0xA2 ∷ 0xA3 ∷ 0xA4 ∷ 0xA5 ∷ 0xA6 ∷ 0xA7 ∷ 0xA8 ∷ listed (λ k. 0x3000000000000000 + k) 0 128
+
 -- number of drives, turn pointer, arena length, store length; then those
-pub block : words 338 (image desk)
-    ≡ rowWords ++ (slotWords ++ ((7 ∷ 5 ∷ 0x7172737475767778 ∷ 0x8182838485868788 ∷ []) ++ (placeWords ++ parameterWords)))
+pub block : words 474 (image desk)
+    ≡ rowWords ++ (slotWords ++ ((7 ∷ 5 ∷ 0x7172737475767778 ∷ 0x8182838485868788 ∷ []) ++ (placeWords ++ (parameterWords ++ badWords))))
 unfolding image deskWords each leBytes le
 block = refl
 
-pub block-length : length (image desk) ≡ 2704
+pub block-length : length (image desk) ≡ 3792
 unfolding image deskWords each leBytes
 block-length = refl
 
--- the places as docs/BLOCK.md has them: a guest's mark and address, a slot's mark, fourteen bytes for each slot, the size
-pub places : markAt 0 ∷ markAt 7 ∷ addressAt 0 ∷ addressAt 7 ∷ presentAt 0 ∷ presentAt 7 ∷ bytesAt 0 ∷ bytesAt 1 ∷ bytesAt 7 ∷ deskSize ∷ []
-    ≡ 2400 ∷ 2456 ∷ 2464 ∷ 2520 ∷ 2528 ∷ 2584 ∷ 2592 ∷ 2606 ∷ 2690 ∷ 2704 ∷ []
+-- the places as docs/BLOCK.md has them: a guest's mark and address, a slot's mark, fourteen bytes for each slot, a slot's count of bad blocks, sixteen
+-- numbers for each slot, the size
+pub places :
+    markAt 0 ∷ markAt 7 ∷ addressAt 0 ∷ addressAt 7 ∷ presentAt 0 ∷ presentAt 7 ∷ bytesAt 0 ∷ bytesAt 1 ∷ bytesAt 7
+    ∷ badsCountAt 0 ∷ badsCountAt 7 ∷ badsListAt 0 ∷ badsListAt 1 ∷ badsListAt 7 ∷ deskSize ∷ []
+    ≡ 2400 ∷ 2456 ∷ 2464 ∷ 2520 ∷ 2528 ∷ 2584 ∷ 2592 ∷ 2606 ∷ 2690
+    ∷ 2704 ∷ 2760 ∷ 2768 ∷ 2896 ∷ 3664 ∷ 3792 ∷ []
 places = refl
 
 -- read back: each field from its own words

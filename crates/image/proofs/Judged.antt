@@ -9,7 +9,7 @@ use mathlib.Core.Logic.{_⊎_, inl, inr, ⊎-elim}
 use mathlib.Core.Bool.{Bool, true, false, not}
 use mathlib.Core.List.{List, [], _∷_, _++_}
 use lib.ListN.{length, drop, getD, replicate, length-append, length-drop, length-replicate, getD-replicate, take-append-drop, drop-of-length-le, List·getD-append}
-use lib.Seq.{length-take-le, drop-drop, getD-append-add, getD-take, getD-drop}
+use lib.Seq.{length-take-le, drop-drop, getD-append-add, getD-take, getD-drop, ext-getD}
 use lib.Dec.{leb, ltb, eqb}
 use borrow.Author.Tests.{eq-eqb, ne-eqb, eqb-true, eqb-false, lt-ltb, le-ltb, ltb-true, le-leb, lt-leb, leb-true}
 use Rattle.logic.specs.Logic.{pick, both, either, allBelow}
@@ -19,10 +19,13 @@ use Rattle.words.proofs.WordsLaws.{le-split, le-lt, le-ext, read-write, write-r
 use Rattle.drive.specs.declared.Drive.{Drive}
 use Rattle.drive.specs.Drive.{same, fieldsOk, inStore, overlap, isBlank, blankNumbers, blankNames}
 use Rattle.drive.proofs.DriveLaws.{same-refl, same-true}
+use Rattle.attached.specs.Bad.{noBads}
+use Rattle.attached.proofs.BadLaws.{badsOk-noBads}
 use Rattle.table.specs.declared.Table.{Table}
-use Rattle.table.specs.Table.{noDrive, zeroDrive, refusal, overlapsAny, soundTo, blankTo, attachedTo, isSound}
+use Rattle.table.specs.Table.{noDrive, zeroDrive, refusal, overlapsAny, soundTo, blankTo, attachedTo, listedAt, listedTo, isSound}
 use Rattle.table.proofs.TableLaws.{taken-is}
 use Rattle.memory.specs.Window.{windowLength}
+use Rattle.memory.proofs.Sets.{length-part}
 use Rattle.int13.specs.Placement.{noPlacement, tableCount}
 use Rattle.int13.specs.Steps.{firstDrive, isDrive, driveAt}
 use Rattle.desk.specs.declared.Request.{Request}
@@ -33,11 +36,11 @@ use Rattle.int13.specs.Answers.{registerNumbers}
 use Rattle.desk.specs.Acceptable.{requestOk, stageOk, rowsOk, placementOk, placementsOk, accept}
 use Rattle.desk.specs.Calls.{closed}
 use Rattle.desk.proofs.AcceptableLaws.{closed-refused}
-use Rattle.image.specs.Image.{each, flat, listed, requestWords, stageWords, rowWords, rowsWords, driveWords, slotsWords, tailWords, marksWords, placesWords, givenWords, parametersWords, deskWords, image, rowSize, slotSize, rowAt, slotAt, tailAt, markAt, addressAt, presentAt, bytesAt, deskSize, countAt, pointerAt, arenaAt, storeAt, requestPlace, finishedPlace, registersAt, requestAt, readStage, readRow, readDrive, readRows, readSlots, readMarks, readAddresses, readDesk, isImage, deskOf, accepted, FitsDrive}
-use Rattle.image.specs.Judged.{below, areRegisters, isRequest, isSlot, driveGood, drivesGood, restZero, firstIn, blocksIn, apart, aloneTo, drivesApart, follows, ascending, waitingGood, finishedGood, rowGood, rowsGood, zeroBytes, parametersGood, placesGood, moreGood, tableGood, judged}
-use Rattle.image.proofs.Fill.{length-row, length-drive, length-rows, length-slots, length-places, length-parameters}
+use Rattle.image.specs.Image.{each, flat, listed, requestWords, stageWords, rowWords, rowsWords, driveWords, slotsWords, tailWords, marksWords, placesWords, givenWords, parametersWords, listWords, badsWords, deskWords, image, rowSize, slotSize, rowAt, slotAt, tailAt, markAt, addressAt, presentAt, bytesAt, badsCountAt, badsListAt, deskSize, countAt, pointerAt, arenaAt, storeAt, requestPlace, finishedPlace, registersAt, requestAt, readStage, readRow, readDrive, readRows, readSlots, readMarks, readAddresses, readCounts, readDesk, isImage, deskOf, accepted, FitsDrive}
+use Rattle.image.specs.Judged.{below, areRegisters, isRequest, isSlot, driveGood, drivesGood, restZero, firstIn, blocksIn, apart, aloneTo, drivesApart, follows, ascending, waitingGood, finishedGood, rowGood, rowsGood, zeroBytes, parametersGood, placesGood, badsGood, moreGood, tableGood, judged}
+use Rattle.image.proofs.Fill.{length-row, length-drive, length-rows, length-slots, length-places, length-parameters, length-bads}
 use Rattle.image.proofs.ImageLaws.{Says, drive-read, drive-fits}
-use Rattle.image.proofs.Fields.{listed-at, length-listed, length-marks, row-of, slot-of, placement-at, attached-of}
+use Rattle.image.proofs.Fields.{listed-at, length-listed, length-marks, row-of, slot-of, placement-at, attached-of, bads-count-of, bads-at, listed-of}
 
 -- ---- the eight bytes of a word
 
@@ -386,7 +389,7 @@ unfolding le
 zero-words = refl
 
 -- it is what zeros say
-zero-fits : FitsDrive zeroDrive
+pub zero-fits : FitsDrive zeroDrive
 unfolding readDrive le
 zero-fits = drive-fits (replicate 112 0) (zeros 112) 0 (omega arith)
   where
@@ -537,12 +540,13 @@ module _ (b : List ℕ) (h : Bytes b) (l : length b ≡ deskSize) where
   addresses-is : matches b (addressAt 0) (readAddresses b) ≡ true
   addresses-is = fill-is (addressAt 0) 8 (λ g. le 8 b (addressAt g)) (omega arith) (λ g q. refl)
 
-  bytes-is : matches b (bytesAt 0) (givenWords (part 112 b (bytesAt 0))) ≡ true
-  bytes-is =
-      fill-is (bytesAt 0) 14 _ (omega arith) (λ j q.
-      le-ext 8 (part 112 b (bytesAt 0)) b (8 * j) (bytesAt 0 + 8 * j) (λ m r.
-      let z : bytesAt 0 + (8 * j + m) ≡ bytesAt 0 + 8 * j + m = omega arith in
-      getD-take 112 (drop (bytesAt 0) b) (8 * j + m) 0 (omega arith) ∙ getD-drop (bytesAt 0) b (8 * j + m) 0 ∙ ap (λ (k : ℕ). getD b k 0) z))
+  -- bytes that are as they are
+  given-is : (at n k : ℕ) → k ≡ 8 * n → at + k ≤ length b → matches b at (listed (λ j. le 8 (part k b at) (8 * j)) 0 n) ≡ true
+  given-is at n k e m =
+      fill-is at n _ (omega arith) (λ j q.
+      le-ext 8 (part k b at) b (8 * j) (at + 8 * j) (λ i r.
+      let z : at + (8 * j + i) ≡ at + 8 * j + i = omega arith in
+      getD-take k (drop at b) (8 * j + i) 0 (omega arith) ∙ getD-drop at b (8 * j + i) 0 ∙ ap (λ (k : ℕ). getD b k 0) z))
 
   marks-is : (at : ℕ) → at + 64 ≤ length b → matches b at (marksWords (readMarks b at)) ≡ below 8 2 b at
   unfolding below
@@ -552,29 +556,46 @@ module _ (b : List ℕ) (h : Bytes b) (l : length b ≡ deskSize) where
       let z : at + 8 * (1 * j) ≡ at + 8 * j = omega arith in
       rw (z, zero-add) (matches-one b (pick (eqb (getD b (at + 8 * j) 0) 1) 1 0) (at + 8 * j) ∙ bit-is b h (at + 8 * j) (omega arith)))
 
-  more-is : matches b (markAt 0) (placesWords (readDesk b) ++ parametersWords (readDesk b .table)) ≡ both (below 8 2 b (markAt 0)) (below 8 2 b (presentAt 0))
+  counts-is : matches b (badsCountAt 0) (readCounts b) ≡ below 8 256 b (badsCountAt 0)
+  unfolding matches below
+  counts-is =
+      all-ext 8 _ (λ j. ltb (le 8 b (badsCountAt 0 + 8 * j)) 256) (λ j q.
+      ap (λ (x : ℕ). same (part 8 b (badsCountAt j)) (leBytes 8 x)) (bads-count-of b j q) ∙ byte-is b h (badsCountAt j) (omega arith))
+
+  bads-is : matches b (badsCountAt 0) (badsWords (readDesk b .table)) ≡ below 8 256 b (badsCountAt 0)
+  unfolding readDesk
+  bads-is =
+      matches-then b (readCounts b) (listWords (part 1024 b (badsListAt 0))) (badsCountAt 0) (badsListAt 0) refl
+      ∙ rw (given-is (badsListAt 0) 128 1024 refl (omega arith), both-itself) counts-is
+
+  parameters-is : matches b (presentAt 0) (parametersWords (readDesk b .table)) ≡ below 8 2 b (presentAt 0)
+  unfolding readDesk
+  parameters-is =
+      let N = marksWords (readMarks b (presentAt 0)) in
+      matches-then b N (givenWords (part 112 b (bytesAt 0))) (presentAt 0) (bytesAt 0) (omega (arith, length-marks (readMarks b (presentAt 0))))
+      ∙ rw (given-is (bytesAt 0) 14 112 refl (omega arith), both-itself) (marks-is (presentAt 0) (omega arith))
+
+  places-is : matches b (markAt 0) (placesWords (readDesk b)) ≡ below 8 2 b (markAt 0)
+  unfolding readDesk
+  places-is =
+      let P = marksWords (readMarks b (markAt 0)) in
+      matches-then b P (readAddresses b) (markAt 0) (addressAt 0) (omega (arith, length-marks (readMarks b (markAt 0))))
+      ∙ rw (addresses-is, both-itself) (marks-is (markAt 0) (omega arith))
+
+  -- the sections behind the last words
+  more-is : matches b (markAt 0) (placesWords (readDesk b) ++ (parametersWords (readDesk b .table) ++ badsWords (readDesk b .table)))
+      ≡ both (below 8 2 b (markAt 0)) (both (below 8 2 b (presentAt 0)) (below 8 256 b (badsCountAt 0)))
   unfolding readDesk
   more-is =
-      let P = marksWords (readMarks b (markAt 0)) in
-      let A = readAddresses b in
-      let N = marksWords (readMarks b (presentAt 0)) in
-      let W = givenWords (part 112 b (bytesAt 0)) in
-      let lp : length P ≡ 8 = length-marks (readMarks b (markAt 0)) in
-      let ln : length N ≡ 8 = length-marks (readMarks b (presentAt 0)) in
-      matches-then b (P ++ A) (N ++ W) (markAt 0) (presentAt 0) (rw (length-append P A) (omega (arith, lp)))
-      ∙ rw (
-        matches-then b P A (markAt 0) (addressAt 0) (omega (arith, lp)),
-        matches-then b N W (presentAt 0) (bytesAt 0) (omega (arith, ln)),
-        addresses-is,
-        bytes-is,
-        marks-is (markAt 0) (omega arith),
-        marks-is (presentAt 0) (omega arith),
-        both-itself (below 8 2 b (markAt 0)),
-        both-itself (below 8 2 b (presentAt 0)),
-      )
+      let P = placesWords (readDesk b) in
+      let Q = parametersWords (readDesk b .table) in
+      let B = badsWords (readDesk b .table) in
+      matches-then b P (Q ++ B) (markAt 0) (presentAt 0) (omega (arith, length-places (readDesk b) refl refl))
+      ∙ rw (matches-then b Q B (presentAt 0) (badsCountAt 0) (omega (arith, length-parameters (readDesk b .table) refl)), places-is, parameters-is, bads-is)
 
   image-is : same b (image (readDesk b))
-      ≡ both (matches b (rowAt 0) (rowsWords (readRows b))) (both (matches b (slotAt 0) (slotsWords (readSlots b))) (both (below 8 2 b (markAt 0)) (below 8 2 b (presentAt 0))))
+      ≡ both (matches b (rowAt 0) (rowsWords (readRows b)))
+      (both (matches b (slotAt 0) (slotsWords (readSlots b))) (both (below 8 2 b (markAt 0)) (both (below 8 2 b (presentAt 0)) (below 8 256 b (badsCountAt 0)))))
   unfolding image deskWords readDesk
   image-is =
       let R = rowsWords (readRows b) in
@@ -582,18 +603,27 @@ module _ (b : List ℕ) (h : Bytes b) (l : length b ≡ deskSize) where
       let T = tailWords (readDesk b) in
       let P = placesWords (readDesk b) in
       let Q = parametersWords (readDesk b .table) in
-      let n : 0 + 8 * length (R ++ (S ++ (T ++ (P ++ Q)))) ≡ length b =
-      rw (length-append R (S ++ (T ++ (P ++ Q))), length-append S (T ++ (P ++ Q)), length-append T (P ++ Q), length-append P Q)
-      (omega (arith, length-rows (readRows b) refl, length-slots (readSlots b) refl, length-places (readDesk b) refl refl, length-parameters (readDesk b .table) refl)) in
-      same-flat b (R ++ (S ++ (T ++ (P ++ Q)))) 0 n
-      ∙ matches-then b R (S ++ (T ++ (P ++ Q))) (rowAt 0) (slotAt 0) (omega (arith, length-rows (readRows b) refl))
+      let B = badsWords (readDesk b .table) in
+      let M = P ++ (Q ++ B) in
+      let n : 0 + 8 * length (R ++ (S ++ (T ++ M))) ≡ length b =
+      rw (length-append R (S ++ (T ++ M)), length-append S (T ++ M), length-append T M, length-append P (Q ++ B), length-append Q B)
+      (omega (
+        arith,
+        length-rows (readRows b) refl,
+        length-slots (readSlots b) refl,
+        length-places (readDesk b) refl refl,
+        length-parameters (readDesk b .table) refl,
+        length-bads (readDesk b .table) refl,
+      )) in
+      same-flat b (R ++ (S ++ (T ++ M))) 0 n
+      ∙ matches-then b R (S ++ (T ++ M)) (rowAt 0) (slotAt 0) (omega (arith, length-rows (readRows b) refl))
       ∙ ap (λ (x : Bool). both (matches b (rowAt 0) R) x)
-      (matches-then b S (T ++ (P ++ Q)) (slotAt 0) (tailAt 0) (omega (arith, length-slots (readSlots b) refl))
-      ∙ ap (λ (x : Bool). both (matches b (slotAt 0) S) x) (matches-then b T (P ++ Q) (tailAt 0) (markAt 0) (omega arith) ∙ rw (tail-is, more-is)))
+      (matches-then b S (T ++ M) (slotAt 0) (tailAt 0) (omega (arith, length-slots (readSlots b) refl))
+      ∙ ap (λ (x : Bool). both (matches b (slotAt 0) S) x) (matches-then b T M (tailAt 0) (markAt 0) (omega arith) ∙ rw (tail-is, more-is)))
 
   sized : both (tableGood b) (both (ltb (le 8 b pointerAt) 8) (both (rowsGood 8 b (windowLength (le 8 b arenaAt))) (moreGood b (windowLength (le 8 b arenaAt)))))
       ≡ both (same b (image (readDesk b))) (accept (readDesk b))
-  unfolding tableGood moreGood parametersGood placesGood accept isSound readDesk count drives
+  unfolding tableGood moreGood parametersGood placesGood badsGood accept isSound readDesk count drives
   sized = rw image-is (go (leb count 8) (leb-true count 8))
     where
       store : ℕ
@@ -608,23 +638,33 @@ module _ (b : List ℕ) (h : Bytes b) (l : length b ≡ deskSize) where
       present : Bool
       present = below 8 2 b (presentAt 0)
 
+      counted : Bool
+      counted = below 8 256 b (badsCountAt 0)
+
       attached : Bool
       attached = attachedTo 8 (readDesk b .table)
+
+      lists : Bool
+      lists = listedTo 8 (readDesk b .table)
 
       placements : Bool
       placements = placementsOk 8 (tableCount (readDesk b .table)) M (readDesk b)
 
       go : (t : Bool) → (t ≡ true → count ≤ 8)
-          → both (both t (both (drivesGood count b store) (both (restZero 8 count b) (drivesApart count b)))) (both (ltb (le 8 b pointerAt) 8) (both (rowsGood 8 b M) (both (both present attached) (both placed placements))))
-          ≡ both (both (matches b (rowAt 0) (rowsWords (readRows b))) (both (matches b (slotAt 0) (slotsWords (readSlots b))) (both placed present)))
-          (both (both t (both (soundTo count (drives b) store) (both (blankTo 8 (drives b) count) attached))) (both (ltb (le 8 b pointerAt) 8) (both (rowsOk 8 (readDesk b .rows) (readDesk b .table) M) placements)))
+          → both (both t (both (drivesGood count b store) (both (restZero 8 count b) (drivesApart count b))))
+          (both (ltb (le 8 b pointerAt) 8) (both (rowsGood 8 b M) (both (both present attached) (both (both placed placements) (both counted lists)))))
+          ≡ both (both (matches b (rowAt 0) (rowsWords (readRows b))) (both (matches b (slotAt 0) (slotsWords (readSlots b))) (both placed (both present counted))))
+          (both (both t (both (soundTo count (drives b) store) (both (blankTo 8 (drives b) count) (both attached lists))))
+          (both (ltb (le 8 b pointerAt) 8) (both (rowsOk 8 (readDesk b .rows) (readDesk b .table) M) placements)))
       go true m = rw (← table-is store (m refl), ← rows-is M) (arrange (matches b (rowAt 0) (rowsWords (readRows b))) (matches b (slotAt 0) (slotsWords (readSlots b)))
-          (soundTo count (drives b) store) (blankTo 8 (drives b) count) (ltb (le 8 b pointerAt) 8) (rowsOk 8 (readDesk b .rows) (readDesk b .table) M) placed present attached placements)
+          (soundTo count (drives b) store) (blankTo 8 (drives b) count) (ltb (le 8 b pointerAt) 8) (rowsOk 8 (readDesk b .rows) (readDesk b .table) M)
+          placed present counted attached lists placements)
         where
-          arrange : (r p s z q o m n a l : Bool)
-              → both (both p (both s z)) (both q (both (both r o) (both (both n a) (both m l)))) ≡ both (both r (both p (both m n))) (both (both s (both z a)) (both q (both o l)))
-          arrange r p s z q o m n a l = simp (both-assoc, both-left)
-      go false m = sym (both-false (both (matches b (rowAt 0) (rowsWords (readRows b))) (both (matches b (slotAt 0) (slotsWords (readSlots b))) (both placed present))))
+          arrange : (r p s z q o m n c a w l : Bool)
+              → both (both p (both s z)) (both q (both (both r o) (both (both n a) (both (both m l) (both c w)))))
+              ≡ both (both r (both p (both m (both n c)))) (both (both s (both z (both a w))) (both q (both o l)))
+          arrange r p s z q o m n c a w l = simp (both-assoc, both-comm, both-left)
+      go false m = sym (both-false (both (matches b (rowAt 0) (rowsWords (readRows b))) (both (matches b (slotAt 0) (slotsWords (readSlots b))) (both placed (both present counted)))))
 
 -- ---- zeros behind the last words
 
@@ -676,16 +716,16 @@ module _ (b : List ℕ) (at n : ℕ) (e : below n 1 b at ≡ true) where
       let w = sym (zero-word 8 b (at + 8 * (m / 8))) ∙ eq-eqb _ 0 (word-zero (m / 8) (omega arith)) in
       rw z at (eqb-true (getD b (at + 8 * (m / 8) + m % 8) 0) 0 (all-at 8 (m % 8) (λ j. eqb (getD b (at + 8 * (m / 8) + j) 0) 0) w (omega arith)))
 
-  marks-zero : 8 ≤ n → below 8 2 b at ≡ true
+  eight-zero : (end : ℕ) → 0 < end → 8 ≤ n → below 8 end b at ≡ true
   unfolding below
-  marks-zero l = all-intro 8 _ (λ j q. lt-ltb (le 8 b (at + 8 * j)) 2 (omega (arith, word-zero j (omega arith))))
+  eight-zero end m l = all-intro 8 _ (λ j q. lt-ltb (le 8 b (at + 8 * j)) end (omega (arith, word-zero j (omega arith))))
 
--- mark nothing
+-- mark nothing, and list nothing
 module _ (b : List ℕ) where
   pub bare-good : below 22 1 b (presentAt 0) ≡ true → parametersGood b ≡ true
   unfolding parametersGood attachedTo zeroBytes
   bare-good e =
-      both-intro _ _ (marks-zero b (presentAt 0) 22 e (omega arith))
+      both-intro _ _ (eight-zero b (presentAt 0) 22 e 2 (omega arith) (omega arith))
       (all-intro 8 _ (λ i l.
       attached-of b i l
       ∙ rw (byte-zero b (presentAt 0) 22 e (8 * i) (omega arith))
@@ -696,11 +736,37 @@ module _ (b : List ℕ) where
   pub unplaced-good : (M : ℕ) → below 16 1 b (markAt 0) ≡ true → placesGood b M ≡ true
   unfolding placesGood placementsOk
   unplaced-good M e =
-      both-intro _ _ (marks-zero b (markAt 0) 16 e (omega arith))
+      both-intro _ _ (eight-zero b (markAt 0) 16 e 2 (omega arith) (omega arith))
       (all-intro 8 _ (λ g l.
       let z : markAt 0 + 8 * (8 + g) ≡ addressAt g = omega arith in
       let y : le 8 b (addressAt g) ≡ 0 = ap (le 8 b) (sym z) ∙ word-zero b (markAt 0) 16 e (8 + g) (omega arith) in
       ap (placementOk (tableCount (readDesk b .table)) M) (sym (placement-at {p = noPlacement} b g l (rw (byte-zero b (markAt 0) 16 e (8 * g) (omega arith))) (sym y)))))
+
+  unlisted : (i : ℕ) → length b ≡ deskSize → i < 8 → below 136 1 b (badsCountAt 0) ≡ true → noBads .list ≡ part 128 b (badsListAt i)
+  unlisted i l h e =
+      let m : length (part 128 b (badsListAt i)) ≡ 128 = length-part 128 b (badsListAt i) (omega arith) in
+      ext-getD 0 (replicate 128 0) (part 128 b (badsListAt i)) (length-replicate {A = ℕ} 128 0 ∙ sym m) (λ j q.
+      let r : j < 128 = omega (arith, length-replicate {A = ℕ} 128 0) in
+      let z : badsCountAt 0 + (64 + 128 * i + j) ≡ badsListAt i + j = omega arith in
+      getD-replicate {A = ℕ} 128 j 0 0 r
+      ∙ sym (getD-take 128 (drop (badsListAt i) b) j 0 r ∙ getD-drop (badsListAt i) b j 0 ∙ ap (λ (k : ℕ). getD b k 0) (sym z) ∙ byte-zero b (badsCountAt 0) 136 e (64 + 128 * i + j) (omega arith)))
+
+  pub unlisted-good : length b ≡ deskSize → below 136 1 b (badsCountAt 0) ≡ true → badsGood b ≡ true
+  unfolding badsGood listedTo
+  unlisted-good l e =
+      both-intro _ _ (eight-zero b (badsCountAt 0) 136 e 256 (omega arith) (omega arith))
+      (all-intro 8 _ (λ i h.
+      let n = bads-at {l = noBads} b i h (sym (byte-zero b (badsCountAt 0) 136 e (8 * i) (omega arith))) (unlisted i l h e) in
+      sym (listed-of b i h n refl (sym (badsOk-noBads (le 8 b (slotAt i + 24)))))))
+
+  -- what stands behind the last words, by the bad blocks first
+  pub more-listed : {r : Bool} (M : ℕ) → r ≡ badsGood b → r ≡ true → both (parametersGood b) (placesGood b M) ≡ moreGood b M
+  unfolding moreGood
+  more-listed M e z = rw (sym e ∙ z, both-itself (placesGood b M))
+
+  pub more-unlisted : {r : Bool} (M : ℕ) → r ≡ badsGood b → r ≡ false → false ≡ moreGood b M
+  unfolding moreGood
+  more-unlisted M e z = rw (sym e ∙ z, both-false (placesGood b M), both-false (parametersGood b))
 
 -- ---- judged and accepted
 
@@ -794,3 +860,24 @@ module _ (b : List ℕ) (h : Bytes b) where
     pub judged-more : {x : Bool} → r ≡ true → x ≡ moreGood b (a / 8) → x ≡ accepted b
     unfolding judged
     judged-more z k = rw (← judged-is b h, eq-eqb (length b) deskSize l, sym e ∙ f, ← ep, lt-ltb p 8 m, ← ea, sym er ∙ z) k
+
+-- ---- a block that is refused for one section
+
+module _ (b : List ℕ) (h : Bytes b) where
+  pub more-refused : moreGood b (windowLength (le 8 b arenaAt)) ≡ false → accepted b ≡ false
+  unfolding judged
+  more-refused e =
+      sym (judged-is b h)
+      ∙ rw (e, both-false (rowsGood 8 b (windowLength (le 8 b arenaAt))), both-false (ltb (le 8 b pointerAt) 8), both-false (tableGood b)) (both-false (eqb (length b) deskSize))
+
+  pub bads-refused : badsGood b ≡ false → accepted b ≡ false
+  bads-refused e = more-refused (sym (more-unlisted b (windowLength (le 8 b arenaAt)) refl e))
+
+  pub count-refused : below 8 256 b (badsCountAt 0) ≡ false → accepted b ≡ false
+  unfolding badsGood
+  count-refused e = bads-refused (rw e)
+
+  pub list-refused : (i : ℕ) → i < 8 → listedAt (readDesk b .table) i ≡ false → accepted b ≡ false
+  unfolding badsGood listedTo
+  list-refused i l e =
+      bads-refused (ap (both (below 8 256 b (badsCountAt 0))) (sym (all-fails 8 i (listedAt (readDesk b .table)) l refl e)) ∙ both-false (below 8 256 b (badsCountAt 0)))

@@ -1,28 +1,39 @@
--- Acceptance of a block by number: parameters and placements (document 02, 2026-01) that are good, and each rule broken alone.
+-- Acceptance of a block by number: parameters and placements (document 02, 2026-01) and bad blocks (2026-04) that are good, and each rule broken alone.
 -- Assumes nothing.
 use mathlib.Core.Path.{_≡_, refl}
 use mathlib.Core.Bool.{Bool, true, false}
 use mathlib.Core.List.{List, [], _∷_, _++_, map}
-use Prim.Native.Nat.{ℕ, _+_, _*_}
-use lib.ListN.{length, replicate}
+use Prim.Native.Nat.{ℕ, zero, suc, _+_, _*_, _<_}
+use native.Mathlib.Omega.{arith}
+use lib.ListN.{length, getD, set, replicate, getD-replicate}
 use lib.Seq.{sets}
-use Rattle.words.specs.Words.{le, leBytes}
+use lib.Dec.{ltb}
+use borrow.Author.Tests.{ltb-true, lt-ltb}
+use Rattle.logic.specs.Logic.{both}
+use Rattle.logic.proofs.LogicLaws.{both-true, both-intro}
+use Rattle.words.specs.Words.{Bytes, le, leBytes}
 use Rattle.chs.specs.Chs.{inLimits}
 use Rattle.drive.specs.declared.Drive.{Drive}
 use Rattle.drive.specs.Drive.{pci, ata, same, busOk, interfaceOk, geometryFits, fieldsOk, inStore, overlap, blankNumbers, blankNames, isBlank}
-use Rattle.table.specs.Table.{zeroDrive, overlapsAny, refusal, soundTo, blankTo, attachedTo, isSound, parametersTo}
+use Rattle.attached.specs.Bad.{heldOf, ascends, areBlocks, listOk, zeroPast, badsOk}
+use Rattle.table.specs.declared.Table.{Table}
+use Rattle.table.specs.Table.{noDrive, zeroDrive, overlapsAny, refusal, soundTo, blankTo, attachedTo, listedAt, listedTo, isSound, parametersTo}
+use Rattle.memory.specs.Window.{windowLength}
+use Rattle.desk.specs.declared.Row.{Row}
 use Rattle.desk.specs.declared.Desk.{Desk}
 use Rattle.desk.specs.Parts.{vacantRow}
 use Rattle.desk.specs.Acceptable.{rowsOk, placeOk, placementsOk, accept}
-use Rattle.image.specs.Image.{each, flat, listed, deskWords, image, readStage, readDrive, readDesk, isImage, deskOf, accepted}
+use Rattle.image.specs.Image.{each, flat, listed, deskWords, image, arenaAt, readStage, readDrive, readDesk, accepted, FitsStage, FitsDrive, FitsTable, FitsDesk}
 use Rattle.image.specs.Judged.{below, parametersGood, placesGood, moreGood}
+use Rattle.image.proofs.ImageLaws.{bytes-image, accepted-image}
+use Rattle.image.proofs.Judged.{zero-fits, more-refused, count-refused, list-refused}
 
 -- ---- the sections behind the slots: three drives, of which the first and the last have parameters; guest 1 placed at 40h, guest 6 at 0
 
 abbrev given : List ℕ
 given = listed (λ k. 1 + k) 0 14 ++ (replicate 14 0 ++ (listed (λ k. 15 + k) 0 14 ++ replicate 70 0))
 
--- zeros stand for rows and slots; then count, pointer, lengths; marks, addresses, marks, bytes
+-- zeros stand for rows and slots; then count, pointer, lengths; marks, addresses, marks, bytes, and zeros for bad blocks
 abbrev block : List ℕ
 block =
     replicate 2368 0
@@ -30,48 +41,75 @@ block =
     ∷ 0 ∷ 1 ∷ 0 ∷ 0 ∷ 0 ∷ 0 ∷ 1 ∷ 0
     ∷ 0 ∷ 0x40 ∷ 0 ∷ 0 ∷ 0 ∷ 0 ∷ 0 ∷ 0
     ∷ 1 ∷ 0 ∷ 1 ∷ 0 ∷ 0 ∷ 0 ∷ 0 ∷ 0 ∷ [])
-    ++ given)
+    ++ (given ++ replicate 1088 0))
+
+-- the two sections of 2026-01
+abbrev placesAndTables : List ℕ → ℕ → Bool
+placesAndTables b M = both (parametersGood b) (placesGood b M)
 
 -- the block with another byte at a place
 abbrev but : ℕ → ℕ → List ℕ
 but at x = sets block at (x ∷ [])
 
 -- in windows of 96 bytes two tables end at 60h, in windows of 95 past the end
-pub windows : map (moreGood block) (96 ∷ 95 ∷ []) ≡ true ∷ false ∷ []
-unfolding moreGood parametersGood placesGood below each leBytes le readDesk readStage readDrive attachedTo placementsOk placeOk parametersTo
+pub windows : map (placesAndTables block) (96 ∷ 95 ∷ []) ≡ true ∷ false ∷ []
+unfolding parametersGood placesGood below each leBytes le readDesk readStage readDrive attachedTo placementsOk placeOk parametersTo
 windows = refl
 
 -- a mark of 2, a mark with a second byte; an address without a mark; a misaligned one, one past the end, one before it
-pub guests : map (λ (b : List ℕ). moreGood b 96) (but 2400 2 ∷ but 2409 1 ∷ but 2464 0x10 ∷ but 2472 0x38 ∷ but 2472 0x50 ∷ but 2472 0x30 ∷ [])
+pub guests : map (λ (b : List ℕ). placesAndTables b 96) (but 2400 2 ∷ but 2409 1 ∷ but 2464 0x10 ∷ but 2472 0x38 ∷ but 2472 0x50 ∷ but 2472 0x30 ∷ [])
     ≡ false ∷ false ∷ false ∷ false ∷ false ∷ true ∷ []
-unfolding moreGood parametersGood placesGood below each leBytes le readDesk readStage readDrive attachedTo placementsOk placeOk parametersTo
+unfolding parametersGood placesGood below each leBytes le readDesk readStage readDrive attachedTo placementsOk placeOk parametersTo
 guests = refl
 
 -- a mark of 2, a mark with a second byte; the mark of a slot past the count, with room for its table, and the same of one more drive
-pub slots : map (λ (b : List ℕ). moreGood b 96) (but 2536 2 ∷ but 2529 1 ∷ sets (but 2472 0x30) 2552 (1 ∷ []) ∷ sets (sets (but 2472 0x30) 2552 (1 ∷ [])) 2368 (4 ∷ []) ∷ [])
+pub slots : map (λ (b : List ℕ). placesAndTables b 96) (but 2536 2 ∷ but 2529 1 ∷ sets (but 2472 0x30) 2552 (1 ∷ []) ∷ sets (sets (but 2472 0x30) 2552 (1 ∷ [])) 2368 (4 ∷ []) ∷ [])
     ≡ false ∷ false ∷ false ∷ true ∷ []
-unfolding moreGood parametersGood placesGood below each leBytes le readDesk readStage readDrive attachedTo placementsOk placeOk parametersTo
+unfolding parametersGood placesGood below each leBytes le readDesk readStage readDrive attachedTo placementsOk placeOk parametersTo
 slots = refl
 
 -- the first and the last byte of a slot without a mark, and the last of all; other bytes where the mark stands
-pub bytes : map (λ (b : List ℕ). moreGood b 96) (but 2606 1 ∷ but 2619 1 ∷ but 2703 1 ∷ but 2605 0 ∷ but 2620 0 ∷ [])
+pub bytes : map (λ (b : List ℕ). placesAndTables b 96) (but 2606 1 ∷ but 2619 1 ∷ but 2703 1 ∷ but 2605 0 ∷ but 2620 0 ∷ [])
     ≡ false ∷ false ∷ false ∷ true ∷ true ∷ []
-unfolding moreGood parametersGood placesGood below each leBytes le readDesk readStage readDrive attachedTo placementsOk placeOk parametersTo
+unfolding parametersGood placesGood below each leBytes le readDesk readStage readDrive attachedTo placementsOk placeOk parametersTo
 bytes = refl
 
 -- ---- the same in the block of a desk
 
-abbrev drive : ℕ → Drive
-drive i = record {
+-- a list of bytes, found by test
+areBytes : List ℕ → Bool
+areBytes [] = true
+areBytes (x ∷ l) = both (ltb x 256) (areBytes l)
+
+bytes-of : (l : List ℕ) → areBytes l ≡ true → Bytes l
+unfolding areBytes
+bytes-of [] e i = omega arith
+bytes-of (x ∷ l) e zero = ltb-true x 256 (both-true (ltb x 256) (areBytes l) e .0)
+bytes-of (x ∷ l) e (suc i) = bytes-of l (both-true (ltb x 256) (areBytes l) e .1) i
+
+-- one more that is not accepted
+also : {x : Bool} {l m : List Bool} → x ≡ false → l ≡ m → x ∷ l ≡ false ∷ m
+also e f = rw (e, f)
+
+-- a byte changed
+bytes-set : (l : List ℕ) (i x : ℕ) → Bytes l → x < 256 → Bytes (set l i x)
+bytes-set [] i x h m j = omega arith
+bytes-set (y ∷ l) zero x h m zero = m
+bytes-set (y ∷ l) zero x h m (suc j) = h (suc j)
+bytes-set (y ∷ l) (suc i) x h m zero = h 0
+bytes-set (y ∷ l) (suc i) x h m (suc j) = bytes-set l i x (λ k. h (suc k)) m j
+
+abbrev drive : ℕ → ℕ → Drive
+drive blocks first = record {
   cylinders = 2;
   heads = 3;
   sectors = 4;
-  blocks = 100;
-  first = 100 * i;
+  blocks = blocks;
+  first = first;
   flags = 0;
   c = 1;
   h = 1;
-  s = 63;
+  s = 10;
   protection = 0;
   bus = pci;
   interface = ata;
@@ -79,29 +117,235 @@ drive i = record {
   device = replicate 8 0;
 }
 
-abbrev desk : Desk
-desk = record {
-  rows = replicate 8 vacantRow;
-  pointer = 5;
-  table = record {
-    drives = drive 0 ∷ drive 1 ∷ drive 2 ∷ replicate 5 zeroDrive;
-    count = 3;
-    present = true ∷ false ∷ true ∷ replicate 5 false;
-    parameters = given;
-  };
-  arena = 768;
-  store = 512 * 300;
-  placed = false ∷ true ∷ false ∷ false ∷ false ∷ false ∷ true ∷ false ∷ [];
-  addresses = 0 ∷ 0x40 ∷ replicate 6 0;
+drive-fits : (blocks first : ℕ) → blocks < 256 → first < 256 → FitsDrive (drive blocks first)
+unfolding areBytes
+drive-fits blocks first l m =
+    record {
+      numbers =
+          record {
+            cylinders = omega arith;
+            heads = omega arith;
+            sectors = omega arith;
+            blocks = omega arith;
+            first = omega arith;
+            flags = omega arith;
+            c = omega arith;
+            h = omega arith;
+            bus = refl;
+            interface = refl;
+            path = refl;
+            device = refl;
+          };
+      s = omega arith;
+      protection = omega arith;
+      bus = bytes-of pci refl;
+      interface = bytes-of ata refl;
+      path = bytes-of (replicate 8 0) refl;
+      device = bytes-of (replicate 8 0) refl;
+    }
+
+no-drive-fits : (n i : ℕ) → i < n → FitsDrive (getD (replicate n zeroDrive) i noDrive)
+no-drive-fits n i l = rw (getD-replicate {A = Drive} n i zeroDrive noDrive l) zero-fits
+
+-- vacant rows, windows of 96 bytes, a store of 300 blocks
+abbrev deskWith : Table → List Bool → List ℕ → Desk
+deskWith t placed addresses = record { rows = replicate 8 vacantRow; pointer = 5; table = t; arena = 768; store = 512 * 300; placed = placed; addresses = addresses }
+
+desk-fits : (t : Table) (placed : List Bool) (addresses : List ℕ) → FitsTable t → length placed ≡ 8 → length addresses ≡ 8 → Bytes addresses → FitsDesk (deskWith t placed addresses)
+unfolding FitsStage
+desk-fits t placed addresses f p a h =
+    record {
+      eight = refl;
+      each = λ g l. rw (getD-replicate {A = Row} 8 g vacantRow vacantRow l) tt;
+      table = f;
+      pointer = omega arith;
+      arena = omega arith;
+      store = omega arith;
+      placed = p;
+      addresses = a;
+      address = λ g. omega (arith, h g);
+    }
+
+-- the sections as above, guest 1 placed at an address
+abbrev table : Table
+table = record {
+  drives = drive 100 0 ∷ drive 100 100 ∷ drive 100 200 ∷ replicate 5 zeroDrive;
+  count = 3;
+  present = true ∷ false ∷ true ∷ replicate 5 false;
+  parameters = given;
+  counts = replicate 8 0;
+  bad = replicate 1024 0;
 }
 
--- whether its block is accepted with another byte at a place
-abbrev acceptedBut : ℕ → ℕ → Bool
-acceptedBut at x = accepted (sets (image desk) at (x ∷ []))
+abbrev desk : ℕ → Desk
+desk address = deskWith table (false ∷ true ∷ false ∷ false ∷ false ∷ false ∷ true ∷ false ∷ []) (0 ∷ address ∷ replicate 6 0)
 
--- accepted as it is, and with another good place; not with a mark of 2, an address without a mark, a misaligned address, a mark past the count,
--- bytes without a mark
-pub acceptance : accepted (image desk) ∷ acceptedBut 2472 0x30 ∷ acceptedBut 2400 2 ∷ acceptedBut 2464 0x10 ∷ acceptedBut 2472 0x38 ∷ acceptedBut 2552 1 ∷ acceptedBut 2606 1 ∷ []
-    ≡ true ∷ true ∷ replicate 5 false
-unfolding accepted deskOf isImage image deskWords each leBytes le readDesk readStage readDrive same accept isSound soundTo blankTo attachedTo refusal overlapsAny overlap fieldsOk inStore geometryFits inLimits busOk interfaceOk isBlank blankNumbers blankNames rowsOk placementsOk placeOk parametersTo
-acceptance = refl
+table-fits : FitsTable table
+unfolding areBytes
+table-fits =
+    record {
+      eight = refl;
+      each = each-fits;
+      count = omega arith;
+      present = refl;
+      parameters = refl;
+      bytes = bytes-of given refl;
+      counts = refl;
+      fewBads = bytes-of (replicate 8 0) refl;
+      bad = refl;
+      lists = bytes-of (replicate 1024 0) refl;
+    }
+  where
+    each-fits : (i : ℕ) → i < 8 → FitsDrive (getD (table .drives) i noDrive)
+    each-fits zero l = drive-fits 100 0 (omega arith) (omega arith)
+    each-fits (suc zero) l = drive-fits 100 100 (omega arith) (omega arith)
+    each-fits (suc (suc zero)) l = drive-fits 100 200 (omega arith) (omega arith)
+    each-fits (suc (suc (suc i))) l = no-drive-fits 5 i (omega arith)
+
+-- accepted as it is, and with another good place
+pub acceptance : accepted (image (desk 0x40)) ∷ accepted (image (desk 0x30)) ∷ accepted (image (desk 0x38)) ∷ [] ≡ true ∷ true ∷ false ∷ []
+unfolding areBytes accept isSound soundTo blankTo attachedTo listedTo badsOk listOk ascends areBlocks zeroPast heldOf le refusal overlapsAny overlap fieldsOk inStore geometryFits inLimits busOk interfaceOk isBlank blankNumbers blankNames same rowsOk placementsOk placeOk parametersTo
+acceptance =
+    rw (
+      accepted-image (desk 0x40) (desk-fits _ _ _ table-fits refl refl (bytes-of (0 ∷ 0x40 ∷ replicate 6 0) refl)),
+      accepted-image (desk 0x30) (desk-fits _ _ _ table-fits refl refl (bytes-of (0 ∷ 0x30 ∷ replicate 6 0) refl)),
+      accepted-image (desk 0x38) (desk-fits _ _ _ table-fits refl refl (bytes-of (0 ∷ 0x38 ∷ replicate 6 0) refl)),
+    )
+
+-- its block with another byte at a place
+abbrev deskBut : ℕ → ℕ → List ℕ
+deskBut at x = sets (image (desk 0x40)) at (x ∷ [])
+
+-- the sections behind its last words
+abbrev moreBut : ℕ → ℕ → Bool
+moreBut at x = moreGood (deskBut at x) (windowLength (le 8 (deskBut at x) arenaAt))
+
+but-refused : (at x : ℕ) → x < 256 → moreBut at x ≡ false → accepted (deskBut at x) ≡ false
+but-refused at x l e = more-refused (deskBut at x) (bytes-set (image (desk 0x40)) at x (bytes-image (desk 0x40)) l) e
+
+mark-two : moreBut 2400 2 ≡ false
+unfolding moreGood parametersGood placesGood below image deskWords each leBytes le readDesk readStage readDrive attachedTo placementsOk placeOk parametersTo
+mark-two = refl
+
+address-unmarked : moreBut 2464 0x10 ≡ false
+unfolding moreGood parametersGood placesGood below image deskWords each leBytes le readDesk readStage readDrive attachedTo placementsOk placeOk parametersTo
+address-unmarked = refl
+
+mark-past : moreBut 2552 1 ≡ false
+unfolding moreGood parametersGood below image deskWords each leBytes le readDesk readStage readDrive attachedTo
+mark-past = refl
+
+bytes-unmarked : moreBut 2606 1 ≡ false
+unfolding moreGood parametersGood below image deskWords each leBytes le readDesk readStage readDrive attachedTo
+bytes-unmarked = refl
+
+-- not accepted with a mark of 2, an address without a mark, a mark past the count, bytes without a mark
+pub refusals : accepted (deskBut 2400 2) ∷ accepted (deskBut 2464 0x10) ∷ accepted (deskBut 2552 1) ∷ accepted (deskBut 2606 1) ∷ [] ≡ replicate 4 false
+refusals =
+    also (but-refused 2400 2 (omega arith) mark-two)
+    (also (but-refused 2464 0x10 (omega arith) address-unmarked)
+    (also (but-refused 2552 1 (omega arith) mark-past)
+    (also (but-refused 2606 1 (omega arith) bytes-unmarked) refl)))
+
+-- ---- bad blocks (document 02, 2026-04): a drive of ten blocks with two of them, and each rule broken alone
+
+abbrev wornTable : ℕ → ℕ → Table
+wornTable x y = record {
+  drives = drive 10 0 ∷ replicate 7 zeroDrive;
+  count = 1;
+  present = replicate 8 false;
+  parameters = replicate 112 0;
+  counts = 2 ∷ replicate 7 0;
+  bad = x ∷ (replicate 7 0 ++ (y ∷ replicate 1015 0));
+}
+
+abbrev worn : ℕ → ℕ → Desk
+worn x y = deskWith (wornTable x y) (replicate 8 false) (replicate 8 0)
+
+worn-fits : (x y : ℕ) → x < 256 → y < 256 → FitsDesk (worn x y)
+unfolding areBytes
+worn-fits x y l m =
+    desk-fits (wornTable x y) (replicate 8 false) (replicate 8 0) record {
+      eight = refl;
+      each = each-fits;
+      count = omega arith;
+      present = refl;
+      parameters = refl;
+      bytes = bytes-of (replicate 112 0) refl;
+      counts = refl;
+      fewBads = bytes-of (2 ∷ replicate 7 0) refl;
+      bad = refl;
+      lists = bytes-of (wornTable x y .bad) (both-intro (ltb x 256) _ (lt-ltb x 256 l) (both-intro (ltb y 256) _ (lt-ltb y 256 m) refl));
+    } refl refl (bytes-of (replicate 8 0) refl)
+  where
+    each-fits : (i : ℕ) → i < 8 → FitsDrive (getD (wornTable x y .drives) i noDrive)
+    each-fits zero l = drive-fits 10 0 (omega arith) (omega arith)
+    each-fits (suc i) l = no-drive-fits 7 i (omega arith)
+
+-- the count of slot 0, that of slot 1, and the first three numbers of slot 0
+pub worn-words : map (le 8 (image (worn 5 7))) (2704 ∷ 2712 ∷ 2768 ∷ 2776 ∷ 2784 ∷ []) ≡ 2 ∷ 0 ∷ 5 ∷ 7 ∷ 0 ∷ []
+unfolding image deskWords each leBytes le
+worn-words = refl
+
+-- accepted with 5 and 7, and with the first and the last block; not with 7 before 5, with 5 twice, or with block 10
+pub worn-lists : accepted (image (worn 5 7)) ∷ accepted (image (worn 0 9)) ∷ accepted (image (worn 7 5)) ∷ accepted (image (worn 5 5)) ∷ accepted (image (worn 5 10)) ∷ []
+    ≡ true ∷ true ∷ false ∷ false ∷ false ∷ []
+unfolding accept isSound soundTo blankTo attachedTo listedTo badsOk listOk ascends areBlocks zeroPast heldOf le refusal overlapsAny overlap fieldsOk inStore geometryFits inLimits busOk interfaceOk isBlank blankNumbers blankNames same rowsOk placementsOk placeOk parametersTo
+worn-lists =
+    rw (
+      accepted-image (worn 5 7) (worn-fits 5 7 (omega arith) (omega arith)),
+      accepted-image (worn 0 9) (worn-fits 0 9 (omega arith) (omega arith)),
+      accepted-image (worn 7 5) (worn-fits 7 5 (omega arith) (omega arith)),
+      accepted-image (worn 5 5) (worn-fits 5 5 (omega arith) (omega arith)),
+      accepted-image (worn 5 10) (worn-fits 5 10 (omega arith) (omega arith)),
+    )
+
+-- the block with another byte at a place
+abbrev wornBut : ℕ → ℕ → List ℕ
+wornBut at x = sets (image (worn 5 7)) at (x ∷ [])
+
+bytes-worn : (at x : ℕ) → x < 256 → Bytes (wornBut at x)
+bytes-worn at x l = bytes-set (image (worn 5 7)) at x (bytes-image (worn 5 7)) l
+
+-- a slot of it
+abbrev slotBut : ℕ → ℕ → ℕ → Bool
+slotBut at x i = listedAt (readDesk (wornBut at x) .table) i
+
+slot-refused : (at x i : ℕ) → x < 256 → i < 8 → slotBut at x i ≡ false → accepted (wornBut at x) ≡ false
+slot-refused at x i l m e = list-refused (wornBut at x) (bytes-worn at x l) i m e
+
+seventeen : slotBut 2704 17 0 ≡ false
+unfolding image deskWords each leBytes le readDesk badsOk
+seventeen = refl
+
+second-byte : below 8 256 (wornBut 2705 1) 2704 ≡ false
+unfolding below image deskWords each leBytes le
+second-byte = refl
+
+behind-last : slotBut 2784 9 0 ≡ false
+unfolding image deskWords each leBytes le readDesk readDrive badsOk listOk ascends areBlocks zeroPast heldOf
+behind-last = refl
+
+last-byte : slotBut 2895 1 0 ≡ false
+unfolding image deskWords each leBytes le readDesk readDrive badsOk listOk ascends areBlocks zeroPast heldOf
+last-byte = refl
+
+no-drive : slotBut 2712 1 1 ≡ false
+unfolding image deskWords each leBytes le readDesk readDrive badsOk listOk ascends areBlocks heldOf
+no-drive = refl
+
+no-count : slotBut 2896 1 1 ≡ false
+unfolding image deskWords each leBytes le readDesk readDrive badsOk listOk ascends areBlocks zeroPast heldOf
+no-count = refl
+
+-- not accepted with a count of 17 or of 102h, with a number behind the last, also as the last byte of the sixteen, with a count in a slot without a
+-- drive, or with a number there without a count
+pub worn-refusals :
+    accepted (wornBut 2704 17) ∷ accepted (wornBut 2705 1) ∷ accepted (wornBut 2784 9) ∷ accepted (wornBut 2895 1) ∷ accepted (wornBut 2712 1) ∷ accepted (wornBut 2896 1) ∷ [] ≡ replicate 6 false
+worn-refusals =
+    also (slot-refused 2704 17 0 (omega arith) (omega arith) seventeen)
+    (also (count-refused (wornBut 2705 1) (bytes-worn 2705 1 (omega arith)) second-byte)
+    (also (slot-refused 2784 9 0 (omega arith) (omega arith) behind-last)
+    (also (slot-refused 2895 1 0 (omega arith) (omega arith) last-byte)
+    (also (slot-refused 2712 1 1 (omega arith) (omega arith) no-drive)
+    (also (slot-refused 2896 1 1 (omega arith) (omega arith) no-count) refl)))))

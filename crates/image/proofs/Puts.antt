@@ -12,11 +12,12 @@ use borrow.Author.Tests.{eq-eqb}
 use Rattle.logic.specs.Logic.{pick}
 use Rattle.words.specs.Words.{leBytes}
 use Rattle.words.proofs.WordsLaws.{length-leBytes, sets-front}
+use Rattle.table.specs.declared.Table.{Table}
 use Rattle.desk.specs.declared.Stage.{Stage}
 use Rattle.desk.specs.declared.Row.{Row}
 use Rattle.desk.specs.declared.Desk.{Desk}
 use Rattle.desk.specs.Parts.{withStage, withPointer, withPlacement}
-use Rattle.image.specs.Image.{each, flat, stageWords, rowWords, rowsWords, slotsWords, tailWords, marksWords, placesWords, parametersWords, deskWords, image, rowAt, tailAt, markAt, addressAt, pointerAt, deskSize, readDesk, deskOf, accepted, laid, putStage, putPointer, putPlacement}
+use Rattle.image.specs.Image.{each, flat, stageWords, rowWords, rowsWords, slotsWords, tailWords, marksWords, placesWords, parametersWords, badsWords, deskWords, image, rowAt, tailAt, markAt, addressAt, pointerAt, deskSize, readDesk, deskOf, accepted, laid, putStage, putPointer, putPlacement}
 use Rattle.image.proofs.Fill.{each-append, each-one, length-each, length-flat, length-row, length-rows, length-slots}
 use Rattle.image.proofs.ImageLaws.{accepted-read}
 
@@ -64,12 +65,16 @@ length-rowBytes : (r : Row) → length (rowBytes r) ≡ rowAt 1
 unfolding rowBytes
 length-rowBytes r = length-flat (rowWords r) ∙ ap (λ (m : ℕ). 8 * m) (length-row r)
 
+-- what stands behind the placements
+unplaced : Table → List ℕ
+unplaced b = parametersWords b ++ badsWords b
+
 -- what stands behind the rows
 behind : Desk → List ℕ
-behind d = slotsWords (d .table .drives) ++ (tailWords d ++ (placesWords d ++ parametersWords (d .table)))
+behind d = slotsWords (d .table .drives) ++ (tailWords d ++ (placesWords d ++ unplaced (d .table)))
 
 image-rows : (d : Desk) → image d ≡ each rowBytes (d .rows) ++ flat (behind d)
-unfolding image deskWords rowBytes behind
+unfolding image deskWords rowBytes behind unplaced
 image-rows d =
     each-append (leBytes 8) (rowsWords (d .rows)) (behind d)
     ∙ ap (λ (l : List ℕ). l ++ flat (behind d)) (flat-each rowWords (d .rows))
@@ -86,12 +91,12 @@ front : Desk → List ℕ
 front d = flat (rowsWords (d .rows) ++ slotsWords (d .table .drives))
 
 more : Desk → List ℕ
-more d = flat (placesWords d ++ parametersWords (d .table))
+more d = flat (placesWords d ++ unplaced (d .table))
 
 image-front : (d : Desk) → image d ≡ front d ++ (flat (tailWords d) ++ more d)
-unfolding image deskWords front more
+unfolding image deskWords front more unplaced
 image-front d =
-    let M = placesWords d ++ parametersWords (d .table) in
+    let M = placesWords d ++ unplaced (d .table) in
     ap flat (sym (append-assoc (rowsWords (d .rows)) (slotsWords (d .table .drives)) (tailWords d ++ M)))
     ∙ each-append (leBytes 8) (rowsWords (d .rows) ++ slotsWords (d .table .drives)) (tailWords d ++ M)
     ∙ ap (λ (l : List ℕ). front d ++ l) (each-append (leBytes 8) (tailWords d) M)
@@ -125,12 +130,12 @@ one-mark : leBytes 8 1 ≡ markBytes true
 unfolding markBytes
 one-mark = sym (each-one (leBytes 8) 1)
 
-image-places : (d : Desk) → image d ≡ before d ++ (each markBytes (d .placed) ++ (flat (d .addresses) ++ flat (parametersWords (d .table))))
+image-places : (d : Desk) → image d ≡ before d ++ (each markBytes (d .placed) ++ (flat (d .addresses) ++ flat (unplaced (d .table))))
 unfolding before more markBytes
 image-places d =
     let M = marksWords (d .placed) in
     let A = d .addresses in
-    let Q = parametersWords (d .table) in
+    let Q = unplaced (d .table) in
     let e : more d ≡ each markBytes (d .placed) ++ (flat A ++ flat Q) =
     each-append (leBytes 8) (M ++ A) Q
     ∙ ap (λ (l : List ℕ). l ++ flat Q) (each-append (leBytes 8) M A)
@@ -142,7 +147,7 @@ pub image-placement : (d : Desk) (g address : ℕ) → length (d .rows) ≡ 8 �
     → putPlacement (image d) g address ≡ image (withPlacement d g address)
 unfolding putPlacement before front
 image-placement d g address r t p a h =
-    let Q = flat (parametersWords (d .table)) in
+    let Q = flat (unplaced (d .table)) in
     let M = each markBytes (set (d .placed) g true) in
     let lb : length (before d) ≡ markAt 0 = length-append (front d) (flat (tailWords d)) ∙ omega (arith, length-front d r t, length-flat (tailWords d)) in
     let lm : length (before d ++ M) ≡ addressAt 0 = length-append (before d) M ∙ omega (arith, lb, length-each markBytes 8 length-markBytes (set (d .placed) g true), length-set (d .placed) g true) in

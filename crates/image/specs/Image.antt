@@ -95,9 +95,19 @@ givenWords bytes = listed (λ j. le 8 bytes (8 * j)) 0 14
 abbrev pub parametersWords : Table → List ℕ
 parametersWords b = marksWords (b .present) ++ givenWords (b .parameters)
 
+-- the bytes of all slots' bad blocks, eight a word in their order
+abbrev pub listWords : List ℕ → List ℕ
+listWords bytes = listed (λ j. le 8 bytes (8 * j)) 0 128
+
+-- the section of the bad blocks (document 02, 2026-04): how many each slot has, and the sixteen numbers of each, one slot's behind the other's, in
+-- the bytes of their words
+abbrev pub badsWords : Table → List ℕ
+badsWords b = b .counts ++ listWords (b .bad)
+
 -- the sections one after the other; one that is added later goes behind them, so that none of these moves
 unfoldable pub deskWords : Desk → List ℕ
-deskWords d = rowsWords (d .rows) ++ (slotsWords (d .table .drives) ++ (tailWords d ++ (placesWords d ++ parametersWords (d .table))))
+deskWords d =
+    rowsWords (d .rows) ++ (slotsWords (d .table .drives) ++ (tailWords d ++ (placesWords d ++ (parametersWords (d .table) ++ badsWords (d .table)))))
 
 -- the image of a desk
 unfoldable pub image : Desk → List ℕ
@@ -141,9 +151,17 @@ presentAt i = addressAt 8 + 8 * i
 abbrev pub bytesAt : ℕ → ℕ
 bytesAt i = presentAt 8 + 14 * i
 
--- the whole block, 2704 bytes
+-- how many bad blocks slot i has, behind the bytes of all slots
+abbrev pub badsCountAt : ℕ → ℕ
+badsCountAt i = bytesAt 8 + 8 * i
+
+-- slot i's sixteen numbers, behind the eight counts
+abbrev pub badsListAt : ℕ → ℕ
+badsListAt i = badsCountAt 8 + 128 * i
+
+-- the whole block, 3792 bytes
 abbrev pub deskSize : ℕ
-deskSize = bytesAt 8
+deskSize = badsListAt 8
 
 -- the number of drives
 abbrev pub countAt : ℕ
@@ -242,9 +260,21 @@ readMarks b at = listed (λ i. eqb (getD b (at + 8 * i) 0) 1) 0 8
 abbrev pub readAddresses : List ℕ → List ℕ
 readAddresses b = listed (λ g. le 8 b (addressAt g)) 0 8
 
--- the table: its slots, the number of drives among the last words, and the drives' parameters
+-- the eight counts of bad blocks
+abbrev pub readCounts : List ℕ → List ℕ
+readCounts b = listed (λ i. getD b (badsCountAt i) 0) 0 8
+
+-- the table: its slots, the number of drives among the last words, the drives' parameters, and their bad blocks
 abbrev pub blockTable : List ℕ → Table
-blockTable b = record { drives = readSlots b; count = le 8 b countAt; present = readMarks b (presentAt 0); parameters = part 112 b (bytesAt 0) }
+blockTable b =
+    record {
+      drives = readSlots b;
+      count = le 8 b countAt;
+      present = readMarks b (presentAt 0);
+      parameters = part 112 b (bytesAt 0);
+      counts = readCounts b;
+      bad = part 1024 b (badsListAt 0);
+    }
 
 -- the desk that the sections say
 unfoldable pub readDesk : List ℕ → Desk
@@ -329,7 +359,8 @@ pub record FitsDrive (d : Drive) : Type 0 where
   pub path : Bytes (d .path)
   pub device : Bytes (d .device)
 
--- eight slots, a number of drives, a mark of parameters for each slot, and fourteen bytes for each
+-- eight slots, a number of drives, a mark of parameters for each slot, and fourteen bytes for each; a count of bad blocks of one byte for each, and
+-- the bytes of sixteen numbers for each
 pub record FitsTable (b : Table) : Type 0 where
   pub eight : length (b .drives) ≡ 8
   pub each : (i : ℕ) → i < 8 → FitsDrive (getD (b .drives) i noDrive)
@@ -337,6 +368,10 @@ pub record FitsTable (b : Table) : Type 0 where
   pub present : length (b .present) ≡ 8
   pub parameters : length (b .parameters) ≡ 112
   pub bytes : Bytes (b .parameters)
+  pub counts : length (b .counts) ≡ 8
+  pub fewBads : Bytes (b .counts)
+  pub bad : length (b .bad) ≡ 1024
+  pub lists : Bytes (b .bad)
 
 -- eight rows, the other numbers, and a mark and an address for each guest
 pub record FitsDesk (d : Desk) : Type 0 where

@@ -11,11 +11,11 @@ use Rattle.words.specs.Words.{le}
 use Rattle.drive.specs.Drive.{fieldsOk, inStore}
 use Rattle.memory.specs.Window.{guests, windowLength}
 use Rattle.memory.specs.Blocks.{blockLength}
-use Rattle.table.specs.Table.{mostDrives, attachedTo}
+use Rattle.table.specs.Table.{mostDrives, attachedTo, listedTo}
 use Rattle.int13.specs.Placement.{tableCount}
 use Rattle.desk.specs.declared.Stage.the-variants.{Waiting}
 use Rattle.desk.specs.Acceptable.{stageOk, placementsOk}
-use Rattle.image.specs.Image.{rowAt, slotAt, deskSize, countAt, pointerAt, arenaAt, storeAt, markAt, presentAt, requestPlace, finishedPlace, requestAt, readDrive, readDesk}
+use Rattle.image.specs.Image.{rowAt, slotAt, deskSize, countAt, pointerAt, arenaAt, storeAt, markAt, presentAt, badsCountAt, requestPlace, finishedPlace, requestAt, readDrive, readDesk}
 
 -- ---- "Calls the host makes", the desk block: words within the width of their fields
 
@@ -116,9 +116,15 @@ parametersGood b = both (below mostDrives 2 b (presentAt 0)) (attachedTo mostDri
 unfoldable pub placesGood : List ℕ → ℕ → Bool
 placesGood b M = both (below guests 2 b (markAt 0)) (placementsOk guests (tableCount (readDesk b .table)) M (readDesk b))
 
+-- ---- document 02, 2026-04: bad blocks in a block
+
+-- the counts have one byte, and every slot has bad blocks of its drive only
+unfoldable pub badsGood : List ℕ → Bool
+badsGood b = both (below mostDrives 256 b (badsCountAt 0)) (listedTo mostDrives (readDesk b .table))
+
 -- what stands behind the last words
 unfoldable pub moreGood : List ℕ → ℕ → Bool
-moreGood b M = both (parametersGood b) (placesGood b M)
+moreGood b M = both (parametersGood b) (both (placesGood b M) (badsGood b))
 
 -- ---- "Calls the host makes", the desk block: which are accepted
 
@@ -130,7 +136,7 @@ tableGood b =
     (both (restZero mostDrives (le 8 b countAt) b)
     (drivesApart (le 8 b countAt) b)))
 
--- a block of the size whose table, pointer and rows are good, and the parameters and placements behind them
+-- a block of the size whose table, pointer and rows are good, and the parameters, placements and bad blocks behind them
 unfoldable pub judged : List ℕ → Bool
 judged b =
     both (eqb (length b) deskSize)

@@ -1,5 +1,6 @@
 // The desk block: a desk laid out in bytes that the host owns. A call judges the block on its words, reads the row or the drive that it
 // needs, and writes the words that it changed; no desk is made of it.
+use attached::Bads;
 use desk::Desk;
 use desk::Next;
 use desk::Request;
@@ -21,16 +22,17 @@ ghost use lib.Dec.{eqb};
 ghost use Rattle.logic.specs.Logic.{pick, both};
 ghost use Rattle.words.specs.Words.{part};
 ghost use Rattle.attached.specs.Parameters.{givenLength};
-ghost use Rattle.table.specs.Table.{mostDrives, attachedAt, attachedTo, parametersTo, recordsOf, writeAnswer, writeOut};
+ghost use Rattle.attached.specs.Bad.{listLength};
+ghost use Rattle.table.specs.Table.{mostDrives, attachedAt, attachedTo, badsAt, listedAt, listedTo, parametersTo, recordsOf, writeAnswer, writeOut};
 ghost use Rattle.desk.specs.declared.Stage.the-variants.{Waiting, Finished};
 ghost use Rattle.desk.specs.Parts.{stageAt, isWaiting, placementAt};
 ghost use Rattle.desk.specs.Acceptable.{placementsOk};
 ghost use Rattle.desk.specs.Calls.{firstWaiting};
 ghost use Rattle.memory.specs.Window.{guests};
 ghost use Rattle.int13.specs.Placement.{tableCount};
-ghost use Rattle.int13.specs.Steps.{firstDrive, driveCount, isDrive, driveAt, shownOf};
-ghost use Rattle.image.specs.Image.{rowSize, slotSize, slotAt, deskSize, each, flat, stageWords, rowWords, driveWords, image, registersAt, requestAt, readStage, readDrive, readMarks, readDesk, accepted, laid, putStage, putPointer, markAt, presentAt, bytesAt, marksWords, placesWords, givenWords, parametersWords, putPlacement};
-ghost use Rattle.image.specs.Judged.{below, areRegisters, isRequest, isSlot, driveGood, drivesGood, restZero, firstIn, blocksIn, apart, aloneTo, drivesApart, follows, ascending, waitingGood, finishedGood, rowGood, rowsGood, tableGood, zeroBytes, parametersGood, placesGood, moreGood};
+ghost use Rattle.int13.specs.Steps.{firstDrive, driveCount, isDrive, driveAt, badsOf, shownOf};
+ghost use Rattle.image.specs.Image.{rowSize, slotSize, slotAt, deskSize, each, flat, stageWords, rowWords, driveWords, image, registersAt, requestAt, readStage, readDrive, readMarks, readCounts, readDesk, accepted, laid, putStage, putPointer, markAt, presentAt, bytesAt, badsCountAt, badsListAt, marksWords, placesWords, givenWords, parametersWords, listWords, badsWords, putPlacement};
+ghost use Rattle.image.specs.Judged.{below, areRegisters, isRequest, isSlot, driveGood, drivesGood, restZero, firstIn, blocksIn, apart, aloneTo, drivesApart, follows, ascending, waitingGood, finishedGood, rowGood, rowsGood, tableGood, zeroBytes, parametersGood, placesGood, badsGood, moreGood};
 
 // Rows of a desk and slots of a table.
 const GUESTS: usize = memory::GUESTS;
@@ -67,13 +69,20 @@ const BYTES: usize = PRESENT + 8 * MOST_DRIVES;
 // Bytes of the parameters of all slots.
 const GIVEN: usize = attached::GIVEN_LENGTH * MOST_DRIVES;
 
-// Bytes of a block.
-pub const SIZE: usize = BYTES + GIVEN;
+// Behind those, eight words: how many bad blocks each slot has; then the slots' sixteen numbers each.
+const BAD_COUNTS: usize = BYTES + GIVEN;
 
-// Words of the placements and of the parameters.
+const BAD_LISTS: usize = BAD_COUNTS + 8 * MOST_DRIVES;
+
+// Bytes of a block.
+pub const SIZE: usize = BAD_LISTS + attached::LIST_LENGTH * MOST_DRIVES;
+
+// Words of the placements, of the parameters and of the bad blocks.
 const PLACE_WORDS: usize = (PRESENT - MARKS) / 8;
 
-const PARAMETER_WORDS: usize = (SIZE - PRESENT) / 8;
+const PARAMETER_WORDS: usize = (BAD_COUNTS - PRESENT) / 8;
+
+const BAD_WORDS: usize = (SIZE - BAD_COUNTS) / 8;
 
 // The BIOS number of the first drive; bytes of a block of the store.
 const FIRST_DRIVE: u8 = int13::FIRST_DRIVE;
@@ -190,8 +199,37 @@ fn parameters_of(b: &[u8]) -> [u8; 112]
     ensures { λ r. ⌜ r ≡ part 112 (now (b .entry)) (bytesAt 0) ⌝ }
 {
     let from = BYTES;
-    let end = SIZE;
+    let end = BAD_COUNTS;
     let mut p = [0u8; 112];
+    words::store(&mut p, 0, &b[from..end]);
+    p
+}
+
+// How many bad blocks each slot has.
+fn counts_of(b: &[u8]) -> [u8; 8]
+    requires { ⌜ length (now b) ≡ deskSize ⌝ }
+    ensures { λ r. ⌜ r ≡ readCounts (now (b .entry)) ⌝ }
+{
+    [
+        b[BAD_COUNTS],
+        b[BAD_COUNTS + 8],
+        b[BAD_COUNTS + 16],
+        b[BAD_COUNTS + 24],
+        b[BAD_COUNTS + 32],
+        b[BAD_COUNTS + 40],
+        b[BAD_COUNTS + 48],
+        b[BAD_COUNTS + 56],
+    ]
+}
+
+// The numbers of all slots.
+fn lists_of(b: &[u8]) -> [u8; 1024]
+    requires { ⌜ length (now b) ≡ deskSize ⌝ }
+    ensures { λ r. ⌜ r ≡ part 1024 (now (b .entry)) (badsListAt 0) ⌝ }
+{
+    let from = BAD_LISTS;
+    let end = SIZE;
+    let mut p = [0u8; 1024];
     words::store(&mut p, 0, &b[from..end]);
     p
 }
@@ -215,6 +253,8 @@ pub fn table_of(b: &[u8]) -> Table
         count: words::get64(b, COUNT) as usize,
         present: present_of(b),
         parameters: parameters_of(b),
+        counts: counts_of(b),
+        bad: lists_of(b),
     }
 }
 
@@ -291,6 +331,32 @@ pub fn drive_named(b: &[u8], n: u8) -> Drive
     drive_in(b, 0)
 }
 
+// The bad blocks of a slot.
+fn bads_in(b: &[u8], i: usize) -> Bads
+    requires { ⌜ (length (now b) ≡ deskSize) × (i < mostDrives) ⌝ }
+    ensures { λ l. ⌜ l ≡ badsAt (readDesk (now (b .entry)) .table) i ⌝ }
+{
+    let from = BAD_LISTS + attached::LIST_LENGTH * i;
+    let end = from + attached::LIST_LENGTH;
+    let mut list = [0u8; 128];
+    words::store(&mut list, 0, &b[from..end]);
+    Bads {
+        count: b[BAD_COUNTS + 8 * i],
+        list,
+    }
+}
+
+// The bad blocks of the drive of a BIOS number; a number that is no drive's has none.
+pub fn bads_of(b: &[u8], n: u8) -> Bads
+    requires { ⌜ length (now b) ≡ deskSize ⌝ }
+    ensures { λ l. ⌜ l ≡ badsOf (readDesk (now (b .entry)) .table) n ⌝ }
+{
+    if !is_drive(b, n) {
+        return attached::no_bads();
+    }
+    bads_in(b, (n - FIRST_DRIVE) as usize)
+}
+
 // A guest's placement.
 fn placement_of(b: &[u8], guest: usize) -> Placement
     requires { ⌜ (length (now b) ≡ deskSize) × (guest < guests) ⌝ }
@@ -351,10 +417,17 @@ pub fn shown_of(b: &[u8], guest: usize, n: u8) -> Shown
 // The length of the records of the first n slots. `write_table` asks for at most eight.
 fn records_length(b: &[u8], n: usize) -> usize
     requires { ⌜ (length (now b) ≡ deskSize) × (n ≤ mostDrives) ⌝ }
-    ensures { λ r. ⌜ (r ≡ length (recordsOf n (readDesk (now (b .entry)) .table))) × (r ≤ 88 * n) ⌝ }
+    ensures { λ r. ⌜ (r ≡ length (recordsOf n (readDesk (now (b .entry)) .table))) × (r ≤ 222 * n) ⌝ }
 {
-    let tables = tables_before(b, n) as usize;
-    drive::DRIVE_LENGTH as usize * n + attached::PARAMETERS_LENGTH as usize * tables
+    let mut total: usize = 0;
+    let mut i = 0;
+    while i < n {
+        let present = mark_at(b, PRESENT + 8 * i);
+        let more = table::attached_length(b[BAD_COUNTS + 8 * i], present);
+        total += drive::DRIVE_LENGTH as usize + more;
+        i += 1;
+    }
+    total
 }
 
 // The records of the first n slots, laid at the start of a buffer that `write_table` has found long enough.
@@ -363,13 +436,14 @@ fn put_records(b: &[u8], n: usize, out: &mut [u8])
     ensures { λ _. ⌜ now (out .exit) ≡ sets (now (out .entry)) 0 (recordsOf n (readDesk (now (b .entry)) .table)) ⌝ }
 {
     let from = BYTES;
-    let end = SIZE;
+    let end = BAD_COUNTS;
     let mut at: usize = 0;
     let mut i = 0;
     while i < n {
         let d = drive_in(b, i);
+        let l = bads_in(b, i);
         let present = mark_at(b, PRESENT + 8 * i);
-        at = table::put_slot(d, present, i, &b[from..end], out, at);
+        at = table::put_slot(d, l, present, i, &b[from..end], out, at);
         i += 1;
     }
 }
@@ -676,12 +750,48 @@ fn places_good(b: &[u8], m: u64) -> bool
     )
 }
 
+// A slot has bad blocks of its drive only, and zeros behind them.
+fn is_listed(b: &[u8], i: usize) -> bool
+    requires { ⌜ (length (now b) ≡ deskSize) × (i < mostDrives) ⌝ }
+    ensures { λ r. ⌜ r ≡ listedAt (readDesk (now (b .entry)) .table) i ⌝ }
+{
+    attached::bads_ok(bads_in(b, i), blocks_in(b, i))
+}
+
+fn all_listed(b: &[u8]) -> bool
+    requires { ⌜ length (now b) ≡ deskSize ⌝ }
+    ensures { λ r. ⌜ r ≡ listedTo mostDrives (readDesk (now (b .entry)) .table) ⌝ }
+{
+    let mut i = 0;
+    while i < MOST_DRIVES {
+        if !is_listed(b, i) {
+            return false;
+        }
+        i += 1;
+    }
+    true
+}
+
+// The bad blocks of all slots. In most blocks there are none, and zeros for them, which are good.
+fn bads_good(b: &[u8]) -> bool
+    requires { ⌜ length (now b) ≡ deskSize ⌝ }
+    ensures { λ r. ⌜ r ≡ badsGood (now (b .entry)) ⌝ }
+{
+    if below(b, BAD_COUNTS, BAD_WORDS, 1) {
+        return true;
+    }
+    logic::and(below(b, BAD_COUNTS, MOST_DRIVES, 256), all_listed(b))
+}
+
 // What stands behind the last words. In most blocks that is zeros, which are good. Each case has a return of its own, so that the compiler
-// keeps the two tests above out of the way of such a block.
+// keeps the tests above out of the way of such a block.
 fn more_good(b: &[u8], m: u64) -> bool
     requires { ⌜ length (now b) ≡ deskSize ⌝ }
     ensures { λ r. ⌜ r ≡ moreGood (now (b .entry)) m ⌝ }
 {
+    if !bads_good(b) {
+        return false;
+    }
     let bare = below(b, PRESENT, PARAMETER_WORDS, 1);
     if below(b, MARKS, PLACE_WORDS, 1) {
         if bare {
@@ -911,20 +1021,42 @@ fn put_given(out: &mut [u8], bytes: &[u8])
     words::store(out, BYTES, bytes);
 }
 
+// Lays how many bad blocks each slot has out, a word each, and the numbers of all slots as they are.
+fn put_bads(out: &mut [u8], counts: [u8; 8], bad: &[u8])
+    requires { ⌜ (length (now out) ≡ deskSize) × (length (now bad) ≡ listLength * mostDrives) ⌝ }
+    ensures { λ _. ⌜ now (out .exit) ≡ sets (now (out .entry)) (badsCountAt 0) (flat (counts ++ listWords (now (bad .entry)))) ⌝ }
+{
+    let w = [
+        counts[0] as u64,
+        counts[1] as u64,
+        counts[2] as u64,
+        counts[3] as u64,
+        counts[4] as u64,
+        counts[5] as u64,
+        counts[6] as u64,
+        counts[7] as u64,
+    ];
+    put_words(out, BAD_COUNTS, &w);
+    words::store(out, BAD_LISTS, bad);
+}
+
 // The sections behind the last words.
 fn put_more(d: Desk, out: &mut [u8])
     requires { ⌜ length (now out) ≡ deskSize ⌝ }
-    ensures { λ _. ⌜ now (out .exit) ≡ sets (now (out .entry)) (markAt 0) (flat (placesWords d ++ parametersWords (d .table))) ⌝ }
+    ensures { λ _. ⌜ now (out .exit) ≡ sets (now (out .entry)) (markAt 0) (flat (placesWords d ++ (parametersWords (d .table) ++ badsWords (d .table)))) ⌝ }
 {
     let b = d.table;
     let placed = d.placed;
     let addresses = d.addresses;
     let present = b.present;
     let parameters = b.parameters;
+    let counts = b.counts;
+    let bad = b.bad;
     put_marks(out, MARKS, placed);
     put_words(out, ADDRESSES, &addresses);
     put_marks(out, PRESENT, present);
     put_given(out, &parameters);
+    put_bads(out, counts, &bad);
 }
 
 // Lays a desk out in a block of its size.

@@ -1,23 +1,27 @@
--- Served alone, byte by byte: what a request that waits asks, from its registers and its packet, and the bytes that its moves lay down.
+-- Served alone, byte by byte: what a request that waits asks, from its registers and its packet, and the bytes that its moves and its end lay down.
 -- Assumes nothing.
-use Prim.Native.Nat.{ℕ, _+_, _-_, _*_, _/_, _≤_, _<_}
+use Prim.Native.Nat.{ℕ, suc, _+_, _-_, _*_, _/_, _%_, _≤_, _<_}
 use mathlib.Core.Path.{_≡_, refl, sym, ap, subst, _∙_}
 use mathlib.Core.Logic.{_⊎_, inl, inr, ⊎-elim}
 use mathlib.Core.Bool.{Bool, true, false, not}
 use mathlib.Core.List.{List}
+use native.Mathlib.Nat.{add-zero}
 use native.Mathlib.Omega.{arith}
-use lib.ListN.{length, getD, drop, length-take}
-use lib.Seq.{getD-take, getD-drop}
+use lib.ListN.{length, getD, set, drop, length-take, length-set}
+use lib.Seq.{getD-take, getD-drop, getD-set-same, getD-set-other, length-sets}
 use lib.Dec.{leb, ltb, eqb}
-use borrow.Author.Tests.{ltb-false, eqb-true, eqb-false, not-false}
-use Rattle.logic.specs.Logic.{both, either}
-use Rattle.logic.proofs.LogicLaws.{either-true, pick-cases}
-use Rattle.words.specs.Words.{le, part}
+use borrow.Author.Tests.{leb-true, lt-ltb, le-ltb, ltb-false, eqb-true, eqb-false, not-false}
+use Rattle.logic.specs.Logic.{pick, both, either}
+use Rattle.logic.proofs.LogicLaws.{either-true, pick-cases, true≢false}
+use Rattle.words.specs.Words.{le, leBytes, part}
 use Rattle.chs.specs.declared.ToBlock.{ToBlock}
 use Rattle.chs.specs.declared.ToBlock.the-variants.{Block, Refused as NoBlock}
 use Rattle.chs.specs.Chs.{size, blockOf, addressIn}
 use Rattle.drive.specs.Drive.{geometryOf, isProtected}
 use Rattle.drive.proofs.DriveLaws.{geometry-inside}
+use Rattle.attached.specs.declared.Bads.{Bads}
+use Rattle.attached.specs.Bad.{isBad, good}
+use Rattle.attached.proofs.BadLaws.{good-most, good-clean, good-worn}
 use Rattle.table.specs.declared.Table.{Table}
 use Rattle.table.specs.Table.{readTable}
 use Rattle.table.proofs.Sound.{Obeys, Good, good-obeys, accepted-good}
@@ -37,10 +41,10 @@ use Rattle.int13.specs.declared.Shown.{Shown}
 use Rattle.int13.specs.declared.Outcome.{Outcome}
 use Rattle.int13.specs.declared.Outcome.the-variants.{Answered, Waits}
 use Rattle.int13.specs.declared.Plan.{Plan}
-use Rattle.int13.specs.Answers.{ah, al, dl, isSectors, isWrite, posted, succeed}
-use Rattle.int13.specs.Steps.{Checked, fed, isDrive, driveCount, driveNamed, shownOf, packetPlace, verifyOk, packetTests, packetRead, packetPlan, packetJob, carryOut, extended, seekRead, seek, sectorBuffer, sectorJob, sectorRun, sectors, parameters, extensions, resultGiven, result, steps, begin}
-use Rattle.int13.specs.Alone.{Memory, Served, asked, namedFrom, storeBlock, moves, finish, alone}
-use Rattle.int13.specs.AloneBytes.{askedBuffer, ReadBytes, WrittenBytes, PostedWell, AloneMoves}
+use Rattle.int13.specs.Answers.{ah, al, dl, isSectors, isWrite, posted, badCode, ended}
+use Rattle.int13.specs.Steps.{Checked, fed, isDrive, driveCount, driveNamed, badsOf, shownOf, packetPlace, verifyOk, withCount, verified, packetTests, packetRead, packetPlan, packetJob, carryOut, extended, seekRead, seek, sectorBuffer, sectorJob, sectorRun, sectors, parameters, extensions, resultGiven, result, steps, begin}
+use Rattle.int13.specs.Alone.{Memory, Served, asked, askedStart, namedFrom, storeBlock, moves, goodOf, reported, endedMemory, servedTo, finish, alone}
+use Rattle.int13.specs.AloneBytes.{askedBuffer, ReadBytes, WrittenBytes, PostedWell, PostedBad, CountBytes, AfterData, wornBlock, AloneBytes, AloneMoves}
 use Rattle.int13.proofs.StepsLaws.{isDrive-true}
 
 -- ---- what a request that waits asks
@@ -59,12 +63,16 @@ module _ (b : Table) (r : Registers) (w : List ℕ) where
     pub function : ((ah r ≡ 0x02) ⊎ (ah r ≡ 0x42)) ⊎ ((ah r ≡ 0x03) ⊎ (ah r ≡ 0x43))
     pub known : isDrive b (dl r) ≡ true
     pub registers : j .registers ≡ posted r
+    pub drive : j .drive ≡ dl r
     pub some : 0 < j .count
+    pub few : j .count ≤ 128
     pub count : j .count ≡ asked r w
     pub buffer : j .buffer ≡ askedBuffer r w
+    pub start : j .start ≡ askedStart b r w
     pub first : storeBlock b j ≡ namedFrom b r w
     pub named : storeBlock b j ≡ driveNamed b r .first + j .start
     pub room : j .buffer + 512 * j .count ≤ length w
+    pub packet : isSectors (ah r) ≡ false → (j .packet ≡ packetPlace r) × (packetPlace r + 16 ≤ length w)
     pub range : (j .start + j .count ≤ driveNamed b r .blocks) ⊎ (j .start + j .count ≤ size (geometryOf (driveNamed b r)))
 
   -- an answer at once asks nothing more
@@ -78,21 +86,25 @@ module _ (b : Table) (r : Registers) (w : List ℕ) where
   abbrev known : Bool
   known = isDrive b (dl r)
 
-  sectors-asks : (n : ℕ) → isSectors (ah r) ≡ true → known ≡ true → eqb (al r) 0 ≡ false
+  sectors-asks : (n : ℕ) → isSectors (ah r) ≡ true → known ≡ true → eqb (al r) 0 ≡ false → ltb 128 (al r) ≡ false
       → blockOf (geometryOf (driveNamed b r)) (addressIn (r .cx) (r .dx)) ≡ Block n
       → ltb (size (geometryOf (driveNamed b r))) (n + al r) ≡ false → ltb (length w) (sectorBuffer r + 512 * al r) ≡ false → Asks (sectorJob r n)
-  sectors-asks n s d z e i f =
+  sectors-asks n s d z u e i f =
       let ne : al r ≡ 0 → ⊥ = eqb-false (al r) 0 z in
       record {
         function = ⊎-elim (λ x. inl (inl x)) (λ x. inr (inl x)) (one-of (ah r) 0x02 0x03 s);
         known = d;
         registers = refl;
+        drive = refl;
         some = omega (arith, ne);
+        few = ltb-false 128 (al r) u;
         count = rw s;
         buffer = rw s;
+        start = rw (s, e);
         first = rw (s, e);
         named = refl;
         room = ltb-false (length w) (sectorBuffer r + 512 * al r) f;
+        packet = λ h. true≢false (isSectors (ah r)) s h;
         range = inr (ltb-false (size (geometryOf (driveNamed b r))) (n + al r) i);
       }
 
@@ -103,15 +115,15 @@ module _ (b : Table) (r : Registers) (w : List ℕ) where
       pick-cases Tells (eqb (al r) 0) _ _ (λ e. tt) (λ e₂.
       pick-cases Tells (ltb 128 (al r)) _ _ (λ e. tt) (λ e₃.
       pick-cases Tells (both (isWrite (ah r)) (isProtected (driveNamed b r))) _ _ (λ e. tt) (λ e₄.
-      run e₁ e₂ (blockOf (geometryOf (driveNamed b r)) (addressIn (r .cx) (r .dx))) refl))))
+      run e₁ e₂ e₃ (blockOf (geometryOf (driveNamed b r)) (addressIn (r .cx) (r .dx))) refl))))
     where
-      run : not known ≡ false → eqb (al r) 0 ≡ false → (x : ToBlock) → blockOf (geometryOf (driveNamed b r)) (addressIn (r .cx) (r .dx)) ≡ x
-          → Tells (sectorRun (driveNamed b r) r (length w) x)
-      run e₁ e₂ (NoBlock code) e = tt
-      run e₁ e₂ (Block n) e =
+      run : not known ≡ false → eqb (al r) 0 ≡ false → ltb 128 (al r) ≡ false → (x : ToBlock)
+          → blockOf (geometryOf (driveNamed b r)) (addressIn (r .cx) (r .dx)) ≡ x → Tells (sectorRun (driveNamed b r) r (length w) x)
+      run e₁ e₂ e₃ (NoBlock code) e = tt
+      run e₁ e₂ e₃ (Block n) e =
           pick-cases Tells (ltb (size (geometryOf (driveNamed b r))) (n + al r)) _ _ (λ e. tt) (λ e₅.
           pick-cases Tells (ltb (length w) (sectorBuffer r + 512 * al r)) _ _ (λ e. tt) (λ e₆.
-          sectors-asks n s (not-false _ e₁) e₂ e e₅ e₆))
+          sectors-asks n s (not-false _ e₁) e₂ e₃ e e₅ e₆))
 
   abbrev packet : Packet
   packet = packetAt w (packetPlace r)
@@ -122,42 +134,54 @@ module _ (b : Table) (r : Registers) (w : List ℕ) where
   abbrev Plans : Plan → Type 0
   Plans p = TellsAll (carryOut p r w)
 
-  packet-asks : isSectors (ah r) ≡ false → Extended ≡ true → known ≡ true → ltb (driveNamed b r .blocks) (packet .start + packet .count) ≡ false
+  packet-asks : isSectors (ah r) ≡ false → Extended ≡ true → known ≡ true → packetPlace r + 16 ≤ length w → ltb 127 (packet .count) ≡ false
+      → ltb (driveNamed b r .blocks) (packet .start + packet .count) ≡ false
       → eqb (ah r) 0x44 ≡ false → ltb (length w) (packet .buffer + 512 * packet .count) ≡ false → eqb (packet .count) 0 ≡ false → Asks (packetJob r packet)
   unfolding packetAt
-  packet-asks s x d q f u z =
+  packet-asks s x d i o q f u z =
       let ne : packet .count ≡ 0 → ⊥ = eqb-false (packet .count) 0 z in
+      let most : packet .count ≤ 127 = ltb-false 127 (packet .count) o in
       record {
         function = ⊎-elim (λ y. inl (inr y)) (λ y. inr (inr y)) (one-of (ah r) 0x42 0x43 (not-third (eqb (ah r) 0x42) (eqb (ah r) 0x43) (eqb (ah r) 0x44) x f));
         known = d;
         registers = refl;
+        drive = refl;
         some = omega (arith, ne);
+        few = omega (arith, most);
         count = rw s;
         buffer = rw s;
+        start = rw s;
         first = rw s;
         named = refl;
         room = ltb-false (length w) (packet .buffer + 512 * packet .count) u;
+        packet = λ h. (refl, i);
         range = inl (ltb-false (driveNamed b r .blocks) (packet .start + packet .count) q);
       }
 
-  packet-tell : isSectors (ah r) ≡ false → Extended ≡ true → known ≡ true → Plans (packetTests (driveNamed b r) r (length w) packet)
+  -- 44h is answered at once, with its bad block or without one
+  verified-tell : (k count : ℕ) → Plans (verified k count)
+  unfolding verified
+  verified-tell k count = pick-cases Plans (ltb k count) _ _ (λ e. tt) (λ e. tt)
+
+  packet-tell : (l : Bads) → isSectors (ah r) ≡ false → Extended ≡ true → known ≡ true → packetPlace r + 16 ≤ length w
+      → Plans (packetTests (driveNamed b r) l r (length w) packet)
   unfolding packetTests
-  packet-tell s x d =
+  packet-tell l s x d i =
       pick-cases Plans (ltb 127 (packet .count)) _ _ (λ e. tt) (λ e₁.
       pick-cases Plans (both (isWrite (ah r)) (isProtected (driveNamed b r))) _ _ (λ e. tt) (λ e₂.
       pick-cases Plans (ltb (driveNamed b r .blocks) (packet .start + packet .count)) _ _ (λ e. tt) (λ e₃.
-      pick-cases Plans (eqb (ah r) 0x44) _ _ (λ e. tt) (λ e₄.
+      pick-cases Plans (eqb (ah r) 0x44) _ _ (λ e. verified-tell (good l (packet .start) (packet .count)) (packet .count)) (λ e₄.
       pick-cases Plans (ltb (length w) (packet .buffer + 512 * packet .count)) _ _ (λ e. tt) (λ e₅.
       pick-cases Plans (eqb (packet .count) 0) _ _ (λ e. tt) (λ e₆.
-      packet-asks s x d e₃ e₄ e₅ e₆))))))
+      packet-asks s x d i e₁ e₃ e₄ e₅ e₆))))))
 
-  extended-tell : isSectors (ah r) ≡ false → Extended ≡ true → TellsAll (extended known (driveNamed b r) r w)
+  extended-tell : (l : Bads) → isSectors (ah r) ≡ false → Extended ≡ true → TellsAll (extended known (driveNamed b r) l r w)
   unfolding packetPlan readPacket
-  extended-tell s x =
+  extended-tell l s x =
       pick-cases Plans (not known) _ _ (λ e. tt) (λ e₁.
       pick-cases Plans (both (isWrite (ah r)) (not (verifyOk (al r) (driveNamed b r .flags)))) _ _ (λ e. tt) (λ e₂.
-      pick-cases (λ (p : PacketRead). Plans (packetRead (driveNamed b r) r (length w) p)) (leb (packetPlace r + 16) (length w)) _ _
-      (λ e₃. pick-cases Plans (ltb (packet .size) 16) _ _ (λ e. tt) (λ e₄. packet-tell s x (not-false _ e₁)))
+      pick-cases (λ (p : PacketRead). Plans (packetRead (driveNamed b r) l r (length w) p)) (leb (packetPlace r + 16) (length w)) _ _
+      (λ e₃. pick-cases Plans (ltb (packet .size) 16) _ _ (λ e. tt) (λ e₄. packet-tell l s x (not-false _ e₁) (leb-true (packetPlace r + 16) (length w) e₃)))
       (λ e₃. tt)))
 
   -- the others never wait
@@ -195,7 +219,7 @@ module _ (b : Table) (r : Registers) (w : List ℕ) where
       pick-cases TellsAll (either (eqb (ah r) 0x02) (eqb (ah r) 0x03)) _ _ (λ e. sectors-tell e) (λ e₁.
       pick-cases TellsAll (eqb (ah r) 0x08) _ _ (λ e. parameters-tell) (λ e₂.
       pick-cases TellsAll (eqb (ah r) 0x41) _ _ (λ e. extensions-tell (shownOf b p (dl r))) (λ e₃.
-      pick-cases TellsAll Extended _ _ (λ e. extended-tell e₁ e) (λ e₄.
+      pick-cases TellsAll Extended _ _ (λ e. extended-tell (badsOf b (dl r)) e₁ e) (λ e₄.
       pick-cases TellsAll (eqb (ah r) 0x47) _ _ (λ e. seek-tell) (λ e₅.
       pick-cases TellsAll (eqb (ah r) 0x48) _ _ (λ e. result-tell (shownOf b p (dl r))) (λ e₆.
       tt))))))
@@ -249,50 +273,191 @@ writing : (f : ℕ) → (f ≡ 0x03) ⊎ (f ≡ 0x43) → isWrite f ≡ true
 writing f (inl e) = rw e
 writing f (inr e) = rw e
 
-module _ (j : Job) (first : ℕ) (m : Memory) (room : j .buffer + 512 * j .count ≤ length (m .window)) (inside : 512 * (first + j .count) ≤ length (m .store)) where
-  moves-read : isWrite (ah (j .registers)) ≡ false → ReadBytes (j .count) first (j .buffer) m (moves j first 0 (j .count) m)
+module _ (j : Job) (first k : ℕ) (m : Memory) (room : j .buffer + 512 * k ≤ length (m .window)) (inside : 512 * (first + k) ≤ length (m .store)) where
+  moves-read : isWrite (ah (j .registers)) ≡ false → ReadBytes k first (j .buffer) m (moves j first 0 k m)
   unfolding moves
-  moves-read e = rw e (read-bytes (j .count) first (j .buffer) m room inside)
+  moves-read e = rw e (read-bytes k first (j .buffer) m room inside)
 
-  moves-written : isWrite (ah (j .registers)) ≡ true → WrittenBytes (j .count) first (j .buffer) m (moves j first 0 (j .count) m)
+  moves-written : isWrite (ah (j .registers)) ≡ true → WrittenBytes k first (j .buffer) m (moves j first 0 k m)
   unfolding moves
-  moves-written e = rw e (written-bytes (j .count) first (j .buffer) m room inside)
+  moves-written e = rw e (written-bytes k first (j .buffer) m room inside)
 
-posted-well : (r : Registers) → PostedWell r (succeed (posted r))
-posted-well r = record { ax = omega arith; bx = refl; cx = refl; dx = refl; ds = refl; si = refl; es = refl; carry = refl }
+-- a window keeps its length
+moves-window : (j : Job) (first k : ℕ) (m : Memory) → length (moves j first 0 k m .window) ≡ length (m .window)
+unfolding moves
+moves-window j first k m =
+    pick-cases (λ (x : Memory). length (x .window) ≡ length (m .window)) (isWrite (ah (j .registers))) _ _ (λ e. refl)
+    (λ e. blocks-length (m .window) (j .buffer + 512 * 0) (m .store) (512 * (first + 0)) k)
 
-alone-is : (t : List ℕ) (p : Placement) (r : Registers) (m : Memory) (j : Job)
-    → begin (fed (readTable t (length (m .store) / 512) .table) p) r (m .window) .outcome ≡ Waits j
-    → record { registers = succeed (j .registers); memory = moves j (storeBlock (readTable t (length (m .store) / 512) .table) j) 0 (j .count) m } ≡ alone (fed t p) r m
+-- ---- the count word
+
+module _ (w : List ℕ) (place n : ℕ) (room : place + 4 ≤ length w) (few : n < 256) where
+  count-low : getD (withCount w place n) (place + 2) 0 ≡ n
+  unfolding leBytes
+  count-low =
+      getD-set-other (set w (place + 2) (n % 256)) (suc (place + 2)) (place + 2) (n / 256 % 256) 0 (λ e. omega arith)
+      ∙ getD-set-same w (place + 2) (n % 256) 0 (omega arith) ∙ omega arith
+
+  count-high : getD (withCount w place n) (place + 3) 0 ≡ 0
+  unfolding leBytes
+  count-high =
+      let at : suc (place + 2) ≡ place + 3 = omega arith in
+      rw at (getD-set-same (set w (place + 2) (n % 256)) (place + 3) (n / 256 % 256) 0 (omega (arith, length-set w (place + 2) (n % 256))) ∙ omega arith)
+
+count-other : (w : List ℕ) (place n x : ℕ) → (x < place + 2) ⊎ (place + 4 ≤ x) → getD (withCount w place n) x 0 ≡ getD w x 0
+unfolding leBytes
+count-other w place n x o =
+    let apart : (y : ℕ) → place + 2 ≤ y → y < place + 4 → x ≡ y → ⊥ = λ y l h e. ⊎-elim (λ z. omega arith) (λ z. omega arith) o in
+    getD-set-other (set w (place + 2) (n % 256)) (suc (place + 2)) x (n / 256 % 256) 0 (apart (suc (place + 2)) (omega arith) (omega arith))
+    ∙ getD-set-other w (place + 2) x (n % 256) 0 (apart (place + 2) (omega arith) (omega arith))
+
+-- ---- the end
+
+-- functions with a packet, and without
+packeted : (f : ℕ) → (f ≡ 0x42) ⊎ (f ≡ 0x43) → isSectors f ≡ false
+packeted f (inl e) = rw e
+packeted f (inr e) = rw e
+
+sectored : (f : ℕ) → (f ≡ 0x02) ⊎ (f ≡ 0x03) → isSectors f ≡ true
+sectored f (inl e) = rw e
+sectored f (inr e) = rw e
+
+module _ (j : Job) (k : ℕ) (m : Memory) where
+  -- nothing is written where all blocks moved
+  end-all : k ≡ j .count → endedMemory j k m ≡ m
+  end-all e =
+      let all : ltb k (j .count) ≡ false = le-ltb k (j .count) (omega arith) in
+      rw all
+
+  end-sectors : isSectors (ah (j .registers)) ≡ true → endedMemory j k m ≡ m
+  unfolding reported
+  end-sectors e = pick-cases (λ (w : List ℕ). record { window = w; store = m .store } ≡ m) (ltb k (j .count)) _ _ (λ t. rw e) (λ t. refl)
+
+  end-packet : isSectors (ah (j .registers)) ≡ false → k < j .count → endedMemory j k m ≡ record { window = withCount (m .window) (j .packet) k; store = m .store }
+  unfolding reported
+  end-packet e h = rw (lt-ltb k (j .count) h, e)
+
+module _ (b : Table) (r : Registers) (w : List ℕ) (j : Job) (a : Asks b r w j) (k : ℕ) (m : Memory) (same : length (m .window) ≡ length w) where
+  job-sectors : (x : Bool) → isSectors (ah r) ≡ x → isSectors (ah (j .registers)) ≡ x
+  job-sectors x h = ap (λ (y : Registers). isSectors (ah y)) (a .registers) ∙ h
+
+  count-bytes : isSectors (ah r) ≡ false → k < j .count → CountBytes k r m (endedMemory j k m)
+  count-bytes s h =
+      let p = a .packet s in
+      let few : k < 256 = omega (arith, a .few) in
+      let room : packetPlace r + 4 ≤ length (m .window) = omega (arith, p .1, same) in
+      let is : endedMemory j k m ≡ record { window = withCount (m .window) (packetPlace r) k; store = m .store }
+      = end-packet j k m (job-sectors false s) h ∙ ap (λ (n : ℕ). record { window = withCount (m .window) n k; store = m .store }) (p .0) in
+      subst (CountBytes k r m) (sym is)
+      (record {
+        low = count-low (m .window) (packetPlace r) k room few;
+        high = count-high (m .window) (packetPlace r) k room few;
+        other = count-other (m .window) (packetPlace r) k;
+        size = length-sets (m .window) (packetPlace r + 2) (leBytes 2 k);
+        store = refl;
+      })
+
+  after-data : AfterData (j .count) k r m (endedMemory j k m)
+  after-data =
+      record {
+        all = end-all j k m;
+        sectors = λ f. end-sectors j k m (job-sectors true (sectored (ah r) f));
+        packet = λ f h. count-bytes (packeted (ah r) f) h;
+      }
+
+posted-well : (n k : ℕ) (r : Registers) → k ≡ n → PostedWell r (ended n k (posted r))
+unfolding ended
+posted-well n k r e =
+    let all : ltb k n ≡ false = le-ltb k n (omega arith) in
+    rw all (record { ax = omega arith; bx = refl; cx = refl; dx = refl; ds = refl; si = refl; es = refl; carry = refl })
+
+-- halves of AX
+high-half : (high low : ℕ) → low < 256 → (256 * high + low) / 256 ≡ high
+high-half high low h = omega arith
+
+low-half : (high low : ℕ) → low < 256 → (256 * high + low) % 256 ≡ low
+low-half high low h = omega arith
+
+posted-bad : (n k : ℕ) (r : Registers) → k < n → k < 256 → PostedBad k r (ended n k (posted r))
+unfolding ended
+posted-bad n k r h few =
+    let low : pick (isSectors (ah r)) k (al r) < 256 = pick-cases (λ (x : ℕ). x < 256) (isSectors (ah r)) k (al r) (λ e. few) (λ e. omega arith) in
+    let high = high-half (badCode r) (pick (isSectors (ah r)) k (al r)) low in
+    rw (lt-ltb k n h)
+    (record {
+      read = λ f. high ∙ rw (reading (ah r) f);
+      write = λ f. high ∙ rw (writing (ah r) f);
+      al = low-half (badCode r) (pick (isSectors (ah r)) k (al r)) low;
+      bx = refl;
+      cx = refl;
+      dx = refl;
+      ds = refl;
+      si = refl;
+      es = refl;
+      carry = refl;
+    })
+
+-- ---- served alone
+
+alone-is : (t : List ℕ) (p : Placement) (r : Registers) (m : Memory) (j : Job) (b : Table) → b ≡ readTable t (length (m .store) / 512) .table
+    → begin (fed b p) r (m .window) .outcome ≡ Waits j → servedTo b j (goodOf b j 0 (j .count)) m ≡ alone (fed t p) r m
 unfolding alone
-alone-is t p r m j e =
-    let b : Table = readTable t (length (m .store) / 512) .table in
+alone-is t p r m j b q e =
     sym (ap (λ (o : Outcome). finish b o (begin (fed b p) r (m .window) .window) m) e)
+    ∙ ap (λ (x : Table). finish x (begin (fed x p) r (m .window) .outcome) (begin (fed x p) r (m .window) .window) m) q
+
+-- what holds of the job's numbers holds of those that were asked
+module _ (b : Table) (r : Registers) (m : Memory) (j : Job) (a : Asks b r (m .window) j) (inside : 512 * (storeBlock b j + j .count) ≤ length (m .store)) where
+  abbrev l : Bads
+  l = badsOf b (j .drive)
+
+  abbrev moved : ℕ
+  moved = goodOf b j 0 (j .count)
+
+  few : moved ≤ j .count
+  few = good-most l (j .start + 0) (j .count)
+
+  abbrev laid : Memory
+  laid = moves j (storeBlock b j) 0 moved m
+
+  worn : (x : ℕ) → isBad l (j .start + 0 + x) ≡ wornBlock b r (askedStart b r (m .window) + x)
+  worn x =
+      ap (λ (n : ℕ). isBad (badsOf b n) (j .start + 0 + x)) (a .drive)
+      ∙ ap (λ (n : ℕ). isBad (badsOf b (dl r)) (n + x)) (add-zero (j .start) ∙ a .start)
+
+  function : (x : Bool) → isWrite (ah r) ≡ x → isWrite (ah (j .registers)) ≡ x
+  function x h = ap (λ (y : Registers). isWrite (ah y)) (a .registers) ∙ h
+
+  move-asked : (P : ℕ → ℕ → Type 0) → P (storeBlock b j) (j .buffer) → P (namedFrom b r (m .window)) (askedBuffer r (m .window))
+  move-asked P h = subst (P (namedFrom b r (m .window))) (a .buffer) (subst (λ (x : ℕ). P x (j .buffer)) (a .first) h)
+
+  job-bytes : AloneBytes b r m (servedTo b j moved m)
+  job-bytes =
+      let room : j .buffer + 512 * moved ≤ length (m .window) = omega (arith, a .room, few) in
+      let within : 512 * (storeBlock b j + moved) ≤ length (m .store) = omega (arith, inside, few) in
+      record {
+        some = subst (λ (n : ℕ). 0 < n) (a .count) (a .some);
+        room = rw (a .count, a .buffer) at (a .room);
+        inside = rw (a .count, a .first) at inside;
+        function = a .function;
+        k = moved;
+        most = subst (λ (n : ℕ). moved ≤ n) (a .count) few;
+        good = λ i h. sym (worn i) ∙ good-clean l (j .start + 0) (j .count) i h;
+        bad = λ h. sym (worn moved) ∙ good-worn l (j .start + 0) (j .count) (subst (λ (n : ℕ). moved < n) (sym (a .count)) h);
+        between = laid;
+        reads = λ f. move-asked (λ first buffer. ReadBytes moved first buffer m laid) (moves-read j (storeBlock b j) moved m room within (function false (reading (ah r) f)));
+        writes = λ f. move-asked (λ first buffer. WrittenBytes moved first buffer m laid) (moves-written j (storeBlock b j) moved m room within (function true (writing (ah r) f)));
+        after = subst (λ (n : ℕ). AfterData n moved r laid (endedMemory j moved laid)) (a .count)
+            (after-data b r (m .window) j a moved laid (moves-window j (storeBlock b j) moved m));
+        whole = λ h. subst (λ (x : Registers). PostedWell r (ended (j .count) moved x)) (sym (a .registers)) (posted-well (j .count) moved r (h ∙ sym (a .count)));
+        stopped = λ h. subst (λ (x : Registers). PostedBad moved r (ended (j .count) moved x)) (sym (a .registers))
+            (posted-bad (j .count) moved r (subst (λ (n : ℕ). moved < n) (sym (a .count)) h) (omega (arith, few, a .few)));
+      }
 
 pub alone-moves : AloneMoves
 alone-moves t p r m j acc e =
-    let w : List ℕ = m .window in
     let b : Table = readTable t (length (m .store) / 512) .table in
-    let s : Served = alone (fed t p) r m in
-    let a : Asks b r w j = waits-asks b r w p j e in
-    let low : storeBlock b j + j .count ≤ length (m .store) / 512 = waits-inside b r w j (length (m .store) / 512) (accepted-good t (length (m .store) / 512) acc) a in
-    let inside : 512 * (storeBlock b j + j .count) ≤ length (m .store) = omega arith in
-    let is = alone-is t p r m j e in
-    -- what holds of the job's numbers holds of those that were asked
-    let outside : (P : ℕ → ℕ → ℕ → Memory → Type 0) → P (j .count) (storeBlock b j) (j .buffer) (moves j (storeBlock b j) 0 (j .count) m)
-    → P (asked r w) (namedFrom b r w) (askedBuffer r w) (s .memory)
-    = λ P h.
-    subst (λ (x : ℕ). P (asked r w) (namedFrom b r w) x (s .memory)) (a .buffer)
-    (subst (λ (x : ℕ). P (asked r w) x (j .buffer) (s .memory)) (a .first)
-    (subst (λ (x : ℕ). P x (storeBlock b j) (j .buffer) (s .memory)) (a .count)
-    (subst (λ (x : Served). P (j .count) (storeBlock b j) (j .buffer) (x .memory)) is h))) in
-    let function : (x : Bool) → isWrite (ah r) ≡ x → isWrite (ah (j .registers)) ≡ x = λ x h. ap (λ (y : Registers). isWrite (ah y)) (a .registers) ∙ h in
-    record {
-      some = rw (a .count) at (a .some);
-      room = rw (a .count, a .buffer) at (a .room);
-      inside = rw (a .count, a .first) at inside;
-      registers = subst (λ (x : Registers). PostedWell r x) (ap succeed (sym (a .registers)) ∙ ap (λ (x : Served). x .registers) is) (posted-well r);
-      function = a .function;
-      reads = λ f. outside (λ n first buffer m′. ReadBytes n first buffer m m′) (moves-read j (storeBlock b j) m (a .room) inside (function false (reading (ah r) f)));
-      writes = λ f. outside (λ n first buffer m′. WrittenBytes n first buffer m m′) (moves-written j (storeBlock b j) m (a .room) inside (function true (writing (ah r) f)));
-    }
+    let a : Asks b r (m .window) j = waits-asks b r (m .window) p j e in
+    let low : storeBlock b j + j .count ≤ length (m .store) / 512
+    = waits-inside b r (m .window) j (length (m .store) / 512) (accepted-good t (length (m .store) / 512) acc) a in
+    subst (AloneBytes b r m) (alone-is t p r m j b refl e) (job-bytes b r m j a (omega arith))

@@ -15,6 +15,8 @@ use Rattle.chs.specs.declared.ToBlock.the-variants.{Block}
 use Rattle.chs.specs.Chs.{inLimits, isValid, blockOf, addressIn, number as blockNumber}
 use Rattle.drive.specs.declared.Drive.{Drive}
 use Rattle.drive.specs.Drive.{geometryOf, isProtected}
+use Rattle.attached.specs.declared.Bads.{Bads}
+use Rattle.attached.specs.Bad.{good}
 use Rattle.table.specs.declared.Table.{Table}
 use Rattle.layout.specs.declared.Packet.{Packet}
 use Rattle.layout.specs.declared.PacketRead.{PacketRead}
@@ -28,7 +30,7 @@ use Rattle.int13.specs.declared.Outcome.{Outcome}
 use Rattle.int13.specs.declared.Outcome.the-variants.{Answered, Waits}
 use Rattle.int13.specs.declared.Plan.{Plan}
 use Rattle.int13.specs.Answers.{ah, al, dl, isWrite, succeed, refuse, posted, registerNumbers, outcomeNumbers}
-use Rattle.int13.specs.Steps.{Checked, fed, isDrive, driveCount, driveNamed, shownOf, verifyOk, packetTests, packetRead, packetPlan, carryOut, seekRead, seek, sectorRun, sectors, geometryGiven, parameters, extensionsGiven, extensions, resultGiven, result, steps, begin}
+use Rattle.int13.specs.Steps.{Checked, fed, isDrive, driveCount, driveNamed, badsOf, shownOf, verifyOk, verified, packetTests, packetRead, packetPlan, carryOut, seekRead, seek, sectorRun, sectors, geometryGiven, parameters, extensionsGiven, extensions, resultGiven, result, steps, begin}
 use Rattle.int13.specs.Numbers.{refusedNumbers, doneNumbers, waitsNumbers, runGiven, sectorsGiven, parametersGiven, checkGiven, packetTestsGiven, packetNumbersAt, extendedGiven, seekGiven, bufferGiven, stepsGiven, beginGiven}
 use Rattle.int13.proofs.PlacementLaws.{shown-table}
 
@@ -122,29 +124,30 @@ extensions-numbers known s r = through outcomeNumbers (both known (eqb (r .bx) 0
 abbrev planned : Registers → List ℕ → Plan → List ℕ
 planned r w p = outcomeNumbers (carryOut p r w .outcome)
 
-tests-numbers : (d : Drive) (r : Registers) (w : List ℕ) (M : ℕ) (p : Packet)
-    → planned r w (packetTests d r M p) ≡ packetTestsGiven d r M (p .count) (p .buffer) (p .start)
-unfolding packetTests packetTestsGiven
-tests-numbers d r w M p =
+tests-numbers : (d : Drive) (l : Bads) (r : Registers) (w : List ℕ) (M : ℕ) (p : Packet)
+    → planned r w (packetTests d l r M p) ≡ packetTestsGiven d l r M (p .count) (p .buffer) (p .start)
+unfolding packetTests packetTestsGiven verified
+tests-numbers d l r w M p =
     through (planned r w) (ltb 127 (p .count)) (refused 0x01 r)
     (through (planned r w) (both (isWrite (ah r)) (isProtected d)) (refused 0x03 r)
     (through (planned r w) (ltb (d .blocks) (p .start + p .count)) (refused 0x04 r)
-    (through (planned r w) (eqb (ah r) 0x44) (finished r)
+    (through (planned r w) (eqb (ah r) 0x44) (through (planned r w) (ltb (good l (p .start) (p .count)) (p .count)) (refused 0x10 r) (finished r))
     (through (planned r w) (ltb M (p .buffer + 512 * p .count)) (refused 0x09 r)
     (through (planned r w) (eqb (p .count) 0) (finished r)
     (waits (p .start) (p .count) (p .buffer) (16 * r .ds + r .si) r))))))
 
-packet-numbers : (d : Drive) (r : Registers) (w : List ℕ) (place : ℕ) → planned r w (packetRead d r (length w) (readPacket w place)) ≡ packetNumbersAt d r w place
+packet-numbers : (d : Drive) (l : Bads) (r : Registers) (w : List ℕ) (place : ℕ)
+    → planned r w (packetRead d l r (length w) (readPacket w place)) ≡ packetNumbersAt d l r w place
 unfolding readPacket packetAt packetNumbersAt
-packet-numbers d r w place =
-    through (λ (p : PacketRead). planned r w (packetRead d r (length w) p)) (leb (place + 16) (length w))
-    (through (planned r w) (ltb (getD w place 0) 16) (refused 0x01 r) (tests-numbers d r w (length w) (packetAt w place))) (refused 0x01 r)
+packet-numbers d l r w place =
+    through (λ (p : PacketRead). planned r w (packetRead d l r (length w) p)) (leb (place + 16) (length w))
+    (through (planned r w) (ltb (getD w place 0) 16) (refused 0x01 r) (tests-numbers d l r w (length w) (packetAt w place))) (refused 0x01 r)
 
-extended-numbers : (known : Bool) (d : Drive) (r : Registers) (w : List ℕ) → planned r w (packetPlan known d r w) ≡ extendedGiven known d r w
+extended-numbers : (known : Bool) (d : Drive) (l : Bads) (r : Registers) (w : List ℕ) → planned r w (packetPlan known d l r w) ≡ extendedGiven known d l r w
 unfolding packetPlan extendedGiven
-extended-numbers known d r w =
+extended-numbers known d l r w =
     through (planned r w) (not known) (refused 0x01 r)
-    (through (planned r w) (both (isWrite (ah r)) (not (verifyOk (al r) (d .flags)))) (refused 0x01 r) (packet-numbers d r w (16 * r .ds + r .si)))
+    (through (planned r w) (both (isWrite (ah r)) (not (verifyOk (al r) (d .flags)))) (refused 0x01 r) (packet-numbers d l r w (16 * r .ds + r .si)))
 
 seek-numbers : (known : Bool) (d : Drive) (r : Registers) (w : List ℕ) → outcomeNumbers (seek known d r w) ≡ seekGiven known d r w
 unfolding seek seekGiven readPacket packetAt
@@ -168,26 +171,26 @@ result-numbers known d s r w =
     (through (λ (x : ResultAnswer). outcomeNumbers (resultGiven x r)) (both (leb 26 asked) (leb (returnedSize asked) (length (drop (16 * r .ds + r .si) w))))
     (finished r) (refused 0x01 r)))
 
-steps-numbers : (known : Bool) (count : ℕ) (d : Drive) (s : Shown) (r : Registers) (w : List ℕ)
-    → checked (steps known count d s r w) ≡ stepsGiven known count d (s .table) r w
+steps-numbers : (known : Bool) (count : ℕ) (d : Drive) (l : Bads) (s : Shown) (r : Registers) (w : List ℕ)
+    → checked (steps known count d l s r w) ≡ stepsGiven known count d l (s .table) r w
 unfolding steps stepsGiven
-steps-numbers known count d s r w =
+steps-numbers known count d l s r w =
     through checked (either (eqb (ah r) 0x02) (eqb (ah r) 0x03)) (sectors-numbers known d r (length w))
     (through checked (eqb (ah r) 0x08) (parameters-numbers known count d r)
     (through checked (eqb (ah r) 0x41) (extensions-numbers known s r)
-    (through checked (either (eqb (ah r) 0x42) (either (eqb (ah r) 0x43) (eqb (ah r) 0x44))) (extended-numbers known d r w)
+    (through checked (either (eqb (ah r) 0x42) (either (eqb (ah r) 0x43) (eqb (ah r) 0x44))) (extended-numbers known d l r w)
     (through checked (eqb (ah r) 0x47) (seek-numbers known d r w)
     (through checked (eqb (ah r) 0x48) (result-numbers known d s r w)
     (refused 0x01 r))))))
 
 -- whoever answers with the definition answers with the paper's numbers
 
-pub steps-answered : {o : Outcome} {v : List ℕ} {k : Checked} (known : Bool) (count : ℕ) (d : Drive) (s : Shown) (r : Registers) (w : List ℕ)
-    → steps known count d s r w ≡ k → o ≡ k .outcome → v ≡ k .window
-    → (o ≡ steps known count d s r w .outcome) × (v ≡ steps known count d s r w .window) × (outcomeNumbers o ≡ stepsGiven known count d (s .table) r w)
-steps-answered known count d s r w q e f =
+pub steps-answered : {o : Outcome} {v : List ℕ} {k : Checked} (known : Bool) (count : ℕ) (d : Drive) (l : Bads) (s : Shown) (r : Registers) (w : List ℕ)
+    → steps known count d l s r w ≡ k → o ≡ k .outcome → v ≡ k .window
+    → (o ≡ steps known count d l s r w .outcome) × (v ≡ steps known count d l s r w .window) × (outcomeNumbers o ≡ stepsGiven known count d l (s .table) r w)
+steps-answered known count d l s r w q e f =
     let outcome = e ∙ ap (λ (k : Checked). k .outcome) (sym q) in
-    (outcome, f ∙ ap (λ (k : Checked). k .window) (sym q), ap outcomeNumbers outcome ∙ steps-numbers known count d s r w)
+    (outcome, f ∙ ap (λ (k : Checked). k .window) (sym q), ap outcomeNumbers outcome ∙ steps-numbers known count d l s r w)
 
 pub begin-answered : {o : Outcome} {v : List ℕ} (b : Table) (p : Placement) (r : Registers) (w : List ℕ) → o ≡ begin (fed b p) r w .outcome
     → v ≡ begin (fed b p) r w .window
@@ -196,5 +199,6 @@ unfolding begin beginGiven
 begin-answered b p r w e f =
     let known = isDrive b (dl r) in
     let d = driveNamed b r in
-    let numbers = steps-numbers known (driveCount b) d (shownOf b p (dl r)) r w in
-    (e, f, ap outcomeNumbers e ∙ numbers ∙ ap (λ (t : Bool). stepsGiven known (driveCount b) d t r w) (shown-table b p (dl r)))
+    let l = badsOf b (dl r) in
+    let numbers = steps-numbers known (driveCount b) d l (shownOf b p (dl r)) r w in
+    (e, f, ap outcomeNumbers e ∙ numbers ∙ ap (λ (t : Bool). stepsGiven known (driveCount b) d l t r w) (shown-table b p (dl r)))

@@ -1,10 +1,10 @@
 -- Calls by number: document 01's drive of 2048 blocks and C/H/S 2/16/63, each function's success and refusals, and cases with two
--- faults that show the order of the tests; then three drives that differ in everything, and of them two with parameter tables.
+-- faults that show the order of the tests; then three drives that differ in everything, of them two with parameter tables, and all with bad blocks.
 -- Assumes nothing.
-use mathlib.Core.Path.{_≡_, refl}
+use mathlib.Core.Path.{_≡_, refl, ap}
 use mathlib.Core.Bool.{Bool, true, false}
 use mathlib.Core.List.{List, [], _∷_, _++_, map}
-use Prim.Native.Nat.{ℕ, _+_, _-_}
+use Prim.Native.Nat.{ℕ, _+_, _-_, _*_, _/_}
 use lib.ListN.{length, getD, take, drop, replicate}
 use lib.Seq.{sets}
 use lib.Dec.{eqb}
@@ -13,8 +13,10 @@ use Rattle.words.specs.Words.{le, leBytes, part}
 use Rattle.chs.specs.Chs.{inLimits, isValid, blockOf}
 use Rattle.drive.specs.declared.Drive.{Drive}
 use Rattle.drive.specs.Drive.{driveOf as driveRead, same, busOk, interfaceOk, geometryFits, fieldsOk, inStore, overlap}
+use Rattle.attached.specs.declared.Bads.{Bads}
+use Rattle.attached.specs.Bad.{badCount, badLengthOk, badsIn, heldOf, noBads, badAt, ascends, areBlocks, listOk, isBad, good}
 use Rattle.table.specs.declared.Table.{Table}
-use Rattle.table.specs.Table.{headerOf, headerAt, overlapsAny, refusal, parametersRefusal, recordRefusal, withRecord, recordStep, endStep, stepOf, stepAt, zeroDrive, emptyTable, readFrom, readTable, parametersTo}
+use Rattle.table.specs.Table.{headerOf, headerAt, overlapsAny, refusal, parametersRefusal, badsRefusal, recordRefusal, withRecord, recordStep, endStep, stepOf, stepAt, zeroDrive, emptyTable, readFrom, readTable, parametersTo}
 use Rattle.layout.specs.Packet.{packetAt, readPacket}
 use Rattle.layout.specs.ParameterTable.{placedBytes, parameterTable}
 use Rattle.layout.specs.ResultBuffer.{returnedSize, parameterBytes, blockBytes, interfaceBytes, pathBytes, sum, wholeResult, resultBytes, resultAnswer}
@@ -27,11 +29,11 @@ use Rattle.int13.specs.declared.Outcome.{Outcome}
 use Rattle.int13.specs.declared.Outcome.the-variants.{Answered, Waits}
 use Rattle.int13.specs.declared.Plan.{Plan}
 use Rattle.int13.specs.declared.Plan.the-variants.{Refuse, Clear, Finish, Wait}
-use Rattle.int13.specs.Answers.{dl, succeed, withdraw, posted, outcomeNumbers}
+use Rattle.int13.specs.Answers.{dl, succeed, withdraw, ended, posted, outcomeNumbers}
 use Rattle.int13.specs.Placement.{noPlacement, placedAt, tablesTo, tablesOf, tableCount, tableAddress, notShown, pointerOf}
-use Rattle.int13.specs.Steps.{Checked, fed, isDrive, shownOf, driveAt, driveIn, driveNamed, verifyOk, packetTests, packetPlan, seek, sectors, parameters, extensions, result, steps, begin}
+use Rattle.int13.specs.Steps.{Checked, fed, isDrive, badsOf, shownOf, driveAt, driveIn, driveNamed, verifyOk, verified, packetTests, packetPlan, seek, sectors, parameters, extensions, result, steps, begin}
 use Rattle.int13.specs.Numbers.{sectorsGiven, parametersGiven, checkGiven, packetTestsGiven, packetNumbersAt, extendedGiven, seekGiven, bufferGiven, stepsGiven, beginGiven}
-use Rattle.int13.specs.Alone.{asked, namedFrom, Memory, storeBlock, moves, Served, alone}
+use Rattle.int13.specs.Alone.{asked, namedFrom, Memory, storeBlock, moves, goodOf, reported, Served, servedBy, alone}
 use Rattle.int13.specs.AloneBytes.{askedBuffer}
 
 -- ---- tables
@@ -55,9 +57,17 @@ drive first flags protection = record {
   device = replicate 8 0;
 }
 
--- so many of eight drives, none with parameters
+-- so many of eight drives, none with parameters or bad blocks
 abbrev table : List Drive → ℕ → Table
-table drives count = record { drives = drives; count = count; present = emptyTable .present; parameters = emptyTable .parameters }
+table drives count =
+    record {
+      drives = drives;
+      count = count;
+      present = emptyTable .present;
+      parameters = emptyTable .parameters;
+      counts = emptyTable .counts;
+      bad = emptyTable .bad;
+    }
 
 abbrev one : Drive → Table
 one d = table (d ∷ replicate 7 zeroDrive) 1
@@ -139,8 +149,8 @@ by p b r w = record { made = begin (fed b p) r w; numbers = beginGiven b (p .pla
 abbrev at : Table → Registers → List ℕ → Called Checked
 at b r w = by noPlacement b r w
 
-abbrev over : Bool → ℕ → Drive → Registers → List ℕ → Called Checked
-over known n d r w = record { made = steps known n d notShown r w; numbers = stepsGiven known n d false r w }
+abbrev over : Bool → ℕ → Drive → Bads → Registers → List ℕ → Called Checked
+over known n d l r w = record { made = steps known n d l notShown r w; numbers = stepsGiven known n d l false r w }
 
 -- 02h and 03h at a table, in a window of that many bytes
 abbrev sectorsOf : Table → Registers → ℕ → Called Outcome
@@ -184,10 +194,10 @@ shortly l = pick (eqb (getD l 0 0) 256) (part 4 l 2) (getD l 1 0 ∷ getD l 8 0 
 abbrev wholly : List ℕ → List ℕ
 wholly l = pick (eqb (getD l 0 0) 256) (getD l 1 0 ∷ drop 6 l) (drop 1 l)
 
--- a plan: refused 0, refused with the count word set to 0 1, at once 2, waiting 3
+-- a plan: refused 0, refused with the count word set 1, at once 2, waiting 3
 abbrev planned : Plan → List ℕ
 planned (Refuse code) = 0 ∷ code ∷ []
-planned (Clear code) = 1 ∷ code ∷ []
+planned (Clear code n) = 1 ∷ code ∷ n ∷ []
 planned Finish = 2 ∷ []
 planned (Wait j) = 3 ∷ j .start ∷ j .count ∷ j .buffer ∷ j .packet ∷ []
 
@@ -361,8 +371,8 @@ pub record Vectors : Type 0 where
   --   count 127: waits
   --   count 128: 01h
   pub run-by-program-packets : Hold
-      ((plans (packetTests (drive 0 2 0) (call 0x4200 0x80) 65040 (record { size = 16; count = 127; buffer = 16; start = 0 })) (3 ∷ 0 ∷ 127 ∷ 16 ∷ 0 ∷ []))
-      ∷ (plans (packetTests (drive 0 2 0) (call 0x4200 0x80) 65040 (record { size = 16; count = 128; buffer = 16; start = 0 })) (1 ∷ 1 ∷ []))
+      ((plans (packetTests (drive 0 2 0) noBads (call 0x4200 0x80) 65040 (record { size = 16; count = 127; buffer = 16; start = 0 })) (3 ∷ 0 ∷ 127 ∷ 16 ∷ 0 ∷ []))
+      ∷ (plans (packetTests (drive 0 2 0) noBads (call 0x4200 0x80) 65040 (record { size = 16; count = 128; buffer = 16; start = 0 })) (1 ∷ 1 ∷ 0 ∷ []))
       ∷ [])
   -- ---- 42h, 43h, 44h: each pair of adjoining tests with both faults, and the window after it
 
@@ -451,10 +461,10 @@ pub record Vectors : Type 0 where
   --   65000 in a window of 69096: waits
   --   65000 in a window of 69095: 09h
   pub buffers : Hold
-      ((plans (packetTests (drive 0 2 0) (call 0x4200 0x80) (0x10FFEF + 512) (record { size = 16; count = 1; buffer = 0x10FFEF; start = 0 })) (3 ∷ 0 ∷ 1 ∷ 0x10FFEF ∷ 0 ∷ []))
-      ∷ (plans (packetTests (drive 0 2 0) (call 0x4200 0x80) (0x10FFEF + 511) (record { size = 16; count = 1; buffer = 0x10FFEF; start = 0 })) (1 ∷ 9 ∷ []))
-      ∷ (plans (packetTests (drive 0 2 0) (call 0x4200 0x80) 69096 (record { size = 16; count = 8; buffer = 65000; start = 0 })) (3 ∷ 0 ∷ 8 ∷ 65000 ∷ 0 ∷ []))
-      ∷ (plans (packetTests (drive 0 2 0) (call 0x4200 0x80) 69095 (record { size = 16; count = 8; buffer = 65000; start = 0 })) (1 ∷ 9 ∷ []))
+      ((plans (packetTests (drive 0 2 0) noBads (call 0x4200 0x80) (0x10FFEF + 512) (record { size = 16; count = 1; buffer = 0x10FFEF; start = 0 })) (3 ∷ 0 ∷ 1 ∷ 0x10FFEF ∷ 0 ∷ []))
+      ∷ (plans (packetTests (drive 0 2 0) noBads (call 0x4200 0x80) (0x10FFEF + 511) (record { size = 16; count = 1; buffer = 0x10FFEF; start = 0 })) (1 ∷ 9 ∷ 0 ∷ []))
+      ∷ (plans (packetTests (drive 0 2 0) noBads (call 0x4200 0x80) 69096 (record { size = 16; count = 8; buffer = 65000; start = 0 })) (3 ∷ 0 ∷ 8 ∷ 65000 ∷ 0 ∷ []))
+      ∷ (plans (packetTests (drive 0 2 0) noBads (call 0x4200 0x80) 69095 (record { size = 16; count = 8; buffer = 65000; start = 0 })) (1 ∷ 9 ∷ 0 ∷ []))
       ∷ [])
   -- start + count never wraps: every one is 04h
   --   42h, start 2^64 - 1 count 0
@@ -555,7 +565,7 @@ pub record Vectors : Type 0 where
       ∷ [])
 
 pub vectors : Vectors
-unfolding le leBytes inLimits isValid blockOf readPacket packetAt returnedSize parameterBytes blockBytes interfaceBytes pathBytes sum wholeResult resultBytes resultAnswer isDrive shownOf verifyOk packetTests packetPlan seek sectors parameters extensions result steps begin outcomeNumbers sectorsGiven parametersGiven checkGiven packetTestsGiven packetNumbersAt extendedGiven seekGiven bufferGiven stepsGiven beginGiven
+unfolding le leBytes inLimits isValid blockOf readPacket packetAt returnedSize parameterBytes blockBytes interfaceBytes pathBytes sum wholeResult resultBytes resultAnswer heldOf isBad good isDrive badsOf shownOf verifyOk verified packetTests packetPlan seek sectors parameters extensions result steps begin outcomeNumbers sectorsGiven parametersGiven checkGiven packetTestsGiven packetNumbersAt extendedGiven seekGiven bufferGiven stepsGiven beginGiven
 vectors =
     record {
       registers-sectors = refl;
@@ -728,8 +738,8 @@ pub record Apart : Type 0 where
       ∷ (numbers (at apart (own 0x0877 5 0x0242 0x0181) []) (0 ∷ kept19 0 5 0x2B42 0x0203 0))
       ∷ (numbers (at apart (own 0x0877 5 0x0242 0x0182) []) (0 ∷ kept19 0 5 0x0105 0x0303 0))
       ∷ (numbers (at apart (own 0x0877 5 0x0242 0x0183) []) (0 ∷ kept19 0x0777 5 0x0242 0x0183 1))
-      ∷ (numbers (over true 6 drive81 (own 0x0877 5 0x0242 0x0180) []) (0 ∷ kept19 0 5 0x2B42 0x0206 0))
-      ∷ (numbers (over false 6 drive81 (own 0x0877 5 0x0242 0x0180) []) (0 ∷ kept19 0x0777 5 0x0242 0x0180 1))
+      ∷ (numbers (over true 6 drive81 noBads (own 0x0877 5 0x0242 0x0180) []) (0 ∷ kept19 0 5 0x2B42 0x0206 0))
+      ∷ (numbers (over false 6 drive81 noBads (own 0x0877 5 0x0242 0x0180) []) (0 ∷ kept19 0x0777 5 0x0242 0x0180 1))
       ∷ [])
   -- 41h: 82h is known and 83h is not; the registers that are not named stay
   pub own-extensions : Hold
@@ -764,7 +774,7 @@ pub record Apart : Type 0 where
       ≡ 2 ∷ 37 ∷ 7551 ∷ 1 ∷ 57 ∷ 9041 ∷ 9005 ∷ []
 
 pub apart-vectors : Apart
-unfolding le leBytes inLimits isValid blockOf readPacket packetAt returnedSize parameterBytes blockBytes interfaceBytes pathBytes sum wholeResult resultBytes resultAnswer isDrive shownOf verifyOk packetTests packetPlan seek sectors parameters extensions result steps begin outcomeNumbers sectorsGiven parametersGiven checkGiven packetTestsGiven packetNumbersAt extendedGiven seekGiven bufferGiven stepsGiven beginGiven
+unfolding le leBytes inLimits isValid blockOf readPacket packetAt returnedSize parameterBytes blockBytes interfaceBytes pathBytes sum wholeResult resultBytes resultAnswer heldOf isBad good isDrive badsOf shownOf verifyOk verified packetTests packetPlan seek sectors parameters extensions result steps begin outcomeNumbers sectorsGiven parametersGiven checkGiven packetTestsGiven packetNumbersAt extendedGiven seekGiven bufferGiven stepsGiven beginGiven
 apart-vectors =
     record {
       drive-places = refl;
@@ -793,6 +803,8 @@ tabled = record {
   count = 3;
   present = true ∷ false ∷ true ∷ replicate 5 false;
   parameters = given80 ++ (replicate 14 0 ++ (given82 ++ replicate 70 0));
+  counts = apart .counts;
+  bad = apart .bad;
 }
 
 -- placed from 7B40h on; 80h's table has the segment 07B4h and 82h's, right behind it, 07B5h
@@ -895,10 +907,142 @@ tabled-vectors =
       pointers = refl;
     }
 
+-- ---- the three drives with bad blocks, each with its own (document 02, 2026-04)
+
+-- numbers of eight bytes
+abbrev bytes8 : List ℕ → List ℕ
+bytes8 [] = []
+bytes8 (x ∷ l) = leBytes 8 x ++ bytes8 l
+
+-- the bytes of a list of sixteen, and zeros behind its numbers
+abbrev listed : List ℕ → List ℕ
+listed l = bytes8 l ++ replicate (128 - 8 * length l) 0
+
+-- 80h has 6 and 261, whose low byte is 81h's first; 81h has 5, 7 and its last block, 2999; 82h has 4
+abbrev worn : Table
+worn = record {
+  drives = apart .drives;
+  count = 3;
+  present = apart .present;
+  parameters = apart .parameters;
+  counts = 2 ∷ 3 ∷ 1 ∷ replicate 5 0;
+  bad = listed (6 ∷ 261 ∷ []) ++ (listed (5 ∷ 7 ∷ 2999 ∷ []) ++ (listed (4 ∷ []) ++ replicate 640 0));
+}
+
+-- how many bad blocks a number's drive has, and the first three places of its list
+abbrev bads : ℕ → List ℕ
+bads n = badsOf worn n .count ∷ map (badAt (badsOf worn n)) (0 ∷ 1 ∷ 2 ∷ [])
+
+-- 44h of a drive by start and count, with the AX, the carry and the count word that must come
+abbrev verifies : ℕ → ℕ → ℕ → ℕ → ℕ → ℕ → Case
+verifies dx start count ax carry n = both-ways (at worn (own 0x4477 5 0x0242 dx) (one57 count start)) (0 ∷ kept19 ax 5 0x0242 dx carry) (one57 n start)
+
+-- a request of eleven blocks from block 1 of a drive
+abbrev asksEleven : ℕ → Job
+asksEleven n = record { registers = own 0x4277 5 0x0242 n; drive = n; start = 1; count = 11; buffer = 57; packet = 19 }
+
+-- a request of 81h that ends after some of n blocks, with the AX and the carry that must come
+abbrev ends : ℕ → ℕ → ℕ → ℕ → ℕ → Case
+ends ax n k after carry = holds (ended n k (posted (own ax 5 0x0242 0x0181))) (kept19 after 5 0x0242 0x0181 carry)
+
+pub record Worn : Type 0 where
+  -- of the drives 80h, 81h, 82h, and of numbers that are no drive's
+  pub lists : map bads (0x80 ∷ 0x81 ∷ 0x82 ∷ 0x83 ∷ 0x00 ∷ []) ≡ (2 ∷ 6 ∷ 261 ∷ 0 ∷ []) ∷ (3 ∷ 5 ∷ 7 ∷ 2999 ∷ []) ∷ (1 ∷ 4 ∷ 0 ∷ 0 ∷ []) ∷ replicate 2 (0 ∷ 0 ∷ 0 ∷ 0 ∷ [])
+  -- 44h, by DL, start and count: 10h gives the good blocks before the first bad one in the count word, and AL stays; success leaves the packet
+  --   81h, 3 and 4: 10h, count word 2
+  --   81h, 5 and 1: 10h, count word 0
+  --   81h, 6 and 1, between two bad blocks: success
+  --   81h, 6 and 2: 10h, count word 1
+  --   81h, 8 and 127, behind them: success
+  --   81h, 0 and 5, before them: success
+  --   81h, 5 and 0: success
+  --   81h, 2998 and 2: 10h, count word 1
+  --   81h, 2998 and 3, a bad block and past the drive: 04h, count word 0
+  --   81h, 2873 and 127: 10h, count word 126
+  --   81h, 3 and 128: 01h, count word 0
+  --   80h, 3 and 4: 10h, count word 3
+  --   80h, 5 and 1: success
+  --   80h, 260 and 3: 10h, count word 1
+  --   82h, protected, 0 and 41: 10h, count word 4
+  --   82h, protected, 5 and 36: success
+  --   83h, 3 and 4: 01h, nothing written
+  pub worn-verify : Hold
+      ((verifies 0x0181 3 4 0x1077 1 2)
+      ∷ (verifies 0x0181 5 1 0x1077 1 0)
+      ∷ (verifies 0x0181 6 1 0x0077 0 1)
+      ∷ (verifies 0x0181 6 2 0x1077 1 1)
+      ∷ (verifies 0x0181 8 127 0x0077 0 127)
+      ∷ (verifies 0x0181 0 5 0x0077 0 5)
+      ∷ (verifies 0x0181 5 0 0x0077 0 0)
+      ∷ (verifies 0x0181 2998 2 0x1077 1 1)
+      ∷ (verifies 0x0181 2998 3 0x0477 1 0)
+      ∷ (verifies 0x0181 2873 127 0x1077 1 126)
+      ∷ (verifies 0x0181 3 128 0x0177 1 0)
+      ∷ (verifies 0x0180 3 4 0x1077 1 3)
+      ∷ (verifies 0x0180 5 1 0x0077 0 1)
+      ∷ (verifies 0x0180 260 3 0x1077 1 1)
+      ∷ (verifies 0x0182 0 41 0x1077 1 4)
+      ∷ (verifies 0x0182 5 36 0x0077 0 36)
+      ∷ (verifies 0x0183 3 4 0x0177 1 4)
+      ∷ [])
+  -- 44h over one drive: the bad blocks are those that are given, here 82h's; where the drive is not known they are not looked at
+  pub worn-over : Hold
+      ((both-ways (over true 3 drive81 (badsOf worn 0x82) (own 0x4477 5 0x0242 0x0181) (one57 4 3)) (0 ∷ kept19 0x1077 5 0x0242 0x0181 1) (one57 1 3))
+      ∷ (both-ways (over false 3 drive81 (badsOf worn 0x82) (own 0x4477 5 0x0242 0x0181) (one57 4 3)) (0 ∷ kept19 0x0177 5 0x0242 0x0181 1) (one57 4 3))
+      ∷ [])
+  -- the others do not look at bad blocks when they are called: block 5 of 81h, and the window is not written
+  --   42h: waits
+  --   43h: waits
+  --   02h, 0/2/2 of 300/3/2: waits
+  --   03h, the same: waits
+  --   47h: success
+  pub worn-calls : Hold
+      ((both-ways (at worn (own 0x4277 5 0x0242 0x0181) (one57 1 5)) (256 ∷ 0x81 ∷ 5 ∷ 1 ∷ 57 ∷ 19 ∷ kept19 0x4277 5 0x0242 0x0181 0) (one57 1 5))
+      ∷ (both-ways (at worn (own 0x4302 5 0x0242 0x0181) (one57 1 5)) (256 ∷ 0x81 ∷ 5 ∷ 1 ∷ 57 ∷ 19 ∷ kept19 0x4302 5 0x0242 0x0181 0) (one57 1 5))
+      ∷ (both-ways (at worn (own 0x0201 5 0x0002 0x0281) (one57 1 5)) (256 ∷ 0x81 ∷ 5 ∷ 1 ∷ 37 ∷ 0 ∷ kept19 0x0201 5 0x0002 0x0281 0) (one57 1 5))
+      ∷ (both-ways (at worn (own 0x0301 5 0x0002 0x0281) (one57 1 5)) (256 ∷ 0x81 ∷ 5 ∷ 1 ∷ 37 ∷ 0 ∷ kept19 0x0301 5 0x0002 0x0281 0) (one57 1 5))
+      ∷ (both-ways (at worn (own 0x4777 5 0x0242 0x0181) (one57 1 5)) (0 ∷ kept19 0x0077 5 0x0242 0x0181 0) (one57 1 5))
+      ∷ [])
+  -- of nine blocks of a request those before the first bad one of its own drive: from its block 2 on of 80h, 81h and 82h, from 0 and 7 on of 81h
+  pub worn-good : map (λ (n : ℕ). goodOf worn (asksEleven n) 2 9) (0x80 ∷ 0x81 ∷ 0x82 ∷ []) ++ map (λ (i : ℕ). goodOf worn (asksEleven 0x81) i 9) (0 ∷ 7 ∷ [])
+      ≡ 3 ∷ 2 ∷ 1 ∷ 4 ∷ 9 ∷ []
+  -- a request's end: 10h for a read, CCh for a write; AL gives the blocks for 02h and 03h, and stays for the others
+  --   02h of 4, after 2: AX 1002h
+  --   03h of 4, after 2: AX CC02h
+  --   42h of 4, after 2: AX 1077h
+  --   43h of 4, after 2: AX CC01h
+  --   02h of 4, after none: AX 1000h
+  --   03h of 128, after 127: AX CC7Fh
+  --   each of 4, after all: AX 0004h, 0004h, 0077h and 0001h
+  pub worn-ends : Hold
+      ((ends 0x0204 4 2 0x1002 1)
+      ∷ (ends 0x0304 4 2 0xCC02 1)
+      ∷ (ends 0x4277 4 2 0x1077 1)
+      ∷ (ends 0x4301 4 2 0xCC01 1)
+      ∷ (ends 0x0204 4 0 0x1000 1)
+      ∷ (ends 0x0380 128 127 0xCC7F 1)
+      ∷ (ends 0x0204 4 4 0x0004 0)
+      ∷ (ends 0x0304 4 4 0x0004 0)
+      ∷ (ends 0x4277 4 4 0x0077 0)
+      ∷ (ends 0x4301 4 4 0x0001 0)
+      ∷ [])
+
+pub worn-vectors : Worn
+unfolding ended le leBytes inLimits isValid blockOf readPacket packetAt heldOf isBad good isDrive badsOf shownOf verifyOk verified packetTests packetPlan seek sectors parameters extensions result steps begin outcomeNumbers sectorsGiven parametersGiven checkGiven packetTestsGiven packetNumbersAt extendedGiven seekGiven bufferGiven stepsGiven beginGiven
+worn-vectors =
+    record {
+      lists = refl;
+      worn-verify = refl;
+      worn-over = refl;
+      worn-calls = refl;
+      worn-good = refl;
+      worn-ends = refl;
+    }
+
 -- functions that there are not, on a drive and with an address and a packet that would do: 04h, 07h, 15h, 40h, 45h, 46h and 49h
 pub no-functions : map (λ (ax : ℕ). outcomeNumbers (begin (fed apart noPlacement) (own ax 5 0x0242 0x0181) (one57 1 2999) .outcome)) (0x0401 ∷ 0x0701 ∷ 0x1501 ∷ 0x4001 ∷ 0x4501 ∷ 0x4601 ∷ 0x4901 ∷ [])
     ≡ replicate 7 (0 ∷ kept19 0x0101 5 0x0242 0x0181 1)
-unfolding le leBytes inLimits isValid blockOf readPacket packetAt isDrive shownOf verifyOk packetTests packetPlan seek sectors parameters extensions result steps begin outcomeNumbers
+unfolding le leBytes inLimits isValid blockOf readPacket packetAt heldOf isBad good isDrive badsOf shownOf verifyOk verified packetTests packetPlan seek sectors parameters extensions result steps begin outcomeNumbers
 no-functions = refl
 
 -- each of eight drives at its place, and a number below 80h
@@ -948,11 +1092,11 @@ module _ (window store : List ℕ) (lw : length window ≡ 1061) where
       ∷ leaving 0x0002 false window (blocks store 1024 window 37 2)
       ∷ leaving 0x0177 true (placed (packet 16 0 9 3 1) 0) store
       ∷ []
-  unfolding alone moves le leBytes inLimits isValid blockOf driveRead same busOk interfaceOk geometryFits fieldsOk inStore overlap headerOf headerAt overlapsAny refusal recordRefusal withRecord recordStep endStep stepOf stepAt readFrom readTable readPacket packetAt isDrive shownOf packetTests packetPlan sectors steps begin
+  unfolding alone moves reported ended le leBytes inLimits isValid blockOf driveRead same busOk interfaceOk geometryFits fieldsOk inStore overlap headerOf headerAt overlapsAny refusal recordRefusal withRecord recordStep endStep stepOf stepAt readFrom readTable readPacket packetAt heldOf isBad good isDrive badsOf shownOf verified packetTests packetPlan sectors steps begin
   served-alone ls = rw (lw, ls)
 
   pub served-short : length store ≡ 2047 → served 0x0202 window store ≡ leaving 0x0100 true window store
-  unfolding alone moves le leBytes inLimits isValid blockOf driveRead same busOk interfaceOk geometryFits fieldsOk inStore overlap headerOf headerAt overlapsAny refusal recordRefusal withRecord recordStep endStep stepOf stepAt readFrom readTable isDrive shownOf sectors steps begin
+  unfolding alone moves reported ended le leBytes inLimits isValid blockOf driveRead same busOk interfaceOk geometryFits fieldsOk inStore overlap headerOf headerAt overlapsAny refusal recordRefusal withRecord recordStep endStep stepOf stepAt readFrom readTable heldOf isBad good isDrive badsOf shownOf sectors steps begin
   served-short ls = rw (lw, ls)
 
 -- 41h, with the table's bytes and the placement; it changes neither window nor store
@@ -971,3 +1115,67 @@ module _ (window store : List ℕ) where
       ≡ leaving41 0x0005 ∷ leaving41 0x0001 ∷ leaving41 0x0001 ∷ []
   unfolding alone le leBytes inLimits driveRead same busOk interfaceOk geometryFits fieldsOk inStore overlap headerOf headerAt overlapsAny refusal parametersRefusal recordRefusal withRecord recordStep endStep stepOf stepAt readFrom readTable isDrive shownOf extensions steps begin
   served-placed ls = rw ls
+
+-- ---- served alone at bad blocks: a drive of 9 blocks from store block 1, with C, H and S 1, 1 and 9, of which 5 and 7 are bad
+
+-- behind the drive's record that of kind 3: length 22, drive 0
+abbrev smallWorn : List ℕ
+smallWorn =
+    take 68 (sets bytes 16 (leBytes 8 9 ++ leBytes 8 1 ++ leBytes 2 2 ++ leBytes 2 1 ++ leBytes 2 1 ++ (9 ∷ [])))
+    ++ (22 ∷ 0 ∷ 3 ∷ 0 ∷ 0 ∷ 0 ∷ (bytes8 (5 ∷ 7 ∷ []) ++ drop 68 bytes))
+
+-- by AX; CX is 0/0/4, block 3, the buffer at ES:BX place 37, the packet at DS:SI place 19
+abbrev wears : ℕ → List ℕ → List ℕ → Served
+wears ax window store = alone (fed smallWorn noPlacement) (own ax 5 4 0x80) (record { window = window; store = store })
+
+abbrev ending : ℕ → Bool → List ℕ → List ℕ → Served
+ending ax carry window store = record {
+  registers = record { ax = ax; bx = 5; cx = 4; dx = 0x80; ds = 1; si = 3; es = 2; carry = carry };
+  memory = record { window = window; store = store };
+}
+
+-- 02h and 03h of four sectors from block 3, of which two are good and move, and there is no count word; 02h of these two
+pub worn-sectors : (window store : List ℕ) → length window ≡ 2085 → length store ≡ 5120
+    → wears 0x0204 window store ∷ wears 0x0304 window store ∷ wears 0x0202 window store ∷ []
+    ≡ ending 0x1002 true (blocks window 37 store 2048 2) store
+    ∷ ending 0xCC02 true window (blocks store 2048 window 37 2)
+    ∷ ending 0x0002 false (blocks window 37 store 2048 2) store
+    ∷ []
+unfolding alone moves reported ended le leBytes inLimits isValid blockOf driveRead same busOk interfaceOk geometryFits fieldsOk inStore overlap badCount badLengthOk badsIn heldOf ascends areBlocks listOk headerOf headerAt overlapsAny refusal badsRefusal recordRefusal withRecord recordStep endStep stepOf stepAt readFrom readTable isBad good isDrive badsOf shownOf sectors steps begin
+worn-sectors window store lw ls = rw (lw, ls)
+
+-- 44h of four blocks from 3 moves none, and the count word is 2
+pub worn-reported : (store : List ℕ) → length store ≡ 5120
+    → wears 0x4477 (placed (packet 16 4 9 3 3) 0) store ≡ ending 0x1077 true (placed (packet 16 2 9 3 3) 0) store
+unfolding alone le leBytes inLimits driveRead same busOk interfaceOk geometryFits fieldsOk inStore overlap badCount badLengthOk badsIn heldOf ascends areBlocks listOk headerOf headerAt overlapsAny refusal badsRefusal recordRefusal withRecord recordStep endStep stepOf stepAt readFrom readTable readPacket packetAt isBad good isDrive badsOf shownOf verified packetTests packetPlan steps begin
+worn-reported store ls =
+    let m : Memory = record { window = placed (packet 16 4 9 3 3) 0; store = store } in
+    ap (λ (n : ℕ). servedBy (fed (readTable smallWorn (n / 512) .table) noPlacement) (own 0x4477 5 4 0x80) m) ls
+
+-- with a packet of that buffer, count and start, in a window of 2105 bytes
+module _ (rest store : List ℕ) (lr : length rest ≡ 2070) (ls : length store ≡ 5120) where
+  abbrev asking : ℕ → ℕ → ℕ → ℕ → List ℕ
+  asking offset segment count start = replicate 19 15 ++ (packet 16 count offset segment start ++ rest)
+
+  -- four blocks from 3, of which two move, and the count word is 2: 42h to place 57, and 43h from there
+  pub worn-packets : wears 0x4277 (asking 9 3 4 3) store ∷ wears 0x4301 (asking 9 3 4 3) store ∷ []
+      ≡ ending 0x1077 true (sets (blocks (asking 9 3 4 3) 57 store 2048 2) 21 (2 ∷ 0 ∷ [])) store
+      ∷ ending 0xCC01 true (asking 9 3 2 3) (blocks store 2048 (asking 9 3 4 3) 57 2)
+      ∷ []
+  unfolding alone moves reported ended le leBytes inLimits isValid blockOf driveRead same busOk interfaceOk geometryFits fieldsOk inStore overlap badCount badLengthOk badsIn heldOf ascends areBlocks listOk headerOf headerAt overlapsAny refusal badsRefusal recordRefusal withRecord recordStep endStep stepOf stepAt readFrom readTable readPacket packetAt isBad good isDrive badsOf shownOf verifyOk verified packetTests packetPlan steps begin
+  worn-packets = rw (lr, ls)
+
+  -- 42h to place 9, over its packet: the count word lies on the data. 42h of block 8 succeeds, and the packet stays, or is the data that covers it
+  pub worn-covered : wears 0x4277 (asking 9 0 4 3) store ∷ wears 0x4277 (asking 9 3 1 8) store ∷ wears 0x4277 (asking 9 0 1 8) store ∷ []
+      ≡ ending 0x1077 true (sets (blocks (asking 9 0 4 3) 9 store 2048 2) 21 (2 ∷ 0 ∷ [])) store
+      ∷ ending 0x0077 false (blocks (asking 9 3 1 8) 57 store 4608 1) store
+      ∷ ending 0x0077 false (blocks (asking 9 0 1 8) 9 store 4608 1) store
+      ∷ []
+  unfolding alone moves reported ended le leBytes inLimits isValid blockOf driveRead same busOk interfaceOk geometryFits fieldsOk inStore overlap badCount badLengthOk badsIn heldOf ascends areBlocks listOk headerOf headerAt overlapsAny refusal badsRefusal recordRefusal withRecord recordStep endStep stepOf stepAt readFrom readTable readPacket packetAt isBad good isDrive badsOf shownOf verifyOk verified packetTests packetPlan steps begin
+  worn-covered = rw (lr, ls)
+
+  -- a bad block first, 5 of two: none moves, and the count word is 0
+  pub worn-first : wears 0x4277 (asking 9 3 2 5) store ∷ wears 0x4301 (asking 9 3 2 5) store ∷ []
+      ≡ ending 0x1077 true (asking 9 3 0 5) store ∷ ending 0xCC01 true (asking 9 3 0 5) store ∷ []
+  unfolding blocks alone moves reported ended le leBytes inLimits isValid blockOf driveRead same busOk interfaceOk geometryFits fieldsOk inStore overlap badCount badLengthOk badsIn heldOf ascends areBlocks listOk headerOf headerAt overlapsAny refusal badsRefusal recordRefusal withRecord recordStep endStep stepOf stepAt readFrom readTable readPacket packetAt isBad good isDrive badsOf shownOf verifyOk verified packetTests packetPlan steps begin
+  worn-first = rw (lr, ls)

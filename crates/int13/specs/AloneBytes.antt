@@ -1,14 +1,15 @@
--- Document 01, "The words of demand 3", Served alone, byte by byte and from outside: what a request that waits comes to. The numbers of the
--- paper stand here as they are there, so that nothing below is proved against itself.
+-- Document 01, "The words of demand 3", Served alone, and document 02, 2026-04, byte by byte and from outside: what a request that waits comes to.
+-- The numbers of the papers stand here as they are there, so that nothing below is proved against itself.
 -- Assumes nothing.
 use Prim.Native.Nat.{ℕ, _+_, _*_, _/_, _%_, _≤_, _<_}
 use mathlib.Core.Path.{_≡_}
 use mathlib.Core.Logic.{_⊎_}
-use mathlib.Core.Bool.{false}
+use mathlib.Core.Bool.{Bool, true, false}
 use mathlib.Core.List.{List}
 use lib.ListN.{length, getD}
 use Rattle.logic.specs.Logic.{pick}
 use Rattle.words.specs.Words.{le}
+use Rattle.attached.specs.Bad.{isBad}
 use Rattle.table.specs.declared.Table.{Table}
 use Rattle.table.specs.declared.Answer.the-variants.{Accepted}
 use Rattle.table.specs.Table.{readTable}
@@ -17,8 +18,8 @@ use Rattle.int13.specs.declared.Job.{Job}
 use Rattle.int13.specs.declared.Placement.{Placement}
 use Rattle.int13.specs.declared.Outcome.the-variants.{Waits}
 use Rattle.int13.specs.Answers.{ah, isSectors}
-use Rattle.int13.specs.Steps.{fed, begin}
-use Rattle.int13.specs.Alone.{Memory, Served, asked, namedFrom, alone}
+use Rattle.int13.specs.Steps.{fed, badsOf, begin}
+use Rattle.int13.specs.Alone.{Memory, Served, asked, askedStart, namedFrom, alone}
 
 -- ---- "The words of demand 3", Served alone: what moves, byte by byte
 
@@ -53,17 +54,58 @@ pub record PostedWell (r x : Registers) : Type 0 where
   pub es : x .es ≡ r .es
   pub carry : x .carry ≡ false
 
+-- ---- document 02, 2026-04: the end at a bad block
+
+-- block x of the drive that DL names is one of its bad ones, or is not
+abbrev pub wornBlock : Table → Registers → ℕ → Bool
+wornBlock b r x = isBad (badsOf b (r .dx % 256)) x
+
+-- "carry set, AH = 10h for a read, CCh for a write", AL giving the n good blocks moved for 02h and 03h
+pub record PostedBad (n : ℕ) (r x : Registers) : Type 0 where
+  pub read : (ah r ≡ 0x02) ⊎ (ah r ≡ 0x42) → x .ax / 256 ≡ 0x10
+  pub write : (ah r ≡ 0x03) ⊎ (ah r ≡ 0x43) → x .ax / 256 ≡ 0xCC
+  pub al : x .ax % 256 ≡ pick (isSectors (ah r)) n (r .ax % 256)
+  pub bx : x .bx ≡ r .bx
+  pub cx : x .cx ≡ r .cx
+  pub dx : x .dx ≡ r .dx
+  pub ds : x .ds ≡ r .ds
+  pub si : x .si ≡ r .si
+  pub es : x .es ≡ r .es
+  pub carry : x .carry ≡ true
+
+-- "the packet's count word [...] giving the good blocks moved", the packet at DS:SI; no other byte changes
+pub record CountBytes (n : ℕ) (r : Registers) (m m′ : Memory) : Type 0 where
+  pub low : getD (m′ .window) (16 * r .ds + r .si + 2) 0 ≡ n
+  pub high : getD (m′ .window) (16 * r .ds + r .si + 3) 0 ≡ 0
+  pub other : (x : ℕ) → (x < 16 * r .ds + r .si + 2) ⊎ (16 * r .ds + r .si + 4 ≤ x) → getD (m′ .window) x 0 ≡ getD (m .window) x 0
+  pub size : length (m′ .window) ≡ length (m .window)
+  pub store : m′ .store ≡ m .store
+
+-- what is written after the data: nothing where all n blocks moved, and nothing for 02h and 03h, which have no packet
+pub record AfterData (n k : ℕ) (r : Registers) (m m′ : Memory) : Type 0 where
+  pub all : k ≡ n → m′ ≡ m
+  pub sectors : (ah r ≡ 0x02) ⊎ (ah r ≡ 0x03) → m′ ≡ m
+  pub packet : (ah r ≡ 0x42) ⊎ (ah r ≡ 0x43) → k < n → CountBytes k r m m′
+
 -- ---- "The words of demand 3", Served alone: the request that waits
 
--- n, the first named block and the buffer by the registers, the packet and the table that was read; both runs lie inside the memory
+-- n, the first named block and the buffer by the registers, the packet and the table that was read; both runs lie inside the memory. k blocks
+-- move, those before the first bad one, or all n; `between` is the memory then
 pub record AloneBytes (b : Table) (r : Registers) (m : Memory) (s : Served) : Type 0 where
   pub some : 0 < asked r (m .window)
   pub room : askedBuffer r (m .window) + 512 * asked r (m .window) ≤ length (m .window)
   pub inside : 512 * (namedFrom b r (m .window) + asked r (m .window)) ≤ length (m .store)
-  pub registers : PostedWell r (s .registers)
   pub function : ((ah r ≡ 0x02) ⊎ (ah r ≡ 0x42)) ⊎ ((ah r ≡ 0x03) ⊎ (ah r ≡ 0x43))
-  pub reads : (ah r ≡ 0x02) ⊎ (ah r ≡ 0x42) → ReadBytes (asked r (m .window)) (namedFrom b r (m .window)) (askedBuffer r (m .window)) m (s .memory)
-  pub writes : (ah r ≡ 0x03) ⊎ (ah r ≡ 0x43) → WrittenBytes (asked r (m .window)) (namedFrom b r (m .window)) (askedBuffer r (m .window)) m (s .memory)
+  pub k : ℕ
+  pub most : k ≤ asked r (m .window)
+  pub good : (i : ℕ) → i < k → wornBlock b r (askedStart b r (m .window) + i) ≡ false
+  pub bad : k < asked r (m .window) → wornBlock b r (askedStart b r (m .window) + k) ≡ true
+  pub between : Memory
+  pub reads : (ah r ≡ 0x02) ⊎ (ah r ≡ 0x42) → ReadBytes k (namedFrom b r (m .window)) (askedBuffer r (m .window)) m between
+  pub writes : (ah r ≡ 0x03) ⊎ (ah r ≡ 0x43) → WrittenBytes k (namedFrom b r (m .window)) (askedBuffer r (m .window)) m between
+  pub after : AfterData (asked r (m .window)) k r between (s .memory)
+  pub whole : k ≡ asked r (m .window) → PostedWell r (s .registers)
+  pub stopped : k < asked r (m .window) → PostedBad k r (s .registers)
 
 -- for every table that an opening accepts, placement, registers, window and store: where the steps let the call wait, served alone moves those bytes
 abbrev pub AloneMoves : Type 0

@@ -1,9 +1,9 @@
--- Document 01, "Numbers given back": the codes in AH, and what an answer does to the registers.
+-- Document 01, "Numbers given back", and document 02, 2026-04: the codes in AH, and what an answer does to the registers.
 -- Assumes nothing.
 use Prim.Native.Nat.{ℕ, _+_, _*_, _/_, _%_}
 use mathlib.Core.Bool.{Bool, true, false}
 use mathlib.Core.List.{List, [], _∷_}
-use lib.Dec.{eqb}
+use lib.Dec.{ltb, eqb}
 use Rattle.logic.specs.Logic.{pick, either}
 use Rattle.int13.specs.declared.Registers.{Registers}
 use Rattle.int13.specs.declared.Job.{Job}
@@ -27,6 +27,14 @@ badBuffer = 0x09
 -- 80h: withdrawn
 abbrev pub withdrawnCode : ℕ
 withdrawnCode = 0x80
+
+-- 10h: a bad block, of a read and of 44h (document 02, 2026-04)
+abbrev pub badRead : ℕ
+badRead = 0x10
+
+-- CCh: a bad block, of a write (document 02, 2026-04)
+abbrev pub badWrite : ℕ
+badWrite = 0xCC
 
 -- ---- "Numbers given back", halves of the registers
 
@@ -74,6 +82,14 @@ refuse code r = stop code 0 r
 -- a withdrawal: carry set, AH = 80h
 abbrev pub withdraw : ℕ → Registers → Registers
 withdraw moved r = stop withdrawnCode moved r
+
+-- "AH = 10h for a read, CCh for a write" (document 02, 2026-04)
+abbrev pub badCode : Registers → ℕ
+badCode r = pick (isWrite (ah r)) badWrite badRead
+
+-- a request of n blocks that ends after some of them: all, and it succeeds; or those before a bad block
+unfoldable pub ended : ℕ → ℕ → Registers → Registers
+ended n moved r = pick (ltb moved n) (stop (badCode r) moved r) (succeed r)
 
 -- the registers that a waiting row keeps: every answer names carry, so that what the guest gave there is dropped
 abbrev pub posted : Registers → Registers

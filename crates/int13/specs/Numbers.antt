@@ -11,11 +11,13 @@ use Rattle.words.specs.Words.{le}
 use Rattle.chs.specs.Chs.{inLimits, isValid, number, addressIn}
 use Rattle.drive.specs.declared.Drive.{Drive}
 use Rattle.drive.specs.Drive.{geometryOf, isProtected}
+use Rattle.attached.specs.declared.Bads.{Bads}
+use Rattle.attached.specs.Bad.{good}
 use Rattle.table.specs.declared.Table.{Table}
 use Rattle.layout.specs.ResultBuffer.{returnedSize}
 use Rattle.int13.specs.declared.Registers.{Registers}
 use Rattle.int13.specs.Answers.{ah, al, isSectors, isWrite}
-use Rattle.int13.specs.Steps.{driveCount, isDrive, driveAt, verifyOk}
+use Rattle.int13.specs.Steps.{driveCount, isDrive, driveAt, badsOf, verifyOk}
 
 -- ---- "Numbers given back", what an answer does to the registers
 
@@ -72,33 +74,33 @@ checkGiven known table r =
 
 -- ---- "Steps of each function", 42h, 43h, 44h
 
--- a packet of 16 bytes at least: count above 127 01h, a protected drive 03h, blocks outside the drive 04h; 44h is done; a buffer that is not
--- inside the window 09h; a count of 0 is done
-unfoldable pub packetTestsGiven : Drive → Registers → ℕ → ℕ → ℕ → ℕ → List ℕ
-packetTestsGiven d r M count buffer start =
+-- a packet of 16 bytes at least: count above 127 01h, a protected drive 03h, blocks outside the drive 04h; 44h is 10h where one of them is bad,
+-- else done; a buffer that is not inside the window 09h; a count of 0 is done
+unfoldable pub packetTestsGiven : Drive → Bads → Registers → ℕ → ℕ → ℕ → ℕ → List ℕ
+packetTestsGiven d l r M count buffer start =
     pick (ltb 127 count) (refusedNumbers 0x01 r)
     (pick (both (isWrite (ah r)) (isProtected d)) (refusedNumbers 0x03 r)
     (pick (ltb (d .blocks) (start + count)) (refusedNumbers 0x04 r)
-    (pick (eqb (ah r) 0x44) (doneNumbers r)
+    (pick (eqb (ah r) 0x44) (pick (ltb (good l start count) count) (refusedNumbers 0x10 r) (doneNumbers r))
     (pick (ltb M (buffer + 512 * count)) (refusedNumbers 0x09 r)
     (pick (eqb count 0) (doneNumbers r)
     (waitsNumbers start count buffer (16 * r .ds + r .si) r))))))
 
 -- the packet at a place: 16 bytes inside the window and a size byte of 16 at least, else 01h; count at 2, offset and segment at 4 and 6,
 -- start at 8
-unfoldable pub packetNumbersAt : Drive → Registers → List ℕ → ℕ → List ℕ
-packetNumbersAt d r w place =
+unfoldable pub packetNumbersAt : Drive → Bads → Registers → List ℕ → ℕ → List ℕ
+packetNumbersAt d l r w place =
     pick (leb (place + 16) (length w))
     (pick (ltb (getD w place 0) 16) (refusedNumbers 0x01 r)
-    (packetTestsGiven d r (length w) (le 2 w (place + 2)) (16 * le 2 w (place + 6) + le 2 w (place + 4)) (le 8 w (place + 8))))
+    (packetTestsGiven d l r (length w) (le 2 w (place + 2)) (16 * le 2 w (place + 6) + le 2 w (place + 4)) (le 8 w (place + 8))))
     (refusedNumbers 0x01 r)
 
 -- no drive 01h, AL of 43h 01h, then the packet at DS:SI
-unfoldable pub extendedGiven : Bool → Drive → Registers → List ℕ → List ℕ
-extendedGiven known d r w =
+unfoldable pub extendedGiven : Bool → Drive → Bads → Registers → List ℕ → List ℕ
+extendedGiven known d l r w =
     pick (not known) (refusedNumbers 0x01 r)
     (pick (both (isWrite (ah r)) (not (verifyOk (al r) (d .flags)))) (refusedNumbers 0x01 r)
-    (packetNumbersAt d r w (16 * r .ds + r .si)))
+    (packetNumbersAt d l r w (16 * r .ds + r .si)))
 
 -- ---- "Steps of each function", 47h
 
@@ -125,12 +127,12 @@ bufferGiven known d r w =
 -- ---- "Steps of each function", every function by AH
 
 -- a function that is not named is 01h
-unfoldable pub stepsGiven : Bool → ℕ → Drive → Bool → Registers → List ℕ → List ℕ
-stepsGiven known count d table r w =
+unfoldable pub stepsGiven : Bool → ℕ → Drive → Bads → Bool → Registers → List ℕ → List ℕ
+stepsGiven known count d l table r w =
     pick (either (eqb (ah r) 0x02) (eqb (ah r) 0x03)) (sectorsGiven known d r (length w))
     (pick (eqb (ah r) 0x08) (parametersGiven known count d r)
     (pick (eqb (ah r) 0x41) (checkGiven known table r)
-    (pick (either (eqb (ah r) 0x42) (either (eqb (ah r) 0x43) (eqb (ah r) 0x44))) (extendedGiven known d r w)
+    (pick (either (eqb (ah r) 0x42) (either (eqb (ah r) 0x43) (eqb (ah r) 0x44))) (extendedGiven known d l r w)
     (pick (eqb (ah r) 0x47) (seekGiven known d r w)
     (pick (eqb (ah r) 0x48) (bufferGiven known d r w)
     (refusedNumbers 0x01 r))))))
@@ -139,5 +141,5 @@ stepsGiven known count d table r w =
 -- parameters
 unfoldable pub beginGiven : Table → Bool → Registers → List ℕ → List ℕ
 beginGiven b placed r w =
-    stepsGiven (isDrive b (r .dx % 256)) (driveCount b) (driveAt b (r .dx % 256))
+    stepsGiven (isDrive b (r .dx % 256)) (driveCount b) (driveAt b (r .dx % 256)) (badsOf b (r .dx % 256))
     (both (isDrive b (r .dx % 256)) (both placed (getD (b .present) (r .dx % 256 - 0x80) false))) r w

@@ -1,6 +1,6 @@
 -- Document 01, "Steps of each function": the tests of each function in the paper's order, over the one drive that DL names. M is the length
 -- of the guest's window; `known`: whether the table has the drive; d: that drive, any one where it is not known; s: what the guest is shown of
--- the drive's parameter table (document 02, 2026-01).
+-- the drive's parameter table (document 02, 2026-01); l: the drive's bad blocks (document 02, 2026-04).
 -- Assumes nothing.
 use Prim.Native.Nat.{ℕ, _+_, _-_, _*_, _/_, _%_}
 use mathlib.Core.Bool.{Bool, true, false, not}
@@ -15,8 +15,10 @@ use Rattle.chs.specs.declared.ToBlock.the-variants.{Block, Refused as NoBlock}
 use Rattle.chs.specs.Chs.{outside, size, blockOf, addressIn, pack}
 use Rattle.drive.specs.declared.Drive.{Drive}
 use Rattle.drive.specs.Drive.{geometryOf, isProtected}
+use Rattle.attached.specs.declared.Bads.{Bads}
+use Rattle.attached.specs.Bad.{noBads, good}
 use Rattle.table.specs.declared.Table.{Table}
-use Rattle.table.specs.Table.{mostDrives, drivesOf, noDrive}
+use Rattle.table.specs.Table.{mostDrives, drivesOf, noDrive, badsAt}
 use Rattle.layout.specs.declared.Packet.{Packet}
 use Rattle.layout.specs.declared.PacketRead.{PacketRead}
 use Rattle.layout.specs.declared.PacketRead.the-variants.{Whole, Refused as NoPacket}
@@ -34,7 +36,7 @@ use Rattle.int13.specs.declared.Outcome.the-variants.{Answered, Waits}
 use Rattle.int13.specs.declared.Plan.{Plan}
 use Rattle.int13.specs.declared.Plan.the-variants.{Refuse, Clear, Finish, Wait}
 use Rattle.int13.specs.Placement.{notShown, shownIn, pointerOf}
-use Rattle.int13.specs.Answers.{writeProtected, noParameters, badBuffer, ah, al, dl, isWrite, answer, succeed, refuse, posted}
+use Rattle.int13.specs.Answers.{writeProtected, noParameters, badBuffer, badRead, ah, al, dl, isWrite, answer, succeed, refuse, posted}
 
 -- ---- "Steps of each function", what they are fed and what they make of a call
 
@@ -83,6 +85,10 @@ driveIn b n = getD (b .drives) (n % mostDrives) noDrive
 abbrev pub driveNamed : Table → Registers → Drive
 driveNamed b r = driveAt b (dl r)
 
+-- the bad blocks of the drive of a number; a number that is no drive's has none
+unfoldable pub badsOf : Table → ℕ → Bads
+badsOf b n = pick (isDrive b n) (badsAt b (n - firstDrive)) noBads
+
 -- what a guest with that placement is shown of the drive of a number; of a number that is no drive's, nothing
 unfoldable pub shownOf : Table → Placement → ℕ → Shown
 shownOf b p n = pick (isDrive b n) (shownIn b p (n - firstDrive)) notShown
@@ -105,28 +111,32 @@ mostBlocks = 127
 abbrev pub packetJob : Registers → Packet → Job
 packetJob r p = record { registers = posted r; drive = dl r; start = p .start; count = p .count; buffer = p .buffer; packet = packetPlace r }
 
--- the packet's own tests, once its size byte is found good; from here a refusal sets the count word to 0; 44h moves nothing
-unfoldable pub packetTests : Drive → Registers → ℕ → Packet → Plan
-packetTests d r M p =
-    pick (ltb mostBlocks (p .count)) (Clear badParameter)
-    (pick (both (isWrite (ah r)) (isProtected d)) (Clear writeProtected)
-    (pick (ltb (d .blocks) (p .start + p .count)) (Clear outside)
-    (pick (eqb (ah r) 0x44) Finish
-    (pick (ltb M (p .buffer + blockLength * p .count)) (Clear badBuffer)
+-- 44h moves nothing: it reports the first bad block of its range with 10h, the count word giving the good blocks before it (document 02, 2026-04)
+unfoldable pub verified : ℕ → ℕ → Plan
+verified k count = pick (ltb k count) (Clear badRead k) Finish
+
+-- the packet's own tests, once its size byte is found good; from here a refusal sets the count word, to 0 but for a bad block
+unfoldable pub packetTests : Drive → Bads → Registers → ℕ → Packet → Plan
+packetTests d l r M p =
+    pick (ltb mostBlocks (p .count)) (Clear badParameter 0)
+    (pick (both (isWrite (ah r)) (isProtected d)) (Clear writeProtected 0)
+    (pick (ltb (d .blocks) (p .start + p .count)) (Clear outside 0)
+    (pick (eqb (ah r) 0x44) (verified (good l (p .start) (p .count)) (p .count))
+    (pick (ltb M (p .buffer + blockLength * p .count)) (Clear badBuffer 0)
     (pick (eqb (p .count) 0) Finish
     (Wait (packetJob r p)))))))
 
 -- 16 packet bytes inside the window, size byte at least 16
-abbrev pub packetRead : Drive → Registers → ℕ → PacketRead → Plan
-packetRead d r M (NoPacket code) = Refuse code
-packetRead d r M (Whole p) = pick (ltb (p .size) packetLength) (Refuse badParameter) (packetTests d r M p)
+abbrev pub packetRead : Drive → Bads → Registers → ℕ → PacketRead → Plan
+packetRead d l r M (NoPacket code) = Refuse code
+packetRead d l r M (Whole p) = pick (ltb (p .size) packetLength) (Refuse badParameter) (packetTests d l r M p)
 
 -- drive, then AL for 43h, then the packet, which is read once
-unfoldable pub packetPlan : Bool → Drive → Registers → List ℕ → Plan
-packetPlan known d r w =
+unfoldable pub packetPlan : Bool → Drive → Bads → Registers → List ℕ → Plan
+packetPlan known d l r w =
     pick (not known) (Refuse badParameter)
     (pick (both (isWrite (ah r)) (not (verifyOk (al r) (d .flags)))) (Refuse badParameter)
-    (packetRead d r (length w) (readPacket w (packetPlace r))))
+    (packetRead d l r (length w) (readPacket w (packetPlace r))))
 
 -- the count word of the packet at a place, set to a number
 abbrev pub withCount : List ℕ → ℕ → ℕ → List ℕ
@@ -135,13 +145,13 @@ withCount w place n = sets w (place + 2) (leBytes 2 n)
 -- what a plan comes to; success never writes the packet
 abbrev pub carryOut : Plan → Registers → List ℕ → Checked
 carryOut (Refuse code) r w = unchanged w (Answered (refuse code r))
-carryOut (Clear code) r w = record { outcome = Answered (refuse code r); window = withCount w (packetPlace r) 0 }
+carryOut (Clear code n) r w = record { outcome = Answered (refuse code r); window = withCount w (packetPlace r) n }
 carryOut Finish r w = unchanged w (Answered (succeed r))
 carryOut (Wait j) r w = unchanged w (Waits j)
 
 -- 42h, 43h and 44h
-abbrev pub extended : Bool → Drive → Registers → List ℕ → Checked
-extended known d r w = carryOut (packetPlan known d r w) r w
+abbrev pub extended : Bool → Drive → Bads → Registers → List ℕ → Checked
+extended known d l r w = carryOut (packetPlan known d l r w) r w
 
 -- ---- "Steps of each function", 47h
 
@@ -234,18 +244,20 @@ result known d s r w =
 
 -- ---- "Steps of each function", every function by AH
 
--- the steps of a call over one drive: whether DL names it, of how many, which it is, and what the guest is shown of its parameter table; an
--- unknown function is 01h
-unfoldable pub steps : Bool → ℕ → Drive → Shown → Registers → List ℕ → Checked
-steps known count d s r w =
+-- the steps of a call over one drive: whether DL names it, of how many, which it is, its bad blocks, and what the guest is shown of its parameter
+-- table; an unknown function is 01h
+unfoldable pub steps : Bool → ℕ → Drive → Bads → Shown → Registers → List ℕ → Checked
+steps known count d l s r w =
     pick (either (eqb (ah r) 0x02) (eqb (ah r) 0x03)) (unchanged w (sectors known d r (length w)))
     (pick (eqb (ah r) 0x08) (unchanged w (parameters known count d r))
     (pick (eqb (ah r) 0x41) (unchanged w (extensions known s r))
-    (pick (either (eqb (ah r) 0x42) (either (eqb (ah r) 0x43) (eqb (ah r) 0x44))) (extended known d r w)
+    (pick (either (eqb (ah r) 0x42) (either (eqb (ah r) 0x43) (eqb (ah r) 0x44))) (extended known d l r w)
     (pick (eqb (ah r) 0x47) (unchanged w (seek known d r w))
     (pick (eqb (ah r) 0x48) (result known d s r w)
     (unchanged w (Answered (refuse badParameter r))))))))
 
 -- a call begun, with all that it is fed: answered at once with what that writes, or made a request that waits
 unfoldable pub begin : Feeds Table → Registers → List ℕ → Checked
-begin f r w = steps (isDrive (f .table) (dl r)) (driveCount (f .table)) (driveNamed (f .table) r) (shownOf (f .table) (f .placement) (dl r)) r w
+begin f r w =
+    steps (isDrive (f .table) (dl r)) (driveCount (f .table)) (driveNamed (f .table) r) (badsOf (f .table) (dl r))
+    (shownOf (f .table) (f .placement) (dl r)) r w

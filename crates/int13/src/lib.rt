@@ -1,6 +1,7 @@
 // INT 13h: registers, requests, and the steps of each function, over one drive and one guest's window. A step function is told whether
 // DL names a drive (`known`) and is handed that drive; where it is not known `d` is any drive, and is not looked at. Where the guest can see
-// the drive's parameter table it is told what the guest is shown of it (`shown`).
+// the drive's parameter table it is told what the guest is shown of it (`shown`); where bad blocks count it is handed those of the drive (`bads`).
+use attached::Bads;
 use chs::ToBlock;
 use drive::Drive;
 use layout::Packet;
@@ -17,9 +18,9 @@ ghost use lib.Dec.{ltb, eqb};
 ghost use Rattle.logic.specs.Logic.{pick, either};
 ghost use Rattle.table.specs.Table.{parametersTo};
 ghost use Rattle.chs.specs.declared.ToBlock.the-variants.{Block};
-ghost use Rattle.int13.specs.Answers.{ah, al, dl, isSectors, isWrite, answer, succeed, stop, refuse, withdraw, posted, outcomeNumbers};
+ghost use Rattle.int13.specs.Answers.{ah, al, dl, isSectors, isWrite, answer, succeed, stop, refuse, withdraw, badCode, ended, posted, outcomeNumbers};
 ghost use Rattle.int13.specs.Placement.{tablesOf, tableCount, pointerOf};
-ghost use Rattle.int13.specs.Steps.{driveCount, isDrive, driveAt, driveIn, shownOf, fed, packetPlace, verifyOk, packetJob, packetTests, packetRead, packetPlan, extended, seekRead, seek, sectorBuffer, sectorJob, sectorRun, sectors, geometryGiven, parameters, extensionsGiven, extensions, resultGiven, result, steps, begin};
+ghost use Rattle.int13.specs.Steps.{driveCount, isDrive, driveAt, driveIn, badsOf, shownOf, fed, packetPlace, verifyOk, packetJob, verified, packetTests, packetRead, packetPlan, extended, seekRead, seek, sectorBuffer, sectorJob, sectorRun, sectors, geometryGiven, parameters, extensionsGiven, extensions, resultGiven, result, steps, begin};
 ghost use Rattle.int13.specs.Numbers.{stepsGiven, beginGiven};
 
 // The registers of a call.
@@ -66,10 +67,10 @@ pub enum Outcome {
     Waits(Job),
 }
 
-// What 42h, 43h and 44h do: refuse; refuse and set the packet's count word to 0; succeed at once; wait.
+// What 42h, 43h and 44h do: refuse; refuse and set the packet's count word, to 0 but for a bad block; succeed at once; wait.
 pub enum Plan {
     Refuse(u8),
-    Clear(u8),
+    Clear(u8, u16),
     Finish,
     Wait(Job),
 }
@@ -87,6 +88,11 @@ const NO_PARAMETERS: u8 = 0x07;
 const BAD_BUFFER: u8 = 0x09;
 
 const WITHDRAWN: u8 = 0x80;
+
+// A bad block, of a read or of 44h, and of a write (document 02, 2026-04).
+const BAD_READ: u8 = 0x10;
+
+const BAD_WRITE: u8 = 0xCC;
 
 // ---- the functions, by AH
 
@@ -193,6 +199,26 @@ pub fn withdraw(moved: u8, r: Registers) -> Registers
     stop(WITHDRAWN, moved, r)
 }
 
+fn bad_code(r: Registers) -> u8
+    ensures { λ code. ⌜ code ≡ badCode r ⌝ }
+{
+    if is_write(function_of(r)) {
+        return BAD_WRITE;
+    }
+    BAD_READ
+}
+
+// A request of n blocks that ends after some of them: all, and it succeeds, or those before a bad block. A turn moves no more than a byte counts.
+pub fn ended(n: u64, moved: u64, r: Registers) -> Registers
+    requires { ⌜ moved < 256 ⌝ }
+    ensures { λ a. ⌜ a ≡ ended n moved r ⌝ }
+{
+    if moved < n {
+        return stop(bad_code(r), moved as u8, r);
+    }
+    succeed(r)
+}
+
 // The registers that a waiting row keeps: carry clear.
 fn posted(r: Registers) -> Registers
     ensures { λ a. ⌜ a ≡ posted r ⌝ }
@@ -235,6 +261,16 @@ pub fn drive_at(b: Table, n: u8) -> Drive
     let drives = b.drives;
     let place = (n % 8) as usize;
     drives[place]
+}
+
+// The bad blocks of the drive of a number; a number that is no drive's has none.
+pub fn bads_of(b: Table, n: u8) -> Bads
+    ensures { λ l. ⌜ l ≡ badsOf b n ⌝ }
+{
+    if !is_drive(b, n) {
+        return attached::no_bads();
+    }
+    table::bads_at(b, (n - FIRST_DRIVE) as usize)
 }
 
 // ---- the device parameter tables in a guest's window
@@ -503,26 +539,36 @@ fn packet_job(r: Registers, p: Packet) -> Job
     }
 }
 
-// The tests of a packet whose size byte is good: from here a refusal sets the count word to 0.
-fn packet_tests(d: Drive, r: Registers, window: usize, p: Packet) -> Plan
-    ensures { λ o. ⌜ o ≡ packetTests d r window p ⌝ }
+// What 44h does, of whose blocks so many come before the first bad one.
+fn verified(good: u64, count: u16) -> Plan
+    ensures { λ o. ⌜ o ≡ verified good count ⌝ }
+{
+    if good < count as u64 {
+        return Plan::Clear(BAD_READ, good as u16);
+    }
+    Plan::Finish
+}
+
+// The tests of a packet whose size byte is good: from here a refusal sets the count word.
+fn packet_tests(d: Drive, bads: Bads, r: Registers, window: usize, p: Packet) -> Plan
+    ensures { λ o. ⌜ o ≡ packetTests d bads r window p ⌝ }
 {
     if MOST_BLOCKS < p.count {
-        return Plan::Clear(BAD_PARAMETER);
+        return Plan::Clear(BAD_PARAMETER, 0);
     }
     let f = function_of(r);
     if logic::and(is_write(f), drive::is_protected(d)) {
-        return Plan::Clear(WRITE_PROTECTED);
+        return Plan::Clear(WRITE_PROTECTED, 0);
     }
     let count = p.count as u64;
     if ends_past(d.blocks, p.start, count) {
-        return Plan::Clear(OUTSIDE);
+        return Plan::Clear(OUTSIDE, 0);
     }
     if f == EXTENDED_VERIFY {
-        return Plan::Finish;
+        return verified(attached::good(bads, p.start, count), p.count);
     }
     if ends_past(window as u64, p.buffer as u64, BLOCK_LENGTH * count) {
-        return Plan::Clear(BAD_BUFFER);
+        return Plan::Clear(BAD_BUFFER, 0);
     }
     if p.count == 0 {
         return Plan::Finish;
@@ -530,8 +576,8 @@ fn packet_tests(d: Drive, r: Registers, window: usize, p: Packet) -> Plan
     Plan::Wait(packet_job(r, p))
 }
 
-fn packet_read(d: Drive, r: Registers, window: usize, read: PacketRead) -> Plan
-    ensures { λ o. ⌜ o ≡ packetRead d r window read ⌝ }
+fn packet_read(d: Drive, bads: Bads, r: Registers, window: usize, read: PacketRead) -> Plan
+    ensures { λ o. ⌜ o ≡ packetRead d bads r window read ⌝ }
 {
     match read {
         PacketRead::Refused(code) => Plan::Refuse(code),
@@ -539,14 +585,14 @@ fn packet_read(d: Drive, r: Registers, window: usize, read: PacketRead) -> Plan
             if p.size < PACKET_LENGTH {
                 return Plan::Refuse(BAD_PARAMETER);
             }
-            packet_tests(d, r, window, p)
+            packet_tests(d, bads, r, window, p)
         }
     }
 }
 
 // All tests in the paper's order; the packet is read once, here.
-fn packet_plan(known: bool, d: Drive, r: Registers, window: &[u8]) -> Plan
-    ensures { λ o. ⌜ o ≡ packetPlan known d r (now (window .entry)) ⌝ }
+fn packet_plan(known: bool, d: Drive, bads: Bads, r: Registers, window: &[u8]) -> Plan
+    ensures { λ o. ⌜ o ≡ packetPlan known d bads r (now (window .entry)) ⌝ }
 {
     if !known {
         return Plan::Refuse(BAD_PARAMETER);
@@ -556,17 +602,17 @@ fn packet_plan(known: bool, d: Drive, r: Registers, window: &[u8]) -> Plan
         return Plan::Refuse(BAD_PARAMETER);
     }
     let read = layout::read_packet(window, packet_place(r));
-    packet_read(d, r, window.len(), read)
+    packet_read(d, bads, r, window.len(), read)
 }
 
-fn extended_42_43_44(known: bool, d: Drive, r: Registers, window: &mut [u8]) -> Outcome
-    ensures { λ o. ⌜ (o ≡ extended known d r (now (window .entry)) .outcome) × (now (window .exit) ≡ extended known d r (now (window .entry)) .window) ⌝ }
+fn extended_42_43_44(known: bool, d: Drive, bads: Bads, r: Registers, window: &mut [u8]) -> Outcome
+    ensures { λ o. ⌜ (o ≡ extended known d bads r (now (window .entry)) .outcome) × (now (window .exit) ≡ extended known d bads r (now (window .entry)) .window) ⌝ }
 {
-    let plan = packet_plan(known, d, r, window);
+    let plan = packet_plan(known, d, bads, r, window);
     match plan {
         Plan::Refuse(code) => Outcome::Answered(refuse(code, r)),
-        Plan::Clear(code) => {
-            words::store16(window, packet_place(r) + 2, 0);
+        Plan::Clear(code, n) => {
+            words::store16(window, packet_place(r) + 2, n);
             Outcome::Answered(refuse(code, r))
         }
         Plan::Finish => Outcome::Answered(succeed(r)),
@@ -660,18 +706,19 @@ fn is_extended(f: u8) -> bool
 }
 
 // What a call comes to, for any drive, registers and window: answered at once, or it waits. `known`: whether DL names a drive of the
-// table; `count`: how many drives there are; `d`: the drive that DL names, any one where there is none; `shown`: what the guest is shown of
-// its parameter table. The window is written by 48h and by a refused 42h, 43h or 44h only. A function that is not named here is refused
-// with 01h.
+// table; `count`: how many drives there are; `d`: the drive that DL names, any one where there is none; `bads`: its bad blocks; `shown`: what the
+// guest is shown of its parameter table. The window is written by 48h and by a refused 42h, 43h or 44h only. A function that is not named here is
+// refused with 01h.
 pub fn steps(
     known: bool,
     count: u8,
     d: Drive,
+    bads: Bads,
     shown: Shown,
     r: Registers,
     window: &mut [u8],
 ) -> Outcome
-    ensures { λ o. ⌜ (o ≡ steps known count d shown r (now (window .entry)) .outcome) × (now (window .exit) ≡ steps known count d shown r (now (window .entry)) .window) × (outcomeNumbers o ≡ stepsGiven known count d (shown .table) r (now (window .entry))) ⌝ }
+    ensures { λ o. ⌜ (o ≡ steps known count d bads shown r (now (window .entry)) .outcome) × (now (window .exit) ≡ steps known count d bads shown r (now (window .entry)) .window) × (outcomeNumbers o ≡ stepsGiven known count d bads (shown .table) r (now (window .entry))) ⌝ }
 {
     let f = function_of(r);
     if is_sectors(f) {
@@ -684,7 +731,7 @@ pub fn steps(
         return extensions_41(known, shown, r);
     }
     if is_extended(f) {
-        return extended_42_43_44(known, d, r, window);
+        return extended_42_43_44(known, d, bads, r, window);
     }
     if f == EXTENDED_SEEK {
         return seek_47(known, d, r, window);
@@ -703,6 +750,7 @@ pub fn begin(b: Table, placement: Placement, r: Registers, window: &mut [u8]) ->
     let known = is_drive(b, n);
     let count = drive_count(b);
     let d = drive_at(b, n);
+    let bads = bads_of(b, n);
     let shown = shown_of(b, placement, n);
-    steps(known, count, d, shown, r, window)
+    steps(known, count, d, bads, shown, r, window)
 }

@@ -1,20 +1,22 @@
 -- A waiting request along a list of calls: how many turns it can wait, and how it ends.
 -- Assumes nothing.
 use Prim.Native.Nat.{ℕ, _+_, _-_, _*_, _/_, _≤_, _<_}
-use mathlib.Core.Path.{_≡_, refl, sym, ap, _∙_}
+use mathlib.Core.Path.{_≡_, refl, sym, ap, subst, subst₂, _∙_}
+use mathlib.Core.Logic.{_⊎_, inl, inr, ⊎-elim}
 use mathlib.Core.List.{List, [], _∷_, _++_}
 use native.Mathlib.Omega.{arith}
-use native.Mathlib.Nat.{zero-add}
+use native.Mathlib.Nat.{zero-add, add-zero}
 use Rattle.memory.specs.Window.{guests}
 use Rattle.desk.specs.declared.Request.{Request}
 use Rattle.desk.specs.declared.Stage.the-variants.{Waiting}
 use Rattle.desk.specs.declared.Desk.{Desk}
 use Rattle.desk.specs.Parts.{stageAt, next}
 use Rattle.desk.specs.Acceptable.{turnBlocks}
-use Rattle.desk.specs.Calls.{later}
-use Rattle.isolation.specs.Lists.{Call, step, run, after}
-use Rattle.isolation.specs.Words.{Kind, withdraws, opens, kindOf, NoneOpens, total, turnIn, turns, withdrawalIn, withdrawals, movedIn, moved, serviceIn, services, turnsFor}
+use Rattle.desk.specs.Calls.{quota, later}
+use Rattle.isolation.specs.Lists.{Call, Out, step, run, after}
+use Rattle.isolation.specs.Words.{Kind, withdraws, opens, kindOf, NoneOpens, total, turnIn, turns, withdrawalIn, withdrawals, movedIn, moved, serviceIn, services, fullPart, Full, Stops, turnsFor}
 use Rattle.isolation.proofs.Turn.{dist, dist-lt, dist-own}
+use Rattle.isolation.proofs.Endings.{now}
 use Rattle.isolation.proofs.Accept.{Inv}
 use Rattle.isolation.proofs.Keep.{waiting-below, inv-step, same-guest}
 use Rattle.isolation.proofs.Fate.{Counts, Fate, stays, passes, parts, ends, leaves, step-fate}
@@ -63,6 +65,37 @@ unfolding run
 opens-upto [] rest t d n = (n .0, tt)
 opens-upto (c ∷ cs) rest t d n = (n .0, opens-upto cs rest t (step d c .desk) (n .1))
 
+-- ---- full parts over a list in two pieces
+
+pub full-front : (g n m : ℕ) (cs ds : List Call) (d : Desk) → Full g n m (run d (cs ++ ds)) → Full g n m (run d cs)
+unfolding run
+full-front g n m [] ds d f = tt
+full-front g n m (c ∷ cs) ds d f = (f .0, full-front g n (m + movedIn g (kindOf (step d c .answer))) cs ds (step d c .desk) (f .1))
+
+pub full-at : (g n m : ℕ) (front rest : List Call) (t : Call) (d : Desk) → Full g n m (run d (front ++ t ∷ rest))
+    → serviceIn g (kindOf (step (after d front) t .answer)) ≡ 1
+    → movedIn g (kindOf (step (after d front) t .answer)) ≡ fullPart n (m + moved g (run d front))
+unfolding run after
+full-at g n m [] rest t d f s = f .0 s ∙ ap (fullPart n) (sym (add-zero m))
+full-at g n m (c ∷ cs) rest t d f s =
+    full-at g n (m + movedIn g (kindOf (step d c .answer))) cs rest t (step d c .desk) (f .1) s ∙ ap (fullPart n) (omega arith)
+
+-- ---- the turn that finishes
+
+-- m blocks of n being moved before it: it moves the others, or stops at a bad block
+abbrev pub Reach : ℕ → ℕ → ℕ → Kind → Type 0
+Reach g n m k = (m + movedIn g k ≡ n) ⊎ Stops g n m k
+
+-- a service that ends it
+pub reach : (g : ℕ) (q : Request) (d : Desk) (o : Out) → (q .moved + now (d .table) q ≡ q .job .count) ⊎ (now (d .table) q < quota q)
+    → Counts g (kindOf (o .answer)) 1 0 (now (d .table) q) 1 → Reach g (q .job .count) (q .moved) (kindOf (o .answer))
+reach g q d o h k =
+    ⊎-elim (λ x. inl (ap (λ (n : ℕ). q .moved + n) (k .moved) ∙ x)) (λ x. inr (k .service, subst (λ (n : ℕ). n < quota q) (sym (k .moved)) x)) h
+
+-- fewer than a full part are not one
+pub not-full : {a b : ℕ} → a ≡ b → a < b → ⊥
+not-full e l = omega arith
+
 -- ---- one of eight turns serves it
 
 -- unserved and not withdrawn, it waits on, and each turn brings the pointer nearer
@@ -75,7 +108,7 @@ near-fate : (cs : List Call) (d : Desk) (c : Call) (g : ℕ) (q : Request)
 near-fate cs d c g q ih (stays r p k) w s = omega (arith, ih q r, k .turn, ap (λ (x : ℕ). dist x g) p)
 near-fate cs d c g q ih (passes r p k) w s = omega (arith, ih q r, k .turn)
 near-fate cs d c g q ih (parts r h p k) w s = omega (arith, k .service)
-near-fate cs d c g q ih (ends r n h k) w s = omega (arith, k .service)
+near-fate cs d c g q ih (ends r h k) w s = omega (arith, k .service)
 near-fate cs d c g q ih (leaves k) w s = absurd (gone (kindOf (step d c .answer)) k w)
   where
     gone : (x : Kind) → x ≡ withdraws g → withdrawalIn g x ≡ 0 → ⊥
@@ -128,27 +161,29 @@ pub record Track (g : ℕ) (q : Request) (d : Desk) (cs : List Call) : Type 0 wh
   pub moved : now .moved ≡ q .moved + moved g (run d cs)
   pub kept : withdrawals g (run d cs) ≡ 0
   pub bound : turns (run d cs) + waitFor (after d cs .pointer) g now ≤ waitFor (d .pointer) g q
+  pub full : Full g (q .job .count) (q .moved) (run d cs)
 
 -- or ends at one of them
 pub data Course (g : ℕ) (q : Request) (d : Desk) (cs : List Call) : Type 0 where
   waiting : Track g q d cs → Course g q d cs
   finishing : (front : List Call) (t : Call) (rest : List Call) → cs ≡ front ++ t ∷ rest → Track g q d front
-      → q .moved + (moved g (run d front) + movedIn g (kindOf (step (after d front) t .answer))) ≡ q .job .count
+      → Reach g (q .job .count) (q .moved + moved g (run d front)) (kindOf (step (after d front) t .answer))
       → turnIn (kindOf (step (after d front) t .answer)) ≡ 1 → Course g q d cs
   leaving : (front : List Call) (t : Call) (rest : List Call) → cs ≡ front ++ t ∷ rest → Track g q d front
       → kindOf (step (after d front) t .answer) ≡ withdraws g → Course g q d cs
 
 track-none : (g : ℕ) (q : Request) (d : Desk) → stageAt d g ≡ Waiting q → Track g q d []
 unfolding run after
-track-none g q d e = record { now = q; here = e; job = refl; moved = omega arith; kept = refl; bound = omega arith }
+track-none g q d e = record { now = q; here = e; job = refl; moved = omega arith; kept = refl; bound = omega arith; full = tt }
 
 -- one call on, with p where q was
 track-step : (g : ℕ) (q p : Request) (d : Desk) (c : Call) (cs : List Call) → p .job ≡ q .job → p .moved ≡ q .moved + movedIn g (kindOf (step d c .answer))
     → withdrawalIn g (kindOf (step d c .answer)) ≡ 0
     → turnIn (kindOf (step d c .answer)) + waitFor (step d c .desk .pointer) g p ≤ waitFor (d .pointer) g q
+    → (serviceIn g (kindOf (step d c .answer)) ≡ 1 → movedIn g (kindOf (step d c .answer)) ≡ fullPart (q .job .count) (q .moved))
     → Track g p (step d c .desk) cs → Track g q d (c ∷ cs)
 unfolding run after
-track-step g q p d c cs j m w b t =
+track-step g q p d c cs j m w b f t =
     record {
       now = t .now;
       here = t .here;
@@ -156,18 +191,26 @@ track-step g q p d c cs j m w b t =
       moved = omega (arith, t .moved, m);
       kept = omega (arith, t .kept, w);
       bound = omega (arith, t .bound, b);
+      full = (f, subst₂ (λ (n k : ℕ). Full g n k (run (step d c .desk) cs)) (ap (λ x. x .count) j) m (t .full));
     }
 
 course-step : (g : ℕ) (q p : Request) (d : Desk) (c : Call) (cs : List Call) → p .job ≡ q .job → p .moved ≡ q .moved + movedIn g (kindOf (step d c .answer))
     → withdrawalIn g (kindOf (step d c .answer)) ≡ 0
     → turnIn (kindOf (step d c .answer)) + waitFor (step d c .desk .pointer) g p ≤ waitFor (d .pointer) g q
+    → (serviceIn g (kindOf (step d c .answer)) ≡ 1 → movedIn g (kindOf (step d c .answer)) ≡ fullPart (q .job .count) (q .moved))
     → Course g p (step d c .desk) cs → Course g q d (c ∷ cs)
 unfolding run after
-course-step g q p d c cs j m w b (waiting t) = waiting (track-step g q p d c cs j m w b t)
-course-step g q p d c cs j m w b (finishing front t rest s k f u) =
-    finishing (c ∷ front) t rest (ap (λ (l : List Call). c ∷ l) s) (track-step g q p d c front j m w b k) (omega (arith, f, m, ap (λ x. x .count) j)) u
-course-step g q p d c cs j m w b (leaving front t rest s k f) =
-    leaving (c ∷ front) t rest (ap (λ (l : List Call). c ∷ l) s) (track-step g q p d c front j m w b k) f
+course-step g q p d c cs j m w b a (waiting t) = waiting (track-step g q p d c cs j m w b a t)
+course-step g q p d c cs j m w b a (finishing front t rest s k f u) =
+    let e : p .moved + moved g (run (step d c .desk) front) ≡ q .moved + moved g (run d (c ∷ front)) = omega (arith, m) in
+    finishing (c ∷ front) t rest (ap (λ (l : List Call). c ∷ l) s) (track-step g q p d c front j m w b a k)
+    (subst₂ (λ (n k : ℕ). Reach g n k (kindOf (step (after (step d c .desk) front) t .answer))) (ap (λ x. x .count) j) e f) u
+course-step g q p d c cs j m w b a (leaving front t rest s k f) =
+    leaving (c ∷ front) t rest (ap (λ (l : List Call). c ∷ l) s) (track-step g q p d c front j m w b a k) f
+
+-- sixteen, where more remain
+full-part : (n m : ℕ) → m + turnBlocks < n → fullPart n m ≡ turnBlocks
+full-part n m h = omega arith
 
 course-fate : (cs : List Call) (d : Desk) (c : Call) (g : ℕ) (q : Request) → g < guests → stageAt d g ≡ Waiting q
     → ((p : Request) → stageAt (step d c .desk) g ≡ Waiting p → Course g p (step d c .desk) cs)
@@ -175,18 +218,17 @@ course-fate : (cs : List Call) (d : Desk) (c : Call) (g : ℕ) (q : Request) →
 unfolding run after
 course-fate cs d c g q gb e ih (stays r p k) =
     course-step g q q d c cs refl (omega (arith, k .moved)) (k .withdrawal)
-    (omega (arith, k .turn, wait-same (d .pointer) (step d c .desk .pointer) g q p)) (ih q r)
+    (omega (arith, k .turn, wait-same (d .pointer) (step d c .desk .pointer) g q p)) (λ s. absurd (omega (arith, s, k .service))) (ih q r)
 course-fate cs d c g q gb e ih (passes r p k) =
     course-step g q q d c cs refl (omega (arith, k .moved)) (k .withdrawal)
-    (omega (arith, k .turn, wait-less (d .pointer) (step d c .desk .pointer) g q p)) (ih q r)
+    (omega (arith, k .turn, wait-less (d .pointer) (step d c .desk .pointer) g q p)) (λ s. absurd (omega (arith, s, k .service))) (ih q r)
 course-fate cs d c g q gb e ih (parts r h p k) =
     course-step g q (later q turnBlocks) d c cs refl (omega (arith, k .moved)) (k .withdrawal)
-    (omega (arith, k .turn, wait-part (d .pointer) (step d c .desk .pointer) g q gb p h)) (ih (later q turnBlocks) r)
-course-fate cs d c g q gb e ih (ends r n h k) = finishing [] c cs refl (track-none g q d e) (at-end n h k) (k .turn)
-  where
-    at-end : (n : ℕ) → q .moved + n ≡ q .job .count → Counts g (kindOf (step d c .answer)) 1 0 n 1
-        → q .moved + (moved g (run d []) + movedIn g (kindOf (step d c .answer))) ≡ q .job .count
-    at-end n h k = omega (arith, h, k .moved)
+    (omega (arith, k .turn, wait-part (d .pointer) (step d c .desk .pointer) g q gb p h))
+    (λ s. k .moved ∙ sym (full-part (q .job .count) (q .moved) h)) (ih (later q turnBlocks) r)
+course-fate cs d c g q gb e ih (ends r h k) =
+    finishing [] c cs refl (track-none g q d e)
+    (subst (λ (m : ℕ). Reach g (q .job .count) m (kindOf (step d c .answer))) (sym (add-zero (q .moved))) (reach g q d (step d c) h k)) (k .turn)
 course-fate cs d c g q gb e ih (leaves k) = leaving [] c cs refl (track-none g q d e) k
 
 pub course : (cs : List Call) (d : Desk) → Inv d → NoneOpens (run d cs) → (g : ℕ) (q : Request) → stageAt d g ≡ Waiting q → Course g q d cs
@@ -198,15 +240,16 @@ course (c ∷ cs) d inv n g q e =
 
 -- while the numbers say that it waits, it does
 pub track : (cs : List Call) (d : Desk) → Inv d → NoneOpens (run d cs) → (g : ℕ) (q : Request) → stageAt d g ≡ Waiting q
-    → withdrawals g (run d cs) ≡ 0 → q .moved + moved g (run d cs) < q .job .count → Track g q d cs
-track cs d inv n g q e w b = go (course cs d inv n g q e)
+    → withdrawals g (run d cs) ≡ 0 → q .moved + moved g (run d cs) < q .job .count → Full g (q .job .count) (q .moved) (run d cs) → Track g q d cs
+track cs d inv n g q e w b a = go (course cs d inv n g q e)
   where
     go : Course g q d cs → Track g q d cs
     go (waiting t) = t
     go (finishing front t rest s k f u) =
         let m : moved g (run d cs) ≡ moved g (run d front) + (movedIn g (kindOf (step (after d front) t .answer)) + moved g (run (step (after d front) t .desk) rest))
         = ap (λ (l : List Call). moved g (run d l)) s ∙ total-at (movedIn g) front rest t d in
-        absurd (omega arith)
+        let a′ : Full g (q .job .count) (q .moved) (run d (front ++ t ∷ rest)) = subst (λ (l : List Call). Full g (q .job .count) (q .moved) (run d l)) s a in
+        absurd (⊎-elim (λ x. omega (arith, x, m, b)) (λ x. not-full (full-at g (q .job .count) (q .moved) front rest t d a′ (x .0)) (x .1)) f)
     go (leaving front t rest s k f) =
         let m : withdrawals g (run d cs) ≡ withdrawals g (run d front) + (withdrawalIn g (kindOf (step (after d front) t .answer)) + withdrawals g (run (step (after d front) t .desk) rest))
         = ap (λ (l : List Call). withdrawals g (run d l)) s ∙ total-at (withdrawalIn g) front rest t d in

@@ -14,6 +14,7 @@ use Rattle.chs.specs.Chs.{blockOf, addressIn}
 use Rattle.drive.specs.declared.Drive.{Drive}
 use Rattle.drive.specs.Drive.{geometryOf, isProtected}
 use Rattle.table.specs.Table.{readTable}
+use Rattle.attached.specs.declared.Bads.{Bads}
 use Rattle.table.specs.declared.Table.{Table}
 use Rattle.layout.specs.declared.PacketRead.{PacketRead}
 use Rattle.layout.specs.declared.PacketRead.the-variants.{Whole, Refused as NoPacket}
@@ -30,11 +31,11 @@ use Rattle.int13.specs.declared.Outcome.the-variants.{Answered}
 use Rattle.int13.specs.declared.Plan.{Plan}
 use Rattle.int13.specs.declared.Plan.the-variants.{Refuse, Clear, Finish, Wait}
 use Rattle.int13.specs.Answers.{badBuffer, writeProtected, ah, al, dl, isWrite, refuse, posted}
-use Rattle.int13.specs.Steps.{Checked, unchanged, fed, isDrive, driveCount, driveNamed, shownOf, packetPlace, verifyOk, mostRun, packetTests, packetRead, packetPlan, carryOut, extended, seekRead, seek, sectorRun, sectors, parameters, extensions, resultGiven, resultSteps, result, steps, begin}
+use Rattle.int13.specs.Steps.{Checked, unchanged, fed, isDrive, driveCount, driveNamed, badsOf, shownOf, packetPlace, verifyOk, mostRun, packetTests, packetRead, packetPlan, carryOut, extended, seekRead, seek, sectorRun, sectors, parameters, extensions, resultGiven, resultSteps, result, steps, begin}
 use Rattle.int13.specs.Alone.{finish, alone}
 use Rattle.isolation.specs.Exported.{CarryUnread}
 
-module _ (known : Bool) (count : ℕ) (d : Drive) (s : Shown) (r : Registers) (w : List ℕ) where
+module _ (known : Bool) (count : ℕ) (d : Drive) (l : Bads) (s : Shown) (r : Registers) (w : List ℕ) where
   run : (M : ℕ) (x : ToBlock) → sectorRun d r M x ≡ sectorRun d (posted r) M x
   run M (NoBlock code) = refl
   run M (Block n) = refl
@@ -48,12 +49,12 @@ module _ (known : Bool) (count : ℕ) (d : Drive) (s : Shown) (r : Registers) (w
       (pick (both (isWrite (ah r)) (isProtected d)) (Answered (refuse writeProtected r)) o))))
       (run (length w) (blockOf (geometryOf d) (addressIn (r .cx) (r .dx))))
 
-  read : (M : ℕ) (x : PacketRead) → packetRead d r M x ≡ packetRead d (posted r) M x
+  read : (M : ℕ) (x : PacketRead) → packetRead d l r M x ≡ packetRead d l (posted r) M x
   unfolding packetTests
   read M (NoPacket code) = refl
   read M (Whole p) = refl
 
-  by-plan : packetPlan known d r w ≡ packetPlan known d (posted r) w
+  by-plan : packetPlan known d l r w ≡ packetPlan known d l (posted r) w
   unfolding packetPlan
   by-plan =
       ap (λ (p : Plan). pick (not known) (Refuse badParameter)
@@ -62,7 +63,7 @@ module _ (known : Bool) (count : ℕ) (d : Drive) (s : Shown) (r : Registers) (w
 
   carried : (p : Plan) → carryOut p r w ≡ carryOut p (posted r) w
   carried (Refuse code) = refl
-  carried (Clear code) = refl
+  carried (Clear code n) = refl
   carried Finish = refl
   carried (Wait j) = refl
 
@@ -86,7 +87,7 @@ module _ (known : Bool) (count : ℕ) (d : Drive) (s : Shown) (r : Registers) (w
       (record { outcome = o; window = resultSteps d s r w (packetPlace r) .window })))
       (given (resultAnswer d (le 2 w (packetPlace r)) (length (drop (packetPlace r) w))))
 
-  by-steps : steps known count d s r w ≡ steps known count d s (posted r) w
+  by-steps : steps known count d l s r w ≡ steps known count d l s (posted r) w
   unfolding steps parameters extensions
   by-steps =
       ap (λ (o : Outcome). pick (either (eqb (ah r) 0x02) (eqb (ah r) 0x03)) (unchanged w o) (rest r)) by-sectors
@@ -95,11 +96,11 @@ module _ (known : Bool) (count : ℕ) (d : Drive) (s : Shown) (r : Registers) (w
       (pick (eqb (ah r) 0x41) (unchanged w (extensions known s r))
       (pick (either (eqb (ah r) 0x42) (either (eqb (ah r) 0x43) (eqb (ah r) 0x44))) x
       (pick (eqb (ah r) 0x47) (unchanged w (seek known d r w)) (pick (eqb (ah r) 0x48) (result known d s r w) (unchanged w (Answered (refuse badParameter r)))))))))
-      (carried (packetPlan known d r w) ∙ ap (λ (p : Plan). carryOut p (posted r) w) by-plan)
+      (carried (packetPlan known d l r w) ∙ ap (λ (p : Plan). carryOut p (posted r) w) by-plan)
       ∙ ap₂ (λ (o : Outcome) (x : Checked). pick (either (eqb (ah r) 0x02) (eqb (ah r) 0x03)) (unchanged w (sectors known d (posted r) (length w)))
       (pick (eqb (ah r) 0x08) (unchanged w (parameters known count d r))
       (pick (eqb (ah r) 0x41) (unchanged w (extensions known s r))
-      (pick (either (eqb (ah r) 0x42) (either (eqb (ah r) 0x43) (eqb (ah r) 0x44))) (extended known d (posted r) w)
+      (pick (either (eqb (ah r) 0x42) (either (eqb (ah r) 0x43) (eqb (ah r) 0x44))) (extended known d l (posted r) w)
       (pick (eqb (ah r) 0x47) (unchanged w o) (pick (eqb (ah r) 0x48) x (unchanged w (Answered (refuse badParameter r)))))))))
       by-seek by-result
     where
@@ -107,14 +108,14 @@ module _ (known : Bool) (count : ℕ) (d : Drive) (s : Shown) (r : Registers) (w
       rest r =
           pick (eqb (ah r) 0x08) (unchanged w (parameters known count d r))
           (pick (eqb (ah r) 0x41) (unchanged w (extensions known s r))
-          (pick (either (eqb (ah r) 0x42) (either (eqb (ah r) 0x43) (eqb (ah r) 0x44))) (extended known d r w)
+          (pick (either (eqb (ah r) 0x42) (either (eqb (ah r) 0x43) (eqb (ah r) 0x44))) (extended known d l r w)
           (pick (eqb (ah r) 0x47) (unchanged w (seek known d r w))
           (pick (eqb (ah r) 0x48) (result known d s r w)
           (unchanged w (Answered (refuse badParameter r)))))))
 
 by-begin : (b : Table) (p : Placement) (r : Registers) (w : List ℕ) → begin (fed b p) r w ≡ begin (fed b p) (posted r) w
 unfolding begin
-by-begin b p r w = by-steps (isDrive b (dl r)) (driveCount b) (driveNamed b r) (shownOf b p (dl r)) r w
+by-begin b p r w = by-steps (isDrive b (dl r)) (driveCount b) (driveNamed b r) (badsOf b (dl r)) (shownOf b p (dl r)) r w
 
 pub alone-carry : CarryUnread
 unfolding alone

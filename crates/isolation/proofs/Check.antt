@@ -18,6 +18,7 @@ use Rattle.chs.specs.declared.ToBlock.the-variants.{Block, Refused as NoBlock}
 use Rattle.chs.specs.Chs.{size, blockOf, addressIn}
 use Rattle.drive.specs.Drive.{geometryOf, isProtected}
 use Rattle.drive.proofs.DriveLaws.{Arrays}
+use Rattle.attached.specs.Bad.{good}
 use Rattle.table.specs.declared.Table.{Table}
 use Rattle.layout.specs.declared.Packet.{Packet}
 use Rattle.layout.specs.declared.PacketRead.{PacketRead}
@@ -38,8 +39,8 @@ use Rattle.int13.specs.declared.Plan.{Plan}
 use Rattle.int13.specs.declared.Plan.the-variants.{Clear}
 use Rattle.int13.specs.Placement.{pointerOf}
 use Rattle.int13.specs.Answers.{ah, al, dl, isSectors, isWrite, posted}
-use Rattle.int13.specs.Steps.{Checked, isDrive, driveAt, driveNamed, packetPlace, verifyOk, packetTests, packetRead, packetPlan, packetJob, carryOut, extended, seekRead, seek, sectorBuffer, sectorJob, sectorRun, sectors, parameters, extensions, resultGiven, result, fed, driveCount, shownOf, steps, begin}
-use Rattle.int13.specs.Alone.{asked, namedFrom, storeBlock}
+use Rattle.int13.specs.Steps.{Checked, isDrive, driveAt, driveNamed, badsOf, packetPlace, verifyOk, verified, packetTests, packetRead, packetPlan, packetJob, carryOut, extended, seekRead, seek, sectorBuffer, sectorJob, sectorRun, sectors, parameters, extensions, resultGiven, result, fed, driveCount, shownOf, steps, begin}
+use Rattle.int13.specs.Alone.{asked, askedStart, namedFrom, storeBlock}
 use Rattle.desk.specs.Acceptable.{jobOk}
 use Rattle.table.proofs.Sound.{Obeys, Good, good-obeys}
 use Rattle.drive.proofs.DriveLaws.{geometry-inside}
@@ -64,6 +65,8 @@ pub record Fresh (b : Table) (r : Registers) (w : List ℕ) (j : Job) : Type 0 w
   pub ok : jobOk b (length w) j ≡ true
   pub some : 0 < j .count
   pub registers : j .registers ≡ posted r
+  pub drive : j .drive ≡ dl r
+  pub start : j .start ≡ askedStart b r w
   pub count : j .count ≡ asked r w
   pub first : storeBlock b j ≡ namedFrom b r w
 
@@ -96,6 +99,8 @@ module _ (b : Table) (store : ℕ) (g : Good b store) (r : Registers) (w : List 
         ok = rw (d, s, p, le-leb (al r) 128 (ltb-false 128 (al r) m), le-leb (n + al r) (driveNamed b r .blocks) x, le-leb (n + al r) (size (geometryOf (driveNamed b r))) y, le-leb (sectorBuffer r + blockLength * al r) (length w) (ltb-false (length w) (sectorBuffer r + blockLength * al r) f));
         some = omega (arith, ne);
         registers = refl;
+        drive = refl;
+        start = rw (s, e);
         count = rw s;
         first = rw (s, e);
       }
@@ -146,30 +151,33 @@ module _ (b : Table) (store : ℕ) (g : Good b store) (r : Registers) (w : List 
         ok = rw (d, s, t, p, i, le-leb (packet .count) 127 (ltb-false 127 (packet .count) m), le-leb (packet .start + packet .count) (driveNamed b r .blocks) (ltb-false (driveNamed b r .blocks) (packet .start + packet .count) q), le-leb (packet .buffer + blockLength * packet .count) (length w) (ltb-false (length w) (packet .buffer + blockLength * packet .count) u));
         some = omega (arith, ne);
         registers = refl;
+        drive = refl;
+        start = rw s;
         count = rw s;
         first = rw s;
       }
 
-  clears : (code : ℕ) → Plans (Clear code)
-  clears code = length-sets w (packetPlace r + 2) (leBytes 2 0)
+  clears : (code n : ℕ) → Plans (Clear code n)
+  clears code n = length-sets w (packetPlace r + 2) (leBytes 2 n)
 
-  packet-says : isSectors (ah r) ≡ false → Extended ≡ true → isDrive b (dl r) ≡ true → leb (packetPlace r + 16) (length w) ≡ true → Plans (packetTests (driveNamed b r) r (length w) packet)
-  unfolding packetTests
+  packet-says : isSectors (ah r) ≡ false → Extended ≡ true → isDrive b (dl r) ≡ true → leb (packetPlace r + 16) (length w) ≡ true → Plans (packetTests (driveNamed b r) (badsOf b (dl r)) r (length w) packet)
+  unfolding packetTests verified
   packet-says s x d i =
-      pick-cases Plans (ltb 127 (packet .count)) _ _ (λ e. clears 1) (λ e₁.
-      pick-cases Plans (both (isWrite (ah r)) (isProtected (driveNamed b r))) _ _ (λ e. clears 3) (λ e₂.
-      pick-cases Plans (ltb (driveNamed b r .blocks) (packet .start + packet .count)) _ _ (λ e. clears 4) (λ e₃.
-      pick-cases Plans (eqb (ah r) 0x44) _ _ (λ e. refl) (λ e₄.
-      pick-cases Plans (ltb (length w) (packet .buffer + blockLength * packet .count)) _ _ (λ e. clears 9) (λ e₅.
+      pick-cases Plans (ltb 127 (packet .count)) _ _ (λ e. clears 1 0) (λ e₁.
+      pick-cases Plans (both (isWrite (ah r)) (isProtected (driveNamed b r))) _ _ (λ e. clears 3 0) (λ e₂.
+      pick-cases Plans (ltb (driveNamed b r .blocks) (packet .start + packet .count)) _ _ (λ e. clears 4 0) (λ e₃.
+      pick-cases Plans (eqb (ah r) 0x44) _ _
+      (λ e. pick-cases Plans (ltb (good (badsOf b (dl r)) (packet .start) (packet .count)) (packet .count)) _ _ (λ e. clears 16 (good (badsOf b (dl r)) (packet .start) (packet .count))) (λ e. refl)) (λ e₄.
+      pick-cases Plans (ltb (length w) (packet .buffer + blockLength * packet .count)) _ _ (λ e. clears 9 0) (λ e₅.
       pick-cases Plans (eqb (packet .count) 0) _ _ (λ e. refl) (λ e₆.
       (packet-wait s x d i e₁ e₂ e₃ e₄ e₅ e₆, refl)))))))
 
-  extended-says : isSectors (ah r) ≡ false → Extended ≡ true → After (extended (isDrive b (dl r)) (driveNamed b r) r w)
+  extended-says : isSectors (ah r) ≡ false → Extended ≡ true → After (extended (isDrive b (dl r)) (driveNamed b r) (badsOf b (dl r)) r w)
   unfolding packetPlan readPacket
   extended-says s x =
       pick-cases Plans (not (isDrive b (dl r))) _ _ (λ e. refl) (λ e₁.
       pick-cases Plans (both (isWrite (ah r)) (not (verifyOk (al r) (driveNamed b r .flags)))) _ _ (λ e. refl) (λ e₂.
-      pick-cases (λ (p : PacketRead). Plans (packetRead (driveNamed b r) r (length w) p)) (leb (packetPlace r + 16) (length w)) _ _
+      pick-cases (λ (p : PacketRead). Plans (packetRead (driveNamed b r) (badsOf b (dl r)) r (length w) p)) (leb (packetPlace r + 16) (length w)) _ _
       (λ e₃. pick-cases Plans (ltb (packet .size) 16) _ _ (λ e. refl) (λ e₄. packet-says s x (not-false _ e₁) e₃))
       (λ e₃. refl)))
 

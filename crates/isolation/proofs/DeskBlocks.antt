@@ -266,6 +266,8 @@ held-accepted d e f =
               arrays = λ i h. arrays i (k .sound) h;
               marks = f .table .present;
               bytes = f .table .parameters;
+              counts = f .table .counts;
+              lists = f .table .bad;
             };
             pointer = k .pointer;
             stages = stages k;

@@ -2,26 +2,28 @@
 -- Assumes nothing.
 use Prim.Native.Nat.{ℕ}
 use mathlib.Core.Path.{_≡_, refl}
+use mathlib.Core.Logic.{inl}
 use mathlib.Core.Bool.{true}
 use mathlib.Core.List.{List, [], _∷_, _++_}
 use native.Mathlib.Omega.{arith}
 use lib.ListN.{length, replicate, length-replicate}
 use Rattle.chs.specs.Chs.{inLimits, isValid, blockOf}
+use Rattle.attached.specs.Bad.{heldOf, isBad, good}
 use Rattle.memory.specs.Window.{windowOf}
 use Rattle.int13.specs.declared.Registers.{Registers}
 use Rattle.int13.specs.declared.Placement.{Placement}
 use Rattle.int13.specs.Placement.{noPlacement}
 use Rattle.int13.specs.declared.Job.{Job}
 use Rattle.int13.specs.declared.Outcome.the-variants.{Waits}
-use Rattle.int13.specs.Answers.{succeed, posted as postedRegisters}
-use Rattle.int13.specs.Steps.{unchanged, isDrive, sectors, fed, steps, begin}
+use Rattle.int13.specs.Answers.{succeed, ended, posted as postedRegisters}
+use Rattle.int13.specs.Steps.{unchanged, isDrive, badsOf, sectors, fed, steps, begin}
 use Rattle.int13.specs.Alone.{alone}
 use Rattle.desk.specs.declared.Stage.the-variants.{Waiting, Finished}
-use Rattle.desk.specs.Calls.{firstWaiting, stageAfter}
+use Rattle.desk.specs.Calls.{firstWaiting, movesNow, stageAfter}
 use Rattle.isolation.specs.Lists.{step, after}
 use Rattle.isolation.specs.Demand.{foundBy, firstBy, Same}
 use Rattle.isolation.proofs.Equal.{request}
-use Rattle.isolation.proofs.Trace.{Place, place, Line, waiting, serving, All, _also_, Sized, window-lent, Story, posting, meanwhile, finishing, calls, closed, equal}
+use Rattle.isolation.proofs.Trace.{Place, place, Line, waiting, serving, All, _also_, Sized, window-lent, Story, posting, waiting-on, meanwhile, finishing, calls, closed, equal}
 use Rattle.isolation.proofs.ExampleDesk.{tableBytes, arenaLength, M, storeLength, table, d₀, inv₀, claimed, sevens, length-sevens}
 use Rattle.isolation.proofs.ExampleWrite.{wrote, writeJob, by-sectors, check-write}
 
@@ -39,12 +41,12 @@ check-read p w l = by-sectors p read readJob w l refl refl
 abbrev pub between : List Line
 between =
     waiting 5 wrote writeJob
-    ∷ serving 2 (request readJob 0) (Waiting (request readJob 16))
-    ∷ serving 5 (request writeJob 0) (Finished (succeed wrote))
+    ∷ serving 2 (request readJob 0) 16 (Waiting (request readJob 16))
+    ∷ serving 5 (request writeJob 0) 1 (Finished (succeed wrote))
     ∷ []
 
 abbrev pub last : Line
-last = serving 2 (request readJob 16) (Finished (succeed (postedRegisters read)))
+last = serving 2 (request readJob 16) 1 (Finished (succeed (postedRegisters read)))
 
 -- ---- the list, over any arena and store of those lengths
 
@@ -53,13 +55,13 @@ module _ (a s : List ℕ) (la : length a ≡ arenaLength) (ls : length s ≡ sto
   p₀ = place d₀ a s
 
   pub lines : All p₀ (waiting 2 read readJob ∷ (between ++ last ∷ []))
-  unfolding firstWaiting stageAfter
+  unfolding firstWaiting movesNow badsOf isDrive good isBad heldOf stageAfter ended
   lines =
       (refl, refl, check-read noPlacement (windowOf a 2 M) (window-lent d₀ a 2 la (omega arith)))
       also (refl, refl, check-write noPlacement (windowOf a 5 M) (window-lent d₀ a 5 la (omega arith)))
-      also (refl, refl, refl)
-      also (refl, refl, refl)
-      also (refl, refl, refl)
+      also (refl, refl, refl, refl)
+      also (refl, refl, refl, refl)
+      also (refl, refl, refl, refl)
       also tt
 
   abbrev pub story : Story p₀
@@ -75,7 +77,7 @@ module _ (a s : List ℕ) (la : length a ≡ arenaLength) (ls : length s ≡ sto
   -- after the third turn, guest 2's registers, window and store blocks 56 to 72 are those of its read served alone
   pub example : Same M 2 (firstBy table M (posting story) 2 read) 17 (step (after (step d₀ (posting story) .desk) (meanwhile story)) (finishing story))
       (alone (fed tableBytes noPlacement) read (foundBy M (posting story) 2))
-  example = equal story z₀ M 17 56 refl start (refl, omega arith) refl refl refl refl tableBytes (claimed (calls story) (closed story z₀))
+  example = equal story z₀ M 17 56 refl start (waiting-on story 17 refl (omega arith) refl) (inl refl) refl refl refl tableBytes (claimed (calls story) (closed story z₀))
 
 -- and with bytes: an arena of zeros, a store of sevens
 pub zeros : List ℕ

@@ -96,7 +96,7 @@ given =
     ∷ replicate 84 0
 
 abbrev pub table : Table
-table = record { drives = guarded ∷ plain ∷ replicate 6 zeroDrive; count = 2; present = true ∷ true ∷ replicate 6 false; parameters = given }
+table = record { drives = guarded ∷ plain ∷ replicate 6 zeroDrive; count = 2; present = true ∷ true ∷ replicate 6 false; parameters = given; counts = replicate 8 0; bad = replicate 1024 0 }
 
 abbrev pub d₀ : Desk
 d₀ = opened table arenaLength storeLength

@@ -3,12 +3,14 @@
 -- Assumes nothing.
 use Prim.Native.Nat.{ℕ, _+_, _*_, _≤_, _<_}
 use mathlib.Core.Path.{_≡_, refl, sym, ap, subst, _∙_}
+use mathlib.Core.Logic.{inl}
 use mathlib.Core.Bool.{false}
 use mathlib.Core.List.{List, [], _∷_, _++_}
 use native.Mathlib.Omega.{arith}
 use native.Mathlib.Nat.{zero-add, add-zero, one-mul}
 use lib.ListN.{length, getD, replicate}
 use Rattle.words.specs.Words.{le}
+use Rattle.attached.specs.Bad.{heldOf, isBad, good}
 use Rattle.layout.specs.declared.Packet.{Packet}
 use Rattle.layout.specs.declared.PacketRead.{PacketRead}
 use Rattle.layout.specs.declared.PacketRead.the-variants.{Whole}
@@ -20,17 +22,17 @@ use Rattle.int13.specs.declared.Job.{Job}
 use Rattle.int13.specs.declared.Outcome.the-variants.{Waits}
 use Rattle.int13.specs.declared.Plan.{Plan}
 use Rattle.int13.specs.declared.Plan.the-variants.{Wait}
-use Rattle.int13.specs.Answers.{succeed}
-use Rattle.int13.specs.Steps.{unchanged, isDrive, verifyOk, packetJob, packetTests, packetRead, packetPlan, carryOut, fed, steps, begin}
+use Rattle.int13.specs.Answers.{succeed, ended}
+use Rattle.int13.specs.Steps.{unchanged, isDrive, badsOf, verifyOk, packetJob, packetTests, packetRead, packetPlan, carryOut, fed, steps, begin}
 use Rattle.int13.specs.Alone.{alone}
 use Rattle.desk.specs.declared.Stage.the-variants.{Waiting, Finished}
 use Rattle.desk.specs.declared.Desk.{Desk}
-use Rattle.desk.specs.Calls.{firstWaiting, stageAfter}
+use Rattle.desk.specs.Calls.{firstWaiting, movesNow, stageAfter}
 use Rattle.isolation.specs.Lists.{Out, step, run, after}
 use Rattle.isolation.specs.Words.{Waits as WaitsOn, turns, services, turnsFor}
 use Rattle.isolation.specs.Demand.{foundBy, askedBy, firstBy, Ends, Same, Claim}
 use Rattle.isolation.proofs.Equal.{request}
-use Rattle.isolation.proofs.Trace.{Place, place, Line, waiting, serving, idling, leaves, placeAfter, callsOf, All, _also_, Sized, window-lent, step-line, sized, followed, arrives, all-split, Story, middle, posting, meanwhile, finishing, afterwards, calls, split, at-first, at-middle, since-at, before, whole, closed, taken, waits, equal}
+use Rattle.isolation.proofs.Trace.{Place, place, Line, waiting, serving, idling, leaves, placeAfter, callsOf, All, _also_, Sized, window-lent, step-line, sized, followed, arrives, all-split, Story, middle, posting, waiting-on, meanwhile, finishing, afterwards, calls, split, at-first, at-middle, since-at, before, whole, closed, taken, waits, equal}
 use Rattle.isolation.proofs.ExampleDesk.{tableBytes, arenaLength, M, storeLength, plain, table, d₀, inv₀, claimed, read-packet, windowWith, arenaOf, length-arena, held-arena, sevens, length-sevens}
 
 -- ---- the requests: each guest's packet stands at 0001:0008 of its window, and names drive 81h
@@ -66,12 +68,12 @@ abbrev pub job : Registers → ℕ → Job
 job r g = packetJob r (packet g)
 
 by-packet : (r : Registers) (p : Packet) (w : List ℕ) → length w ≡ M → packetAt w 24 ≡ p
-    → begin (fed table noPlacement) r w ≡ carryOut (packetRead plain r (length w) (readPacket w 24)) r w → packetRead plain r M (Whole p) ≡ Wait (packetJob r p)
+    → begin (fed table noPlacement) r w ≡ carryOut (packetRead plain (badsOf table 0x81) r (length w) (readPacket w 24)) r w → packetRead plain (badsOf table 0x81) r M (Whole p) ≡ Wait (packetJob r p)
     → begin (fed table noPlacement) r w ≡ unchanged w (Waits (packetJob r p))
 by-packet r p w l e f g =
     f
-    ∙ ap (λ (x : PacketRead). carryOut (packetRead plain r (length w) x) r w) (read-packet w p l e)
-    ∙ ap (λ (n : ℕ). carryOut (packetRead plain r n (Whole p)) r w) l
+    ∙ ap (λ (x : PacketRead). carryOut (packetRead plain (badsOf table 0x81) r (length w) x) r w) (read-packet w p l e)
+    ∙ ap (λ (n : ℕ). carryOut (packetRead plain (badsOf table 0x81) r n (Whole p)) r w) l
     ∙ ap (λ (x : Plan). carryOut x r w) g
 
 -- ---- the lines
@@ -80,12 +82,12 @@ abbrev pub asks : Registers → ℕ → Line
 asks r g = waiting g r (job r g)
 
 abbrev pub ends : Registers → ℕ → Line
-ends r g = serving g (request (job r g) 0) (Finished (succeed r))
+ends r g = serving g (request (job r g) 0) (getD counts g 0) (Finished (succeed r))
 
 -- guest 2's first part, and the other seven wait
 abbrev pub posts : List Line
 posts =
-    serving 2 (request (job verifies 2) 0) (Waiting (request (job verifies 2) 16))
+    serving 2 (request (job verifies 2) 0) 16 (Waiting (request (job verifies 2) 16))
     ∷ asks reads 3 ∷ asks reads 4 ∷ asks writes 5 ∷ asks reads 6 ∷ asks reads 7 ∷ asks writes 0 ∷ asks reads 1
     ∷ []
 
@@ -95,7 +97,7 @@ stretch = ends reads 3 ∷ ends reads 4 ∷ ends writes 5 ∷ ends reads 6 ∷ e
 
 -- the eighth serves guest 2; then nobody waits any more
 abbrev pub last : Line
-last = serving 2 (request (job verifies 2) 16) (Finished (succeed verifies))
+last = serving 2 (request (job verifies 2) 16) 1 (Finished (succeed verifies))
 
 abbrev pub idle : List Line
 idle = replicate 7 idling
@@ -107,15 +109,15 @@ module _ (a s : List ℕ) (la : length a ≡ arenaLength) (ls : length s ≡ sto
   p₀ = place d₀ a s
 
   checks : (r : Registers) (g : ℕ) → g < guests
-      → begin (fed table noPlacement) r (windowOf a g M) ≡ carryOut (packetRead plain r (length (windowOf a g M)) (readPacket (windowOf a g M) 24)) r (windowOf a g M)
-      → packetRead plain r M (Whole (packet g)) ≡ Wait (job r g) → begin (fed table noPlacement) r (windowOf a g M) ≡ unchanged (windowOf a g M) (Waits (job r g))
+      → begin (fed table noPlacement) r (windowOf a g M) ≡ carryOut (packetRead plain (badsOf table 0x81) r (length (windowOf a g M)) (readPacket (windowOf a g M) 24)) r (windowOf a g M)
+      → packetRead plain (badsOf table 0x81) r M (Whole (packet g)) ≡ Wait (job r g) → begin (fed table noPlacement) r (windowOf a g M) ≡ unchanged (windowOf a g M) (Waits (job r g))
   checks r g b = by-packet r (packet g) (windowOf a g M) (window-lent d₀ a g la b) (held g b)
 
   pub lines : All p₀ (asks verifies 2 ∷ ((posts ++ stretch) ++ last ∷ idle))
-  unfolding firstWaiting stageAfter begin steps packetPlan verifyOk isDrive packetTests
+  unfolding firstWaiting movesNow badsOf good isBad heldOf stageAfter ended begin steps packetPlan verifyOk isDrive packetTests
   lines =
       (refl, refl, checks verifies 2 (omega arith) refl refl)
-      also (refl, refl, refl)
+      also (refl, refl, refl, refl)
       also (refl, refl, checks reads 3 (omega arith) refl refl)
       also (refl, refl, checks reads 4 (omega arith) refl refl)
       also (refl, refl, checks writes 5 (omega arith) refl refl)
@@ -123,8 +125,8 @@ module _ (a s : List ℕ) (la : length a ≡ arenaLength) (ls : length s ≡ sto
       also (refl, refl, checks reads 7 (omega arith) refl refl)
       also (refl, refl, checks writes 0 (omega arith) refl refl)
       also (refl, refl, checks reads 1 (omega arith) refl refl)
-      also (refl, refl, refl) also (refl, refl, refl) also (refl, refl, refl) also (refl, refl, refl)
-      also (refl, refl, refl) also (refl, refl, refl) also (refl, refl, refl) also (refl, refl, refl)
+      also (refl, refl, refl, refl) also (refl, refl, refl, refl) also (refl, refl, refl, refl) also (refl, refl, refl, refl)
+      also (refl, refl, refl, refl) also (refl, refl, refl, refl) also (refl, refl, refl, refl) also (refl, refl, refl, refl)
       also refl also refl also refl also refl also refl also refl also refl
       also tt
 
@@ -149,10 +151,10 @@ module _ (a s : List ℕ) (la : length a ≡ arenaLength) (ls : length s ≡ sto
   -- guests 0 and 5 write the blocks on either side of 29 to 45
   pub example : Same M 2 (firstBy table M (posting story) 2 verifies) (askedBy M (posting story) 2 verifies)
       (step (after (step d₀ (posting story) .desk) (meanwhile story)) (finishing story)) (alone (fed tableBytes noPlacement) verifies (foundBy M (posting story) 2))
-  example = equal story z₀ M 17 29 count-is start-is (refl, omega arith) refl refl refl refl tableBytes claim
+  example = equal story z₀ M 17 29 count-is start-is (waiting-on story 17 refl (omega arith) refl) (inl refl) refl refl refl tableBytes claim
 
   waits₂ : WaitsOn 2 (askedBy M (posting story) 2 verifies) (run (step d₀ (posting story) .desk) (meanwhile story))
-  waits₂ = waits story z₀ M 17 29 count-is start-is (refl, omega arith) refl
+  waits₂ = waits story z₀ M 17 29 count-is start-is (waiting-on story 17 refl (omega arith) refl) (inl refl)
 
   -- eight successive turns, and the last of them serves guest 2
   abbrev pub p₁ : Place

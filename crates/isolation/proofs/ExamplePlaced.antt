@@ -4,6 +4,7 @@
 -- Assumes nothing.
 use Prim.Native.Nat.{ℕ, suc, _+_, _<_}
 use mathlib.Core.Path.{_≡_, refl, ap, subst₂, _∙_}
+use mathlib.Core.Logic.{inl}
 use mathlib.Core.Bool.{true, false}
 use mathlib.Core.List.{List, [], _∷_, _++_}
 use native.Mathlib.Omega.{arith}
@@ -12,6 +13,7 @@ use lib.Seq.{sets, getD-set-other}
 use Rattle.words.specs.Words.{le}
 use Rattle.words.proofs.WordsLaws.{le-ext}
 use Rattle.chs.specs.Chs.{inLimits, isValid, blockOf}
+use Rattle.attached.specs.Bad.{heldOf, isBad, good}
 use Rattle.layout.specs.declared.Pointer.{Pointer}
 use Rattle.layout.specs.ResultBuffer.{returnedSize, resultAnswer, resultOut}
 use Rattle.memory.specs.Window.{windowOf, withWindow}
@@ -20,22 +22,22 @@ use Rattle.table.specs.Table.{parametersTo}
 use Rattle.int13.specs.declared.Registers.{Registers}
 use Rattle.int13.specs.declared.Placement.{Placement}
 use Rattle.int13.specs.declared.Outcome.the-variants.{Answered}
-use Rattle.int13.specs.Answers.{succeed, posted as postedRegisters}
+use Rattle.int13.specs.Answers.{succeed, ended, posted as postedRegisters}
 use Rattle.int13.specs.Placement.{placedAt, tablesOf}
-use Rattle.int13.specs.Steps.{unchanged, isDrive, shownOf, extensions, result, fed, steps, begin}
+use Rattle.int13.specs.Steps.{unchanged, isDrive, badsOf, shownOf, extensions, result, fed, steps, begin}
 use Rattle.int13.specs.Alone.{alone}
 use Rattle.desk.specs.declared.Request.{Request}
 use Rattle.desk.specs.declared.Stage.the-variants.{Waiting, Finished}
 use Rattle.desk.specs.declared.Desk.{Desk}
 use Rattle.desk.specs.Parts.{stageAt, isWaiting}
 use Rattle.desk.specs.Acceptable.{placeOk}
-use Rattle.desk.specs.Calls.{firstWaiting, stageAfter, tablesIn}
+use Rattle.desk.specs.Calls.{firstWaiting, movesNow, stageAfter, tablesIn}
 use Rattle.isolation.specs.Lists.{Out, step, after}
 use Rattle.isolation.specs.Words.{placementIn}
 use Rattle.isolation.specs.Demand.{foundBy, firstBy, Same, SameAtOnce, Claim}
 use Rattle.isolation.proofs.Equal.{request}
 use Rattle.isolation.proofs.Keep.{tables-size}
-use Rattle.isolation.proofs.Trace.{Place, place, Line, waiting, answering, serving, placing, barred, misplacing, leaves, callOf, outAt, placeAfter, callsOf, All, _also_, Sized, window-lent, step-line, sized, followed, arrives, all-split, Story, posting, meanwhile, finishing, calls-later, closed-later, equal-later}
+use Rattle.isolation.proofs.Trace.{Place, place, Line, waiting, answering, serving, placing, barred, misplacing, leaves, callOf, outAt, placeAfter, callsOf, All, _also_, Sized, window-lent, step-line, sized, followed, arrives, all-split, Story, posting, waiting-on, meanwhile, finishing, calls-later, closed-later, equal-later}
 use Rattle.isolation.proofs.ExampleDesk.{tableBytes, arenaLength, M, storeLength, plain, table, d₀, inv₀, claimed, arenaOf, length-arena, window-arena, sevens, length-sevens}
 use Rattle.isolation.proofs.ExampleWrite.{saved, saveJob, check-save}
 
@@ -80,7 +82,7 @@ ahead = placing 2 32 ∷ placing 2 48 ∷ misplacing 2 40 ∷ []
 -- refused
 abbrev pub between : List Line
 between =
-    serving 2 (saving 0) (Waiting (saving 16))
+    serving 2 (saving 0) 16 (Waiting (saving 16))
     ∷ barred 2 64
     ∷ placing 6 8928
     ∷ answering 6 points (succeed points) shown
@@ -89,7 +91,7 @@ between =
     ∷ []
 
 abbrev pub last : Line
-last = serving 2 (saving 16) (Finished (succeed (postedRegisters saved)))
+last = serving 2 (saving 16) 1 (Finished (succeed (postedRegisters saved)))
 
 -- ---- the calls, over any arena and store of those lengths with a size word in guest 6's window
 
@@ -142,16 +144,16 @@ module _ (a s : List ℕ) (la : length a ≡ arenaLength) (ls : length s ≡ sto
   long = length-with-window (p₁ .arena) 6 M (tablesIn table 8928 (windowOf (p₁ .arena) 6 M)) ∙ z₁ .arena
 
   pub lines : All p₁ (waiting 2 saved saveJob ∷ (between ++ last ∷ []))
-  unfolding firstWaiting stageAfter placeOk parametersTo
+  unfolding firstWaiting movesNow badsOf isDrive good isBad heldOf stageAfter ended placeOk parametersTo
   lines =
       (refl, refl, check-save (placedAt 48) (windowOf (p₁ .arena) 2 M) (window-lent d₀ (p₁ .arena) 2 (z₁ .arena) (omega arith)))
-      also (refl, refl, refl)
+      also (refl, refl, refl, refl)
       also (refl, refl)
       also (refl, refl, refl)
       also (refl, refl, check-points (windowOf (leaves p₁ (placing 6 8928) .arena) 6 M) (window-lent d₀ (leaves p₁ (placing 6 8928) .arena) 6 long (omega arith)) size-word)
       also (refl, refl, check-extends _)
       also (refl, refl, refl)
-      also (refl, refl, refl)
+      also (refl, refl, refl, refl)
       also tt
 
   abbrev pub story : Story p₁
@@ -168,7 +170,7 @@ module _ (a s : List ℕ) (la : length a ≡ arenaLength) (ls : length s ≡ sto
   pub example : Same M 2 (firstBy table M (posting story) 2 saved) 17
       (step (after (step (after d₀ (callsOf p₀ ahead)) (posting story) .desk) (meanwhile story)) (finishing story))
       (alone (fed tableBytes (placedAt 48)) saved (foundBy M (posting story) 2))
-  example = equal-later p₀ ahead story z₀ aheads M 17 56 refl start refl (refl, omega arith) refl tableBytes claim refl refl refl
+  example = equal-later p₀ ahead story z₀ aheads M 17 56 refl start refl (waiting-on story 17 refl (omega arith) refl) (inl refl) tableBytes claim refl refl refl
 
   -- ---- guest 6 is answered at once as served alone is, which is fed its placement
 
@@ -179,7 +181,7 @@ module _ (a s : List ℕ) (la : length a ≡ arenaLength) (ls : length s ≡ sto
   rest = answering 6 extends extended (λ w. w) ∷ misplacing 6 8944 ∷ last ∷ []
 
   abbrev front : List Line
-  front = waiting 2 saved saveJob ∷ serving 2 (saving 0) (Waiting (saving 16)) ∷ []
+  front = waiting 2 saved saveJob ∷ serving 2 (saving 0) 16 (Waiting (saving 16)) ∷ []
 
   abbrev both : List Line
   both = barred 2 64 ∷ placing 6 8928 ∷ []

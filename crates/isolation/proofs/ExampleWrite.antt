@@ -3,6 +3,7 @@
 -- Assumes nothing.
 use Prim.Native.Nat.{ℕ, _<_}
 use mathlib.Core.Path.{_≡_, refl, sym, ap, subst₂, _∙_}
+use mathlib.Core.Logic.{inl}
 use mathlib.Core.Bool.{true, false}
 use mathlib.Core.List.{List, [], _∷_, _++_}
 use native.Mathlib.Omega.{arith}
@@ -10,6 +11,7 @@ use lib.ListN.{length}
 use Rattle.logic.proofs.LogicLaws.{impossible}
 use Rattle.words.specs.Words.{le}
 use Rattle.chs.specs.Chs.{inLimits, isValid, blockOf}
+use Rattle.attached.specs.Bad.{heldOf, isBad, good}
 use Rattle.layout.specs.declared.Packet.{Packet}
 use Rattle.layout.specs.declared.PacketRead.{PacketRead}
 use Rattle.layout.specs.Packet.{packetAt}
@@ -20,19 +22,19 @@ use Rattle.int13.specs.declared.Placement.{Placement}
 use Rattle.int13.specs.Placement.{noPlacement}
 use Rattle.int13.specs.declared.Job.{Job}
 use Rattle.int13.specs.declared.Outcome.the-variants.{Answered, Waits}
-use Rattle.int13.specs.Answers.{writeProtected, succeed, refuse, posted as postedRegisters}
-use Rattle.int13.specs.Steps.{unchanged, isDrive, verifyOk, packetTests, packetRead, packetPlan, withCount, carryOut, sectors, fed, steps, begin}
+use Rattle.int13.specs.Answers.{writeProtected, succeed, refuse, ended, posted as postedRegisters}
+use Rattle.int13.specs.Steps.{unchanged, isDrive, badsOf, verifyOk, packetTests, packetRead, packetPlan, withCount, carryOut, sectors, fed, steps, begin}
 use Rattle.int13.specs.Alone.{alone}
 use Rattle.desk.specs.declared.Request.{Request}
 use Rattle.desk.specs.declared.Stage.the-variants.{Waiting, Finished}
 use Rattle.desk.specs.declared.Desk.{Desk}
 use Rattle.desk.specs.declared.CollectAnswer.the-variants.{Given as CollectGiven}
-use Rattle.desk.specs.Calls.{firstWaiting, stageAfter}
+use Rattle.desk.specs.Calls.{firstWaiting, movesNow, stageAfter}
 use Rattle.isolation.specs.Lists.{collected, Out, step, run, after}
 use Rattle.isolation.specs.Words.{refused, hands, kindOf, Finishes, collects, placementIn}
 use Rattle.isolation.specs.Demand.{foundBy, firstBy, Same, SameAtOnce, Claim}
 use Rattle.isolation.proofs.Equal.{request}
-use Rattle.isolation.proofs.Trace.{Place, place, Line, waiting, answering, serving, idling, unlent, withdrawing, collecting, misopening, leaves, callOf, outAt, placeAfter, callsOf, All, _also_, Sized, window-lent, step-line, sized-line, sized, followed, arrives, all-split, Story, middle, posting, meanwhile, finishing, calls, split, at-middle, since-at, closed, taken, finishes, equal}
+use Rattle.isolation.proofs.Trace.{Place, place, Line, waiting, answering, serving, idling, unlent, withdrawing, collecting, misopening, leaves, callOf, outAt, placeAfter, callsOf, All, _also_, Sized, window-lent, step-line, sized-line, sized, followed, arrives, all-split, Story, middle, posting, waiting-on, meanwhile, finishing, calls, split, at-middle, since-at, closed, taken, finishes, equal}
 use Rattle.isolation.proofs.ExampleDesk.{tableBytes, arenaLength, M, storeLength, guarded, plain, table, d₀, inv₀, claimed, read-packet, arenaOf, length-arena, held-arena, sevens, length-sevens}
 
 -- ---- the requests
@@ -73,7 +75,7 @@ check-write p w l = by-sectors p wrote writeJob w l refl refl
 check-spoiled : (p : Placement) (w : List ℕ) → length w ≡ M → packetAt w 24 ≡ packet
     → begin (fed table p) spoiled w ≡ record { outcome = Answered (refuse writeProtected spoiled); window = withCount w 24 0 }
 unfolding begin steps packetPlan verifyOk isDrive packetTests
-check-spoiled p w l e = ap (λ (x : PacketRead). carryOut (packetRead guarded spoiled (length w) x) spoiled w) (read-packet w packet l e)
+check-spoiled p w l e = ap (λ (x : PacketRead). carryOut (packetRead guarded (badsOf table 0x80) spoiled (length w) x) spoiled w) (read-packet w packet l e)
 
 -- ---- the lines
 
@@ -91,18 +93,18 @@ spoil w = withCount w 24 0
 abbrev pub between : List Line
 between =
     waiting 5 wrote writeJob
-    ∷ serving 2 (saving 0) (Waiting (saving 16))
+    ∷ serving 2 (saving 0) 16 (Waiting (saving 16))
     ∷ unlent
     ∷ withdrawing 5 writing
     ∷ misopening
     ∷ answering 6 spoiled (refuse writeProtected spoiled) spoil
     ∷ waiting 5 wrote writeJob
-    ∷ serving 5 writing (Finished (succeed wrote))
+    ∷ serving 5 writing 1 (Finished (succeed wrote))
     ∷ []
 
 -- the last part of guest 2
 abbrev pub last : Line
-last = serving 2 (saving 16) (Finished (succeed (postedRegisters saved)))
+last = serving 2 (saving 16) 1 (Finished (succeed (postedRegisters saved)))
 
 -- guest 5 collects, a turn is idle, and then guest 2 collects
 abbrev pub later : List Line
@@ -121,18 +123,18 @@ module _ (a s : List ℕ) (la : length a ≡ arenaLength) (ls : length s ≡ sto
   long-window x l g b = window-lent d₀ x g l b
 
   pub lines : All p₀ (waiting 2 saved saveJob ∷ (between ++ last ∷ later))
-  unfolding firstWaiting stageAfter
+  unfolding firstWaiting movesNow badsOf isDrive good isBad heldOf stageAfter ended
   lines =
       (refl, refl, check-save noPlacement (windowOf a 2 M) (long-window a la 2 (omega arith)))
       also (refl, refl, check-write noPlacement (windowOf a 5 M) (long-window a la 5 (omega arith)))
-      also (refl, refl, refl)
+      also (refl, refl, refl, refl)
       also refl
       also (refl, refl, refl)
       also tt
       also (refl, refl, check-spoiled noPlacement (windowOf a 6 M) (long-window a la 6 (omega arith)) held)
       also (refl, refl, check-write noPlacement (windowOf a₇ 5 M) (long-window a₇ (length-with-window a 6 M (spoil (windowOf a 6 M)) ∙ la) 5 (omega arith)))
-      also (refl, refl, refl)
-      also (refl, refl, refl)
+      also (refl, refl, refl, refl)
+      also (refl, refl, refl, refl)
       also (refl, refl)
       also refl
       also (refl, refl)
@@ -154,10 +156,10 @@ module _ (a s : List ℕ) (la : length a ≡ arenaLength) (ls : length s ≡ sto
   -- after its last part, guest 2's registers, window and store blocks 56 to 72 are those of its write served alone; guest 5 writes block 73
   pub example : Same M 2 (firstBy table M (posting story) 2 saved) 17 (step (after (step d₀ (posting story) .desk) (meanwhile story)) (finishing story))
       (alone (fed tableBytes noPlacement) saved (foundBy M (posting story) 2))
-  example = equal story z₀ M 17 56 refl start (refl, omega arith) refl refl refl refl tableBytes claim
+  example = equal story z₀ M 17 56 refl start (waiting-on story 17 refl (omega arith) refl) (inl refl) refl refl refl tableBytes claim
 
   ends : Finishes 2 17 (step d₀ (posting story) .desk) (meanwhile story) (finishing story)
-  ends = finishes story z₀ M 17 56 refl start (refl, omega arith) refl
+  ends = finishes story z₀ M 17 56 refl start (waiting-on story 17 refl (omega arith) refl) (inl refl)
 
   -- guest 2 collects late, after another collect and an idle turn, and is handed served alone's registers
   abbrev p₁₀ : Place
@@ -191,7 +193,7 @@ module _ (a s : List ℕ) (la : length a ≡ arenaLength) (ls : length s ≡ sto
 
   -- guest 6 was refused at once as served alone is, the packet's count word included
   abbrev six : List Line
-  six = waiting 2 saved saveJob ∷ waiting 5 wrote writeJob ∷ serving 2 (saving 0) (Waiting (saving 16)) ∷ unlent ∷ withdrawing 5 writing ∷ misopening ∷ []
+  six = waiting 2 saved saveJob ∷ waiting 5 wrote writeJob ∷ serving 2 (saving 0) 16 (Waiting (saving 16)) ∷ unlent ∷ withdrawing 5 writing ∷ misopening ∷ []
 
   abbrev refusing : Line
   refusing = answering 6 spoiled (refuse writeProtected spoiled) spoil
@@ -199,8 +201,8 @@ module _ (a s : List ℕ) (la : length a ≡ arenaLength) (ls : length s ≡ sto
   abbrev p₆ : Place
   p₆ = placeAfter p₀ six
 
-  front : All p₀ six × All p₆ (refusing ∷ waiting 5 wrote writeJob ∷ serving 5 writing (Finished (succeed wrote)) ∷ last ∷ later)
-  front = all-split six (refusing ∷ waiting 5 wrote writeJob ∷ serving 5 writing (Finished (succeed wrote)) ∷ last ∷ later) p₀ lines
+  front : All p₀ six × All p₆ (refusing ∷ waiting 5 wrote writeJob ∷ serving 5 writing 1 (Finished (succeed wrote)) ∷ last ∷ later)
+  front = all-split six (refusing ∷ waiting 5 wrote writeJob ∷ serving 5 writing 1 (Finished (succeed wrote)) ∷ last ∷ later) p₀ lines
 
   refused-then : step (after d₀ (callsOf p₀ six)) (callOf p₆ refusing) ≡ outAt p₆ refusing
   refused-then = ap (λ (d : Desk). step d (callOf p₆ refusing)) (arrives six p₀ z₀ (front .0)) ∙ step-line p₆ (sized six p₀ z₀ (front .0)) refusing (front .1 .0)
@@ -209,7 +211,7 @@ module _ (a s : List ℕ) (la : length a ≡ arenaLength) (ls : length s ≡ sto
   at-once =
       subst₂ (λ (o : Out) (x : Placement). SameAtOnce M 6 o (refuse writeProtected spoiled) (alone (fed tableBytes x) spoiled (foundBy M (callOf p₆ refusing) 6))) refused-then
       (ap (placementIn 6) (followed six p₀ z₀ (front .0)))
-      (claim .atOnce (callsOf p₀ six) (callsOf (leaves p₆ refusing) (waiting 5 wrote writeJob ∷ serving 5 writing (Finished (succeed wrote)) ∷ last ∷ later))
+      (claim .atOnce (callsOf p₀ six) (callsOf (leaves p₆ refusing) (waiting 5 wrote writeJob ∷ serving 5 writing 1 (Finished (succeed wrote)) ∷ last ∷ later))
       (callOf p₆ refusing) 6 spoiled (refuse writeProtected spoiled) refl refl (ap (λ (o : Out). o .answer) refused-then))
 
 -- ---- such an arena, and a store

@@ -2,15 +2,13 @@
 -- Assumes nothing.
 use Prim.Native.Nat.{ℕ, _+_, _-_, _≤_, _<_, min}
 use mathlib.Core.Path.{_≡_, refl, sym, ap, _∙_}
-use mathlib.Core.Logic.{_≢_}
+use mathlib.Core.Logic.{_⊎_, _≢_}
 use native.Mathlib.Omega.{arith}
 use native.Mathlib.Decide.{ℕ-discrete}
-use borrow.Author.Tests.{ltb-true, ltb-false, ne-eqb}
-use lib.Dec.{ltb}
+use borrow.Author.Tests.{ne-eqb}
 use Rattle.memory.specs.Window.{guests}
-use Rattle.int13.specs.Answers.{succeed}
+use Rattle.int13.specs.Answers.{ended}
 use Rattle.desk.specs.declared.Request.{Request}
-use Rattle.desk.specs.declared.Stage.{Stage}
 use Rattle.desk.specs.declared.Stage.the-variants.{Vacant, Waiting, Finished}
 use Rattle.desk.specs.declared.Desk.{Desk}
 use Rattle.desk.specs.Parts.{stageAt, next}
@@ -19,7 +17,7 @@ use Rattle.desk.specs.Calls.{quota, later, stageAfter}
 use Rattle.isolation.specs.Lists.{Call, Out, step}
 use Rattle.isolation.specs.Words.{Marks, line, marks, Kind, withdraws, opens, kindOf, turnIn, withdrawalIn, movedIn, serviceIn, ifSame}
 use Rattle.isolation.proofs.Turn.{dist, dist-less, vacant≢waiting, finished≢waiting}
-use Rattle.logic.proofs.LogicLaws.{pick-cases}
+use Rattle.isolation.proofs.Endings.{now, goes-cases, stage-on, stage-over}
 use Rattle.isolation.proofs.Accept.{Inv, ready}
 use Rattle.isolation.proofs.View.{Did, same, idle, answer, accepting, serving, giving, withdrawing, placing, view, servedOut, withdrawnOut, quiet-marks}
 use Rattle.isolation.proofs.Keep.{stage-same, stage-other, waiting-below, same-guest}
@@ -48,8 +46,9 @@ pub data Fate (g : ℕ) (q : Request) (d : Desk) (o : Out) : Type 0 where
   passes : stageAt (o .desk) g ≡ Waiting q → dist (o .desk .pointer) g < dist (d .pointer) g → Counts g (kindOf (o .answer)) 1 0 0 0 → Fate g q d o
   -- a turn that serves it and leaves some
   parts : stageAt (o .desk) g ≡ Waiting (later q turnBlocks) → q .moved + turnBlocks < q .job .count → o .desk .pointer ≡ next g → Counts g (kindOf (o .answer)) 1 0 turnBlocks 1 → Fate g q d o
-  -- the finishing turn
-  ends : stageAt (o .desk) g ≡ Finished (succeed (q .job .registers)) → (k : ℕ) → q .moved + k ≡ q .job .count → Counts g (kindOf (o .answer)) 1 0 k 1 → Fate g q d o
+  -- the finishing turn: it moves the last blocks, or those before a bad one
+  ends : stageAt (o .desk) g ≡ Finished (ended (q .job .count) (q .moved + now (d .table) q) (q .job .registers))
+      → (q .moved + now (d .table) q ≡ q .job .count) ⊎ (now (d .table) q < quota q) → Counts g (kindOf (o .answer)) 1 0 (now (d .table) q) 1 → Fate g q d o
   leaves : kindOf (o .answer) ≡ withdraws g → Fate g q d o
 
 pub other-guest : (h g n : ℕ) → h ≢ g → ifSame h g n ≡ 0
@@ -58,21 +57,9 @@ other-guest h g n ne = rw (ne-eqb h g ne)
 pub same-request : {p q : Request} → Waiting p ≡ Waiting q → p ≡ q
 same-request e = cc
 
--- sixteen where some are left, else the rest
+-- sixteen where some are left
 full : (n m : ℕ) → m + min turnBlocks (n - m) < n → min turnBlocks (n - m) ≡ turnBlocks
 full n m h = omega arith
-
-pub rest : (n m : ℕ) → m < n → n ≤ m + min turnBlocks (n - m) → m + min turnBlocks (n - m) ≡ n
-rest n m l h = omega arith
-
--- the stage that a service leaves, by cases
-pub after-cases : (P : Stage → Type 0) (q : Request) → (q .moved + quota q < q .job .count → quota q ≡ turnBlocks → P (Waiting (later q (quota q))))
-    → (q .job .count ≤ q .moved + quota q → P (Finished (succeed (q .job .registers)))) → P (stageAfter q)
-unfolding stageAfter
-after-cases P q f g =
-    pick-cases P (ltb (q .moved + quota q) (q .job .count)) _ _
-    (λ e. f (ltb-true _ _ e) (full (q .job .count) (q .moved) (ltb-true _ _ e)))
-    (λ e. g (ltb-false _ _ e))
 
 module _ (d : Desk) (inv : Inv d) (c : Call) (g : ℕ) (q : Request) (e : stageAt d g ≡ Waiting q) where
   below : g < guests
@@ -80,12 +67,16 @@ module _ (d : Desk) (inv : Inv d) (c : Call) (g : ℕ) (q : Request) (e : stageA
 
   -- it is served itself
   own : Fate g q d (servedOut d c g q)
-  own = after-cases (λ (s : Stage). stageAt (servedOut d c g q .desk) g ≡ s → Fate g q d (servedOut d c g q)) q
-      (λ h s r. parts (r ∙ ap (λ (k : ℕ). Waiting (later q k)) s) (omega arith) refl
-      (record { turn = refl; withdrawal = refl; moved = same-guest g (quota q) ∙ s; service = same-guest g 1 }))
-      (λ h r. ends r (quota q) (rest (q .job .count) (q .moved) (ready d g q inv e .rest) h)
-      (record { turn = refl; withdrawal = refl; moved = same-guest g (quota q); service = same-guest g 1 }))
-      (stage-same d g (stageAfter q) inv below)
+  own =
+      goes-cases (Fate g q d (servedOut d c g q)) (d .table) q (ready d g q inv e .rest)
+      (λ t k h. let s : now (d .table) q ≡ turnBlocks = k ∙ full (q .job .count) (q .moved) h in
+      parts (row ∙ stage-on q (now (d .table) q) t ∙ ap (λ (n : ℕ). Waiting (later q n)) s) (omega (arith, h, k, s)) refl
+      (record { turn = refl; withdrawal = refl; moved = same-guest g (now (d .table) q) ∙ s; service = same-guest g 1 }))
+      (λ t k. ends (row ∙ stage-over q (now (d .table) q) t) k
+      (record { turn = refl; withdrawal = refl; moved = same-guest g (now (d .table) q); service = same-guest g 1 }))
+    where
+      row : stageAt (servedOut d c g q .desk) g ≡ stageAfter q (now (d .table) q)
+      row = stage-same d g (stageAfter q (now (d .table) q)) inv below
 
   serve-fate : (h : ℕ) (p : Request) → h < guests → stageAt d h ≡ Waiting p
       → ((k : ℕ) (q′ : Request) → k < guests → stageAt d k ≡ Waiting q′ → dist (d .pointer) h ≤ dist (d .pointer) k)
@@ -95,8 +86,8 @@ module _ (d : Desk) (inv : Inv d) (c : Call) (g : ℕ) (q : Request) (e : stageA
       rw (y, pq) own
   serve-fate h p b v f (no y) =
       let gh : g ≢ h = λ z. y (sym z) in
-      passes (stage-other d h g (stageAfter p) gh ∙ e) (dist-less (d .pointer) g h (inv .pointer) below b gh (f g q below e))
-      (record { turn = refl; withdrawal = refl; moved = other-guest h g (quota p) y; service = other-guest h g 1 y })
+      passes (stage-other d h g (stageAfter p (now (d .table) p)) gh ∙ e) (dist-less (d .pointer) g h (inv .pointer) below b gh (f g q below e))
+      (record { turn = refl; withdrawal = refl; moved = other-guest h g (now (d .table) p) y; service = other-guest h g 1 y })
 
   withdraw-fate : (h : ℕ) (p : Request) → Dec (h ≡ g) → Fate g q d (withdrawnOut d c h p)
   withdraw-fate h p (yes y) = leaves (ap withdraws y)

@@ -16,6 +16,7 @@ use Rattle.desk.specs.Parts.{stageAt}
 use Rattle.desk.specs.Calls.{stageAfter, collectOf}
 use Rattle.isolation.specs.Lists.{Op, collect, Call, collected, Out, stepOf, step, run, after}
 use Rattle.isolation.specs.Words.{Marks, refused, opens, kindOf, NoneOpens, collectIn, collects}
+use Rattle.isolation.proofs.Endings.{now}
 use Rattle.isolation.proofs.Accept.{Inv}
 use Rattle.isolation.proofs.View.{Did, same, idle, answer, accepting, serving, giving, withdrawing, placing, view, quiet-marks, collectedOut}
 use Rattle.isolation.proofs.Keep.{stage-other, inv-step, same-guest}
@@ -49,7 +50,7 @@ module _ (d : Desk) (inv : Inv d) (c : Call) (g : ℕ) (x : Registers) (e : stag
   holds o (idle t f) = keeps e refl
   holds o (answer h r y w t b l v ko kw k) = keeps e refl
   holds o (accepting h r j t b l v ko kw f) = keeps (stage-other d h g (Waiting (request j 0)) (λ y. vacant≢finished (sym v ∙ (rw y at e))) ∙ e) refl
-  holds o (serving h q t b l v f) = keeps (stage-other d h g (stageAfter q) (λ y. waiting≢finished (sym v ∙ (rw y at e))) ∙ e) refl
+  holds o (serving h q t b l v f) = keeps (stage-other d h g (stageAfter q (now (d .table) q)) (λ y. waiting≢finished (sym v ∙ (rw y at e))) ∙ e) refl
   holds o (giving h r t b v) = collect-holds h r v (ℕ-discrete h g)
   holds o (placing h address t b l v k) = keeps e refl
   holds o (withdrawing h q t b l v) = keeps (stage-other d h g Vacant (λ y. waiting≢finished (sym v ∙ (rw y at e))) ∙ e) refl

@@ -17,15 +17,18 @@ use Rattle.words.proofs.WordsLaws.{bytes-part}
 use Rattle.drive.specs.declared.Drive.{Drive}
 use Rattle.drive.specs.Drive.{driveOf}
 use Rattle.drive.proofs.DriveLaws.{fits-drive}
+use Rattle.attached.specs.declared.Bads.{Bads}
 use Rattle.attached.specs.Parameters.{numberIn, parametersIn}
+use Rattle.attached.specs.Bad.{badCount, badLengthOk, badsIn}
+use Rattle.attached.proofs.BadLaws.{badLengthOk-true, badLengthOk-most, bads-stored}
 use Rattle.table.specs.declared.Table.{Table}
 use Rattle.table.specs.declared.Stepped.{Stepped}
-use Rattle.table.specs.Table.{noDrive, zeroDrive, emptyTable, more, withParameters, goOn, readFrom, readTable, drivesOf}
-use Rattle.table.proofs.TableLaws.{stepAt-cases, whole-at, refusal-room}
+use Rattle.table.specs.Table.{noDrive, zeroDrive, emptyTable, more, withParameters, withBads, goOn, readFrom, mostRecords, readTable, drivesOf}
+use Rattle.table.proofs.TableLaws.{stepAt-cases, whole-at, length-whole, lengthOk-bad, refusal-room}
 use Rattle.memory.specs.Window.{guests}
 use Rattle.memory.specs.Blocks.{blockLength}
 use Rattle.int13.specs.declared.Registers.{Registers}
-use Rattle.int13.specs.Answers.{ah, isSectors, succeed, posted}
+use Rattle.int13.specs.Answers.{ah, al, isSectors, isWrite, succeed, stop, badCode, ended, posted}
 use Rattle.int13.specs.Steps.{isDrive, driveAt}
 use Rattle.desk.specs.declared.Request.{Request}
 use Rattle.desk.specs.declared.Stage.{Stage}
@@ -41,13 +44,14 @@ use Rattle.desk.specs.declared.PlaceAnswer.the-variants.{Placed, Refused as Pla
 use Rattle.table.specs.declared.Written.the-variants.{Bytes as WrittenBytes, Refused as WriteRefused}
 use Rattle.desk.specs.Parts.{windowSize, stageAt, withStage, withPointer, next, withPlacement}
 use Rattle.desk.specs.Acceptable.{packetOk, stageOk}
-use Rattle.desk.specs.Calls.{openOf, quota, later, stageAfter}
+use Rattle.desk.specs.Calls.{openOf, later, goesOn, stageAfter}
 use Rattle.desk.proofs.AcceptableLaws.{waits-facts}
 use Rattle.image.specs.Image.{FitsRegisters, FitsRequest, FitsStage, FitsDrive, FitsTable, FitsDesk}
 use Rattle.isolation.specs.Lists.{Op, openTable, post, turn, collect, withdraw, write, place, Call, Answer, opening, posted as postedTo, turned, collected, withdrawn, written, placed, Out, openedDesk, stepOf, step}
 use Rattle.isolation.specs.Words.{opens, kindOf}
 use Rattle.isolation.specs.DeskBlocks.{FitsOp}
-use Rattle.isolation.proofs.Accept.{Inv, opened-desk, all-vacant}
+use Rattle.isolation.proofs.Endings.{now}
+use Rattle.isolation.proofs.Accept.{Inv, opened-desk, all-vacant, waits}
 use Rattle.isolation.proofs.View.{Did, same, idle, answer, accepting, serving, giving, withdrawing, placing, view}
 use Rattle.isolation.proofs.Keep.{stage-same, stage-other, inv-did}
 
@@ -119,6 +123,10 @@ fits-empty =
       present = refl;
       parameters = refl;
       bytes = zeros 112;
+      counts = refl;
+      fewBads = zeros 8;
+      bad = refl;
+      lists = zeros 1024;
     }
 
 fits-more : (b : Table) (d : Drive) → FitsTable b → FitsDrive d → b .count < 8 → FitsTable (more b d)
@@ -130,6 +138,10 @@ fits-more b d f e room =
       present = f .present;
       parameters = f .parameters;
       bytes = f .bytes;
+      counts = f .counts;
+      fewBads = f .fewBads;
+      bad = f .bad;
+      lists = f .lists;
     }
   where
     at : (i : ℕ) → i < 8 → Dec (i ≡ b .count) → FitsDrive (getD (set (b .drives) (b .count) d) i noDrive)
@@ -146,7 +158,36 @@ fits-attached b i p f y =
       present = length-set (b .present) i true ∙ f .present;
       parameters = length-sets (b .parameters) (14 * i) p ∙ f .parameters;
       bytes = bytes-sets p (b .parameters) (14 * i) (f .bytes) y;
+      counts = f .counts;
+      fewBads = f .fewBads;
+      bad = f .bad;
+      lists = f .lists;
     }
+
+-- a drive's bad blocks among those of the others
+fits-bads : (b : Table) (i : ℕ) (l : Bads) → FitsTable b → l .count < 256 → Bytes (l .list) → FitsTable (withBads b i l)
+fits-bads b i l f n y =
+    record {
+      eight = f .eight;
+      each = f .each;
+      count = f .count;
+      present = f .present;
+      parameters = f .parameters;
+      bytes = f .bytes;
+      counts = length-set (b .counts) i (l .count) ∙ f .counts;
+      fewBads = below-set 256 (b .counts) i (l .count) (f .fewBads) n;
+      bad = length-sets (b .bad) (128 * i) (l .list) ∙ f .bad;
+      lists = bytes-sets (l .list) (b .bad) (128 * i) (f .lists) y;
+    }
+
+-- of a record of bytes with a length that there is
+record-bads : (b : Table) (r : List ℕ) (n : ℕ) → FitsTable b → Bytes r → length r ≡ n → badLengthOk n ≡ true → FitsTable (withBads b (numberIn r) (badsIn r))
+record-bads b r n f y l e =
+    let most : length r ≤ 134 = omega (arith, badLengthOk-most n e) in
+    let few : badCount (length r) < 256 = omega (arith, badLengthOk-true n e .1, ap badCount l) in
+    subst (λ (x : Bads). FitsTable (withBads b (numberIn r) x)) (bads-stored r most refl refl)
+    (fits-bads b (numberIn r) (record { count = badCount (length r); list = sets (replicate 128 0) 0 (part (length r - 6) r 6) }) f few
+    (bytes-sets (part (length r - 6) r 6) (replicate 128 0) 0 (zeros 128) (bytes-part (length r - 6) r 6 y)))
 
 fits-from : (k : ℕ) (t : List ℕ) (store at : ℕ) (b : Table) → Bytes t → FitsTable b → FitsTable (readFrom k t store at b .table)
 unfolding readFrom
@@ -160,13 +201,16 @@ fits-from (suc k) t store at b y f =
     let l : length (part 68 t at) ≡ 68 = length-take-le 68 (drop at t) (simp length-drop (omega (arith, w .whole, w .header))) in
     fits-from k t store (at + 68) (more b (driveOf (part 68 t at))) y
     (fits-more b (driveOf (part 68 t at)) f (fits-record (part 68 t at) (bytes-part 68 t at y) l) (refusal-room (b .count) (b .drives) (driveOf (part 68 t at)) store z)))
+    (λ n h z.
+    fits-from k t store (at + n) (withBads b (numberIn (part n t at)) (badsIn (part n t at))) y
+    (record-bads b (part n t at) n f (bytes-part n t at y) (length-whole t at 3 n h) (lengthOk-bad 3 n (whole-at t at 3 n h .right) refl)))
     (λ h z.
     fits-from k t store (at + 20) (withParameters b (numberIn (part 20 t at)) (parametersIn (part 20 t at))) y
     (fits-attached b (numberIn (part 20 t at)) (parametersIn (part 20 t at)) f (bytes-part 14 (part 20 t at) 6 (bytes-part 20 t at y))))
 
 fits-read : (t : List ℕ) (store : ℕ) → Bytes t → FitsTable (readTable t store .table)
 unfolding readTable
-fits-read t store y = fits-from 17 t store 0 emptyTable y fits-empty
+fits-read t store y = fits-from mostRecords t store 0 emptyTable y fits-empty
 
 -- ---- an opening that passed
 
@@ -220,13 +264,29 @@ fits-posted r f = record { ax = f .ax; bx = f .bx; cx = f .cx; dx = f .dx; ds = 
 fits-succeed : (r : Registers) → FitsRegisters r → FitsRegisters (succeed r)
 fits-succeed r f = record { ax = omega arith; bx = f .bx; cx = f .cx; dx = f .dx; ds = f .ds; si = f .si; es = f .es }
 
--- the row after a turn
-fits-after : (b : Table) (M : ℕ) (q : Request) → FitsTable b → M < 256 ^ 8 → FitsRegisters (q .job .registers) → stageOk b M (stageAfter q) ≡ true → FitsStage (stageAfter q)
+-- after some blocks, AL gives them or stays
+fits-stop : (code moved : ℕ) (r : Registers) → FitsRegisters r → code < 256 → moved < 256 → FitsRegisters (stop code moved r)
+fits-stop code moved r f c m =
+    let low : pick (isSectors (ah r)) moved (al r) < 256 = pick-cases (λ (n : ℕ). n < 256) (isSectors (ah r)) _ _ (λ e. m) (λ e. omega arith) in
+    record { ax = omega (arith, low, c); bx = f .bx; cx = f .cx; dx = f .dx; ds = f .ds; si = f .si; es = f .es }
+
+-- a request of n blocks that ends, all moved or not
+fits-ended : (n moved : ℕ) (r : Registers) → FitsRegisters r → n ≤ 128 → FitsRegisters (ended n moved r)
+unfolding ended
+fits-ended n moved r f h =
+    pick-cases FitsRegisters (ltb moved n) _ _
+    (λ e. let m : moved < n = ltb-true moved n e in
+    fits-stop (badCode r) moved r f (pick-cases (λ (c : ℕ). c < 256) (isWrite (ah r)) _ _ (λ e. omega arith) (λ e. omega arith)) (omega arith))
+    (λ e. fits-succeed r f)
+
+-- the row after a turn that moved k blocks
+fits-after : (b : Table) (M : ℕ) (q : Request) (k : ℕ) → FitsTable b → M < 256 ^ 8 → FitsRegisters (q .job .registers) → q .job .count ≤ 128
+    → stageOk b M (stageAfter q k) ≡ true → FitsStage (stageAfter q k)
 unfolding stageAfter FitsStage
-fits-after b M q f m r =
-    pick-cases (λ (s : Stage). stageOk b M s ≡ true → FitsStage s) (ltb (q .moved + quota q) (q .job .count)) _ _
-    (λ x e. fits-request b M (later q (quota q)) f m r e)
-    (λ x e. fits-succeed (q .job .registers) r)
+fits-after b M q k f m r n =
+    pick-cases (λ (s : Stage). stageOk b M s ≡ true → FitsStage s) (goesOn q k) _ _
+    (λ x e. fits-request b M (later q k) f m r e)
+    (λ x e. fits-ended (q .job .count) (q .moved + k) (q .job .registers) r n)
 
 fits-set : (d : Desk) (g : ℕ) (s : Stage) (p : ℕ) → Inv d → FitsDesk d → g < guests → p < guests → FitsStage s → FitsDesk (withPointer (withStage d g s) p)
 fits-set d g s p inv f b pb k =
@@ -286,8 +346,10 @@ fits-did d c o inv f t (accepting g r j e b l v ko kw u) i =
     fits-set d g (Waiting q) (d .pointer) inv f b (inv .pointer)
     (fits-request (d .table) (windowSize d) q (f .table) (window-fits d f) k (ok-set d g (Waiting q) (d .pointer) inv b i))
 fits-did d c o inv f t (serving g q e b l v n) i =
-    fits-set d g (stageAfter q) (next g) inv f b (i .pointer)
-    (fits-after (d .table) (windowSize d) q (f .table) (window-fits d f) (fits-waiting d g q f b v) (ok-set d g (stageAfter q) (next g) inv b i))
+    let k : ℕ = now (d .table) q in
+    fits-set d g (stageAfter q k) (next g) inv f b (i .pointer)
+    (fits-after (d .table) (windowSize d) q k (f .table) (window-fits d f) (fits-waiting d g q f b v) (omega (arith, waits d g q inv v .job .count))
+    (ok-set d g (stageAfter q k) (next g) inv b i))
 fits-did d c o inv f t (giving g x e b v) i = fits-set d g Vacant (d .pointer) inv f b (inv .pointer) tt
 fits-did d c o inv f t (withdrawing g q e b l v) i = fits-set d g Vacant (d .pointer) inv f b (inv .pointer) tt
 fits-did d c o inv f t (placing g address e b l v k) i = fits-place d g address f (subst FitsOp e t)

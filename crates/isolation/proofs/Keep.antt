@@ -1,33 +1,37 @@
 -- The desk stays acceptable after every call; and what one call leaves alone.
 -- Assumes nothing.
-use Prim.Native.Nat.{ℕ, _+_, _-_, _%_, _<_, min}
+use Prim.Native.Nat.{ℕ, _+_, _-_, _/_, _%_, _<_, min}
 use mathlib.Core.Path.{_≡_, refl, sym, ap, ap₂, subst, _∙_}
 use mathlib.Core.Logic.{⊎-elim, _≢_}
 use mathlib.Core.Bool.{Bool, true, false}
 use mathlib.Core.List.{List, [], _∷_}
 use native.Mathlib.Omega.{arith}
 use native.Mathlib.Decide.{ℕ-discrete}
-use borrow.Author.Tests.{ltb-true, lt-ltb, eq-eqb, ne-eqb}
+use borrow.Author.Tests.{lt-ltb, eq-eqb, ne-eqb}
 use lib.Dec.{ltb, eqb}
 use lib.ListN.{length, length-set, List·getD-eq-default}
 use lib.Seq.{getD-set-same, getD-set-other, length-sets}
 use Rattle.words.specs.Words.{leBytes}
 use Rattle.memory.specs.Window.{guests, windowOf, spanLength}
+use Rattle.memory.specs.Blocks.{blockLength}
 use Rattle.memory.proofs.WindowLaws.{window-with-other}
 use Rattle.table.specs.declared.Table.{Table}
+use Rattle.table.specs.Table.{readTable}
 use Rattle.int13.specs.declared.Registers.{Registers}
 use Rattle.int13.specs.declared.Placement.{Placement}
+use Rattle.int13.specs.declared.Job.{Job}
 use Rattle.int13.specs.Answers.{ah, isSectors}
 use Rattle.int13.specs.Placement.{placedAt, tableCount, tablesOf}
-use Rattle.int13.specs.Alone.{storeBlock}
+use Rattle.int13.specs.Alone.{storeBlock, reported, endedWindow}
 use Rattle.desk.specs.declared.Request.{Request}
 use Rattle.desk.specs.declared.Stage.{Stage}
 use Rattle.desk.specs.declared.Stage.the-variants.{Vacant, Waiting}
 use Rattle.desk.specs.declared.Row.{Row}
 use Rattle.desk.specs.declared.Desk.{Desk}
+use Rattle.desk.specs.declared.OpenAnswer.the-variants.{Opened}
 use Rattle.desk.specs.Parts.{windowSize, vacantRow, stageAt, isWaiting, withStage, withPointer, next, placementAt, withPlacement}
 use Rattle.desk.specs.Acceptable.{turnBlocks, jobOk, stageOk, placeOk}
-use Rattle.desk.specs.Calls.{quota, later, stageAfter, memoryOf, movedBy, withdrawnWindow, tablesIn}
+use Rattle.desk.specs.Calls.{openOf, quota, later, goesOn, stageAfter, beside, memoryOf, movedBy, withdrawnWindow, tablesIn}
 use Rattle.isolation.specs.Lists.{post, turn, collect, withdraw, place, Call, Out, step, run, after}
 use Rattle.isolation.specs.Words.{Kind, opens, places, kindOf, NoneOpens, serviceIn, ifSame, placedBy, placementAfter}
 use Rattle.desk.proofs.AcceptableLaws.{waiting-ok}
@@ -35,7 +39,8 @@ use Rattle.isolation.proofs.Turn.{next-lt, vacant≢waiting}
 use Rattle.isolation.proofs.Moves.{moves-size}
 use Rattle.logic.proofs.LogicLaws.{pick-cases, both-intro, lt-or-le, true≢false, impossible}
 use Rattle.isolation.proofs.Check.{Fresh}
-use Rattle.isolation.proofs.Accept.{PlaceGood, Inv, Ready, ready, waiting-job}
+use Rattle.isolation.proofs.Endings.{Clean, CleanStage, now, clean-none, goes-cases, stage-on, stage-over, clean-after}
+use Rattle.isolation.proofs.Accept.{PlaceGood, Inv, all-vacant, opened-desk, Ready, ready, waiting-job}
 use Rattle.isolation.proofs.View.{Lent, Did, same, idle, answer, accepting, serving, giving, withdrawing, placing, Quiet, refusing, writing, view, placedOut, windowIn, window-length, span-lent}
 
 -- ---- rows
@@ -106,14 +111,14 @@ inv-place d g address inv b ok =
 next-whole : (n m : ℕ) → m % turnBlocks ≡ 0 → m + min turnBlocks (n - m) < n → (m + min turnBlocks (n - m)) % turnBlocks ≡ 0
 next-whole n m e h = omega arith
 
-after-ok : (b : Table) (M S : ℕ) (q : Request) → jobOk b M (q .job) ≡ true → Ready b M S q → stageOk b M (stageAfter q) ≡ true
-unfolding stageAfter
+after-ok : (b : Table) (M S : ℕ) (q : Request) → jobOk b M (q .job) ≡ true → Ready b M S q → stageOk b M (stageAfter q (now b q)) ≡ true
 after-ok b M S q j a =
-    pick-cases (λ (s : Stage). stageOk b M s ≡ true) (ltb (q .moved + quota q) (q .job .count)) _ _
-    (λ e. waiting-ok b M (later q (quota q)) j
+    goes-cases (stageOk b M (stageAfter q (now b q)) ≡ true) b q (a .rest)
+    (λ e k h. ap (stageOk b M) (stage-on q (now b q) e ∙ ap (λ (n : ℕ). Waiting (later q n)) k)
+    ∙ waiting-ok b M (later q (quota q)) j
     (both-intro (eqb ((q .moved + quota q) % turnBlocks) 0) (ltb (q .moved + quota q) (q .job .count))
-    (eq-eqb _ _ (next-whole (q .job .count) (q .moved) (a .whole) (ltb-true _ _ e))) e))
-    (λ e. refl)
+    (eq-eqb _ _ (next-whole (q .job .count) (q .moved) (a .whole) h)) (lt-ltb _ _ h)))
+    (λ e k. ap (stageOk b M) (stage-over q (now b q) e))
 
 fresh-ok : (b : Table) (M : ℕ) (r : Registers) (w : List ℕ) (q : Request) → q .moved ≡ 0 → length w ≡ M → Fresh b r w (q .job) → stageOk b M (Waiting q) ≡ true
 fresh-ok b M r w q z l f =
@@ -128,13 +133,55 @@ inv-did d c o inv (accepting g r j e b l v ko kw f) =
     inv-set d g (Waiting (record { job = j; moved = 0 })) (d .pointer) inv b (inv .pointer)
     (fresh-ok (d .table) (windowSize d) r (windowIn d c g) (record { job = j; moved = 0 }) refl (window-length d c g b l) f)
 inv-did d c o inv (serving g q e b l v f) =
-    inv-set d g (stageAfter q) (next g) inv b (next-lt g) (after-ok (d .table) (windowSize d) (d .store) q (waiting-job d g q inv v) (ready d g q inv v))
+    inv-set d g (stageAfter q (now (d .table) q)) (next g) inv b (next-lt g)
+    (after-ok (d .table) (windowSize d) (d .store) q (waiting-job d g q inv v) (ready d g q inv v))
 inv-did d c o inv (giving g x e b v) = inv-set d g Vacant (d .pointer) inv b (inv .pointer) refl
 inv-did d c o inv (withdrawing g q e b l v) = inv-set d g Vacant (d .pointer) inv b (inv .pointer) refl
 inv-did d c o inv (placing g address e b l v k) = inv-place d g address inv b k
 
 pub inv-step : (d : Desk) (c : Call) → Inv d → (kindOf (step d c .answer) ≡ opens → ⊥) → Inv (step d c .desk)
 inv-step d c inv n = inv-did d c (step d c) inv (view d inv c n)
+
+-- ---- the blocks that waiting rows have moved are good. This is no part of acceptable: a block whoever made it may say otherwise
+
+abbrev pub Cleans : Desk → Type 0
+Cleans d = (g : ℕ) → CleanStage (d .table) (stageAt d g)
+
+pub clean-row : (d : Desk) (g : ℕ) (q : Request) → Cleans d → stageAt d g ≡ Waiting q → Clean (d .table) (q .job) (q .moved)
+clean-row d g q cl e = subst (CleanStage (d .table)) e (cl g)
+
+-- so it is after an opening
+pub cleans-opened : (t : List ℕ) (arena store : ℕ) → openOf t arena store .answer ≡ Opened → Cleans (openOf t arena store .desk)
+cleans-opened t arena store e =
+    subst Cleans (sym (opened-desk t arena store e)) (λ g. subst (CleanStage (readTable t (store / blockLength) .table)) (sym (all-vacant g)) tt)
+
+cleans-set : (d : Desk) (g : ℕ) (s : Stage) (p : ℕ) → Inv d → Cleans d → g < guests → CleanStage (d .table) s → Cleans (withPointer (withStage d g s) p)
+cleans-set d g s p inv cl b k h = go (ℕ-discrete h g)
+  where
+    go : Dec (h ≡ g) → CleanStage (d .table) (stageAt (withStage d g s) h)
+    go (yes y) = subst (λ (i : ℕ). CleanStage (d .table) (stageAt (withStage d g s) i)) (sym y) (subst (CleanStage (d .table)) (sym (stage-same d g s inv b)) k)
+    go (no y) = subst (CleanStage (d .table)) (sym (stage-other d g h s y)) (cl h)
+
+cleans-did : (d : Desk) (c : Call) (o : Out) → Inv d → Cleans d → Did d c o → Cleans (o .desk)
+cleans-did d c o inv cl (same x p n) = cl
+cleans-did d c o inv cl (idle e f) = cl
+cleans-did d c o inv cl (answer g r x w e b l v ko kw k) = cl
+cleans-did d c o inv cl (accepting g r j e b l v ko kw f) =
+    cleans-set d g (Waiting (record { job = j; moved = 0 })) (d .pointer) inv cl b (clean-none (d .table) j)
+cleans-did d c o inv cl (serving g q e b l v f) =
+    cleans-set d g (stageAfter q (now (d .table) q)) (next g) inv cl b (clean-after (d .table) q (clean-row d g q cl v) (ready d g q inv v .rest))
+cleans-did d c o inv cl (giving g x e b v) = cleans-set d g Vacant (d .pointer) inv cl b tt
+cleans-did d c o inv cl (withdrawing g q e b l v) = cleans-set d g Vacant (d .pointer) inv cl b tt
+cleans-did d c o inv cl (placing g address e b l v k) = cl
+
+pub cleans-step : (d : Desk) (c : Call) → Inv d → Cleans d → (kindOf (step d c .answer) ≡ opens → ⊥) → Cleans (step d c .desk)
+cleans-step d c inv cl n = cleans-did d c (step d c) inv cl (view d inv c n)
+
+-- along a list
+pub cleans-after : (cs : List Call) (d : Desk) → Inv d → Cleans d → NoneOpens (run d cs) → Cleans (after d cs)
+unfolding run after
+cleans-after [] d inv cl n = cl
+cleans-after (c ∷ cs) d inv cl n = cleans-after cs (step d c .desk) (inv-step d c inv (n .0)) (cleans-step d c inv cl (n .0)) (n .1)
 
 -- ---- what no call changes
 
@@ -201,16 +248,26 @@ placed-after (c ∷ cs) d inv n g =
 
 -- ---- lengths of the windows that calls leave
 
+pub reported-size : (j : Job) (n : ℕ) (w : List ℕ) → length (reported j n w) ≡ length w
+unfolding reported
+reported-size j n w =
+    pick-cases (λ (v : List ℕ). length v ≡ length w) (isSectors (ah (j .registers))) _ _ (λ e. refl) (λ e. length-sets w (j .packet + 2) (leBytes 2 n))
+
+pub ended-size : (j : Job) (n : ℕ) (w : List ℕ) → length (endedWindow j n w) ≡ length w
+ended-size j n w = pick-cases (λ (v : List ℕ). length v ≡ length w) (ltb n (j .count)) _ _ (λ e. reported-size j n w) (λ e. refl)
+
+pub beside-size : (q : Request) (k : ℕ) (w : List ℕ) → length (beside q k w) ≡ length w
+beside-size q k w = pick-cases (λ (v : List ℕ). length v ≡ length w) (goesOn q k) _ _ (λ e. refl) (λ e. ended-size (q .job) (q .moved + k) w)
+
 pub served-size : (d : Desk) (c : Call) (g : ℕ) (q : Request) → Lent d c → g < guests
-    → length (movedBy d g q (c .arena) (c .store) .window) ≡ spanLength (length (c .arena)) g (windowSize d)
+    → length (beside q (now (d .table) q) (movedBy d g q (now (d .table) q) (c .arena) (c .store) .window)) ≡ spanLength (length (c .arena)) g (windowSize d)
 served-size d c g q l b =
-    moves-size (q .job) (storeBlock (d .table) (q .job)) (q .moved) (quota q) (memoryOf d g (c .arena) (c .store)) .window
+    beside-size q (now (d .table) q) (movedBy d g q (now (d .table) q) (c .arena) (c .store) .window)
+    ∙ moves-size (q .job) (storeBlock (d .table) (q .job)) (q .moved) (now (d .table) q) (memoryOf d g (c .arena) (c .store)) .window
     ∙ window-length d c g b l ∙ sym (span-lent d c g b l)
 
 pub withdrawn-size : (q : Request) (w : List ℕ) → length (withdrawnWindow q w) ≡ length w
-withdrawn-size q w =
-    pick-cases (λ (v : List ℕ). length v ≡ length w) (isSectors (ah (q .job .registers))) _ _ (λ e. refl)
-    (λ e. length-sets w (q .job .packet + 2) (leBytes 2 (q .moved)))
+withdrawn-size q w = reported-size (q .job) (q .moved) w
 
 pub tables-size : (b : Table) (address : ℕ) (w : List ℕ) → length (tablesIn b address w) ≡ length w
 tables-size b address w = length-sets w address (tablesOf b)
@@ -244,8 +301,9 @@ turn-spares d c o t h z (accepting g r j e b l v ko kw f) = turn≢post (sym t �
 turn-spares d c o t h z (serving g q e b l v f) =
     let ne : g ≢ h = λ y. let u : ifSame g h 1 ≡ 1 = rw y (same-guest h 1) in absurd (omega arith) in
     record {
-      row = stage-other d g h (stageAfter q) (λ y. ne (sym y));
-      window = window-with-other (c .arena) g h (windowSize d) (movedBy d g q (c .arena) (c .store) .window) ne (served-size d c g q l b);
+      row = stage-other d g h (stageAfter q (now (d .table) q)) (λ y. ne (sym y));
+      window = window-with-other (c .arena) g h (windowSize d)
+          (beside q (now (d .table) q) (movedBy d g q (now (d .table) q) (c .arena) (c .store) .window)) ne (served-size d c g q l b);
     }
 turn-spares d c o t h z (giving g x e b v) = turn≢collect (sym t ∙ e)
 turn-spares d c o t h z (withdrawing g q e b l v) = turn≢withdraw (sym t ∙ e)

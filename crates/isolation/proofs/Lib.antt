@@ -1,6 +1,7 @@
 pub mod Turn
 pub mod Moves
 pub mod Check
+pub mod Endings
 pub mod Accept
 pub mod View
 pub mod Keep
@@ -25,6 +26,7 @@ pub mod ExampleDesk
 pub mod ExampleWrite
 pub mod ExampleEight
 pub mod ExamplePlaced
+pub mod ExampleWorn
 pub mod Carry
 pub mod Exported
 pub mod Single

@@ -5,13 +5,15 @@ use mathlib.Core.Bool.{not}
 use mathlib.Core.List.{List}
 use native.Mathlib.Omega.{arith}
 use lib.Dec.{leb, ltb, eqb}
-use lib.ListN.{length}
-use Rattle.logic.specs.Logic.{both}
+use lib.ListN.{length, getD}
+use Rattle.logic.specs.Logic.{both, either}
 use Rattle.logic.proofs.LogicLaws.{pick-cases}
 use Rattle.words.specs.Words.{le, part}
 use Rattle.drive.specs.declared.Drive.{Drive}
 use Rattle.drive.specs.Drive.{driveOf, fieldsOk, inStore}
+use Rattle.attached.specs.declared.Bads.{Bads}
 use Rattle.attached.specs.Parameters.{numberIn}
+use Rattle.attached.specs.Bad.{badsIn, listOk}
 use Rattle.table.specs.declared.Table.{Table}
 use Rattle.table.specs.declared.Step.{Step}
 use Rattle.table.specs.declared.Step.the-variants.{Next, Done, Refused}
@@ -19,7 +21,7 @@ use Rattle.table.specs.declared.Stepped.{Stepped}
 use Rattle.table.specs.declared.Answer.{Answer}
 use Rattle.table.specs.declared.Answer.the-variants.{Accepted, Refused as AnswerRefused}
 use Rattle.table.specs.declared.Reading.{Reading}
-use Rattle.table.specs.Table.{isKind, lengthOk, headerOf, headerAt, overlapsAny, refusal, hasParameters, goOn, parametersRefusal, recordRefusal, recordStep, endStep, stepOf, stepAt, readFrom, readTable, emptyTable}
+use Rattle.table.specs.Table.{isKind, lengthOk, headerOf, headerAt, noDrive, overlapsAny, refusal, hasParameters, parametersRefusal, hasBads, badsRefusal, recordRefusal, recordStep, endStep, stepOf, stepAt, emptyTable, goOn, readFrom, mostRecords, readTable}
 use Rattle.memory.specs.Blocks.{blockLength}
 use Rattle.desk.specs.declared.OpenAnswer.{OpenAnswer}
 use Rattle.desk.specs.declared.OpenAnswer.the-variants.{Opened, Refused as OpenRefused}
@@ -42,11 +44,18 @@ refusal-low n l d store =
     pick-cases (λ (n : ℕ). n ≤ 9) (not (inStore d store)) _ _ (λ e. omega arith) (λ e.
     pick-cases (λ (n : ℕ). n ≤ 9) (overlapsAny n l d) _ _ (λ e. omega arith) (λ e. omega arith))))
 
+bads-low : (b : Table) (i : ℕ) (l : Bads) → badsRefusal b i l ≤ 9
+unfolding badsRefusal
+bads-low b i l =
+    pick-cases (λ (n : ℕ). n ≤ 9) (both (ltb i 8) (both (eqb (i + 1) (b .count)) (not (either (hasBads b i) (hasParameters b i))))) _ _
+    (λ e. pick-cases (λ (n : ℕ). n ≤ 9) (listOk l (getD (b .drives) i noDrive .blocks)) _ _ (λ e. omega arith) (λ e. omega arith)) (λ e. omega arith)
+
 record-low : (kind : ℕ) (r : List ℕ) (b : Table) (store : ℕ) → recordRefusal kind r b store ≤ 9
 unfolding recordRefusal parametersRefusal
 record-low kind r b store =
     pick-cases (λ (n : ℕ). n ≤ 9) (eqb kind 1) _ _ (λ e. refusal-low (b .count) (b .drives) (driveOf r) store)
-    (λ e. pick-cases (λ (n : ℕ). n ≤ 9) (both (ltb (numberIn r) 8) (both (eqb (numberIn r + 1) (b .count)) (not (hasParameters b (numberIn r))))) _ _ (λ e. omega arith) (λ e. omega arith))
+    (λ e. pick-cases (λ (n : ℕ). n ≤ 9) (eqb kind 3) _ _ (λ e. bads-low b (numberIn r) (badsIn r))
+    (λ e. pick-cases (λ (n : ℕ). n ≤ 9) (both (ltb (numberIn r) 8) (both (eqb (numberIn r + 1) (b .count)) (not (hasParameters b (numberIn r))))) _ _ (λ e. omega arith) (λ e. omega arith)))
 
 step-low : (t : List ℕ) (at : ℕ) (b : Table) (store : ℕ) → LowStep (stepAt t at b store .step)
 unfolding stepAt stepOf headerAt headerOf endStep recordStep
@@ -77,7 +86,7 @@ LowOpening (OpenRefused n at) = n ≤ 9
 
 pub opening-low : (t : List ℕ) (arena store : ℕ) → LowOpening (openOf t arena store .answer)
 unfolding openOf readTable
-opening-low t arena store = by-answer (readTable t (store / blockLength) .answer) (from-low 17 t (store / blockLength) 0 emptyTable)
+opening-low t arena store = by-answer (readTable t (store / blockLength) .answer) (from-low mostRecords t (store / blockLength) 0 emptyTable)
   where
     by-answer : (x : Answer) → LowAnswer x → LowOpening (openAnswer x)
     by-answer Accepted l = tt

@@ -32,7 +32,9 @@ unfolding openOf writtenOf writtenOut writeAnswer writeOut
 reopened b h e =
     let i = exact .only b h e in
     let k = accept-facts (deskOf b) .0 (i .acceptable) in
-    let w : Widths (deskOf b .table) = record { eight = i .fits .table .eight; marks = i .fits .table .present; bytes = i .fits .table .parameters; each = each (deskOf b) (i .fits) k } in
+    let f = i .fits .table in
+    let w : Widths (deskOf b .table)
+    = record { eight = f .eight; marks = f .present; bytes = f .parameters; counts = f .counts; lists = f .bad; each = each (deskOf b) (i .fits) k } in
     let r = read-written (deskOf b .table) (storeBlocks (deskOf b)) w (k .sound) in
     record {
       written = λ out l. (

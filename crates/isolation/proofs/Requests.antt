@@ -2,9 +2,10 @@
 -- Assumes nothing.
 use Prim.Native.Nat.{ℕ, _+_, _*_, _/_, _≤_, _<_}
 use mathlib.Core.Path.{_≡_, refl, sym, ap, ap₂, subst, _∙_}
-use mathlib.Core.Logic.{⊎-elim}
+use mathlib.Core.Logic.{_⊎_, inl, inr, ⊎-elim}
 use mathlib.Core.List.{List, [], _∷_, _++_}
 use native.Mathlib.Omega.{arith}
+use native.Mathlib.Nat.{zero-add}
 use lib.ListN.{length}
 use Rattle.logic.proofs.LogicLaws.{lt-or-le}
 use Rattle.words.specs.Words.{part}
@@ -17,25 +18,27 @@ use Rattle.int13.specs.declared.Placement.{Placement}
 use Rattle.int13.specs.declared.Job.{Job}
 use Rattle.int13.specs.declared.Outcome.{Outcome}
 use Rattle.int13.specs.declared.Outcome.the-variants.{Waits as JobWaits}
-use Rattle.int13.specs.Answers.{succeed}
+use Rattle.int13.specs.Answers.{ended}
 use Rattle.int13.specs.Steps.{fed, begin}
-use Rattle.int13.specs.Alone.{Memory, Served, storeBlock, moves, finish, servedBy, alone}
+use Rattle.int13.specs.Alone.{Memory, Served, storeBlock, moves, endedMemory, finish, servedBy, alone}
 use Rattle.desk.specs.declared.Stage.the-variants.{Finished}
 use Rattle.desk.specs.declared.Desk.{Desk}
 use Rattle.desk.specs.declared.CollectAnswer.the-variants.{Given}
 use Rattle.desk.specs.Parts.{windowSize, stageAt, placementAt}
-use Rattle.desk.specs.Acceptable.{jobOk}
+use Rattle.desk.specs.Acceptable.{jobOk, turnBlocks}
+use Rattle.desk.specs.Calls.{quota}
 use Rattle.isolation.specs.Lists.{collect, Call, collected, step, run, after}
-use Rattle.isolation.specs.Words.{Kind, refused, plain, opens, answers, accepts, serves, idles, hands, withdraws, places, kindOf, NoneOpens, total, turnIn, turns, services, movedIn, moved, withdrawalIn, withdrawals, collects, Accepted, Waits, Finishes, turnsEach, turnsFor, Unwritten, Left}
+use Rattle.isolation.specs.Words.{Kind, refused, plain, opens, answers, accepts, serves, idles, hands, withdraws, places, kindOf, NoneOpens, total, turnIn, turns, serviceIn, services, movedIn, moved, withdrawalIn, withdrawals, collects, Accepted, fullPart, Waits, Stops, Finishes, turnsEach, turnsFor, Unwritten, Left}
 use Rattle.isolation.specs.Demand.{Ends, finishing as endsFinishing, withdrawing as endsWithdrawing, Same}
 use Rattle.isolation.proofs.Turn.{dist-lt}
 use Rattle.isolation.proofs.Moves.{Alike, part-agree, moves-size, moves-none}
+use Rattle.isolation.proofs.Endings.{now, good-end}
 use Rattle.isolation.proofs.Accept.{Inv, Ready, ready, job-ready}
 use Rattle.isolation.proofs.View.{answer, view, windowIn, window-length}
-use Rattle.isolation.proofs.Keep.{inv-step, Fixed, fixed-step, reached}
+use Rattle.isolation.proofs.Keep.{inv-step, Cleans, clean-row, cleans-step, cleans-after, Fixed, fixed-step, reached}
 use Rattle.isolation.proofs.Fate.{Fate, stays, passes, parts, ends, leaves, step-fate}
-use Rattle.isolation.proofs.Bound.{total-append, total-at, after-append, opens-front, opens-rest, opens-cons, opens-upto, near, waitFor, wait-start, Track, Course, waiting, finishing, leaving, course, track}
-use Rattle.isolation.proofs.Equal.{memory, request, Mid, Ended, equal-run}
+use Rattle.isolation.proofs.Bound.{total-append, total-at, after-append, opens-front, opens-rest, opens-cons, opens-upto, full-front, Reach, near, waitFor, wait-start, Track, Course, waiting, finishing, leaving, course, track}
+use Rattle.isolation.proofs.Equal.{memory, request, endOf, Mid, Ended, equal-run}
 use Rattle.isolation.proofs.Posts.{Feeds, Took, took}
 use Rattle.isolation.proofs.Finished.{still-finished, handed-over}
 
@@ -61,9 +64,13 @@ turn-keeps g (hands h r) e = refl
 turn-keeps g (withdraws h) e = absurd (omega arith)
 turn-keeps g (places h address) e = refl
 
+-- no part is above sixteen
+full-most : (n m : ℕ) {k : ℕ} → k < fullPart n m → k ≡ turnBlocks → ⊥
+full-most n m l e = omega arith
+
 -- ---- one request
 
-module _ (d : Desk) (inv : Inv d) (c : Call) (g : ℕ) (r : Registers) (acc : Accepted d c g r) (n₀ : kindOf (step d c .answer) ≡ opens → ⊥) where
+module _ (d : Desk) (inv : Inv d) (cl : Cleans d) (c : Call) (g : ℕ) (r : Registers) (acc : Accepted d c g r) (n₀ : kindOf (step d c .answer) ≡ opens → ⊥) where
   pub accepted : Took d c g r (step d c)
   accepted = took d c g r (step d c) inv (acc .posts) (acc .waits) (view d inv c n₀)
 
@@ -72,6 +79,9 @@ module _ (d : Desk) (inv : Inv d) (c : Call) (g : ℕ) (r : Registers) (acc : Ac
 
   inv₁ : Inv d₁
   inv₁ = inv-step d c inv n₀
+
+  cl₁ : Cleans d₁
+  cl₁ = cleans-step d c inv cl n₀
 
   fixed₁ : Fixed d d₁
   fixed₁ = fixed-step d c inv n₀
@@ -83,7 +93,7 @@ module _ (d : Desk) (inv : Inv d) (c : Call) (g : ℕ) (r : Registers) (acc : Ac
   n = job .count
 
   tracked : (mid : List Call) → NoneOpens (run d₁ mid) → Waits g n (run d₁ mid) → Track g (request job 0) d₁ mid
-  tracked mid no-open w = track mid d₁ inv₁ no-open g (request job 0) (accepted .row) (omega (arith, w .0)) (omega (arith, w .1))
+  tracked mid no-open w = track mid d₁ inv₁ no-open g (request job 0) (accepted .row) (omega (arith, w .0)) (omega (arith, w .1)) (w .2)
 
   start : waitFor (d₁ .pointer) g (request job 0) < turnsFor n
   start = wait-start (d₁ .pointer) g (request job 0) refl (accepted .fresh .some)
@@ -97,16 +107,22 @@ module _ (d : Desk) (inv : Inv d) (c : Call) (g : ℕ) (r : Registers) (acc : Ac
       let o : NoneOpens (run d₁ front) = opens-front front (t ∷ rest) d₁ (subst (λ (l : List Call). NoneOpens (run d₁ l)) s no-open) in
       let a = ready (after d₁ front) g (k .now) (reached front d₁ inv₁ o .inv) (k .here) in
       let e : k .now .job .count ≡ n = ap (λ (j : Job). j .count) (k .job) in
-      (k .kept, omega (arith, a .rest, k .moved, e))
+      (k .kept, omega (arith, a .rest, k .moved, e), k .full)
 
   pub finishes′ : (mid : List Call) → NoneOpens (run d₁ mid) → turnsFor n ≤ turns (run d₁ mid) → Ends g n (turnsFor n) d₁ mid
   finishes′ mid no-open b = go (course mid d₁ inv₁ no-open g (request job 0) (accepted .row))
     where
+      reached-there : (front : List Call) (t : Call) → Reach g n (0 + moved g (run d₁ front)) (kindOf (step (after d₁ front) t .answer))
+          → (moved g (run d₁ (front ++ t ∷ [])) ≡ n) ⊎ Stops g n (moved g (run d₁ front)) (kindOf (step (after d₁ front) t .answer))
+      reached-there front t f =
+          ⊎-elim (λ x. inl (total-last (movedIn g) front t d₁ ∙ omega (arith, x)))
+          (λ x. inr (subst (λ (m : ℕ). Stops g n m (kindOf (step (after d₁ front) t .answer))) (zero-add (moved g (run d₁ front))) x)) f
+
       go : Course g (request job 0) d₁ mid → Ends g n (turnsFor n) d₁ mid
       go (waiting t) = absurd (omega (arith, t .bound, start))
       go (finishing front t rest s k f u) =
           endsFinishing front t rest s
-          (record { waited = before front rest t mid s no-open k; reached = total-last (movedIn g) front t d₁ ∙ omega (arith, f) })
+          (record { waited = before front rest t mid s no-open k; reached = reached-there front t f })
           (omega (arith, total-last turnIn front t d₁, u, k .bound, start))
       go (leaving front t rest s k f) =
           let z : turnIn (kindOf (step (after d₁ front) t .answer)) ≡ 0 = ap turnIn f in
@@ -126,7 +142,7 @@ module _ (d : Desk) (inv : Inv d) (c : Call) (g : ℕ) (r : Registers) (acc : Ac
       let o₂ : NoneOpens (run d₂ (stretch ++ last ∷ [])) = opens-rest mid (stretch ++ last ∷ []) d₁ no-open in
       let zw : withdrawals g (run d₁ mid) + withdrawals g (run d₂ stretch) ≡ 0 = sym (total-append (withdrawalIn g) mid stretch d₁) ∙ w .0 in
       let zm : moved g (run d₁ mid) + moved g (run d₂ stretch) < n = subst (λ (m : ℕ). m < n) (total-append (movedIn g) mid stretch d₁) (w .1) in
-      let t = tracked mid o₁ (omega arith, omega arith) in
+      let t = tracked mid o₁ (omega arith, omega arith, full-front g n 0 mid stretch d₁ (w .2)) in
       let one′ : turnIn k ≡ 1 = sym (total-one turnIn last (after d₂ stretch)) ∙ ap (λ (x : Desk). turns (run x (last ∷ []))) (sym (after-append mid stretch d₁)) ∙ one in
       let zl : withdrawals g (run d₂ (stretch ++ last ∷ [])) ≡ withdrawals g (run d₂ stretch) + withdrawalIn g k = total-last (withdrawalIn g) stretch last d₂ in
       ⊎-elim (λ x. x)
@@ -138,9 +154,24 @@ module _ (d : Desk) (inv : Inv d) (c : Call) (g : ℕ) (r : Registers) (acc : Ac
       )))
       (lt-or-le 0 (services g (run d₂ (stretch ++ last ∷ []))))
 
-  -- the finishing turn leaves the row finished
-  finished : (mid : List Call) (last : Call) → NoneOpens (run d₁ (mid ++ last ∷ [])) → Finishes g n d₁ mid last
-      → stageAt (step (after d₁ mid) last .desk) g ≡ Finished (succeed (job .registers))
+  -- the registers that it finishes with
+  abbrev atEnd : Registers
+  atEnd = ended n (endOf (d .table) job) (job .registers)
+
+  -- no call changes the table
+  same-table : (mid : List Call) → NoneOpens (run d₁ mid) → after d₁ mid .table ≡ d .table
+  same-table mid no-open = reached mid d₁ inv₁ no-open .fixed .table ∙ fixed₁ .table
+
+  -- by what that turn answers
+  ends-there : (mid : List Call) (last : Call) → Finishes g n d₁ mid last → Reach g n (moved g (run d₁ mid)) (kindOf (step (after d₁ mid) last .answer))
+  ends-there mid last f = ⊎-elim (λ x. inl (sym (total-last (movedIn g) mid last d₁) ∙ x)) (λ x. inr x) (f .reached)
+
+  -- the finishing turn leaves the row finished, and the numbers answered are the blocks moved
+  record Over (mid : List Call) (last : Call) : Type 0 where
+    pub row : stageAt (step (after d₁ mid) last .desk) g ≡ Finished atEnd
+    pub number : moved g (run d₁ (mid ++ last ∷ [])) ≡ endOf (d .table) job
+
+  finished : (mid : List Call) (last : Call) → NoneOpens (run d₁ (mid ++ last ∷ [])) → Finishes g n d₁ mid last → Over mid last
   finished mid last no-open f = go (step-fate d₂ inv₂ last g (t .now) (t .here) (no-last .0))
     where
       d₂ : Desk
@@ -158,18 +189,37 @@ module _ (d : Desk) (inv : Inv d) (c : Call) (g : ℕ) (r : Registers) (acc : Ac
       t : Track g (request job 0) d₁ mid
       t = tracked mid o₁ (f .waited)
 
-      all : moved g (run d₁ mid) + movedIn g (kindOf (step d₂ last .answer)) ≡ n
-      all = sym (total-last (movedIn g) mid last d₁) ∙ f .reached
+      kind : Kind
+      kind = kindOf (step d₂ last .answer)
+
+      all : Reach g n (moved g (run d₁ mid)) kind
+      all = ends-there mid last f
 
       count : t .now .job .count ≡ n
       count = ap (λ (j : Job). j .count) (t .job)
 
-      go : Fate g (t .now) d₂ (step d₂ last) → stageAt (step d₂ last .desk) g ≡ Finished (succeed (job .registers))
-      go (stays x p k) = absurd (omega (arith, f .waited .1, all, k .moved))
-      go (passes x p k) = absurd (omega (arith, f .waited .1, all, k .moved))
-      go (parts x h p k) = absurd (omega (arith, all, k .moved, h, count, t .moved))
-      go (ends x m h k) = x ∙ ap (λ (j : Job). Finished (succeed (j .registers))) (t .job)
-      go (leaves k) = let z : movedIn g (kindOf (step d₂ last .answer)) ≡ 0 = ap (movedIn g) k in absurd (omega (arith, f .waited .1, all))
+      -- a call that does not serve it does not finish it
+      unserved : movedIn g kind ≡ 0 → serviceIn g kind ≡ 0 → ⊥
+      unserved m s = ⊎-elim (λ a. omega (arith, f .waited .1, a, m)) (λ a. omega (arith, a .0, s)) all
+
+      -- the good blocks, by the row before it
+      goods : (t .now .moved + now (d₂ .table) (t .now) ≡ t .now .job .count) ⊎ (now (d₂ .table) (t .now) < quota (t .now))
+          → t .now .moved + now (d₂ .table) (t .now) ≡ endOf (d₂ .table) (t .now .job)
+      goods h = sym (good-end (d₂ .table) (t .now) (clean-row d₂ g (t .now) (cleans-after mid d₁ inv₁ cl₁ o₁) (t .here)) (ready d₂ g (t .now) inv₂ (t .here) .rest) h)
+
+      go : Fate g (t .now) d₂ (step d₂ last) → Over mid last
+      go (stays x p k) = absurd (unserved (k .moved) (k .service))
+      go (passes x p k) = absurd (unserved (k .moved) (k .service))
+      go (parts x h p k) = absurd (⊎-elim (λ a. omega (arith, a, k .moved, h, count, t .moved)) (λ a. full-most n (moved g (run d₁ mid)) (a .1) (k .moved)) all)
+      go (ends x h k) =
+          record {
+            row =
+                x
+                ∙ ap (λ (k : ℕ). Finished (ended (t .now .job .count) k (t .now .job .registers))) (goods h)
+                ∙ ap₂ (λ (b : Table) (j : Job). Finished (ended (j .count) (endOf b j) (j .registers))) (same-table mid o₁) (t .job);
+            number = total-last (movedIn g) mid last d₁ ∙ omega (arith, t .moved, k .moved) ∙ goods h ∙ ap₂ endOf (same-table mid o₁) (t .job);
+          }
+      go (leaves k) = absurd (unserved (ap (movedIn g) k) (ap (serviceIn g) k))
 
   -- ---- served alone
 
@@ -215,24 +265,34 @@ module _ (d : Desk) (inv : Inv d) (c : Call) (g : ℕ) (r : Registers) (acc : Ac
       let l₂ : Left (windowSize d₁) g (windowIn d c g) (c .store) (run d₁ (mid ++ last ∷ []))
       = subst (λ (a : ℕ). Left (windowLength a) g (windowIn d c g) (c .store) (run d₁ (mid ++ last ∷ []))) (sym (fixed₁ .arena)) l₁ in
       let e : Ended lo (after d₁ mid) g job found (step (after d₁ mid) last)
-      = equal-run lo mid last d₁ inv₁ no-open g job 0 found (windowIn d c g) (c .store) mid₀ (f .waited .0) (omega (arith, f .waited .1)) (omega (arith, f .reached)) l₂ u in
+      = equal-run lo mid last d₁ inv₁ cl₁ no-open g job 0 found (windowIn d c g) (c .store) mid₀ (f .waited .0) (omega (arith, f .waited .1)) (f .waited .2)
+      (subst (λ (m : ℕ). Reach g n m (kindOf (step (after d₁ mid) last .answer))) (sym (zero-add (moved g (run d₁ mid)))) (ends-there mid last f)) l₂ u in
       let fx = reached mid d₁ inv₁ (opens-front mid (last ∷ []) d₁ no-open) .fixed in
       let size : windowSize (after d₁ mid) ≡ windowSize d = ap windowLength (fx .arena ∙ fixed₁ .arena) in
       let al = alone-is t p te in
+      let same = same-table mid (opens-front mid (last ∷ []) d₁ no-open) in
+      let k : ℕ = endOf (d .table) job in
+      let alike : Alike lo n (memory (windowOf (step (after d₁ mid) last .arena) g (windowSize (after d₁ mid))) (step (after d₁ mid) last .store)) (endedMemory job k (moves job lo 0 k found))
+      = subst (λ (b : Table). Alike lo n (memory (windowOf (step (after d₁ mid) last .arena) g (windowSize (after d₁ mid))) (step (after d₁ mid) last .store))
+      (endedMemory job (endOf b job) (moves job lo 0 (endOf b job) found))) same (e .alike) in
       let len : length (step (after d₁ mid) last .store) ≡ d .store
-      = e .alike .length ∙ moves-size job lo 0 n found .store ∙ accepted .lent .store in
+      = alike .length ∙ moves-size job lo 0 k found .store ∙ accepted .lent .store in
       record {
-        registers = e .registers ∙ ap (λ (x : Served). Finished (x .registers)) (sym al);
-        window = ap (λ (m : ℕ). windowOf (step (after d₁ mid) last .arena) g m) (sym size) ∙ e .alike .window ∙ ap (λ (x : Served). x .memory .window) (sym al);
+        registers = e .registers ∙ ap (λ (b : Table). Finished (ended n (endOf b job) (job .registers))) same ∙ ap (λ (x : Served). Finished (x .registers)) (sym al);
+        window = ap (λ (m : ℕ). windowOf (step (after d₁ mid) last .arena) g m) (sym size) ∙ alike .window ∙ ap (λ (x : Served). x .memory .window) (sym al);
         named = λ b h.
-            part-agree lo n (blockLength * b) blockLength (step (after d₁ mid) last .store) (moves job lo 0 n found .store)
-            (omega (arith, h .0)) (omega (arith, h .1)) (omega (arith, room .range, len)) (e .alike .length) (e .alike .named)
+            part-agree lo n (blockLength * b) blockLength (step (after d₁ mid) last .store) (moves job lo 0 k found .store)
+            (omega (arith, h .0)) (omega (arith, h .1)) (omega (arith, room .range, len)) (alike .length) (alike .named)
             ∙ ap (λ (x : Served). part blockLength (x .memory .store) (blockLength * b)) (sym al);
       }
 
   pub finished′ : (t : List ℕ) (p : Placement) → Feeds d g t p → (mid : List Call) (last : Call) → NoneOpens (run d₁ (mid ++ last ∷ []))
       → Finishes g n d₁ mid last → stageAt (step (after d₁ mid) last .desk) g ≡ Finished (alone (fed t p) r found .registers)
-  finished′ t p te mid last no-open f = finished mid last no-open f ∙ ap (λ (x : Served). Finished (x .registers)) (sym (alone-is t p te))
+  finished′ t p te mid last no-open f = finished mid last no-open f .row ∙ ap (λ (x : Served). Finished (x .registers)) (sym (alone-is t p te))
+
+  pub counted′ : (mid : List Call) (last : Call) → NoneOpens (run d₁ (mid ++ last ∷ [])) → Finishes g n d₁ mid last
+      → moved g (run d₁ (mid ++ last ∷ [])) ≡ endOf (d .table) job
+  counted′ mid last no-open f = finished mid last no-open f .number
 
   pub handed′ : (t : List ℕ) (p : Placement) → Feeds d g t p → (mid after₁ : List Call) (last x : Call)
       → NoneOpens (run d₁ (mid ++ last ∷ (after₁ ++ x ∷ [])))
@@ -248,7 +308,7 @@ module _ (d : Desk) (inv : Inv d) (c : Call) (g : ℕ) (r : Registers) (acc : Ac
       let o₃ : NoneOpens (run d₂ after₁) = opens-front after₁ (x ∷ []) d₂ (o₂ .1) in
       let o₄ = opens-cons (after d₂ after₁) x [] (opens-rest after₁ (x ∷ []) d₂ (o₂ .1)) in
       let inv₂ : Inv d₂ = inv-step (after d₁ mid) last (reached mid d₁ inv₁ o₁ .inv) (o₂ .0) in
-      let e : stageAt (after d₂ after₁) g ≡ Finished (succeed (job .registers))
-      = still-finished after₁ d₂ inv₂ o₃ g (succeed (job .registers)) (finished mid last (opens-upto mid (after₁ ++ x ∷ []) last d₁ no-open) f) z in
-      handed-over (after d₂ after₁) (reached after₁ d₂ inv₂ o₃ .inv) x g (succeed (job .registers)) (o₄ .0) e op u
+      let e : stageAt (after d₂ after₁) g ≡ Finished atEnd
+      = still-finished after₁ d₂ inv₂ o₃ g atEnd (finished mid last (opens-upto mid (after₁ ++ x ∷ []) last d₁ no-open) f .row) z in
+      handed-over (after d₂ after₁) (reached after₁ d₂ inv₂ o₃ .inv) x g atEnd (o₄ .0) e op u
       ∙ ap (λ (s : Served). collected g (Given (s .registers))) (sym (alone-is t p te))

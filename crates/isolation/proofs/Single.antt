@@ -16,6 +16,8 @@ use Rattle.chs.specs.declared.ToBlock.the-variants.{Block, Refused as NoBlock}
 use Rattle.chs.specs.Chs.{size, blockOf, addressIn}
 use Rattle.drive.specs.declared.Drive.{Drive}
 use Rattle.drive.specs.Drive.{geometryOf, isProtected}
+use Rattle.attached.specs.declared.Bads.{Bads}
+use Rattle.attached.specs.Bad.{good}
 use Rattle.table.specs.declared.Table.{Table}
 use Rattle.layout.specs.declared.Packet.{Packet}
 use Rattle.layout.specs.declared.PacketRead.{PacketRead}
@@ -30,8 +32,8 @@ use Rattle.int13.specs.declared.Shown.{Shown}
 use Rattle.int13.specs.declared.Outcome.{Outcome}
 use Rattle.int13.specs.declared.Plan.{Plan}
 use Rattle.int13.specs.declared.Plan.the-variants.{Refuse, Clear, Finish, Wait}
-use Rattle.int13.specs.Answers.{ah, al, dl, isWrite}
-use Rattle.int13.specs.Steps.{Checked, mostRun, mostBlocks, isDrive, driveNamed, packetPlace, verifyOk, packetTests, packetRead, packetPlan, carryOut, seekRead, seek, sectorBuffer, sectorRun, sectors, parameters, extensions, resultGiven, result, fed, driveCount, shownOf, steps, begin}
+use Rattle.int13.specs.Answers.{ah, al, dl, isWrite, ended}
+use Rattle.int13.specs.Steps.{Checked, mostRun, mostBlocks, isDrive, driveNamed, badsOf, packetPlace, verifyOk, verified, packetTests, packetRead, packetPlan, carryOut, seekRead, seek, sectorBuffer, sectorRun, sectors, parameters, extensions, resultGiven, result, fed, driveCount, shownOf, steps, begin}
 use Rattle.desk.specs.declared.Request.{Request}
 use Rattle.desk.specs.declared.Stage.the-variants.{Waiting}
 use Rattle.desk.specs.declared.Desk.{Desk}
@@ -39,7 +41,7 @@ use Rattle.desk.specs.declared.Next.{Next}
 use Rattle.desk.specs.declared.Next.the-variants.{Guest, Nobody}
 use Rattle.desk.specs.Parts.{stageAt}
 use Rattle.desk.specs.Acceptable.{accept}
-use Rattle.desk.specs.Calls.{isLent, firstWaiting as seekRow, quota, serveStage, turnNext, turnOf}
+use Rattle.desk.specs.Calls.{isLent, firstWaiting as seekRow, movesNow, badsFor, serveStage, turnNext, turnOf}
 use Rattle.isolation.specs.Single.{SameSegments, KeepsSegments, Serves, Single}
 use Rattle.isolation.proofs.Accept.{accept-facts}
 use Rattle.isolation.proofs.Turn.{dist-lt, seek-guest, seek-nobody}
@@ -79,33 +81,33 @@ module _ (b : Table) (r : Registers) (w : List ℕ) where
   -- a plan that waits does so with the registers as posted
   abbrev Plans : Plan → Type 0
   Plans (Refuse code) = Unit
-  Plans (Clear code) = Unit
+  Plans (Clear code n) = Unit
   Plans Finish = Unit
   Plans (Wait j) = SameSegments r (j .registers)
 
-  tests : (d : Drive) (M : ℕ) (p : Packet) → Plans (packetTests d r M p)
-  unfolding packetTests
-  tests d M p =
+  tests : (d : Drive) (l : Bads) (M : ℕ) (p : Packet) → Plans (packetTests d l r M p)
+  unfolding packetTests verified
+  tests d l M p =
       pick-cases Plans (ltb mostBlocks (p .count)) _ _ (λ e. tt)
       (λ e. pick-cases Plans (both (isWrite (ah r)) (isProtected d)) _ _ (λ e. tt)
       (λ e. pick-cases Plans (ltb (d .blocks) (p .start + p .count)) _ _ (λ e. tt)
-      (λ e. pick-cases Plans (eqb (ah r) 0x44) _ _ (λ e. tt)
+      (λ e. pick-cases Plans (eqb (ah r) 0x44) _ _ (λ e. pick-cases Plans (ltb (good l (p .start) (p .count)) (p .count)) _ _ (λ e. tt) (λ e. tt))
       (λ e. pick-cases Plans (ltb M (p .buffer + blockLength * p .count)) _ _ (λ e. tt)
       (λ e. pick-cases Plans (eqb (p .count) 0) _ _ (λ e. tt) (λ e. record { ds = refl; si = refl; es = refl }))))))
 
-  read : (d : Drive) (M : ℕ) (x : PacketRead) → Plans (packetRead d r M x)
-  read d M (NoPacket code) = tt
-  read d M (Whole p) = pick-cases Plans (ltb (p .size) packetLength) _ _ (λ e. tt) (λ e. tests d M p)
+  read : (d : Drive) (l : Bads) (M : ℕ) (x : PacketRead) → Plans (packetRead d l r M x)
+  read d l M (NoPacket code) = tt
+  read d l M (Whole p) = pick-cases Plans (ltb (p .size) packetLength) _ _ (λ e. tt) (λ e. tests d l M p)
 
-  by-plan : Plans (packetPlan (isDrive b (dl r)) (driveNamed b r) r w)
+  by-plan : Plans (packetPlan (isDrive b (dl r)) (driveNamed b r) (badsOf b (dl r)) r w)
   unfolding packetPlan
   by-plan =
       pick-cases Plans (not (isDrive b (dl r))) _ _ (λ e. tt)
-      (λ e. pick-cases Plans (both (isWrite (ah r)) (not (verifyOk (al r) (driveNamed b r .flags)))) _ _ (λ e. tt) (λ e. read (driveNamed b r) (length w) (readPacket w (packetPlace r))))
+      (λ e. pick-cases Plans (both (isWrite (ah r)) (not (verifyOk (al r) (driveNamed b r .flags)))) _ _ (λ e. tt) (λ e. read (driveNamed b r) (badsOf b (dl r)) (length w) (readPacket w (packetPlace r))))
 
   carried : (p : Plan) → Plans p → KeepsChecked (carryOut p r w)
   carried (Refuse code) k = record { ds = refl; si = refl; es = refl }
-  carried (Clear code) k = record { ds = refl; si = refl; es = refl }
+  carried (Clear code n) k = record { ds = refl; si = refl; es = refl }
   carried Finish k = record { ds = refl; si = refl; es = refl }
   carried (Wait j) k = k
 
@@ -136,9 +138,15 @@ module _ (b : Table) (r : Registers) (w : List ℕ) where
       pick-cases KeepsChecked (either (eqb (ah r) 0x02) (eqb (ah r) 0x03)) _ _ (λ e. by-sectors (length w))
       (λ e. pick-cases KeepsChecked (eqb (ah r) 0x08) _ _ (λ e. by-parameters)
       (λ e. pick-cases KeepsChecked (eqb (ah r) 0x41) _ _ (λ e. by-extensions (shownOf b p (dl r)))
-      (λ e. pick-cases KeepsChecked (either (eqb (ah r) 0x42) (either (eqb (ah r) 0x43) (eqb (ah r) 0x44))) _ _ (λ e. carried (packetPlan (isDrive b (dl r)) (driveNamed b r) r w) by-plan)
+      (λ e. pick-cases KeepsChecked (either (eqb (ah r) 0x42) (either (eqb (ah r) 0x43) (eqb (ah r) 0x44))) _ _ (λ e. carried (packetPlan (isDrive b (dl r)) (driveNamed b r) (badsOf b (dl r)) r w) by-plan)
       (λ e. pick-cases KeepsChecked (eqb (ah r) 0x47) _ _ (λ e. by-seek)
       (λ e. pick-cases KeepsChecked (eqb (ah r) 0x48) _ _ (λ e. by-result (shownOf b p (dl r))) (λ e. record { ds = refl; si = refl; es = refl }))))))
+
+-- a finish: all blocks moved, or those before a bad one
+finished : (n moved : ℕ) (r : Registers) → SameSegments r (ended n moved r)
+unfolding ended
+finished n moved r =
+    pick-cases (SameSegments r) (ltb moved n) _ _ (λ e. record { ds = refl; si = refl; es = refl }) (λ e. record { ds = refl; si = refl; es = refl })
 
 -- ---- a turn
 
@@ -154,13 +162,13 @@ served d arena store g q a l b e = rw (a, l) (go (seekRow (d .rows) guests (d .p
     go Nobody s = absurd (seek-nobody (d .rows) guests (d .pointer) p s g q b (dist-lt (d .pointer) g) e)
     go (Guest h) s =
         let f = seek-guest (d .rows) guests (d .pointer) h p s in
-        record { guest = h; moved = quota (f .request); is = ap (λ x. serveStage d h x arena store .answer) (f .here) }
+        record { guest = h; moved = movesNow (badsFor d (f .request)) (f .request); is = ap (λ x. serveStage d h x arena store .answer) (f .here) }
 
 pub single : Single
 single =
     record {
       posted = λ b p r w. by-function b r w p;
-      finished = λ r. record { ds = refl; si = refl; es = refl };
+      finished = finished;
       withdrawn = λ n r. record { ds = refl; si = refl; es = refl };
       served = served;
     }

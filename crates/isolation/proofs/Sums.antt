@@ -14,6 +14,7 @@ use Rattle.words.specs.Words.{le, leBytes}
 use Rattle.chs.specs.Chs.{inLimits, isValid, blockOf, blockNumbers}
 use Rattle.drive.specs.declared.Drive.{Drive}
 use Rattle.drive.specs.Drive.{driveOf, same, pci, ata, busOk, interfaceOk, geometryFits, fieldsOk, inStore, overlap}
+use Rattle.attached.specs.Bad.{heldOf, isBad, good}
 use Rattle.layout.specs.ResultBuffer.{returnedSize, parameterBytes, blockBytes, interfaceBytes, pathBytes, sum, wholeResult, resultBytes, resultAnswer}
 use Rattle.memory.specs.Window.{guests, windowLength, windowOf}
 use Rattle.table.specs.declared.Table.{Table}
@@ -25,7 +26,7 @@ use Rattle.int13.specs.declared.Job.{Job}
 use Rattle.int13.specs.declared.Outcome.{Outcome}
 use Rattle.int13.specs.declared.Outcome.the-variants.{Answered, Waits}
 use Rattle.int13.specs.Answers.{ah, posted as postedRegisters}
-use Rattle.int13.specs.Steps.{Checked, unchanged, isDrive, sectors, parameters, result, fed, shownOf, steps, begin}
+use Rattle.int13.specs.Steps.{Checked, unchanged, isDrive, badsOf, sectors, parameters, result, fed, shownOf, steps, begin}
 use Rattle.desk.specs.declared.Stage.{Stage}
 use Rattle.desk.specs.declared.Stage.the-variants.{Vacant, Waiting, Finished}
 use Rattle.desk.specs.declared.Desk.{Desk}
@@ -36,7 +37,7 @@ use Rattle.desk.specs.declared.OpenAnswer.the-variants.{Opened}
 use Rattle.desk.specs.declared.TurnAnswer.{TurnAnswer}
 use Rattle.desk.specs.declared.TurnAnswer.the-variants.{Served, Idle, Refused as TurnRefused}
 use Rattle.desk.specs.Parts.{windowSize, stageAt, withStage, withPointer, placementAt}
-use Rattle.desk.specs.Calls.{Done, isLent, opened, openOf, firstWaiting, stageAfter, serveStage, turnNext, turnOf}
+use Rattle.desk.specs.Calls.{Done, isLent, opened, openOf, firstWaiting, movesNow, stageAfter, serveStage, turnNext, turnOf}
 use Rattle.desk.specs.Numbers.{turnNumbers}
 use Rattle.isolation.specs.Lists.{post, turn, Call, turned, Out, step, after}
 use Rattle.isolation.specs.Words.{opens, kindOf}
@@ -76,6 +77,8 @@ wide =
       count = 1;
       present = replicate 8 false;
       parameters = replicate 112 0;
+      counts = replicate 8 0;
+      bad = replicate 1024 0;
     }
 
 -- P7: the table of document 01, in the store of its example
@@ -161,7 +164,15 @@ drive =
     }
 
 abbrev tableRead : Table
-tableRead = record { drives = drive ∷ replicate 7 zeroDrive; count = 1; present = replicate 8 false; parameters = replicate 112 0 }
+tableRead =
+    record {
+      drives = drive ∷ replicate 7 zeroDrive;
+      count = 1;
+      present = replicate 8 false;
+      parameters = replicate 112 0;
+      counts = replicate 8 0;
+      bad = replicate 1024 0;
+    }
 
 abbrev d₀ : Desk
 d₀ = opened tableRead arenaLength storeLength
@@ -316,14 +327,14 @@ module _ (a s : ℕ → List ℕ) (la : (i : ℕ) → length (a i) ≡ arenaLeng
   t₂ = withPointer (withStage t₁ 0 (Waiting (request job 16))) 1
 
   abbrev serves₀ : Line
-  serves₀ = serving 0 (request job 0) (Waiting (request job 16))
+  serves₀ = serving 0 (request job 0) 16 (Waiting (request job 16))
 
   one : At t₁
   one = all-post (0 ∷ []) 0 d₀ at₀ ((refl, refl), tt) .1
 
   served : Holds (place t₁ (a 1) (s 1)) serves₀
-  unfolding firstWaiting stageAfter
-  served = (refl, refl, refl)
+  unfolding firstWaiting movesNow badsOf isDrive good isBad heldOf stageAfter
+  served = (refl, refl, refl, refl)
 
   at₂ : At t₂
   at₂ = record { inv = sized-line (place t₁ (a 1) (s 1)) serves₀ (sized-at t₁ 1 one) served .inv; arena = refl; store = refl; table = refl }
@@ -346,13 +357,13 @@ module _ (a s : ℕ → List ℕ) (la : (i : ℕ) → length (a i) ≡ arenaLeng
       ∙ seven .0
 
   p9-turns : flat (turnsOf a s 6 (p9 a s)) ≡ 0 ∷ 2 ∷ 16 ∷ 0 ∷ 5 ∷ 16 ∷ 0 ∷ 2 ∷ 16 ∷ 0 ∷ 5 ∷ 16 ∷ 0 ∷ 2 ∷ 8 ∷ 0 ∷ 5 ∷ 8 ∷ []
-  unfolding firstWaiting stageAfter turnNumbers
+  unfolding firstWaiting movesNow badsOf isDrive good isBad heldOf stageAfter turnNumbers
   p9-turns =
       ap (λ (d : Desk). flat (turnsOf a s 6 d)) (from-start (postings 0 (2 ∷ 5 ∷ [])) ∙ two .0) ∙ ap flat (as-bare 6 at9 (two .1))
 
   p10-turns : flat (turnsOf a s 8 (p10 a s))
       ≡ 0 ∷ 1 ∷ 16 ∷ 0 ∷ 2 ∷ 16 ∷ 0 ∷ 3 ∷ 16 ∷ 0 ∷ 4 ∷ 16 ∷ 0 ∷ 5 ∷ 16 ∷ 0 ∷ 6 ∷ 16 ∷ 0 ∷ 7 ∷ 16 ∷ 0 ∷ 0 ∷ 16 ∷ []
-  unfolding firstWaiting stageAfter turnNumbers
+  unfolding firstWaiting movesNow badsOf isDrive good isBad heldOf stageAfter turnNumbers
   p10-turns = ap (λ (d : Desk). flat (turnsOf a s 8 d)) p10-is ∙ ap flat (as-bare 8 at10 (seven .1))
 
   -- ---- the sums, one statement over one list: code and value of each
@@ -381,7 +392,7 @@ module _ (a s : ℕ → List ℕ) (la : (i : ℕ) → length (a i) ≡ arenaLeng
       ∷ (0 ∷ 2 ∷ 16 ∷ 0 ∷ 5 ∷ 16 ∷ 0 ∷ 2 ∷ 16 ∷ 0 ∷ 5 ∷ 16 ∷ 0 ∷ 2 ∷ 8 ∷ 0 ∷ 5 ∷ 8 ∷ [])
       ∷ (0 ∷ 1 ∷ 16 ∷ 0 ∷ 2 ∷ 16 ∷ 0 ∷ 3 ∷ 16 ∷ 0 ∷ 4 ∷ 16 ∷ 0 ∷ 5 ∷ 16 ∷ 0 ∷ 6 ∷ 16 ∷ 0 ∷ 7 ∷ 16 ∷ 0 ∷ 0 ∷ 16 ∷ [])
       ∷ []
-  unfolding blockNumbers blockOf inLimits isValid le leBytes driveOf same busOk interfaceOk geometryFits fieldsOk inStore overlap headerOf headerAt overlapsAny refusal recordRefusal withRecord recordStep endStep stepOf stepAt readFrom readTable isDrive shownOf parameters result steps begin resultAnswer returnedSize resultBytes wholeResult parameterBytes blockBytes interfaceBytes pathBytes sum
+  unfolding blockNumbers blockOf inLimits isValid le leBytes driveOf same busOk interfaceOk geometryFits fieldsOk inStore overlap headerOf headerAt overlapsAny refusal recordRefusal withRecord recordStep endStep stepOf stepAt readFrom readTable isDrive badsOf shownOf parameters result steps begin resultAnswer returnedSize resultBytes wholeResult parameterBytes blockBytes interfaceBytes pathBytes sum
   sums =
       ap₂ (λ (x y : List ℕ).
       block 0 0 1

@@ -3,7 +3,7 @@
 -- Assumes nothing.
 use Prim.Native.Nat.{ℕ, _+_, _≤_, _<_}
 use mathlib.Core.Path.{_≡_, refl, sym, ap, subst, subst₂, _∙_}
-use mathlib.Core.Logic.{⊎-elim}
+use mathlib.Core.Logic.{_⊎_, inl, inr, ⊎-elim}
 use mathlib.Core.Bool.{Bool, true, false, not}
 use mathlib.Core.List.{List, [], _∷_, _++_, append-nil}
 use native.Mathlib.Omega.{arith}
@@ -23,7 +23,7 @@ use Rattle.int13.specs.declared.Outcome.the-variants.{Answered, Waits}
 use Rattle.int13.specs.Answers.{ah, isSectors, isWrite, withdraw as withdrawnRegisters}
 use Rattle.int13.specs.Placement.{noPlacement, tableCount}
 use Rattle.int13.specs.Steps.{Checked, unchanged, fed, begin}
-use Rattle.int13.specs.Alone.{Memory, storeBlock, moves, alone}
+use Rattle.int13.specs.Alone.{Memory, storeBlock, moves, reported, alone}
 use Rattle.desk.specs.declared.Request.{Request}
 use Rattle.desk.specs.declared.Stage.{Stage}
 use Rattle.desk.specs.declared.Stage.the-variants.{Vacant, Waiting, Finished}
@@ -39,11 +39,12 @@ use Rattle.desk.specs.declared.PlaceAnswer.{PlaceAnswer}
 use Rattle.desk.specs.declared.PlaceAnswer.the-variants.{Placed, Refused as PlaceRefused}
 use Rattle.desk.specs.Parts.{windowSize, stageAt, isWaiting, withStage, next, withPointer, placementAt, withPlacement}
 use Rattle.desk.specs.Acceptable.{placeOk}
-use Rattle.desk.specs.Calls.{otherLength, notVacant, badPlace, Done, done, isLent, openOf, postChecked, postRow, postOf, firstWaiting, quota, stageAfter, memoryOf, movedBy, serve, serveStage, turnNext, turnOf, collectStage, collectOf, withdrawnWindow, withdrawStage, withdrawOf, tablesIn, placeTables, placeStage, placeOf}
+use Rattle.desk.specs.Calls.{otherLength, notVacant, badPlace, Done, done, isLent, openOf, postChecked, postRow, postOf, firstWaiting, goesOn, stageAfter, beside, memoryOf, movedBy, serveBy, serve, serveStage, turnNext, turnOf, collectStage, collectOf, withdrawnWindow, withdrawStage, withdrawOf, tablesIn, placeTables, placeStage, placeOf}
 use Rattle.isolation.specs.Lists.{Op, openTable, post, turn, collect, withdraw, place as placeAt, Call, Answer, opening, posted, turned, collected, withdrawn, placed, Out, outOf, step, Event, run, after}
-use Rattle.isolation.specs.Words.{Kind, opens, serves, kindOf, NoneOpens, Waits as WaitsOn, Finishes, moved, Named, Writes, Unwritten, Left, placementIn}
-use Rattle.isolation.specs.Demand.{foundBy, askedBy, firstBy, Taken, Same, Claim}
+use Rattle.isolation.specs.Words.{Kind, opens, serves, kindOf, kindIn, NoneOpens, serviceIn, movedIn, fullPart, Full, Waits as WaitsOn, Stops, Finishes, moved, withdrawals, Named, Writes, Unwritten, Left, placementIn}
+use Rattle.isolation.specs.Demand.{foundBy, askedBy, firstBy, goodBy, Taken, Same, Claim}
 use Rattle.isolation.proofs.Moves.{moves-size}
+use Rattle.isolation.proofs.Endings.{now}
 use Rattle.isolation.proofs.Accept.{Inv, inv-accept}
 use Rattle.isolation.proofs.Keep.{inv-step, Fixed, fixed-step, tables-size}
 use Rattle.isolation.proofs.Fate.{same-request}
@@ -71,8 +72,8 @@ pub data Line : Type 0 where
   waiting : ℕ → Registers → Job → Line
   -- a post that is answered at once, and what becomes of its window
   answering : ℕ → Registers → Registers → (List ℕ → List ℕ) → Line
-  -- a turn that serves a guest's request, and the row's stage after it
-  serving : ℕ → Request → Stage → Line
+  -- a turn that serves a guest's request, the blocks that it moves, and the row's stage after it
+  serving : ℕ → Request → ℕ → Stage → Line
   -- a turn while nobody waits; one that is lent nothing
   idling : Line
   unlent : Line
@@ -89,7 +90,7 @@ pub data Line : Type 0 where
 abbrev opOf : Line → Op
 opOf (waiting g r j) = post g r
 opOf (answering g r x f) = post g r
-opOf (serving g q st) = turn
+opOf (serving g q k st) = turn
 opOf idling = turn
 opOf unlent = turn
 opOf (withdrawing g q) = withdraw g
@@ -99,10 +100,10 @@ opOf (placing g address) = placeAt g address
 opOf (barred g address) = placeAt g address
 opOf (misplacing g address) = placeAt g address
 
-abbrev answerTo : Line → Answer
+abbrev pub answerTo : Line → Answer
 answerTo (waiting g r j) = posted g PostWaits
 answerTo (answering g r x f) = posted g (PostAnswered x)
-answerTo (serving g q st) = turned (Served g (quota q))
+answerTo (serving g q k st) = turned (Served g k)
 answerTo idling = turned Idle
 answerTo unlent = turned (TurnRefused otherLength)
 answerTo (withdrawing g q) = withdrawn g (WithdrawGiven (withdrawnRegisters (q .moved) (q .job .registers)))
@@ -116,7 +117,7 @@ answerTo (misplacing g address) = placed g address (PlaceRefused badPlace)
 abbrev isGiven : Line → Bool
 isGiven (waiting g r j) = true
 isGiven (answering g r x f) = true
-isGiven (serving g q st) = true
+isGiven (serving g q k st) = true
 isGiven idling = true
 isGiven unlent = false
 isGiven (withdrawing g q) = true
@@ -129,17 +130,26 @@ isGiven (misplacing g address) = true
 abbrev isWriting : Request → Bool
 isWriting q = isWrite (ah (q .job .registers))
 
--- a turn that writes leaves the arena, one that reads the store
-abbrev arenaIf : Bool → Place → ℕ → Request → List ℕ
-arenaIf w p g q = pick w (p .arena) (withWindow (p .arena) g (windowSize (p .desk)) (movedBy (p .desk) g q (p .arena) (p .store) .window))
+-- the served guest's window after it
+abbrev windowBy : Place → ℕ → Request → ℕ → List ℕ
+windowBy p g q k = beside q k (movedBy (p .desk) g q k (p .arena) (p .store) .window)
 
-abbrev storeIf : Bool → Place → ℕ → Request → List ℕ
-storeIf w p g q = pick w (movedBy (p .desk) g q (p .arena) (p .store) .store) (p .store)
+-- it writes nothing beside the data: it goes on, or all blocks are moved
+abbrev isWhole : Request → ℕ → Bool
+isWhole q k = either (goesOn q k) (not (ltb (q .moved + k) (q .job .count)))
+
+-- a turn that writes leaves the arena, but for the count word at a bad block; one that reads leaves the store
+abbrev arenaIf : Bool → Place → ℕ → Request → ℕ → List ℕ
+arenaIf w p g q k = pick w (p .arena) (withWindow (p .arena) g (windowSize (p .desk)) (windowBy p g q k))
+
+abbrev storeIf : Bool → Place → ℕ → Request → ℕ → List ℕ
+storeIf w p g q k = pick w (movedBy (p .desk) g q k (p .arena) (p .store) .store) (p .store)
 
 abbrev pub leaves : Place → Line → Place
 leaves p (waiting g r j) = place (withStage (p .desk) g (Waiting (request j 0))) (p .arena) (p .store)
 leaves p (answering g r x f) = place (p .desk) (withWindow (p .arena) g (windowSize (p .desk)) (f (windowAt p g))) (p .store)
-leaves p (serving g q st) = place (withPointer (withStage (p .desk) g st) (next g)) (arenaIf (isWriting q) p g q) (storeIf (isWriting q) p g q)
+leaves p (serving g q k st) =
+    place (withPointer (withStage (p .desk) g st) (next g)) (arenaIf (both (isWriting q) (isWhole q k)) p g q k) (storeIf (isWriting q) p g q k)
 leaves p idling = p
 leaves p unlent = p
 leaves p (withdrawing g q) = place (withStage (p .desk) g Vacant) (p .arena) (p .store)
@@ -168,7 +178,8 @@ Holds p (waiting g r j) =
     (ltb g guests ≡ true) × (stageAt (p .desk) g ≡ Vacant) × (begin (fed (p .desk .table) (placementAt (p .desk) g)) r (windowAt p g) ≡ unchanged (windowAt p g) (Waits j))
 Holds p (answering g r x f) =
     (ltb g guests ≡ true) × (stageAt (p .desk) g ≡ Vacant) × (begin (fed (p .desk .table) (placementAt (p .desk) g)) r (windowAt p g) ≡ record { outcome = Answered x; window = f (windowAt p g) })
-Holds p (serving g q st) = (firstWaiting (p .desk .rows) guests (p .desk .pointer) ≡ Guest g) × (stageAt (p .desk) g ≡ Waiting q) × (stageAfter q ≡ st)
+Holds p (serving g q k st) =
+    (firstWaiting (p .desk .rows) guests (p .desk .pointer) ≡ Guest g) × (stageAt (p .desk) g ≡ Waiting q) × (now (p .desk .table) q ≡ k) × (stageAfter q k ≡ st)
 Holds p idling = firstWaiting (p .desk .rows) guests (p .desk .pointer) ≡ Nobody
 Holds p unlent = isLent (p .desk) [] [] ≡ false
 Holds p (withdrawing g q) = (ltb g guests ≡ true) × (stageAt (p .desk) g ≡ Waiting q) × (isSectors (ah (q .job .registers)) ≡ true)
@@ -244,23 +255,42 @@ module _ (p : Place) (z : Sized p) where
   same-arena : (f : List ℕ → Out) (g : ℕ) (w : List ℕ) → w ≡ windowAt p g → f (withWindow (p .arena) g (windowSize (p .desk)) w) ≡ f (p .arena)
   same-arena f g w e = rw e (ap f (with-window-same (p .arena) g (windowSize (p .desk))))
 
-  serves-line : (g : ℕ) (q : Request) (st : Stage) → Holds p (serving g q st) → step (p .desk) (callOf p (serving g q st)) ≡ outAt p (serving g q st)
+  serves-line : (g : ℕ) (q : Request) (k : ℕ) (st : Stage) → Holds p (serving g q k st) → step (p .desk) (callOf p (serving g q k st)) ≡ outAt p (serving g q k st)
   unfolding moves
-  serves-line g q st h =
+  serves-line g q k st h =
       turn-serves (p .desk) (z .inv) (p .arena) (p .store) given g q (h .0) (h .1)
-      ∙ ap (λ (x : Stage). left x (withWindow (p .arena) g (windowSize (p .desk)) (to .window)) (to .store)) (h .2)
-      ∙ by (isWriting q) refl
+      ∙ ap (λ (n : ℕ). outOf turned (serveBy (p .desk) g q n (p .arena) (p .store))) (h .2)
+      ∙ ap (λ (x : Stage). left x (withWindow (p .arena) g (windowSize (p .desk)) (windowBy p g q k)) (to .store)) (h .3)
+      ∙ ap (λ (s : List ℕ). left st (withWindow (p .arena) g (windowSize (p .desk)) (windowBy p g q k)) s) (stores (isWriting q) refl)
+      ∙ ap (λ (a : List ℕ). left st a (storeIf (isWriting q) p g q k)) (arenas (isWriting q) refl (isWhole q k) refl)
     where
       to : Memory
-      to = movedBy (p .desk) g q (p .arena) (p .store)
+      to = movedBy (p .desk) g q k (p .arena) (p .store)
 
       left : Stage → List ℕ → List ℕ → Out
-      left x a s = record { desk = withPointer (withStage (p .desk) g x) (next g); answer = turned (Served g (quota q)); arena = a; store = s }
+      left x a s = record { desk = withPointer (withStage (p .desk) g x) (next g); answer = turned (Served g k); arena = a; store = s }
 
-      by : (w : Bool) → isWriting q ≡ w
-          → left st (withWindow (p .arena) g (windowSize (p .desk)) (to .window)) (to .store) ≡ left st (arenaIf w p g q) (storeIf w p g q)
-      by true e = same-arena (λ a. left st a (to .store)) g (to .window) (rw e)
-      by false e = ap (left st (withWindow (p .arena) g (windowSize (p .desk)) (to .window))) (rw e)
+      stores : (w : Bool) → isWriting q ≡ w → to .store ≡ storeIf w p g q k
+      stores true e = refl
+      stores false e = rw e
+
+      kept : isWriting q ≡ true → to .window ≡ windowAt p g
+      kept e = rw e
+
+      -- nothing beside the data
+      none : (x y : Bool) (w v : List ℕ) → either x (not y) ≡ true → pick x w (pick y v w) ≡ w
+      none true y w v e = refl
+      none false true w v e = true≢false false e refl
+      none false false w v e = refl
+
+      arenas : (w : Bool) → isWriting q ≡ w → (x : Bool) → isWhole q k ≡ x
+          → withWindow (p .arena) g (windowSize (p .desk)) (windowBy p g q k) ≡ arenaIf (both w x) p g q k
+      arenas true e true f =
+          ap (withWindow (p .arena) g (windowSize (p .desk)))
+          (none (goesOn q k) (ltb (q .moved + k) (q .job .count)) (to .window) (reported (q .job) (q .moved + k) (to .window)) f ∙ kept e)
+          ∙ with-window-same (p .arena) g (windowSize (p .desk))
+      arenas true e false f = refl
+      arenas false e x f = refl
 
   -- a placement, by whether its guest waits
   placed-by : (g address : ℕ) → ltb g guests ≡ true → (o : Done PlaceAnswer)
@@ -281,13 +311,13 @@ module _ (p : Place) (z : Sized p) where
   is-waiting g address (Finished r) e = true≢false false e refl
 
   pub step-line : (l : Line) → Holds p l → step (p .desk) (callOf p l) ≡ outAt p l
-  unfolding step turnOf collectOf withdrawOf openOf readTable readFrom stepAt tableStepOf headerAt headerOf
+  unfolding step turnOf collectOf withdrawOf reported openOf readTable readFrom stepAt tableStepOf headerAt headerOf
   step-line (waiting g r j) h =
       post-checked (p .desk) (z .inv) (p .arena) (p .store) given g r (h .0) (h .1) (unchanged (windowAt p g) (Waits j)) (h .2)
       ∙ same-arena (λ a. record { desk = withStage (p .desk) g (Waiting (request j 0)); answer = posted g PostWaits; arena = a; store = p .store }) g (windowAt p g) refl
   step-line (answering g r x f) h =
       post-checked (p .desk) (z .inv) (p .arena) (p .store) given g r (h .0) (h .1) (record { outcome = Answered x; window = f (windowAt p g) }) (h .2)
-  step-line (serving g q st) h = serves-line g q st h
+  step-line (serving g q k st) h = serves-line g q k st h
   step-line idling h = rw (inv-accept (p .desk) (z .inv), given) (ap (λ (x : Next). outOf turned (turnNext (p .desk) x (p .arena) (p .store))) h)
   step-line unlent h = rw (inv-accept (p .desk) (z .inv), h)
   step-line (withdrawing g q) h =
@@ -308,7 +338,7 @@ module _ (p : Place) (z : Sized p) where
 pub no-opening : (l : Line) → kindOf (answerTo l) ≡ opens → ⊥
 no-opening (waiting g r j) e = impossible cc
 no-opening (answering g r x f) e = impossible cc
-no-opening (serving g q st) e = impossible cc
+no-opening (serving g q k st) e = impossible cc
 no-opening idling e = impossible cc
 no-opening unlent e = impossible cc
 no-opening (withdrawing g q) e = impossible cc
@@ -322,11 +352,11 @@ no-opening (misplacing g address) e = impossible cc
 lengths-line : (p : Place) (l : Line) → Sized p → (length (leaves p l .arena) ≡ leaves p l .desk .arena) × (length (leaves p l .store) ≡ leaves p l .desk .store)
 lengths-line p (waiting g r j) z = (z .arena, z .store)
 lengths-line p (answering g r x f) z = (length-with-window (p .arena) g (windowSize (p .desk)) (f (windowAt p g)) ∙ z .arena, z .store)
-lengths-line p (serving g q st) z = (
-  pick-cases (λ (a : List ℕ). length a ≡ p .desk .arena) (isWriting q) _ _ (λ e. z .arena)
-      (λ e. length-with-window (p .arena) g (windowSize (p .desk)) (movedBy (p .desk) g q (p .arena) (p .store) .window) ∙ z .arena),
+lengths-line p (serving g q k st) z = (
+  pick-cases (λ (a : List ℕ). length a ≡ p .desk .arena) (both (isWriting q) (isWhole q k)) _ _ (λ e. z .arena)
+      (λ e. length-with-window (p .arena) g (windowSize (p .desk)) (windowBy p g q k) ∙ z .arena),
   pick-cases (λ (s : List ℕ). length s ≡ p .desk .store) (isWriting q) _ _
-      (λ e. moves-size (q .job) (storeBlock (p .desk .table) (q .job)) (q .moved) (quota q) (memoryOf (p .desk) g (p .arena) (p .store)) .store ∙ z .store) (λ e. z .store),
+      (λ e. moves-size (q .job) (storeBlock (p .desk .table) (q .job)) (q .moved) k (memoryOf (p .desk) g (p .arena) (p .store)) .store ∙ z .store) (λ e. z .store),
 )
 lengths-line p idling z = (z .arena, z .store)
 lengths-line p unlent z = (z .arena, z .store)
@@ -381,15 +411,32 @@ pub none-opens : (ls : List Line) (p : Place) (es : List Event) → NoneOpens es
 none-opens [] p es n = n
 none-opens (l ∷ ls) p es n = (no-opening l, none-opens ls (leaves p l) es n)
 
+-- ---- the parts of a request, by number
+
+-- each turn that serves g answers a full part, m blocks of n being moved before
+abbrev pub areFull : ℕ → ℕ → ℕ → List Event → Bool
+areFull g n m [] = true
+areFull g n m (e ∷ es) =
+    both (either (not (eqb (serviceIn g (kindIn e)) 1)) (eqb (movedIn g (kindIn e)) (fullPart n m))) (areFull g n (m + movedIn g (kindIn e)) es)
+
+pub full : (g n m : ℕ) (es : List Event) → areFull g n m es ≡ true → Full g n m es
+full g n m [] t = tt
+full g n m (e ∷ es) t =
+    let b = both-true (either (not (eqb (serviceIn g (kindIn e)) 1)) (eqb (movedIn g (kindIn e)) (fullPart n m))) (areFull g n (m + movedIn g (kindIn e)) es) t in (
+      (λ s. ⊎-elim (λ x. absurd (eqb-false _ _ (not-true (eqb (serviceIn g (kindIn e)) 1) x) s)) (λ x. eqb-true _ _ x)
+          (either-true (not (eqb (serviceIn g (kindIn e)) 1)) (eqb (movedIn g (kindIn e)) (fullPart n m)) (b .0))),
+      full g n (m + movedIn g (kindIn e)) es (b .1),
+    )
+
 -- ---- the conditions of `equal`
 
 -- a turn of another guest that writes ends below the first of n blocks or begins past them, and a placement is another guest's
 abbrev pub isApart : ℕ → ℕ → ℕ → Table → Line → Bool
 isApart g first n b (waiting h r j) = true
 isApart g first n b (answering h r x f) = true
-isApart g first n b (serving h q st) =
+isApart g first n b (serving h q k st) =
     either (eqb h g) (either (not (isWriting q))
-    (either (leb (storeBlock b (q .job) + q .moved + quota q) first) (leb (first + n) (storeBlock b (q .job) + q .moved))))
+    (either (leb (storeBlock b (q .job) + q .moved + k) first) (leb (first + n) (storeBlock b (q .job) + q .moved))))
 isApart g first n b idling = true
 isApart g first n b unlent = true
 isApart g first n b (withdrawing h q) = true
@@ -417,7 +464,7 @@ module _ (m g first n : ℕ) (b : Table) where
   left [] p es e t h = h
   left (waiting h r j ∷ ls) p es e t k = (refl, refl, left ls _ es e t k)
   left (answering h r x f ∷ ls) p es e t k = (refl, refl, left ls _ es e t k)
-  left (serving h q st ∷ ls) p es e t k = (refl, refl, left ls _ es e (both-true (isApart g first n b (serving h q st)) (areApart g first n b ls) t .1) k)
+  left (serving h q i st ∷ ls) p es e t k = (refl, refl, left ls _ es e (both-true (isApart g first n b (serving h q i st)) (areApart g first n b ls) t .1) k)
   left (idling ∷ ls) p es e t k = (refl, refl, left ls p es e t k)
   left (unlent ∷ ls) p es e t k = left ls p es e t k
   left (withdrawing h q ∷ ls) p es e t k = (refl, refl, left ls _ es e t k)
@@ -433,15 +480,15 @@ module _ (m g first n : ℕ) (b : Table) where
 abbrev Spares : ℕ → ℕ → ℕ → Desk → Kind → Type 0
 Spares g first n d kind = (h k b : ℕ) (q : Request) → kind ≡ serves h k → (h ≡ g → ⊥) → stageAt d h ≡ Waiting q → Writes (d .table) q k b → Named first n b → ⊥
 
-serving-apart : (g first n : ℕ) (p : Place) (h : ℕ) (q : Request) → stageAt (p .desk) h ≡ Waiting q
+serving-apart : (g first n : ℕ) (p : Place) (h : ℕ) (q : Request) (i : ℕ) → stageAt (p .desk) h ≡ Waiting q
     → either (eqb h g) (either (not (isWriting q))
-    (either (leb (storeBlock (p .desk .table) (q .job) + q .moved + quota q) first) (leb (first + n) (storeBlock (p .desk .table) (q .job) + q .moved)))) ≡ true
-    → Spares g first n (p .desk) (serves h (quota q))
-serving-apart g first n p h q v t h′ k b q′ e ne v′ w m =
+    (either (leb (storeBlock (p .desk .table) (q .job) + q .moved + i) first) (leb (first + n) (storeBlock (p .desk .table) (q .job) + q .moved)))) ≡ true
+    → Spares g first n (p .desk) (serves h i)
+serving-apart g first n p h q i v t h′ k b q′ e ne v′ w m =
     ⊎-elim (λ x. ne (sym hh ∙ eqb-true h g x))
     (λ x. ⊎-elim (λ y. true≢false (isWriting q) (w′ .0) (not-true (isWriting q) y))
-    (λ y. ⊎-elim (λ u. let f : from + quota q ≤ first = leb-true _ _ u in omega (arith, w′ .1 .1, m .0)) (λ u. let f : first + n ≤ from = leb-true _ _ u in omega (arith, w′ .1 .0, m .1))
-    (either-true (leb (storeBlock (p .desk .table) (q .job) + q .moved + quota q) first) _ y))
+    (λ y. ⊎-elim (λ u. let f : from + i ≤ first = leb-true _ _ u in omega (arith, w′ .1 .1, m .0)) (λ u. let f : first + n ≤ from = leb-true _ _ u in omega (arith, w′ .1 .0, m .1))
+    (either-true (leb (storeBlock (p .desk .table) (q .job) + q .moved + i) first) _ y))
     (either-true (not (isWriting q)) _ x))
     (either-true (eqb h g) _ t)
   where
@@ -451,19 +498,19 @@ serving-apart g first n p h q v t h′ k b q′ e ne v′ w m =
     hh : h ≡ h′
     hh = cc
 
-    kk : quota q ≡ k
+    kk : i ≡ k
     kk = cc
 
     qq : q ≡ q′
     qq = same-request (sym v ∙ subst (λ (x : ℕ). stageAt (p .desk) x ≡ Waiting q′) (sym hh) v′)
 
-    w′ : Writes (p .desk .table) q (quota q) b
+    w′ : Writes (p .desk .table) q i b
     w′ = subst₂ (λ (x : Request) (y : ℕ). Writes (p .desk .table) x y b) (sym qq) (sym kk) w
 
 line-apart : (g first n : ℕ) (p : Place) (l : Line) → Holds p l → isApart g first n (p .desk .table) l ≡ true → Spares g first n (p .desk) (kindOf (answerTo l))
 line-apart g first n p (waiting h r j) a t h′ k b q e = impossible cc
 line-apart g first n p (answering h r x f) a t h′ k b q e = impossible cc
-line-apart g first n p (serving h q st) a t h′ k b q′ e = serving-apart g first n p h q (a .1) t h′ k b q′ e
+line-apart g first n p (serving h q i st) a t h′ k b q′ e = serving-apart g first n p h q i (a .1) t h′ k b q′ e
 line-apart g first n p idling a t h′ k b q e = impossible cc
 line-apart g first n p unlent a t h′ k b q e = impossible cc
 line-apart g first n p (withdrawing h q) a t h′ k b q′ e = impossible cc
@@ -524,6 +571,17 @@ module _ {p : Place} (y : Story p) where
   abbrev pub afterwards : List Call
   afterwards = callsOf (leaves middle (y .last)) (y .rest)
 
+  -- the last line is the finishing turn: the numbers reach n there, or it stops at a bad block
+  abbrev pub Reached : ℕ → Type 0
+  Reached n =
+      (moved (y .guest) (events (leaves p first) (y .between) ++ entry middle (y .last) ∷ []) ≡ n)
+      ⊎ Stops (y .guest) n (moved (y .guest) (events (leaves p first) (y .between))) (kindOf (answerTo (y .last)))
+
+  -- up to it the request waits, by number
+  pub waiting-on : (n : ℕ) → withdrawals (y .guest) (events (leaves p first) (y .between)) ≡ 0 → moved (y .guest) (events (leaves p first) (y .between)) < n
+      → areFull (y .guest) n 0 (events (leaves p first) (y .between)) ≡ true → WaitsOn (y .guest) n (events (leaves p first) (y .between))
+  waiting-on n w m f = (w, m, full (y .guest) n 0 (events (leaves p first) (y .between)) f)
+
   abbrev pub calls : List Call
   calls = posting ∷ (meanwhile ++ finishing ∷ afterwards)
 
@@ -555,6 +613,11 @@ module _ {p : Place} (y : Story p) where
     pub before : run (step (p .desk) posting .desk) meanwhile ≡ events (leaves p first) (y .between)
     before = ap (λ (o : Out). run (o .desk) meanwhile) posts ∙ followed (y .between) (leaves p first) at-first (split .0)
 
+    pub ended : step (after (step (p .desk) posting .desk) meanwhile) finishing ≡ outAt middle (y .last)
+    ended =
+        ap (λ (o : Out). step (after (o .desk) meanwhile) finishing) posts
+        ∙ ap (λ (d : Desk). step d finishing) (arrives (y .between) (leaves p first) at-first (split .0)) ∙ step-line middle at-middle (y .last) (split .1 .0)
+
     pub upto : run (step (p .desk) posting .desk) (meanwhile ++ finishing ∷ []) ≡ events (leaves p first) (y .between) ++ entry middle (y .last) ∷ []
     upto = since (finishing ∷ []) _ (followed (y .last ∷ []) middle at-middle (split .1 .0, tt))
 
@@ -581,13 +644,26 @@ module _ {p : Place} (y : Story p) where
 
     -- n and the first block by number, and what the events come to
     module _ (m n lo : ℕ) (count : askedBy m posting (y .guest) (y .registers) ≡ n) (start : firstBy (p .desk .table) m posting (y .guest) (y .registers) ≡ lo)
-        (waited : WaitsOn (y .guest) n (events (leaves p first) (y .between)))
-        (reached : moved (y .guest) (events (leaves p first) (y .between) ++ entry middle (y .last) ∷ []) ≡ n) where
+        (waited : WaitsOn (y .guest) n (events (leaves p first) (y .between))) (reached : Reached n) where
       pub waits : WaitsOn (y .guest) (askedBy m posting (y .guest) (y .registers)) (run (step (p .desk) posting .desk) meanwhile)
       waits = subst₂ (WaitsOn (y .guest)) (sym count) (sym before) waited
 
       pub finishes : Finishes (y .guest) (askedBy m posting (y .guest) (y .registers)) (step (p .desk) posting .desk) meanwhile finishing
-      finishes = record { waited = waits; reached = ap (moved (y .guest)) upto ∙ reached ∙ sym count }
+      finishes =
+          record {
+            waited = waits;
+            reached =
+                ⊎-elim (λ x. inl (ap (moved (y .guest)) upto ∙ x ∙ sym count))
+                (λ x. inr (subst (λ (o : Out). Stops (y .guest) (askedBy m posting (y .guest) (y .registers))
+                (moved (y .guest) (run (step (p .desk) posting .desk) meanwhile)) (kindOf (o .answer))) (sym ended)
+                (subst₂ (λ (k : ℕ) (es : List Event). Stops (y .guest) k (moved (y .guest) es) (kindOf (answerTo (y .last)))) (sym count) (sym before) x))) reached;
+          }
+
+      -- the numbers answered
+      pub counted : (bytes : List ℕ) → Claim bytes (p .desk) m calls
+          → moved (y .guest) (run (step (p .desk) posting .desk) (meanwhile ++ finishing ∷ [])) ≡ goodBy (p .desk .table) m posting (y .guest) (y .registers)
+      unfolding after taken
+      counted bytes claim = claim .counted taken meanwhile afterwards finishing refl finishes
 
       -- the conditions of `equal`
       module _ (size : windowSize (p .desk) ≡ m) (b : areApart (y .guest) lo n (leaves p first .desk .table) (y .between) ≡ true)
@@ -649,10 +725,20 @@ module _ (q : Place) (ahead : List Line) (y : Story (placeAfter q ahead)) (zq : 
 
   module _ (m n lo : ℕ) (count : askedBy m (posting y) (y .guest) (y .registers) ≡ n) (start : firstBy (q .desk .table) m (posting y) (y .guest) (y .registers) ≡ lo)
       (same : q .desk .table ≡ p .desk .table)
-      (waited : WaitsOn (y .guest) n (events (leaves p (first y)) (y .between)))
-      (reached : moved (y .guest) (events (leaves p (first y)) (y .between) ++ entry (middle y) (y .last) ∷ []) ≡ n) where
+      (waited : WaitsOn (y .guest) n (events (leaves p (first y)) (y .between))) (reached : Reached y n) where
     begins : firstBy (p .desk .table) m (posting y) (y .guest) (y .registers) ≡ lo
     begins = ap (λ (b : Table). firstBy b m (posting y) (y .guest) (y .registers)) (sym same) ∙ start
+
+    finishes-later : Finishes (y .guest) (askedBy m (posting y) (y .guest) (y .registers)) (step (after (q .desk) (callsOf q ahead)) (posting y) .desk) (meanwhile y) (finishing y)
+    finishes-later =
+        subst (λ (d : Desk). Finishes (y .guest) (askedBy m (posting y) (y .guest) (y .registers)) (step d (posting y) .desk) (meanwhile y) (finishing y)) (sym arrived)
+        (finishes y z m n lo count begins waited reached)
+
+    pub counted-later : (bytes : List ℕ) → Claim bytes (q .desk) m calls-later
+        → moved (y .guest) (run (step (after (q .desk) (callsOf q ahead)) (posting y) .desk) (meanwhile y ++ finishing y ∷ []))
+        ≡ goodBy (q .desk .table) m (posting y) (y .guest) (y .registers)
+    unfolding taken-later
+    counted-later bytes claim = claim .counted taken-later (meanwhile y) (afterwards y) (finishing y) refl finishes-later
 
     pub equal-later : (bytes : List ℕ) → Claim bytes (q .desk) m calls-later → windowSize (p .desk) ≡ m
         → areApart (y .guest) lo n (leaves p (first y) .desk .table) (y .between) ≡ true → areApart (y .guest) lo n (middle y .desk .table) (y .last ∷ []) ≡ true
@@ -664,9 +750,7 @@ module _ (q : Place) (ahead : List Line) (y : Story (placeAfter q ahead)) (zq : 
         subst (λ (x : Placement). Same m (y .guest) (firstBy (q .desk .table) m (posting y) (y .guest) (y .registers)) (askedBy m (posting y) (y .guest) (y .registers))
         (step (after (step (after (q .desk) (callsOf q ahead)) (posting y) .desk) (meanwhile y)) (finishing y))
         (alone (fed bytes x) (y .registers) (foundBy m (posting y) (y .guest)))) (told (y .guest))
-        (claim .equal taken-later (meanwhile y) (afterwards y) (finishing y) refl
-        (subst (λ (d : Desk). Finishes (y .guest) (askedBy m (posting y) (y .guest) (y .registers)) (step d (posting y) .desk) (meanwhile y) (finishing y)) (sym arrived)
-        (finishes y z m n lo count begins waited reached))
+        (claim .equal taken-later (meanwhile y) (afterwards y) (finishing y) refl finishes-later
         (subst (λ (d : Desk). Left m (y .guest) (windowOf (step d (posting y) .arena) (y .guest) m) (step d (posting y) .store)
         (run (step d (posting y) .desk) (meanwhile y ++ finishing y ∷ []))) (sym arrived)
         (is-left y z m n lo count begins waited reached size b e))

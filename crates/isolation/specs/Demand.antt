@@ -7,10 +7,12 @@ use mathlib.Core.List.{List, [], _∷_, _++_}
 use Rattle.words.specs.Words.{part}
 use Rattle.memory.specs.Window.{windowLength, windowOf}
 use Rattle.memory.specs.Blocks.{blockLength}
+use Rattle.attached.specs.Bad.{good}
 use Rattle.table.specs.declared.Table.{Table}
 use Rattle.int13.specs.declared.Registers.{Registers}
-use Rattle.int13.specs.Alone.{Memory, Served, asked, namedFrom, alone}
-use Rattle.int13.specs.Steps.{fed}
+use Rattle.int13.specs.Answers.{dl}
+use Rattle.int13.specs.Alone.{Memory, Served, asked, askedStart, namedFrom, alone}
+use Rattle.int13.specs.Steps.{fed, badsOf}
 use Rattle.desk.specs.declared.Stage.the-variants.{Finished}
 use Rattle.desk.specs.declared.Desk.{Desk}
 use Rattle.desk.specs.declared.OpenAnswer.the-variants.{Opened}
@@ -20,7 +22,7 @@ use Rattle.desk.specs.Parts.{stageAt, isWaiting}
 use Rattle.desk.specs.Acceptable.{accept}
 use Rattle.desk.specs.Calls.{notAcceptable, openOf}
 use Rattle.isolation.specs.Lists.{post, turn, collect, place, Call, posted, collected, Out, step, Event, run, after}
-use Rattle.isolation.specs.Words.{refused, kindOf, houseNumber, NoneOpens, turns, serviceIn, services, collects, Accepted, Waits, Finishes, Withdraws, turnsEach, turnsFor, Named, Unwritten, Left, placementIn}
+use Rattle.isolation.specs.Words.{refused, kindOf, houseNumber, NoneOpens, turns, serviceIn, services, moved, collects, Accepted, Waits, Finishes, Withdraws, turnsEach, turnsFor, Named, Unwritten, Left, placementIn}
 
 -- ---- "The words of demand 3", the calls of a list after those of a prefix
 
@@ -45,6 +47,10 @@ askedBy m c g r = asked r (windowOf (c .arena) g m)
 -- the store block that it names first
 abbrev pub firstBy : Table → ℕ → Call → ℕ → Registers → ℕ
 firstBy table m c g r = namedFrom table r (windowOf (c .arena) g m)
+
+-- how many of its blocks come before the first bad one; all n where none is bad
+abbrev pub goodBy : Table → ℕ → Call → ℕ → Registers → ℕ
+goodBy table m c g r = good (badsOf table (dl r)) (askedStart table r (windowOf (c .arena) g m)) (askedBy m c g r)
 
 -- a request of the list: the calls before its post, the post with its guest and registers, and the calls since. It was accepted
 pub record Taken (d₀ : Desk) (calls : List Call) : Type 0 where
@@ -138,6 +144,10 @@ pub record Claim (t : List ℕ) (d₀ : Desk) (m : ℕ) (calls : List Call) : Ty
   pub finished : (q : Taken d₀ calls) (mid rest : List Call) (last : Call) → q .since ≡ mid ++ last ∷ rest
       → Finishes (q .guest) (countOf q m) (outOn q .desk) mid last
       → stageAt (outAfter (outOn q .desk) mid last .desk) (q .guest) ≡ Finished (aloneOf q t m .registers)
+  -- the numbers answered up to the finishing turn add up to the good blocks before the first bad one (document 02, 2026-04): n where none is bad
+  pub counted : (q : Taken d₀ calls) (mid rest : List Call) (last : Call) → q .since ≡ mid ++ last ∷ rest
+      → Finishes (q .guest) (countOf q m) (outOn q .desk) mid last
+      → moved (q .guest) (run (outOn q .desk) (mid ++ last ∷ [])) ≡ goodBy (d₀ .table) m (q .call) (q .guest) (q .registers)
   -- "What they answer at once, refusals included, it answers and writes as they say": so does the desk
   pub atOnce : (pre rest : List Call) (c : Call) (g : ℕ) (r x : Registers) → calls ≡ pre ++ c ∷ rest
       → c .op ≡ post g r

@@ -10,7 +10,7 @@ use Rattle.int13.specs.declared.Placement.{Placement}
 use Rattle.int13.specs.declared.Registers.{Registers}
 use Rattle.int13.specs.declared.Outcome.{Outcome}
 use Rattle.int13.specs.declared.Outcome.the-variants.{Answered, Waits}
-use Rattle.int13.specs.Answers.{succeed, withdraw}
+use Rattle.int13.specs.Answers.{ended, withdraw}
 use Rattle.int13.specs.Steps.{Checked, fed, begin}
 use Rattle.desk.specs.declared.Request.{Request}
 use Rattle.desk.specs.declared.Stage.the-variants.{Waiting}
@@ -43,7 +43,7 @@ pub record Serves (x : TurnAnswer) : Type 0 where
 -- of every answer at once, every finish and every withdrawal, and of every turn
 pub record Single : Type 0 where
   pub posted : (b : Table) (p : Placement) (r : Registers) (w : List ℕ) → KeepsSegments r (begin (fed b p) r w .outcome)
-  pub finished : (r : Registers) → SameSegments r (succeed r)
+  pub finished : (n moved : ℕ) (r : Registers) → SameSegments r (ended n moved r)
   pub withdrawn : (n : ℕ) (r : Registers) → SameSegments r (withdraw n r)
   -- idle cannot occur while a request waits: a turn that is not refused then serves one
   pub served : (d : Desk) (arena store : List ℕ) (g : ℕ) (q : Request) → accept d ≡ true → isLent d arena store ≡ true → g < guests

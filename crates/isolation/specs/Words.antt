@@ -1,7 +1,8 @@
--- Document 01, "The words of demand 3", one by one, in its order.
+-- Document 01, "The words of demand 3", one by one, in its order; document 02, 2026-04, for the endings at a bad block.
 -- Assumes nothing.
-use Prim.Native.Nat.{ℕ, zero, suc, _+_, _*_, _/_, _≤_, _<_}
+use Prim.Native.Nat.{ℕ, zero, suc, _+_, _-_, _*_, _/_, _≤_, _<_, min}
 use mathlib.Core.Path.{_≡_}
+use mathlib.Core.Logic.{_⊎_}
 use mathlib.Core.Bool.{true}
 use mathlib.Core.List.{List, [], _∷_, _++_}
 use lib.Dec.{eqb}
@@ -216,14 +217,28 @@ pub record Accepted (d : Desk) (c : Call) (g : ℕ) (r : Registers) : Type 0 whe
   pub posts : c .op ≡ post g r
   pub waits : step d c .answer ≡ posted g PostWaits
 
--- "It finishes at the turn where the numbers so answered reach n, [...] or is withdrawn by a withdrawal not refused; until then it waits."
-abbrev pub Waits : ℕ → ℕ → List Event → Type 0
-Waits g n es = (withdrawals g es ≡ 0) × (moved g es < n)
+-- the number that a turn answers where it meets no bad block, m of n blocks being moved: sixteen, or what remains if fewer
+abbrev pub fullPart : ℕ → ℕ → ℕ
+fullPart n m = min partLength (n - m)
 
--- t is the finishing turn: the request waits up to it, and there the numbers answered reach n
+-- each turn that served g answered that number, from m blocks moved on: none of them met a bad block
+abbrev pub Full : ℕ → ℕ → ℕ → List Event → Type 0
+Full g n m [] = Unit
+Full g n m (e ∷ es) = (serviceIn g (kindIn e) ≡ 1 → movedIn g (kindIn e) ≡ fullPart n m) × Full g n (m + movedIn g (kindIn e)) es
+
+-- "It finishes at the turn where the numbers so answered reach n, [...] or is withdrawn by a withdrawal not refused; until then it waits." It
+-- finishes at a bad block too ("now include these endings", 2026-04): the turn there answers fewer than it would
+abbrev pub Waits : ℕ → ℕ → List Event → Type 0
+Waits g n es = (withdrawals g es ≡ 0) × (moved g es < n) × Full g n 0 es
+
+-- a turn that serves g and answers fewer: it met a bad block, m blocks of n being moved before
+abbrev pub Stops : ℕ → ℕ → ℕ → Kind → Type 0
+Stops g n m k = (serviceIn g k ≡ 1) × (movedIn g k < fullPart n m)
+
+-- t is the finishing turn: the request waits up to it, and there the numbers answered reach n, or it stops at a bad block
 pub record Finishes (g n : ℕ) (d : Desk) (front : List Call) (t : Call) : Type 0 where
   pub waited : Waits g n (run d front)
-  pub reached : moved g (run d (front ++ t ∷ [])) ≡ n
+  pub reached : (moved g (run d (front ++ t ∷ [])) ≡ n) ⊎ Stops g n (moved g (run d front)) (kindOf (step (after d front) t .answer))
 
 -- t withdraws it: the request waits up to it, and t is a withdrawal of its guest not refused
 pub record Withdraws (g n : ℕ) (d : Desk) (front : List Call) (t : Call) : Type 0 where

@@ -43,10 +43,10 @@ pub rules-accept : (f : Feed) → Rules f → accept f ≡ true
 unfolding accept
 rules-accept f r = both-intro _ _ (r .sound) (both-intro _ _ (r .rest) (r .course))
 
--- at most 67 bytes are held, and a refusal is a byte
-filled-most : (c : Course) (f : Feed) → courseOk c f ≡ true → f .filled < 68
+-- at most 133 bytes are held, and a refusal is a byte
+filled-most : (c : Course) (f : Feed) → courseOk c f ≡ true → f .filled < 134
 unfolding courseOk
-filled-most Reading f e = ltb-true (f .filled) 68 (both-true (ltb (f .filled) 68) (isCut (stepAt (take (f .filled) (f .held)) 0 (f .table) (f .store) .step)) e .0)
+filled-most Reading f e = ltb-true (f .filled) 134 (both-true (ltb (f .filled) 134) (isCut (stepAt (take (f .filled) (f .held)) 0 (f .table) (f .store) .step)) e .0)
 filled-most Closed f e = omega (arith, eqb-true (f .filled) 0 e)
 filled-most Accepted f e = omega (arith, eqb-true (f .filled) 0 e)
 filled-most (Refused n) f e = omega (arith, eqb-true (f .filled) 0 (both-true (eqb (f .filled) 0) (inRange n 1 9) e .0))
@@ -73,7 +73,7 @@ course-read Accepted x y e q = rw e
 course-read (Refused n) x y e q = rw (e, q)
 
 module _ (f : Feed) (fit : FitsReader f) (r : Rules f) where
-  room : length (tableOf (f .table)) ≤ 708
+  room : length (tableOf (f .table)) ≤ 1780
   room = table-most (f .table) (f .store) (fit .table) (r .sound)
 
   number : le 8 (image f) 0 ≡ courseNumber (f .course)
@@ -96,17 +96,17 @@ module _ (f : Feed) (fit : FitsReader f) (r : Rules f) where
   unfolding image le leBytes
   long = read-write 8 (length (tableOf (f .table))) (omega (arith, room))
 
-  held : part 68 (image f) 40 ≡ f .held
+  held : part 134 (image f) 40 ≡ f .held
   unfolding image leBytes
-  held = take-at (f .held) (tableBytes f) 68 (fit .held)
+  held = take-at (f .held) (tableBytes f) 134 (fit .held)
 
-  table : part (length (tableOf (f .table))) (image f) 108 ≡ tableOf (f .table)
+  table : part (length (tableOf (f .table))) (image f) 174 ≡ tableOf (f .table)
   unfolding image leBytes
   table =
-      ap (take (length (tableOf (f .table)))) (drop-at (f .held) (tableBytes f) 68 (fit .held))
-      ∙ take-append-seam (tableOf (f .table)) (replicate (708 - length (tableOf (f .table))) 0)
+      ap (take (length (tableOf (f .table)))) (drop-at (f .held) (tableBytes f) 134 (fit .held))
+      ∙ take-append-seam (tableOf (f .table)) (replicate (1780 - length (tableOf (f .table))) 0)
 
-  drives : readTable (part (le 8 (image f) 32) (image f) 108) (le 8 (image f) 16) .table ≡ f .table
+  drives : readTable (part (le 8 (image f) 32) (image f) 174) (le 8 (image f) 16) .table ≡ f .table
   drives = rw (long, table, store, read-written (f .table) (f .store) (fit .table) (r .sound))
 
   course : courseAt (image f) ≡ f .course
@@ -125,23 +125,23 @@ module _ (f : Feed) (fit : FitsReader f) (r : Rules f) where
 -- ---- both ways
 
 -- what is read from bytes fits
-read-fits : (b : List ℕ) → Bytes b → length b ≡ 816 → FitsReader (readReader b)
+read-fits : (b : List ℕ) → Bytes b → length b ≡ 1954 → FitsReader (readReader b)
 unfolding readReader
 read-fits b h l =
     record {
-      table = read-widths (part (le 8 b 32) b 108) (le 8 b 16) (bytes-part (le 8 b 32) b 108 h);
+      table = read-widths (part (le 8 b 32) b 174) (le 8 b 16) (bytes-part (le 8 b 32) b 174 h);
       store = le-lt 8 b 16 h;
-      held = length-take-le 68 (drop 40 b) (rw length-drop (omega arith));
-      bytes = bytes-part 68 b 40 h;
+      held = length-take-le 134 (drop 40 b) (rw length-drop (omega arith));
+      bytes = bytes-part 134 b 40 h;
     }
 
 only : (b : List ℕ) → Bytes b → accepted b ≡ true → ImageOf b (readReader b)
 unfolding accepted
 only b h e =
-    let p = both-true (eqb (length b) 816) (both (accept (readReader b)) (same b (image (readReader b)))) e in
+    let p = both-true (eqb (length b) 1954) (both (accept (readReader b)) (same b (image (readReader b)))) e in
     let q = both-true (accept (readReader b)) (same b (image (readReader b))) (p .1) in
     record {
-      fits = read-fits b h (eqb-true (length b) 816 (p .0));
+      fits = read-fits b h (eqb-true (length b) 1954 (p .0));
       acceptable = q .0;
       image = sym (same-true b (image (readReader b)) (q .1));
     }

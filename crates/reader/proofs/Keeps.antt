@@ -17,11 +17,12 @@ use Rattle.words.specs.Words.{Bytes, le, part}
 use Rattle.words.proofs.WordsLaws.{bytes-part}
 use Rattle.drive.specs.declared.Drive.{Drive}
 use Rattle.drive.specs.Drive.{driveOf, fieldsOk, inStore}
+use Rattle.attached.specs.Bad.{badsIn, listOk}
 use Rattle.table.specs.declared.Table.{Table}
 use Rattle.table.specs.declared.Step.{Step}
 use Rattle.table.specs.declared.Step.the-variants.{Next, Done, Refused as StepRefused}
 use Rattle.table.specs.declared.Stepped.{Stepped}
-use Rattle.table.specs.Table.{isKind, lengthOk, headerOf, headerAt, overlapsAny, refusalBy, refusal, stepOf, stepAt, emptyTable, isSound, stepNumbers, takenNumbers, wholeNumbers, recordNumbers}
+use Rattle.table.specs.Table.{isKind, lengthOk, headerOf, headerAt, noDrive, overlapsAny, refusalBy, refusal, stepOf, stepAt, emptyTable, isSound, stepNumbers, takenNumbers, namesLast, wholeNumbers, recordNumbers}
 use Rattle.table.specs.Demand2.{Widths}
 use Rattle.table.proofs.TableLaws.{lengthOk-most, step-numbers}
 use Rattle.feed.specs.declared.Course.{Course}
@@ -36,9 +37,9 @@ use Rattle.reader.proofs.Exact.{Rules, accept-rules, rules-accept}
 
 -- what numbers say of it, if they are those of a refusal
 abbrev Fine : ℕ → List ℕ → Type 0
-Fine left l = (n at : ℕ) → l ≡ n ∷ at ∷ [] → (inRange n 1 9 ≡ true) × (n ≡ 1 → left < 68)
+Fine left l = (n at : ℕ) → l ≡ n ∷ at ∷ [] → (inRange n 1 9 ≡ true) × (n ≡ 1 → left < 134)
 
-fine-refused : (left m p : ℕ) → 1 ≤ m → m ≤ 9 → (m ≡ 1 → left < 68) → Fine left (m ∷ p ∷ [])
+fine-refused : (left m p : ℕ) → 1 ≤ m → m ≤ 9 → (m ≡ 1 → left < 134) → Fine left (m ∷ p ∷ [])
 fine-refused left m p l h f n at e =
     let x : m ≡ n = cc in
     (both-intro _ _ (le-leb 1 n (omega arith)) (le-leb n 9 (omega arith)), λ q. f (x ∙ q))
@@ -72,14 +73,20 @@ module _ (t : List ℕ) (at : ℕ) (b : Table) (store : ℕ) where
   fine-whole left kind size =
       let d = driveOf (part size t at) in
       let number = le 2 t (at + 4) in
-      let last : Bool = both (ltb number 8) (both (eqb (number + 1) (b .count)) (not (getD (b .present) number false))) in
+      let last : Bool = namesLast t at b in
+      let marked : Bool = getD (b .present) number false in
+      let free : Bool = both last (both (eqb (getD (b .counts) number 0) 0) (not marked)) in
+      let good : Bool = listOk (badsIn (part size t at)) (getD (b .drives) number noDrive .blocks) in
       pick-cases (Fine left) (eqb kind 0) _ _
       (λ e. pick-cases (Fine left) (ltb (at + 4) (length t)) _ _
       (λ x. fine-refused left 8 (at + 4) (omega arith) (omega arith) (λ q. absurd (omega arith)))
       (λ x n p q. impossible (cc)))
       (λ e. pick-cases (Fine left) (eqb kind 1) _ _
       (λ x. late-fine left (refusal (b .count) (b .drives) d store) at 68 (late-drive (b .count) (overlapsAny (b .count) (b .drives) d) d store))
-      (λ x. late-fine left (pick last 0 9) at 20 (pick-cases Late last 0 9 (λ y. refl) (λ y. refl))))
+      (λ x. pick-cases (Fine left) (eqb kind 3) _ _
+      (λ y. late-fine left (pick free (pick good 0 5) 9) at size
+      (pick-cases Late free (pick good 0 5) 9 (λ z. pick-cases Late good 0 5 (λ w. refl) (λ w. refl)) (λ z. refl)))
+      (λ y. late-fine left (pick (both last (not marked)) 0 9) at 20 (pick-cases Late (both last (not marked)) 0 9 (λ z. refl) (λ z. refl)))))
 
   fine-numbers : Fine (length t - at) (recordNumbers t at b store)
   unfolding recordNumbers
@@ -94,7 +101,7 @@ module _ (t : List ℕ) (at : ℕ) (b : Table) (store : ℕ) where
           fine-refused _ 1 at (omega arith) (omega arith) (λ x. omega (arith, ltb-true (length t - at) (le 2 t at) r, lengthOk-most (le 2 t (at + 2)) (le 2 t at) q))
       by-tests false true true false e q r = fine-whole (length t - at) (le 2 t (at + 2)) (le 2 t at)
 
-  step-fine : (n p : ℕ) → stepAt t at b store .step ≡ StepRefused n p → (inRange n 1 9 ≡ true) × (n ≡ 1 → length t - at < 68)
+  step-fine : (n p : ℕ) → stepAt t at b store .step ≡ StepRefused n p → (inRange n 1 9 ≡ true) × (n ≡ 1 → length t - at < 134)
   unfolding stepNumbers
   step-fine n p e = fine-numbers n p (sym (step-numbers t at b store) ∙ ap stepNumbers e)
 
@@ -120,7 +127,7 @@ fresh store b c = record { table = b; store = store; held = nothing; filled = 0;
 fresh-good : (store : ℕ) (b : Table) (c : Course) → store < 256 ^ 8 → Widths b → isSound b store ≡ true → courseOk c (fresh store b c) ≡ true → Good (fresh store b c)
 fresh-good store b c l w s k =
     record {
-      fits = record { table = w; store = l; held = refl; bytes = bytes-zeros 68 };
+      fits = record { table = w; store = l; held = refl; bytes = bytes-zeros 134 };
       accepted = rules-accept (fresh store b c) (record { sound = s; rest = zeros-rest; course = k });
     }
 
@@ -157,11 +164,11 @@ bytes-set s i x h l j = by-place (ℕ-discrete j i)
 rest-set : (s : List ℕ) (n x : ℕ) → restZero s n ≡ true → restZero (set s n x) (n + 1) ≡ true
 unfolding restZero
 rest-set s n x e =
-    all-intro 68 (λ j. either (ltb j (n + 1)) (eqb (getD (set s n x) j 0) 0)) (λ j l.
+    all-intro 134 (λ j. either (ltb j (n + 1)) (eqb (getD (set s n x) j 0) 0)) (λ j l.
     ⊎-elim
     (λ m. either-left (ltb j (n + 1)) (eqb (getD (set s n x) j 0) 0) (lt-ltb j (n + 1) m))
     (λ m.
-    let z : eqb (getD s j 0) 0 ≡ true = rw (le-ltb j n (omega arith)) at (all-at 68 j (λ k. either (ltb k n) (eqb (getD s k 0) 0)) e l) in
+    let z : eqb (getD s j 0) 0 ≡ true = rw (le-ltb j n (omega arith)) at (all-at 134 j (λ k. either (ltb k n) (eqb (getD s k 0) 0)) e l) in
     either-right (ltb j (n + 1)) (eqb (getD (set s n x) j 0) 0) (rw (getD-set-other s n j x 0 (λ q. omega arith)) z))
     (lt-or-le j (n + 1)))
 
@@ -183,7 +190,7 @@ module _ (f : Feed) (x : ℕ) (l : x < 256) (g : Good f) where
   kept = step-keeps sofar 0 (f .table) (f .store) bytes-sofar (g .fits .table) (rules .sound)
 
   -- still a beginning: the step says cut off, and so they are fewer than a record can have
-  holding-good : (p : ℕ) → f .filled < 68 → next .step ≡ StepRefused 1 p → Good (holding f x)
+  holding-good : (p : ℕ) → f .filled < 134 → next .step ≡ StepRefused 1 p → Good (holding f x)
   unfolding courseOk
   holding-good p m e =
       let n : length sofar ≡ f .filled + 1 = length-take-le (f .filled + 1) (heldWith f x) (omega (arith, length-set (f .held) (f .filled) x, g .fits .held)) in
@@ -198,11 +205,11 @@ module _ (f : Feed) (x : ℕ) (l : x < 256) (g : Good f) where
         accepted = rules-accept (holding f x) (record {
           sound = rules .sound;
           rest = rest-set (f .held) (f .filled) x (rules .rest);
-          course = both-intro _ _ (lt-ltb (f .filled + 1) 68 (omega arith)) (ap isCut e);
+          course = both-intro _ _ (lt-ltb (f .filled + 1) 134 (omega arith)) (ap isCut e);
         });
       }
 
-  after : (s : Step) → f .filled < 68 → next .step ≡ s → Good (afterStep f x s (next .table))
+  after : (s : Step) → f .filled < 134 → next .step ≡ s → Good (afterStep f x s (next .table))
   unfolding afterStep
   after (Next p) m e = fresh-good (f .store) (next .table) Reading (g .fits .store) (kept .0) (kept .1) (fresh-reads (f .store) (next .table))
   after Done m e = fresh-good (f .store) (next .table) Closed (g .fits .store) (kept .0) (kept .1) (fresh-closed (f .store) (next .table))
@@ -213,7 +220,7 @@ module _ (f : Feed) (x : ℕ) (l : x < 256) (g : Good f) where
       fresh-good (f .store) (next .table) (Refused n) (g .fits .store) (kept .0) (kept .1)
       (fresh-refuses (f .store) (next .table) n (step-fine sofar 0 (f .table) (f .store) n p e .0)))
 
-  held-good : f .filled < 68 → Good (heldByte f x)
+  held-good : f .filled < 134 → Good (heldByte f x)
   unfolding heldByte
   held-good m = after (next .step) m refl
 
@@ -222,7 +229,7 @@ module _ (f : Feed) (x : ℕ) (l : x < 256) (g : Good f) where
   byte-good = by-course (f .course)
     where
       by-course : (c : Course) → Good (byCourse c f x)
-      by-course Reading = pick-cases Good (ltb (f .filled) 68) (heldByte f x) f (λ q. held-good (ltb-true (f .filled) 68 q)) (λ q. g)
+      by-course Reading = pick-cases Good (ltb (f .filled) 134) (heldByte f x) f (λ q. held-good (ltb-true (f .filled) 134 q)) (λ q. g)
       by-course Closed = fresh-good (f .store) (f .table) (Refused 8) (g .fits .store) (g .fits .table) (rules .sound) (fresh-refuses (f .store) (f .table) 8 refl)
       by-course Accepted = g
       by-course (Refused n) = g

@@ -1,4 +1,4 @@
--- The reader block by number: its 816 bytes at each point of a reading, and blocks that are refused.
+-- The reader block by number: its 1954 bytes at each point of a reading, and blocks that are refused.
 -- Assumes nothing.
 use mathlib.Core.Path.{_≡_, refl, ap, _∙_}
 use mathlib.Core.Bool.{Bool, true, false}
@@ -15,10 +15,11 @@ use Rattle.drive.specs.Drive.{driveOf, recordOf, geometryBytes, sizeBytes, name
 use Rattle.drive.proofs.DriveLaws.{allBytes}
 use Rattle.drive.proofs.Vectors.{rules}
 use Rattle.attached.specs.Parameters.{parametersRecord}
+use Rattle.attached.specs.Bad.{badCount, badLengthOk, badsIn, heldOf, badRecord, ascends, areBlocks, listOk, zeroPast, badsOk}
 use Rattle.table.specs.declared.Step.the-variants.{Next}
-use Rattle.table.specs.Table.{headerOf, headerAt, overlapsAny, refusal, parametersRefusal, recordRefusal, withRecord, recordStep, endStep, stepOf, stepAt, stepped, emptyTable, more, readFrom, readTable, recordsOf, bytesOf, tableOf, soundTo, blankTo, attachedTo, isSound}
+use Rattle.table.specs.Table.{headerOf, headerAt, overlapsAny, refusal, parametersRefusal, badsRefusal, withBads, recordRefusal, withRecord, recordStep, endStep, stepOf, stepAt, stepped, emptyTable, more, readFrom, readTable, recordsOf, bytesOf, tableOf, soundTo, blankTo, attachedTo, listedTo, isSound}
 use Rattle.table.proofs.TableLaws.{drive-taken}
-use Rattle.table.proofs.Vectors.{attach}
+use Rattle.table.proofs.Vectors.{attach, bads, sixteen}
 use Rattle.feed.specs.declared.Course.the-variants.{Reading}
 use Rattle.feed.specs.declared.Feed.{Feed}
 use Rattle.feed.specs.Feed.{opened, afterStep, heldByte, byCourse, feedByte, feedAll, endBy, endFeed}
@@ -48,7 +49,7 @@ padded n l = l ++ replicate (n - length l) 0
 -- a block: course, refusal, a store of 128,456,789,012 blocks, how many bytes are held, the length of the table; the bytes held; the table
 abbrev block : ℕ → ℕ → List ℕ → List ℕ → List ℕ
 block course refusal held t =
-    word course ++ word refusal ++ (20 ∷ 12 ∷ 159 ∷ 232 ∷ 29 ∷ 0 ∷ 0 ∷ 0 ∷ []) ++ word (length held) ++ word (length t) ++ padded 68 held ++ padded 708 t
+    word course ++ word refusal ++ (20 ∷ 12 ∷ 159 ∷ 232 ∷ 29 ∷ 0 ∷ 0 ∷ 0 ∷ []) ++ word (length held) ++ word (length t) ++ padded 134 held ++ padded 1780 t
 
 abbrev start : Feed
 start = opened 128456789012
@@ -71,7 +72,7 @@ images = refl
 -- accepted: such blocks, with the first refusal and with the last, 1 and 9
 pub passing : map accepted (block 0 0 [] end ∷ block 0 0 (take 67 drive) end ∷ block 1 0 [] end ∷ block 2 0 [] end ∷ block 3 1 [] end ∷ block 3 9 [] end ∷ [])
     ≡ true ∷ true ∷ true ∷ true ∷ true ∷ true ∷ []
-unfolding le leBytes inStore driveOf overlap headerOf headerAt overlapsAny refusal parametersRefusal recordRefusal withRecord recordStep endStep stepOf stepAt recordOf geometryBytes sizeBytes nameBytes recordsOf bytesOf tableOf image same blankNumbers blankNames isBlank soundTo blankTo attachedTo isSound readFrom readTable readReader restZero courseOk accept accepted
+unfolding le leBytes inStore driveOf overlap headerOf headerAt overlapsAny refusal parametersRefusal recordRefusal withRecord recordStep endStep stepOf stepAt recordOf geometryBytes sizeBytes nameBytes recordsOf bytesOf tableOf image same blankNumbers blankNames isBlank soundTo blankTo attachedTo listedTo heldOf ascends areBlocks listOk zeroPast badsOk isSound readFrom readTable readReader restZero courseOk accept accepted
 passing = refl
 
 -- refused, by the rules of a reader
@@ -80,7 +81,7 @@ passing = refl
 --   the whole end record held, and a record of an unknown kind
 pub ruled : map accepted (block 3 0 [] end ∷ block 3 10 [] end ∷ block 1 0 (68 ∷ []) end ∷ block 0 0 end end ∷ block 0 0 (4 ∷ 0 ∷ 9 ∷ 0 ∷ []) end ∷ [])
     ≡ false ∷ false ∷ false ∷ false ∷ false ∷ []
-unfolding le leBytes inStore driveOf overlap headerOf headerAt overlapsAny refusal parametersRefusal recordRefusal withRecord recordStep endStep stepOf stepAt recordOf geometryBytes sizeBytes nameBytes recordsOf bytesOf tableOf image same blankNumbers blankNames isBlank soundTo blankTo attachedTo isSound readFrom readTable readReader restZero courseOk accept accepted
+unfolding le leBytes inStore driveOf overlap headerOf headerAt overlapsAny refusal parametersRefusal recordRefusal withRecord recordStep endStep stepOf stepAt recordOf geometryBytes sizeBytes nameBytes recordsOf bytesOf tableOf image same blankNumbers blankNames isBlank soundTo blankTo attachedTo listedTo heldOf ascends areBlocks listOk zeroPast badsOk isSound readFrom readTable readReader restZero courseOk accept accepted
 ruled = refl
 
 -- refused, since it is no image
@@ -90,18 +91,18 @@ ruled = refl
 --   a byte past those held
 --   a byte behind the table
 --   a length that there is no room for
-pub bare : map accepted ([] ∷ take 815 (block 0 0 [] end) ∷ (block 0 0 [] end ++ (0 ∷ [])) ∷ block 4 1 [] end ∷ block 0 1 [] end ∷ set (block 3 1 [] end) 9 1 ∷ set (block 0 0 (68 ∷ []) end) 41 1 ∷ set (block 0 0 [] end) 112 1 ∷ set (block 0 0 [] end) 39 1 ∷ [])
+pub bare : map accepted ([] ∷ take 1953 (block 0 0 [] end) ∷ (block 0 0 [] end ++ (0 ∷ [])) ∷ block 4 1 [] end ∷ block 0 1 [] end ∷ set (block 3 1 [] end) 9 1 ∷ set (block 0 0 (68 ∷ []) end) 41 1 ∷ set (block 0 0 [] end) 178 1 ∷ set (block 0 0 [] end) 39 1 ∷ [])
     ≡ false ∷ false ∷ false ∷ false ∷ false ∷ false ∷ false ∷ false ∷ false ∷ []
-unfolding le leBytes inStore driveOf overlap headerOf headerAt overlapsAny refusal parametersRefusal recordRefusal withRecord recordStep endStep stepOf stepAt recordOf geometryBytes sizeBytes nameBytes recordsOf bytesOf tableOf image same blankNumbers blankNames isBlank soundTo blankTo attachedTo isSound readFrom readTable readReader restZero courseOk accept accepted
+unfolding le leBytes inStore driveOf overlap headerOf headerAt overlapsAny refusal parametersRefusal recordRefusal withRecord recordStep endStep stepOf stepAt recordOf geometryBytes sizeBytes nameBytes recordsOf bytesOf tableOf image same blankNumbers blankNames isBlank soundTo blankTo attachedTo listedTo heldOf ascends areBlocks listOk zeroPast badsOk isSound readFrom readTable readReader restZero courseOk accept accepted
 bare = refl
 
 -- laid out in a block of its size, and in one that is a byte short, which stays
-pub laying : (laid (replicate 816 7) start ≡ block 0 0 [] end) × (laid (replicate 815 7) start ≡ replicate 815 7)
+pub laying : (laid (replicate 1954 7) start ≡ block 0 0 [] end) × (laid (replicate 1953 7) start ≡ replicate 1953 7)
 unfolding leBytes recordsOf bytesOf tableOf opened image laid
 laying = (refl, refl)
 
 -- and in one that is a byte longer, which stays too
-pub laying-long : laid (replicate 817 7) start ≡ replicate 817 7
+pub laying-long : laid (replicate 1955 7) start ≡ replicate 1955 7
 unfolding leBytes recordsOf bytesOf tableOf opened image laid
 laying-long = refl
 
@@ -109,7 +110,7 @@ laying-long = refl
 
 -- the reader that has taken it
 abbrev taken : Feed
-taken = record { table = more emptyTable (driveOf drive); store = 128456789012; held = replicate 68 0; filled = 0; course = Reading }
+taken = record { table = more emptyTable (driveOf drive); store = 128456789012; held = replicate 134 0; filled = 0; course = Reading }
 
 -- its table in the block
 pub drive-image : image taken ≡ block 0 0 [] (drive ++ end)
@@ -126,7 +127,7 @@ drive-step = drive-taken drive 0 emptyTable 128456789012 (driveOf drive) refl re
 
 -- the record's last byte takes it
 abbrev waiting : Feed
-waiting = record { table = emptyTable; store = 128456789012; held = take 67 drive ++ (0 ∷ []); filled = 67; course = Reading }
+waiting = record { table = emptyTable; store = 128456789012; held = take 67 drive ++ replicate 67 0; filled = 67; course = Reading }
 
 fed-most : feedAll start (take 67 drive) ≡ waiting
 unfolding le leBytes inStore driveOf overlap headerOf headerAt overlapsAny refusal parametersRefusal recordRefusal withRecord recordStep endStep stepOf stepAt opened afterStep heldByte byCourse feedByte feedAll endBy endFeed
@@ -161,6 +162,36 @@ drive-passing =
     let k = fed-accepted start drive (o .0) (o .1) (bytes-of drive refl) in
     exact .every (block 0 0 [] (drive ++ end)) (feedAll start drive) (record { fits = k .0; acceptable = k .1; image = drive-fed }) .0
 
+-- ---- a reading with a drive and its bad blocks
+
+-- the reader that has taken them too: blocks 5 and 4,999,999,999, the last
+abbrev list : List ℕ
+list = bads 0 (5 ∷ 4999999999 ∷ [])
+
+abbrev listed : Feed
+listed = record { table = withBads (more emptyTable (driveOf drive)) 0 (badsIn list); store = 128456789012; held = replicate 134 0; filled = 0; course = Reading }
+
+-- its table in the block: their record stands behind the drive's
+pub list-image : image listed ≡ block 0 0 [] (drive ++ list ++ end)
+unfolding le leBytes driveOf recordOf geometryBytes sizeBytes nameBytes badCount badsIn heldOf badRecord recordsOf bytesOf tableOf image
+list-image = refl
+
+fed-list : feedAll taken list ≡ listed
+unfolding le leBytes driveOf inStore overlap headerOf headerAt overlapsAny refusal parametersRefusal badsRefusal recordRefusal withRecord recordStep endStep stepOf stepAt badCount badLengthOk badsIn heldOf ascends areBlocks listOk afterStep heldByte byCourse feedByte feedAll
+fed-list = refl
+
+-- fed the record's 22 bytes: they are in the table, and nothing is held
+pub list-fed : image (feedAll start (drive ++ list)) ≡ block 0 0 [] (drive ++ list ++ end)
+list-fed = ap image (fed-append start drive list ∙ ap (λ (f : Feed). feedAll f list) fed-drive ∙ fed-list) ∙ list-image
+
+-- and its block is accepted, by the laws
+pub list-passing : accepted (block 0 0 [] (drive ++ list ++ end)) ≡ true
+unfolding leBytes
+list-passing =
+    let o = opened-accepted 128456789012 (omega arith) in
+    let k = fed-accepted start (drive ++ list) (o .0) (o .1) (bytes-of (drive ++ list) refl) in
+    exact .every (block 0 0 [] (drive ++ list ++ end)) (feedAll start (drive ++ list)) (record { fits = k .0; acceptable = k .1; image = list-fed }) .0
+
 -- ---- the reader that a block says, accepted or not
 
 -- its course, its refusal, its store, how many bytes are held, and how many drives there are
@@ -175,9 +206,9 @@ pub read-back : map says (block 0 7 (68 ∷ 0 ∷ 1 ∷ []) end ∷ block 1 7 []
 unfolding le leBytes driveOf inStore overlap headerOf headerAt overlapsAny refusal parametersRefusal recordRefusal withRecord recordStep endStep stepOf stepAt readFrom readTable readReader
 read-back = refl
 
--- the bytes held, all 68
-pub read-held : map (λ (b : List ℕ). readReader b .held) (block 0 0 (68 ∷ 0 ∷ 1 ∷ []) (drive ++ end) ∷ block 0 0 (take 67 drive) end ∷ set (set (block 0 0 [] end) 40 5) 107 6 ∷ [])
-    ≡ (68 ∷ 0 ∷ 1 ∷ replicate 65 0) ∷ (take 67 drive ++ (0 ∷ [])) ∷ ((5 ∷ replicate 66 0) ++ (6 ∷ [])) ∷ []
+-- the bytes held, all 134
+pub read-held : map (λ (b : List ℕ). readReader b .held) (block 0 0 (68 ∷ 0 ∷ 1 ∷ []) (drive ++ end) ∷ block 0 0 (take 67 drive) end ∷ set (set (block 0 0 [] end) 40 5) 173 6 ∷ [])
+    ≡ (68 ∷ 0 ∷ 1 ∷ replicate 131 0) ∷ (take 67 drive ++ replicate 67 0) ∷ ((5 ∷ replicate 132 0) ++ (6 ∷ [])) ∷ []
 unfolding readReader
 read-held = refl
 
@@ -191,14 +222,24 @@ pub read-drives : map (λ (b : List ℕ). map (λ (d : Drive). d .blocks) (readR
 unfolding le leBytes driveOf inStore overlap headerOf headerAt overlapsAny refusal parametersRefusal recordRefusal withRecord recordStep endStep stepOf stepAt readFrom readTable readReader
 read-drives = rw drive-good
 
+-- how many bad blocks there are
+--   two
+--   past the drive's last: none
+--   not in order: none
+--   behind the drive's parameters: none
+pub read-lists : map (λ (b : List ℕ). readReader b .table .counts) (block 0 0 [] (drive ++ list ++ end) ∷ block 0 0 [] (drive ++ bads 0 (5000000000 ∷ []) ++ end) ∷ block 0 0 [] (drive ++ bads 0 (7 ∷ 5 ∷ []) ++ end) ∷ block 0 0 [] (drive ++ attach 0 ++ list ++ end) ∷ [])
+    ≡ (2 ∷ replicate 7 0) ∷ replicate 3 (replicate 8 0)
+unfolding le leBytes driveOf inStore overlap headerOf headerAt overlapsAny refusal parametersRefusal badsRefusal recordRefusal withRecord recordStep endStep stepOf stepAt badCount badLengthOk badsIn heldOf ascends areBlocks listOk readFrom readTable readReader
+read-lists = rw drive-good
+
 -- ---- which readers obey the rules
 
 -- refused
 --   accepted with a byte held, and refused with a byte held
 --   a byte in the last place of those held
-pub ruled-more : map accepted (block 2 0 (68 ∷ []) end ∷ block 3 1 (68 ∷ []) end ∷ set (block 0 0 [] end) 107 1 ∷ [])
+pub ruled-more : map accepted (block 2 0 (68 ∷ []) end ∷ block 3 1 (68 ∷ []) end ∷ set (block 0 0 [] end) 173 1 ∷ [])
     ≡ false ∷ false ∷ false ∷ []
-unfolding le leBytes driveOf same inStore overlap headerOf headerAt overlapsAny refusal parametersRefusal recordRefusal withRecord recordStep endStep stepOf stepAt recordOf geometryBytes sizeBytes nameBytes parametersRecord recordsOf bytesOf tableOf image blankNumbers blankNames isBlank soundTo blankTo attachedTo isSound readFrom readTable readReader restZero courseOk accept accepted
+unfolding le leBytes driveOf same inStore overlap headerOf headerAt overlapsAny refusal parametersRefusal recordRefusal withRecord recordStep endStep stepOf stepAt recordOf geometryBytes sizeBytes nameBytes parametersRecord recordsOf bytesOf tableOf image blankNumbers blankNames isBlank soundTo blankTo attachedTo listedTo heldOf ascends areBlocks listOk zeroPast badsOk isSound readFrom readTable readReader restZero courseOk accept accepted
 ruled-more = refl
 
 -- a reader with a drive, by its store, and by the bytes held and how many they are
@@ -211,7 +252,12 @@ holder store held filled = record { table = more emptyTable (driveOf drive); sto
 --   two of them counted: false
 --   the whole record of parameters held: false
 --   all but its last byte: true
-pub obeying : map accept (holder 128456789012 (replicate 68 0) 0 ∷ holder 128456789011 (replicate 68 0) 0 ∷ holder 128456789012 (padded 68 (68 ∷ 0 ∷ 1 ∷ [])) 3 ∷ holder 128456789012 (padded 68 (68 ∷ 0 ∷ 1 ∷ [])) 2 ∷ holder 128456789012 (padded 68 (attach 0)) 20 ∷ holder 128456789012 (padded 68 (take 19 (attach 0))) 19 ∷ [])
-    ≡ true ∷ false ∷ true ∷ false ∷ false ∷ true ∷ []
-unfolding le leBytes driveOf same inStore overlap headerOf headerAt overlapsAny refusal parametersRefusal recordRefusal withRecord recordStep endStep stepOf stepAt recordOf geometryBytes sizeBytes nameBytes parametersRecord recordsOf bytesOf tableOf image blankNumbers blankNames isBlank soundTo blankTo attachedTo isSound readFrom readTable readReader restZero courseOk accept accepted
+--   a whole record of a bad block held: false
+--   all but its last byte: true
+--   of sixteen, the longest record: false
+--   all but its last byte: true
+pub obeying : map accept (holder 128456789012 (replicate 134 0) 0 ∷ holder 128456789011 (replicate 134 0) 0 ∷ holder 128456789012 (padded 134 (68 ∷ 0 ∷ 1 ∷ [])) 3 ∷ holder 128456789012 (padded 134 (68 ∷ 0 ∷ 1 ∷ [])) 2 ∷ holder 128456789012 (padded 134 (attach 0)) 20 ∷ holder 128456789012 (padded 134 (take 19 (attach 0))) 19
+    ∷ holder 128456789012 (padded 134 (bads 0 (5 ∷ []))) 14 ∷ holder 128456789012 (padded 134 (take 13 (bads 0 (5 ∷ [])))) 13 ∷ holder 128456789012 (bads 0 sixteen) 134 ∷ holder 128456789012 (padded 134 (take 133 (bads 0 sixteen))) 133 ∷ [])
+    ≡ true ∷ false ∷ true ∷ false ∷ false ∷ true ∷ false ∷ true ∷ false ∷ true ∷ []
+unfolding le leBytes driveOf same inStore overlap headerOf headerAt overlapsAny refusal parametersRefusal badsRefusal badCount badLengthOk badsIn recordRefusal withRecord recordStep endStep stepOf stepAt recordOf geometryBytes sizeBytes nameBytes parametersRecord recordsOf bytesOf tableOf image blankNumbers blankNames isBlank soundTo blankTo attachedTo listedTo heldOf ascends areBlocks listOk zeroPast badsOk isSound readFrom readTable readReader restZero courseOk accept accepted
 obeying = rw drive-good

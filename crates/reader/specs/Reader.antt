@@ -58,7 +58,7 @@ heldAt = 8 * 5
 abbrev pub tableAt : ℕ
 tableAt = heldAt + longestRecord
 
--- the whole block, 816 bytes
+-- the whole block, 1954 bytes
 abbrev pub readerSize : ℕ
 readerSize = tableAt + longestTable
 

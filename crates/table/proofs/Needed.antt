@@ -1,4 +1,5 @@
--- The reader needs the first 772 bytes, eight drives with a record of parameters each and one record more, and no byte past them.
+-- The reader needs the first 1910 bytes, eight drives with a record of bad blocks and one of parameters each and one record more, and no byte past
+-- them.
 -- Assumes nothing.
 use mathlib.Core.Path.{_≡_, refl, sym, ap, _∙_}
 use mathlib.Core.Bool.{Bool, true, false, not}
@@ -15,14 +16,14 @@ use Rattle.words.specs.Words.{le, part}
 use Rattle.words.proofs.WordsLaws.{le-ext}
 use Rattle.drive.specs.Drive.{driveOf}
 use Rattle.attached.specs.Parameters.{numberIn, parametersIn}
-use Rattle.attached.proofs.AttachedLaws.{length-parametersIn}
+use Rattle.attached.specs.Bad.{badsIn}
 use Rattle.table.specs.declared.Table.{Table}
 use Rattle.table.specs.declared.Header.{Header}
 use Rattle.table.specs.declared.Header.the-variants.{Whole, Bad}
 use Rattle.table.specs.declared.Stepped.{Stepped}
-use Rattle.table.specs.Table.{isKind, lengthOk, headerAt, headerOf, more, withParameters, goOn, endStep, stepOf, stepAt, mostRecords, readFrom, readTable, emptyTable, parametersTo}
-use Rattle.table.proofs.TableLaws.{stepAt-cases, whole-at, length-whole, lengthOk-most, refusal-room, parameters-room}
-use Rattle.table.proofs.Slots.{count-most, count-ext, count-attach}
+use Rattle.table.specs.Table.{isKind, lengthOk, headerAt, headerOf, more, withParameters, withBads, goOn, endStep, stepOf, stepAt, mostRecords, readFrom, readTable, emptyTable}
+use Rattle.table.proofs.TableLaws.{stepAt-cases, whole-at, lengthOk-most, bads-whole, refusal-room, bads-room, parameters-room}
+use Rattle.table.proofs.Enough.{roomFor, room-most, room-bare, room-listed, room-open, room-shut, listed-whole}
 
 -- a part of the first n + m bytes
 drop-take : (n m : ℕ) (l : List ℕ) → drop n (take (n + m) l) ≡ take m (drop n l)
@@ -53,12 +54,12 @@ module _ (n : ℕ) (t u : List ℕ) (same : take n t ≡ take n u) where
       sym (drop-take at m t) ∙ ap (drop at) e ∙ drop-take at m u
 
   -- the last check of a header looks at no more than the record
-  cut : (at k size : ℕ) → at + 68 ≤ n → (c : Bool) → lengthOk k size ≡ c
+  cut : (at k size : ℕ) → at + 134 ≤ n → (c : Bool) → lengthOk k size ≡ c
       → pick (not c) (Bad 2) (pick (ltb (length t - at) size) (Bad 1) (Whole k size)) ≡ pick (not c) (Bad 2) (pick (ltb (length u - at) size) (Bad 1) (Whole k size))
   cut at k size h true e = rw (left at size (omega (arith, lengthOk-most k size e)))
   cut at k size h false e = refl
 
-  header : (at : ℕ) → at + 68 ≤ n → headerAt t at ≡ headerAt u at
+  header : (at : ℕ) → at + 134 ≤ n → headerAt t at ≡ headerAt u at
   unfolding headerAt headerOf
   header at h =
       let k : ℕ = le 2 u (at + 2) in
@@ -66,7 +67,7 @@ module _ (n : ℕ) (t u : List ℕ) (same : take n t ≡ take n u) where
       rw (word at (omega arith), word (at + 2) (omega arith), left at 4 (omega arith))
       (ap (λ (x : Header). pick (ltb (length u - at) 4) (Bad 1) (pick (not (isKind k)) (Bad 3) x)) (cut at k size h (lengthOk k size) refl))
 
-  step : (at : ℕ) (b : Table) (store : ℕ) → at + 68 ≤ n → stepAt t at b store ≡ stepAt u at b store
+  step : (at : ℕ) (b : Table) (store : ℕ) → at + 134 ≤ n → stepAt t at b store ≡ stepAt u at b store
   unfolding stepAt stepOf endStep
   step at b store h = rw (header at h) (by-header (headerAt u at) refl)
     where
@@ -75,31 +76,38 @@ module _ (n : ℕ) (t u : List ℕ) (same : take n t ≡ take n u) where
       by-header (Whole k m) q = rw (after (at + 4) (omega arith), body at m (omega (arith, lengthOk-most k m (whole-at u at k m q .right))))
 
   -- from a place on the reader needs the bytes of the records that there is room for, and of one more
-  reads : (k store at : ℕ) (b : Table) → b .count ≤ 8 → length (b .present) ≡ 8 → at + 772 ≤ n + (68 * b .count + 20 * parametersTo 8 b)
+  reads : (k store at : ℕ) (b : Table) → length (b .present) ≡ 8 → length (b .counts) ≡ 8 → at + (222 * (8 - b .count) + roomFor 20 154 b) + 134 ≤ n
       → readFrom k t store at b ≡ readFrom k u store at b
   unfolding readFrom
-  reads zero store at b l m h = refl
-  reads (suc k) store at b l m h =
-      rw (step at b store (omega (arith, l, h, count-most 8 b)))
+  reads zero store at b m c h = refl
+  reads (suc k) store at b m c h =
+      rw (step at b store (omega arith))
       (stepAt-cases (λ (s : Stepped). goOn (s .step) (s .table) (readFrom k t store) ≡ goOn (s .step) (s .table) (readFrom k u store)) u at b store
       (λ m p. refl)
       (λ e l. refl)
       (λ e z.
       let d = driveOf (part 68 u at) in
       let r = refusal-room (b .count) (b .drives) d store z in
-      reads k store (at + 68) (more b d) (omega arith) m (omega (arith, h, count-ext 8 (more b d) b (λ i q. refl))))
+      reads k store (at + 68) (more b d) m c (omega (arith, h, r, room-most 20 154 (omega arith) (more b d))))
+      (λ x e z.
+      let i = numberIn (part x u at) in
+      let l = badsIn (part x u at) in
+      let r = bads-room b i l z in
+      let w = bads-whole u at 3 x e refl in
+      reads k store (at + x) (withBads b i l) m (length-set (b .counts) i (l .count) ∙ c)
+      (omega (arith, h, w .2, room-bare 20 154 (omega arith) b i l r, room-listed 20 154 (omega arith) b i l r c (listed-whole u at x e .some))))
       (λ e z.
       let i = numberIn (part 20 u at) in
       let p = parametersIn (part 20 u at) in
       let r = parameters-room b i z in
-      let given = length-parametersIn (part 20 u at) (omega (arith, length-whole u at 4 20 e)) in
-      reads k store (at + 20) (withParameters b i p) l (length-set (b .present) i true ∙ m) (omega (arith, h, count-attach 8 b i p given m (r .0) (r .2) (r .0)))))
+      reads k store (at + 20) (withParameters b i p) (length-set (b .present) i true ∙ m) c
+      (omega (arith, h, room-open 20 154 (omega arith) b i (r .1) (r .2), room-shut 20 154 (omega arith) b i p (r .1) (r .0) m))))
 
--- two inputs with the same first 772 bytes are read alike
-pub needed : (t u : List ℕ) (store : ℕ) → take 772 t ≡ take 772 u → readTable t store ≡ readTable u store
-unfolding readTable
-needed t u store e = reads 772 t u e mostRecords store 0 emptyTable (omega arith) refl (omega arith)
+-- two inputs with the same first 1910 bytes are read alike
+pub needed : (t u : List ℕ) (store : ℕ) → take 1910 t ≡ take 1910 u → readTable t store ≡ readTable u store
+unfolding readTable roomFor
+needed t u store e = reads 1910 t u e mostRecords store 0 emptyTable refl refl (omega arith)
 
--- so a buffer of at least 772 bytes answers for input of any length
-pub buffer-enough : (n : ℕ) (t : List ℕ) (store : ℕ) → 772 ≤ n → readTable (take n t) store ≡ readTable t store
-buffer-enough n t store h = needed (take n t) t store (take-take 772 n t h)
+-- so a buffer of at least 1910 bytes answers for input of any length
+pub buffer-enough : (n : ℕ) (t : List ℕ) (store : ℕ) → 1910 ≤ n → readTable (take n t) store ≡ readTable t store
+buffer-enough n t store h = needed (take n t) t store (take-take 1910 n t h)

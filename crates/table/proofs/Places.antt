@@ -12,7 +12,7 @@ use lib.ListN.{length, getD, drop, length-append, length-drop}
 use lib.Seq.{take-all, take-at, getD-drop, getD-set-same, getD-set-other}
 use lib.Dec.{ltb, leb, eqb}
 use borrow.Author.Tests.{ltb-true, ltb-false, le-ltb}
-use Rattle.logic.specs.Logic.{pick, both}
+use Rattle.logic.specs.Logic.{pick, both, either}
 use Rattle.logic.proofs.LogicLaws.{impossible, lt-or-le, pick-cases}
 use Rattle.words.specs.Words.{le, part}
 use Rattle.words.proofs.WordsLaws.{le-ext}
@@ -20,17 +20,21 @@ use Rattle.drive.specs.declared.Drive.{Drive}
 use Rattle.drive.specs.Drive.{driveOf, recordOf, fieldsOk, inStore}
 use Rattle.drive.proofs.DriveLaws.{Arrays, arrays-drive, length-record}
 use Rattle.attached.specs.Parameters.{numberIn, parametersIn, parametersRecord}
+use Rattle.attached.specs.declared.Bads.{Bads}
+use Rattle.attached.specs.Bad.{badLength, badCount, badLengthOk, heldOf, badsIn, badRecord, listOk}
 use Rattle.attached.proofs.AttachedLaws.{length-parametersIn, length-parametersRecord}
+use Rattle.attached.proofs.BadLaws.{held-few, badLengthOk-true, badLengthOk-least, badsIn-count, length-badRecord}
 use Rattle.table.specs.declared.Table.{Table}
 use Rattle.table.specs.declared.Header.{Header}
 use Rattle.table.specs.declared.Header.the-variants.{Whole, Bad}
 use Rattle.table.specs.declared.Step.the-variants.{Next, Done, Refused}
 use Rattle.table.specs.declared.Stepped.{Stepped}
-use Rattle.table.specs.Table.{isKind, lengthOk, headerOf, headerAt, noDrive, overlapsAny, refusal, more, hasParameters, parametersRefusal, withParameters, stepped, recordRefusal, withRecord, recordStep, stepAt, emptyTable, slotRecords, recordsOf, drivesOf, nextPlace, parametersTo}
-use Rattle.table.proofs.TableLaws.{whole-at, headerOf-whole, lengthOk-cases, lengthOk-most, lengthOk-end, refusal-room, parameters-room, stepAt-bad, stepAt-end, stepAt-record, endStep-done, endStep-byte, recordStep-next, recordStep-refused, recordsOf-more, recordsOf-ext, slot-without, length-slot, length-drives}
-use Rattle.table.proofs.Slots.{attached-drive, count-attach}
-use Rattle.table.proofs.Sound.{So, so-more, so-attach}
-use Rattle.table.proofs.WriteRead.{attach-records}
+use Rattle.table.specs.Table.{isKind, lengthOk, headerOf, headerAt, noDrive, overlapsAny, refusal, more, hasParameters, parametersRefusal, withParameters, hasBads, badsRefusal, withBads, stepped, recordRefusal, withRecord, recordStep, stepAt, emptyTable, slotRecords, recordsOf, drivesOf, nextPlace}
+use Rattle.table.proofs.TableLaws.{whole-at, headerOf-whole, lengthOk-cases, lengthOk-most, lengthOk-end, refusal-room, bads-room, parameters-room, stepAt-bad, stepAt-end, stepAt-record, endStep-done, endStep-byte, recordStep-next, recordStep-refused, recordsOf-more, recordsOf-ext, slot-bare, length-slot, attached-most, length-drives}
+use Rattle.table.proofs.Slots.{attached-drive, Listed, badsIn-listed, listed-none}
+use Rattle.table.proofs.Sound.{So, so-more, so-bads, so-attach}
+use Rattle.table.proofs.Enough.{recordsLeft, left-some}
+use Rattle.table.proofs.WriteRead.{attach-records, list-records}
 use Rattle.table.proofs.ReadWrite.{le-front}
 
 -- ---- where the next record begins
@@ -44,9 +48,12 @@ pub place-empty : nextPlace emptyTable ≡ 0
 unfolding nextPlace recordsOf
 place-empty = refl
 
--- a slot past the drives has no parameters
-fresh : (store : ℕ) (b : Table) → So store b → (i : ℕ) → b .count ≤ i → i < 8 → hasParameters b i ≡ false
-fresh store b s i l h = by-mark (hasParameters b i) refl
+-- a slot past the drives has neither bad blocks nor parameters
+fresh : (store : ℕ) (b : Table) → So store b → (i : ℕ) → b .count ≤ i → i < 8 → (getD (b .counts) i 0 ≡ 0) × (hasParameters b i ≡ false)
+fresh store b s i l h = (
+  ap (λ (x : Bads). x .count) (listed-none b i (s .lists) h (ap (λ (d : Drive). d .blocks) (s .blank i l h)) (s .listed i h)),
+  by-mark (hasParameters b i) refl,
+)
   where
     by-mark : (x : Bool) → hasParameters b i ≡ x → x ≡ false
     by-mark true e = absurd (omega (arith, l, attached-drive b i (s .attached i h) e))
@@ -59,8 +66,19 @@ place-more store b d s a z =
     let before : recordsOf (b .count) (more b d) ≡ recordsOf (b .count) b =
     recordsOf-ext (b .count) (more b d) b (λ j l. rw (getD-set-other (b .drives) (b .count) j d noDrive (λ x. omega arith))) in
     let here : slotRecords (more b d) (b .count) ≡ recordOf d =
-    slot-without (more b d) (b .count) (fresh store b s (b .count) (omega arith) room) ∙ ap recordOf (getD-set-same (b .drives) (b .count) d noDrive (omega (arith, s .eight))) in
+    let f = fresh store b s (b .count) (omega arith) room in
+    slot-bare (more b d) (b .count) (f .0) (f .1) ∙ ap recordOf (getD-set-same (b .drives) (b .count) d noDrive (omega (arith, s .eight))) in
     rw (place-count store (more b d) (so-more store b d s a z), place-count store b s, recordsOf-more (b .count) (more b d), before, here, length-append (recordsOf (b .count) b) (recordOf d), length-record d a)
+
+-- a record of bad blocks more
+place-bads : (store : ℕ) (b : Table) (i : ℕ) (l : Bads) → So store b → Listed l → badsRefusal b i l ≡ 0
+    → nextPlace (withBads b i l) ≡ nextPlace b + length (badRecord i l)
+place-bads store b i l s g z =
+    let room = bads-room b i l z in
+    let records : recordsOf (b .count) (withBads b i l) ≡ recordsOf (b .count) b ++ badRecord i l =
+    subst (λ (n : ℕ). recordsOf n (withBads b i l) ≡ recordsOf n b ++ badRecord i l) (room .last)
+    (list-records b i l g (s .counts) (s .lists) (room .slot) (room .none) (room .bare)) in
+    rw (place-count store (withBads b i l) (so-bads store b i l s g z), place-count store b s, records, length-append (recordsOf (b .count) b) (badRecord i l))
 
 -- a record of parameters more
 place-attach : (store : ℕ) (b : Table) (i : ℕ) (p : List ℕ) → So store b → length p ≡ 14 → parametersRefusal b i ≡ 0 → nextPlace (withParameters b i p) ≡ nextPlace b + 20
@@ -70,25 +88,24 @@ place-attach store b i p s given z =
     subst (λ (n : ℕ). recordsOf n (withParameters b i p) ≡ recordsOf n b ++ parametersRecord i p) (room .1) (attach-records b i p given (s .marks) (s .bytes) (room .0) (room .2)) in
     rw (place-count store (withParameters b i p) (so-attach store b i p s given z), place-count store b s, records, length-append (recordsOf (b .count) b) (parametersRecord i p), length-parametersRecord i p given)
 
--- eight drives with parameters each are 704 bytes
-records-most : (store : ℕ) (b : Table) → So store b → (n : ℕ) → n ≤ b .count → length (recordsOf n b) ≤ 88 * n
+-- eight drives with sixteen bad blocks and parameters each are 1776 bytes
+records-most : (store : ℕ) (b : Table) → So store b → (n : ℕ) → n ≤ b .count → length (recordsOf n b) ≤ 222 * n
 unfolding recordsOf
 records-most store b s zero h = omega arith
 records-most store b s (suc n) h =
     let m = records-most store b s n (omega arith) in
-    let l : length (slotRecords b n) ≡ 68 + pick (hasParameters b n) 20 0
-    = length-slot b n (s .bytes) (omega (arith, s .most)) ∙ ap (λ (x : ℕ). x + pick (hasParameters b n) 20 0) (length-record (getD (b .drives) n noDrive) (s .arrays n (omega arith))) in
-    let p : pick (hasParameters b n) 20 0 ≤ 20 = pick-cases (λ (x : ℕ). x ≤ 20) (hasParameters b n) 20 0 (λ e. omega arith) (λ e. omega arith) in
-    rw (length-append (recordsOf n b) (slotRecords b n), l) (omega (arith, m, p))
+    let l = length-slot b n (s .bytes) (s .lists) (omega (arith, s .most)) in
+    let d : length (recordOf (getD (b .drives) n noDrive)) ≡ 68 = length-record (getD (b .drives) n noDrive) (s .arrays n (omega arith)) in
+    rw (length-append (recordsOf n b) (slotRecords b n), l, d) (omega (arith, m, attached-most (getD (b .counts) n 0) (hasParameters b n)))
 
-pub place-most : (store : ℕ) (b : Table) → So store b → nextPlace b ≤ 704
+pub place-most : (store : ℕ) (b : Table) → So store b → nextPlace b ≤ 1776
 place-most store b s = omega (arith, place-count store b s, records-most store b s (b .count) (omega arith), s .most)
 
 -- a record that is taken
 pub record Taken (store m : ℕ) (b next : Table) : Type 0 where
   pub so : So store next
   pub place : nextPlace next ≡ nextPlace b + m
-  pub some : 1 ≤ next .count + parametersTo 8 next
+  pub some : recordsLeft next < 24
 
 record-taken : (k m : ℕ) (r : List ℕ) (b : Table) (store : ℕ) → So store b → lengthOk k m ≡ true → (k ≡ 0 → ⊥) → length r ≡ m → recordRefusal k r b store ≡ 0
     → Taken store m b (withRecord k r b)
@@ -96,12 +113,27 @@ unfolding recordRefusal withRecord
 record-taken k m r b store s right other l z =
     ⊎-elim (λ x. absurd (other (x .0)))
     (λ y. ⊎-elim (λ x. subst (λ (n : ℕ). Taken store n b (withRecord k r b)) (sym (x .1)) (rw (x .0) (a-drive (l ∙ x .1) (rw (x .0) at z))))
-    (λ x. subst (λ (n : ℕ). Taken store n b (withRecord k r b)) (sym (x .1)) (rw (x .0) (parameters (l ∙ x .1) (rw (x .0) at z)))) y) (lengthOk-cases k m right)
+    (λ u. ⊎-elim (λ x. rw (x .0) (bads (x .1) (rw (x .0) at z)))
+    (λ x. subst (λ (n : ℕ). Taken store n b (withRecord k r b)) (sym (x .1)) (rw (x .0) (parameters (l ∙ x .1) (rw (x .0) at z)))) u) y) (lengthOk-cases k m right)
   where
     a-drive : length r ≡ 68 → refusal (b .count) (b .drives) (driveOf r) store ≡ 0 → Taken store 68 b (more b (driveOf r))
     a-drive n e =
         let a = arrays-drive r n in
-        record { so = so-more store b (driveOf r) s a e; place = place-more store b (driveOf r) s a e; some = omega arith }
+        record { so = so-more store b (driveOf r) s a e; place = place-more store b (driveOf r) s a e; some = left-some (more b (driveOf r)) (omega arith) }
+
+    bads : badLengthOk m ≡ true → badsRefusal b (numberIn r) (badsIn r) ≡ 0 → Taken store m b (withBads b (numberIn r) (badsIn r))
+    bads n e =
+        let i : ℕ = numberIn r in
+        let c = badLengthOk-true m n in
+        let g : Listed (badsIn r) = badsIn-listed r (rw l n) in
+        let room = bads-room b i (badsIn r) e in
+        let held : heldOf (badsIn r .count) ≡ badCount m = held-few (badsIn r .count) (g .few) ∙ badsIn-count r (badCount m) (l ∙ c .2) in
+        let long : length (badRecord i (badsIn r)) ≡ m = length-badRecord i (badsIn r) (g .long) ∙ ap badLength held ∙ sym (c .2) in
+        record {
+          so = so-bads store b i (badsIn r) s g e;
+          place = place-bads store b i (badsIn r) s g e ∙ ap (λ (n : ℕ). nextPlace b + n) long;
+          some = left-some (withBads b i (badsIn r)) (omega (arith, room .last));
+        }
 
     parameters : length r ≡ 20 → parametersRefusal b (numberIn r) ≡ 0 → Taken store 20 b (withParameters b (numberIn r) (parametersIn r))
     parameters n e =
@@ -110,7 +142,7 @@ record-taken k m r b store s right other l z =
         record {
           so = so-attach store b (numberIn r) (parametersIn r) s given e;
           place = place-attach store b (numberIn r) (parametersIn r) s given e;
-          some = omega (arith, count-attach 8 b (numberIn r) (parametersIn r) given (s .marks) (room .0) (room .2) (room .0));
+          some = left-some (withParameters b (numberIn r) (parametersIn r)) (omega (arith, room .1));
         }
 
 -- ---- the numbers of the refusals
@@ -139,11 +171,15 @@ abbrev Other : ℕ → Type 0
 Other n = (n ≢ 1) × (n ≢ 8)
 
 record-other : (k : ℕ) (r : List ℕ) (b : Table) (store : ℕ) → Other (recordRefusal k r b store)
-unfolding recordRefusal refusal parametersRefusal
+unfolding recordRefusal refusal badsRefusal parametersRefusal
 record-other k r b store =
-    pick-cases Other (eqb k 1) (refusal (b .count) (b .drives) (driveOf r) store) (parametersRefusal b (numberIn r))
+    let i : ℕ = numberIn r in
+    pick-cases Other (eqb k 1) (refusal (b .count) (b .drives) (driveOf r) store) (pick (eqb k 3) (badsRefusal b i (badsIn r)) (parametersRefusal b i))
     (λ e. by-tests (leb 8 (b .count)) (fieldsOk (driveOf r)) (inStore (driveOf r) store) (overlapsAny (b .count) (b .drives) (driveOf r)))
-    (λ e. by-test (both (ltb (numberIn r) 8) (both (eqb (numberIn r + 1) (b .count)) (not (hasParameters b (numberIn r))))))
+    (λ e. pick-cases Other (eqb k 3) (badsRefusal b i (badsIn r)) (parametersRefusal b i)
+    (λ f. by-list (both (ltb i 8) (both (eqb (i + 1) (b .count)) (not (either (hasBads b i) (hasParameters b i)))))
+    (listOk (badsIn r) (getD (b .drives) i noDrive .blocks)))
+    (λ f. by-test (both (ltb i 8) (both (eqb (i + 1) (b .count)) (not (hasParameters b i))))))
   where
     by-tests : (a f i o : Bool) → Other (pick a 4 (pick (not f) 5 (pick (not i) 6 (pick o 7 0))))
     by-tests true f i o = (λ e. omega arith, λ e. omega arith)
@@ -151,6 +187,11 @@ record-other k r b store =
     by-tests false true false o = (λ e. omega arith, λ e. omega arith)
     by-tests false true true true = (λ e. omega arith, λ e. omega arith)
     by-tests false true true false = (λ e. omega arith, λ e. omega arith)
+
+    by-list : (a g : Bool) → Other (pick a (pick g 0 5) 9)
+    by-list true true = (λ e. omega arith, λ e. omega arith)
+    by-list true false = (λ e. omega arith, λ e. omega arith)
+    by-list false g = (λ e. omega arith, λ e. omega arith)
 
     by-test : (a : Bool) → Other (pick a 0 9)
     by-test true = (λ e. omega arith, λ e. omega arith)
@@ -162,7 +203,8 @@ record-other k r b store =
 lengthOk-least : (k m : ℕ) → lengthOk k m ≡ true → (4 ≤ m) × (isKind k ≡ true)
 lengthOk-least k m h =
     ⊎-elim (λ x. (omega (arith, x .1), rw (x .0)))
-    (λ y. ⊎-elim (λ x. (omega (arith, x .1), rw (x .0))) (λ x. (omega (arith, x .1), rw (x .0))) y) (lengthOk-cases k m h)
+    (λ y. ⊎-elim (λ x. (omega (arith, x .1), rw (x .0)))
+    (λ z. ⊎-elim (λ x. (omega (arith, badLengthOk-least m (x .1)), rw (x .0))) (λ x. (omega (arith, x .1), rw (x .0))) z) y) (lengthOk-cases k m h)
 
 -- a header that the bytes settle is that of more bytes
 header-grows : (left all size kind : ℕ) → left ≤ all → (headerOf left size kind ≡ Bad 1 → ⊥) → (4 ≤ left) × (headerOf all size kind ≡ headerOf left size kind)
@@ -191,12 +233,12 @@ unfolding headerAt headerOf le
 begin-none = refl
 
 -- they are fewer than the longest record's
-pub begin-few : (h : List ℕ) → Begin h → length h < 68
+pub begin-few : (h : List ℕ) → Begin h → length h < 134
 unfolding headerAt headerOf
 begin-few h e = by-tests (ltb (length h - 0) 4) (isKind (le 2 h 2)) (lengthOk (le 2 h 2) (le 2 h 0)) (ltb (length h - 0) (le 2 h 0)) refl refl refl e
   where
     by-tests : (a b c d : Bool) → ltb (length h - 0) 4 ≡ a → lengthOk (le 2 h 2) (le 2 h 0) ≡ c → ltb (length h - 0) (le 2 h 0) ≡ d
-        → pick a (Bad 1) (pick (not b) (Bad 3) (pick (not c) (Bad 2) (pick d (Bad 1) (Whole (le 2 h 2) (le 2 h 0))))) ≡ Bad 1 → length h < 68
+        → pick a (Bad 1) (pick (not b) (Bad 3) (pick (not c) (Bad 2) (pick d (Bad 1) (Whole (le 2 h 2) (le 2 h 0))))) ≡ Bad 1 → length h < 134
     by-tests true b c d e₁ e₃ e₄ q = omega (arith, ltb-true (length h - 0) 4 e₁)
     by-tests false false c d e₁ e₃ e₄ q = let s : _≡_ {A = ℕ} 3 1 = cc in absurd (omega (arith, s))
     by-tests false true false d e₁ e₃ e₄ q = let s : _≡_ {A = ℕ} 2 1 = cc in absurd (omega (arith, s))

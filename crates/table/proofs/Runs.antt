@@ -8,21 +8,23 @@ use Prim.Native.Nat.{ℕ, _+_, _-_, _*_, _<_}
 use native.Mathlib.Omega.{arith}
 use native.Mathlib.Decide.{ℕ-discrete}
 use lib.ListN.{length, getD, set, length-set}
-use lib.Seq.{sets, length-sets, getD-set-same, getD-set-other}
+use lib.Seq.{sets, getD-set-same, getD-set-other}
 use lib.Dec.{ltb, eqb}
-use borrow.Author.Tests.{le-leb, ltb-true, ltb-false}
-use Rattle.logic.specs.Logic.{both}
-use Rattle.logic.proofs.LogicLaws.{lt-or-le, some-ext, both-true}
+use borrow.Author.Tests.{le-leb, ltb-true, ltb-false, eqb-true}
+use Rattle.logic.specs.Logic.{pick, both}
+use Rattle.logic.proofs.LogicLaws.{both-true, lt-or-le, some-ext}
 use Rattle.words.specs.Words.{part}
 use Rattle.drive.specs.declared.Drive.{Drive}
 use Rattle.drive.specs.Drive.{driveOf, overlap}
 use Rattle.attached.specs.Parameters.{numberIn, parametersIn}
+use Rattle.attached.specs.declared.Bads.{Bads}
+use Rattle.attached.specs.Bad.{badsIn, listOk}
 use Rattle.table.specs.declared.Table.{Table}
 use Rattle.table.specs.declared.Header.the-variants.{Whole, Bad}
 use Rattle.table.specs.declared.Answer.{Answer}
-use Rattle.table.specs.declared.Answer.the-variants.{Accepted, Refused as AnswerRefused}
-use Rattle.table.specs.Table.{noDrive, emptyTable, headerAt, overlapsAny, refusal, more, hasParameters, parametersRefusal, withParameters, reading, readFrom, mostRecords, readTable, Reads, endAnswer, overlapRuns, overlapsRun, refusalAmong}
-use Rattle.table.proofs.TableLaws.{whole-at, length-whole, lengthOk-end, drive-whole, parameters-whole, room, parameters-none, parameters-nine, stepAt-bad, stepAt-end, endStep-byte, endStep-done, drive-next, drive-refused, stepAt-drive, parameters-next, parameters-refused, stepAt-parameters, reads-first, reads-next, reads-done, reads-refused}
+use Rattle.table.specs.declared.Answer.the-variants.{Refused as AnswerRefused}
+use Rattle.table.specs.Table.{noDrive, emptyTable, headerAt, overlapsAny, refusal, more, hasParameters, parametersRefusal, badsRefusal, reading, readFrom, mostRecords, readTable, Reads, endAnswer, overlapRuns, overlapsRun, refusalAmong}
+use Rattle.table.proofs.TableLaws.{whole-at, length-whole, lengthOk-end, drive-whole, room, stepAt-bad, stepAt-end, endStep-byte, endStep-done, drive-next, drive-refused, parameters-whole, parameters-none, parameters-nine, parameters-next, parameters-refused, bads-nine, bads-named, bads-next, bads-refused, stepAt-drive, stepAt-bads, stepAt-parameters, reads-first, reads-next, reads-done, reads-refused}
 
 -- ---- runs beside drives
 
@@ -71,21 +73,23 @@ among-eight b firsts sizes d store h e =
 pub record Stands (t : List ℕ) (store left at : ℕ) (b : Table) (firsts sizes : List ℕ) : Type 0 where
   pub reads : readFrom left t store at b ≡ readTable t store
   pub eight : (length (b .drives) ≡ 8) × (length firsts ≡ 8) × (length sizes ≡ 8)
-  pub marks : length (b .present) ≡ 8
-  pub bytes : length (b .parameters) ≡ 112
+  pub marks : (length (b .present) ≡ 8) × (length (b .counts) ≡ 8)
   pub beside : Beside (b .count) (b .drives) firsts sizes
 
 pub stands-first : {b : Table} (t : List ℕ) (store : ℕ) (firsts sizes : List ℕ) → b ≡ emptyTable → length firsts ≡ 8 → length sizes ≡ 8 → Stands t store mostRecords 0 b firsts sizes
 stands-first {b} t store firsts sizes e f s =
-    record { reads = reads-first t store e; eight = (rw e, f, s); marks = rw e; bytes = rw e; beside = beside-none (b .count) (b .drives) firsts sizes (rw e) }
+    record { reads = reads-first t store e; eight = (rw e, f, s); marks = (rw e, rw e); beside = beside-none (b .count) (b .drives) firsts sizes (rw e) }
 
--- a drive that is taken has a slot, and so have parameters that are taken
+-- a drive that is taken has a slot
 pub slot-left : {k : ℕ} (n : ℕ) (firsts sizes : List ℕ) (d : Drive) (store : ℕ) → k ≡ refusalAmong n firsts sizes d store → k ≡ 0 → n < 8
 unfolding refusalAmong
 slot-left n firsts sizes d store e z = room n _ (sym e ∙ z)
 
-pub slot-named : {a : Bool} (i : ℕ) (x : Bool) → a ≡ both (ltb i 8) x → a ≡ true → i < 8
-slot-named i x e z = ltb-true i 8 (both-true (ltb i 8) x (sym e ∙ z) .0)
+-- and a record that names the last drive has it for its number
+last-named : {a : Bool} (i n : ℕ) (x : Bool) → a ≡ both (ltb i 8) (both (eqb (i + 1) n) (not x)) → a ≡ true → i + 1 ≡ n
+last-named i n x e z =
+    let t = both-true (ltb i 8) (both (eqb (i + 1) n) (not x)) (sym e ∙ z) in
+    eqb-true (i + 1) n (both-true (eqb (i + 1) n) (not x) (t .1) .0)
 
 module _ {t : List ℕ} {store left at : ℕ} {b : Table} {firsts sizes : List ℕ} (s : Stands t store left at b firsts sizes) (l : 0 < left) where
   pub header-reads : {n : ℕ} → headerAt t at ≡ Bad n → Reads t store (reading (AnswerRefused n at) b)
@@ -118,26 +122,58 @@ module _ {t : List ℕ} {store left at : ℕ} {b : Table} {firsts sizes : List �
             reads = rw (length-whole t at k n h) at (reads-next left t store at b l next refl (s .reads));
             eight = (length-set (b .drives) (b .count) d ∙ eight .0, length-set firsts (b .count) (d .first) ∙ eight .1, length-set sizes (b .count) (d .blocks) ∙ eight .2);
             marks = s .marks;
-            bytes = s .bytes;
             beside = beside-more (b .count) (b .drives) (set (b .drives) (b .count) d) firsts sizes d (omega (arith, slot, eight .1)) (omega (arith, slot, eight .2))
                 (getD-set-same (b .drives) (b .count) d noDrive (omega (arith, slot, eight .0))) (λ i y. getD-set-other (b .drives) (b .count) i d noDrive (λ w. omega arith)) (s .beside);
           }
 
-    module _ {i : ℕ} {a : Bool} (z : k ≡ 0 → ⊥) (z′ : k ≡ 1 → ⊥) (e : i ≡ numberIn (part n t at)) (q : a ≡ both (ltb i 8) (both (eqb (i + 1) (b .count)) (not (hasParameters b i)))) where
-      pub parameters-reads : a ≡ false → Reads t store (reading (AnswerRefused 9 at) b)
-      parameters-reads x =
-          let nine : 9 ≡ parametersRefusal b i = parameters-nine b i q x in
-          reads-refused left t store at b l (parameters-refused (part n t at) at b store e nine (λ y. omega arith) ∙ stepAt-parameters t at k n b store h z z′) refl (s .reads)
+    module _ {i : ℕ} {a : Bool} (e : i ≡ numberIn (part n t at)) (q : a ≡ both (ltb i 8) (both (eqb (i + 1) (b .count)) (not (hasParameters b i)))) where
+      pub attached-reads : (k ≡ 0 → ⊥) → (k ≡ 1 → ⊥) → a ≡ false → Reads t store (reading (AnswerRefused 9 at) b)
+      attached-reads z z′ x = by-kind (ℕ-discrete k 3)
+        where
+          by-kind : Dec (k ≡ 3) → Reads t store (reading (AnswerRefused 9 at) b)
+          by-kind (yes y) =
+              let nine : 9 ≡ badsRefusal b i (badsIn (part n t at)) = bads-nine b i (badsIn (part n t at)) q x in
+              let step = rw (length-whole t at k n h) at (bads-refused (part n t at) at b store e refl nine (λ w. omega arith)) in
+              reads-refused left t store at b l (step ∙ stepAt-bads t at k n b store h y) refl (s .reads)
+          by-kind (no y) =
+              let nine : 9 ≡ parametersRefusal b i = parameters-nine b i q x in
+              reads-refused left t store at b l (parameters-refused (part n t at) at b store e nine (λ w. omega arith) ∙ stepAt-parameters t at k n b store h z z′ y) refl (s .reads)
 
-      pub parameters-stands : {y p : List ℕ} → a ≡ true → y ≡ parametersIn (part n t at) → p ≡ sets (b .parameters) (14 * i) y
-          → Stands t store (left - 1) (at + n) (record { drives = b .drives; count = b .count; present = set (b .present) i true; parameters = p }) firsts sizes
-      parameters-stands {y} {p} x w o =
+      module _ {v : Bads} {m : ℕ} (z : k ≡ 3) (x : a ≡ true) (w : v ≡ badsIn (part n t at))
+          (o : m ≡ pick (eqb (getD (b .counts) i 0) 0) (pick (listOk v (getD sizes i 0)) 0 5) 9) where
+        listed : m ≡ badsRefusal b i v
+        unfolding Beside Along
+        listed =
+            let last : i + 1 ≡ b .count = last-named i (b .count) (hasParameters b i) q x in
+            let size : getD sizes i 0 ≡ getD (b .drives) i noDrive .blocks = s .beside .1 i (omega (arith, last)) in
+            rw size at o ∙ bads-named b i v q x
+
+        pub bads-reads : (m ≡ 0 → ⊥) → Reads t store (reading (AnswerRefused m at) b)
+        bads-reads y =
+            let step = rw (length-whole t at k n h) at (bads-refused (part n t at) at b store e w listed y) in
+            reads-refused left t store at b l (step ∙ stepAt-bads t at k n b store h z) refl (s .reads)
+
+        pub bads-stands : {p : List ℕ} → m ≡ 0 → p ≡ sets (b .bad) (128 * i) (v .list)
+            → Stands t store (left - 1) (at + n)
+            (record { drives = b .drives; count = b .count; present = b .present; parameters = b .parameters; counts = set (b .counts) i (v .count); bad = p }) firsts sizes
+        bads-stands {p} y d =
+            let step = rw (length-whole t at k n h) at (bads-next (part n t at) at b store e w listed y refl) in
+            rw d record {
+              reads = reads-next left t store at b l (step ∙ stepAt-bads t at k n b store h z) refl (s .reads);
+              eight = s .eight;
+              marks = (s .marks .0, length-set (b .counts) i (v .count) ∙ s .marks .1);
+              beside = s .beside;
+            }
+
+      pub parameters-stands : {y p : List ℕ} → (k ≡ 0 → ⊥) → (k ≡ 1 → ⊥) → (k ≡ 3 → ⊥) → a ≡ true → y ≡ parametersIn (part n t at) → p ≡ sets (b .parameters) (14 * i) y
+          → Stands t store (left - 1) (at + n)
+          (record { drives = b .drives; count = b .count; present = set (b .present) i true; parameters = p; counts = b .counts; bad = b .bad }) firsts sizes
+      parameters-stands {y} {p} z z′ z″ x w o =
           let none : 0 ≡ parametersRefusal b i = parameters-none b i q x in
-          let next = parameters-next (part n t at) at b store (parameters-whole t at k n h z z′ .0) e w none refl refl ∙ stepAt-parameters t at k n b store h z z′ in
+          let next = parameters-next (part n t at) at b store (parameters-whole t at k n h z z′ z″ .0) e w none refl refl ∙ stepAt-parameters t at k n b store h z z′ z″ in
           rw o record {
             reads = rw (length-whole t at k n h) at (reads-next left t store at b l next refl (s .reads));
             eight = s .eight;
-            marks = length-set (b .present) i true ∙ s .marks;
-            bytes = length-sets (b .parameters) (14 * i) y ∙ s .bytes;
+            marks = (length-set (b .present) i true ∙ s .marks .0, s .marks .1);
             beside = s .beside;
           }

@@ -1,21 +1,25 @@
--- Laws of the parameters that stand beside the drives: what one more drive and one more record of parameters change, and what they leave.
+-- Laws of what stands beside the drives: what one more record of bad blocks or of parameters changes, and what it leaves.
 -- Assumes nothing.
 use mathlib.Core.Path.{_≡_, refl, sym, ap, _∙_}
-use mathlib.Core.Logic.{⊎-elim, _≢_}
+use mathlib.Core.Logic.{_⊎_, inl, inr, ⊎-elim, _≢_}
 use mathlib.Core.Bool.{Bool, true, false}
 use mathlib.Core.List.{List, [], _∷_, _++_}
 use Prim.Native.Nat.{ℕ, zero, suc, _+_, _*_, _≤_, _<_}
 use native.Mathlib.Omega.{arith}
 use native.Mathlib.Decide.{ℕ-discrete}
-use lib.ListN.{length, getD, set, take, drop, length-take, length-drop, length-append}
+use lib.ListN.{length, getD, set, take, drop, replicate, length-take, length-drop, length-append, getD-replicate}
 use lib.Seq.{sets, sets-eq, length-sets, length-take-le, ext-getD, getD-take, getD-drop, getD-set-same, getD-set-other, drop-append-le, take-at, drop-at}
 use lib.Dec.{ltb, eqb}
 use borrow.Author.Tests.{lt-ltb, ltb-true, eq-eqb, eqb-true}
 use Rattle.logic.specs.Logic.{pick, allBelow}
 use Rattle.logic.proofs.LogicLaws.{lt-or-le, all-at, all-intro, pick-cases}
 use Rattle.words.specs.Words.{part}
+use Rattle.attached.specs.declared.Bads.{Bads}
+use Rattle.attached.specs.Bad.{badCount, badLengthOk, badsIn, noBads, zeroPast, badsOk}
+use Rattle.attached.proofs.BadLaws.{badLengthOk-true, bads-ext, badsIn-count, length-badsIn, badsIn-zeroPast, badsOk-true, badsOk-zero, no-bads}
 use Rattle.table.specs.declared.Table.{Table}
-use Rattle.table.specs.Table.{hasParameters, parametersAt, withParameters, slotRecords, attachedAt, parametersTo}
+use Rattle.table.specs.Table.{noDrive, emptyTable, hasParameters, parametersAt, withParameters, badsAt, withBads, slotBytes, slotRecords, attachedAt, listedAt, parametersTo}
+use Rattle.table.proofs.TableLaws.{length-listPart}
 
 -- ---- runs of stores
 
@@ -41,21 +45,27 @@ part-ext n l m at e f =
     let q : j < n = omega (arith, h, length-take n (drop at l)) in
     rw (getD-take n (drop at l) j 0 q, getD-take n (drop at m) j 0 q, getD-drop at l j 0, getD-drop at m j 0) (f j q))
 
--- the bytes of a run at a slot's place
-run-same : (l : List ℕ) (i : ℕ) (p : List ℕ) → length p ≡ 14 → length l ≡ 112 → i < 8 → part 14 (sets l (14 * i) p) (14 * i) ≡ p
-run-same l i p given all h =
-    let rest : List ℕ = drop (14 * i + length p) l in
-    let front : List ℕ = take (14 * i) l in
-    let n : length front ≡ 14 * i = length-take-le (14 * i) l (omega arith) in
-    let f : 14 * i ≤ length (front ++ p) = rw (length-append, n) (omega arith) in
-    rw (sets-eq p l (14 * i) (omega arith), drop-append-le (14 * i) (front ++ p) rest f, drop-at front p (14 * i) n) (take-at p rest 14 given)
+-- the bytes of a run at its place
+run-same : (n : ℕ) (l : List ℕ) (at : ℕ) (p : List ℕ) → length p ≡ n → at + n ≤ length l → part n (sets l at p) at ≡ p
+run-same n l at p given all =
+    let rest : List ℕ = drop (at + length p) l in
+    let front : List ℕ = take at l in
+    let m : length front ≡ at = length-take-le at l (omega arith) in
+    let f : at ≤ length (front ++ p) = rw (length-append, m) (omega arith) in
+    rw (sets-eq p l at (omega arith), drop-append-le at (front ++ p) rest f, drop-at front p at m) (take-at p rest n given)
+
+-- and those before or after it
+run-other : (n : ℕ) (l : List ℕ) (at : ℕ) (p : List ℕ) (place : ℕ) → (place + n ≤ at) ⊎ (at + length p ≤ place) → part n (sets l at p) place ≡ part n l place
+run-other n l at p place h =
+    part-ext n (sets l at p) l place (length-sets l at p)
+    (λ j q. ⊎-elim (λ x. getD-before l at p (place + j) (omega arith)) (λ x. getD-after l at p (place + j) (omega arith)) h)
 
 -- a byte of a slot's part
 pub byte-of : (l : List ℕ) (i j : ℕ) → j < 14 → getD (part 14 l (14 * i)) j 0 ≡ getD l (14 * i + j) 0
 byte-of l i j h = getD-take 14 (drop (14 * i) l) j 0 h ∙ getD-drop (14 * i) l j 0
 
 pub bytes-same : (l : List ℕ) (i : ℕ) (p : List ℕ) (j : ℕ) → length p ≡ 14 → length l ≡ 112 → i < 8 → j < 14 → getD (sets l (14 * i) p) (14 * i + j) 0 ≡ getD p j 0
-bytes-same l i p j given all h q = sym (byte-of (sets l (14 * i) p) i j q) ∙ ap (λ (x : List ℕ). getD x j 0) (run-same l i p given all h)
+bytes-same l i p j given all h q = sym (byte-of (sets l (14 * i) p) i j q) ∙ ap (λ (x : List ℕ). getD x j 0) (run-same 14 l (14 * i) p given (omega arith))
 
 -- ---- a slot after a record of parameters
 
@@ -65,7 +75,7 @@ module _ (b : Table) (i : ℕ) (p : List ℕ) (given : length p ≡ 14) where
   marked l h = getD-set-same (b .present) i true false (omega arith)
 
   pub parameters-same : length (b .parameters) ≡ 112 → i < 8 → parametersAt (withParameters b i p) i ≡ p
-  parameters-same l h = run-same (b .parameters) i p given l h
+  parameters-same l h = run-same 14 (b .parameters) (14 * i) p given (omega arith)
 
   -- every other slot is as it was
   module _ (k : ℕ) (other : k ≢ i) where
@@ -79,6 +89,59 @@ module _ (b : Table) (i : ℕ) (p : List ℕ) (given : length p ≡ 14) where
 
     pub slot-other : slotRecords (withParameters b i p) k ≡ slotRecords b k
     slot-other = rw (marked-other, parameters-other)
+
+-- ---- a slot after a record of bad blocks
+
+module _ (b : Table) (i : ℕ) (l : Bads) (given : length (l .list) ≡ 128) where
+  -- the slot itself has them
+  pub bads-same : length (b .counts) ≡ 8 → length (b .bad) ≡ 1024 → i < 8 → badsAt (withBads b i l) i ≡ l
+  bads-same c m h =
+      bads-ext (badsAt (withBads b i l) i) l (getD-set-same (b .counts) i (l .count) 0 (omega arith)) (run-same 128 (b .bad) (128 * i) (l .list) given (omega arith))
+
+  -- every other slot is as it was
+  module _ (k : ℕ) (other : k ≢ i) where
+    apart : (128 * k + 128 ≤ 128 * i) ⊎ (128 * i + length (l .list) ≤ 128 * k)
+    apart =
+        ⊎-elim (λ (x : k < i). inl (omega arith))
+        (λ (x : i ≤ k). ⊎-elim (λ (y : i < k). inr (omega arith)) (λ (y : k ≤ i). absurd (other (omega arith))) (lt-or-le i k)) (lt-or-le k i)
+
+    pub bads-other : badsAt (withBads b i l) k ≡ badsAt b k
+    bads-other =
+        bads-ext (badsAt (withBads b i l) k) (badsAt b k) (getD-set-other (b .counts) i k (l .count) 0 other)
+        (run-other 128 (b .bad) (128 * i) (l .list) (128 * k) apart)
+
+    pub bads-slot-other : slotRecords (withBads b i l) k ≡ slotRecords b k
+    bads-slot-other = ap (λ (x : Bads). slotBytes (getD (b .drives) k noDrive) x (hasParameters b k) k (parametersAt b k)) bads-other
+
+-- no slot has any at first
+pub bads-empty : (i : ℕ) → i < 8 → badsAt emptyTable i ≡ noBads
+bads-empty i h =
+    let zeros : List ℕ = replicate 1024 0 in
+    let few : List ℕ = replicate 128 0 in
+    bads-ext (badsAt emptyTable i) noBads (getD-replicate 8 i 0 0 h)
+    (ext-getD 0 (part 128 zeros (128 * i)) few (length-listPart zeros i refl h) (λ j q.
+    let m : j < 128 = omega (arith, q, length-listPart zeros i refl h) in
+    rw (getD-take 128 (drop (128 * i) zeros) j 0 m, getD-drop (128 * i) zeros j 0, getD-replicate {A = ℕ} 1024 (128 * i + j) 0 0 (omega arith), getD-replicate {A = ℕ} 128 j 0 0 m)))
+
+-- what the record of bad blocks says of its list
+pub record Listed (l : Bads) : Type 0 where
+  pub some : 1 ≤ l .count
+  pub few : l .count ≤ 16
+  pub long : length (l .list) ≡ 128
+  pub zeros : zeroPast l ≡ true
+
+pub badsIn-listed : (r : List ℕ) → badLengthOk (length r) ≡ true → Listed (badsIn r)
+badsIn-listed r h =
+    let n : ℕ = badCount (length r) in
+    let p = badLengthOk-true (length r) h in
+    let c : badsIn r .count ≡ n = badsIn-count r n (p .2) in
+    record { some = rw c (p .0); few = rw c (p .1); long = length-badsIn r n (p .1) (p .2); zeros = badsIn-zeroPast r n (p .2) }
+
+-- a slot without a block has no bad one
+pub listed-none : (b : Table) (i : ℕ) → length (b .bad) ≡ 1024 → i < 8 → getD (b .drives) i noDrive .blocks ≡ 0 → listedAt b i ≡ true → badsAt b i ≡ noBads
+listed-none b i m h z e =
+    let k : badsOk (badsAt b i) 0 ≡ true = rw z at e in
+    no-bads (badsAt b i) (badsOk-zero (badsAt b i) k) (length-listPart (b .bad) i m h) (badsOk-true (badsAt b i) 0 k .2)
 
 -- ---- parameters of drives only, zeros elsewhere
 

@@ -19,12 +19,15 @@ use Rattle.drive.specs.declared.Drive.{Drive}
 use Rattle.drive.specs.Drive.{driveOf, fieldsOk, inStore, overlap, same, isBlank, blankNumbers, blankNames}
 use Rattle.drive.proofs.DriveLaws.{Arrays, arrays-drive}
 use Rattle.attached.specs.Parameters.{numberIn, parametersIn}
+use Rattle.attached.specs.declared.Bads.{Bads}
+use Rattle.attached.specs.Bad.{badsIn, noBads}
 use Rattle.attached.proofs.AttachedLaws.{length-parametersIn}
+use Rattle.attached.proofs.BadLaws.{badsOk-intro, badsOk-noBads}
 use Rattle.table.specs.declared.Table.{Table}
 use Rattle.table.specs.declared.Answer.the-variants.{Accepted}
-use Rattle.table.specs.Table.{noDrive, zeroDrive, emptyTable, overlapsAny, refusal, more, hasParameters, parametersRefusal, withParameters, mostRecords, readFrom, readTable, takenAt, soundTo, blankAt, blankTo, attachedAt, attachedTo, isSound}
-use Rattle.table.proofs.TableLaws.{refusal-room, refusal-taken, parameters-room, length-whole, read-keeps}
-use Rattle.table.proofs.Slots.{marked, marked-other, bytes-other, attached-drive, attached-zero, attached-intro}
+use Rattle.table.specs.Table.{noDrive, zeroDrive, emptyTable, overlapsAny, refusal, more, hasParameters, parametersRefusal, withParameters, badsAt, badsRefusal, withBads, mostRecords, readFrom, readTable, takenAt, soundTo, blankAt, blankTo, attachedAt, attachedTo, listedAt, listedTo, isSound}
+use Rattle.table.proofs.TableLaws.{refusal-room, refusal-taken, parameters-room, bads-room, length-whole, bads-whole, read-keeps}
+use Rattle.table.proofs.Slots.{marked, marked-other, bytes-other, bads-same, bads-other, bads-empty, Listed, badsIn-listed, listed-none, attached-drive, attached-zero, attached-intro}
 
 -- ---- a drive that is taken
 
@@ -44,27 +47,33 @@ pub record Rules (b : Table) (store : ℕ) : Type 0 where
   pub taken : (i : ℕ) → i < b .count → refusal i (b .drives) (getD (b .drives) i noDrive) store ≡ 0
   pub blank : (i : ℕ) → b .count ≤ i → i < 8 → isBlank (getD (b .drives) i noDrive) ≡ true
   pub attached : (i : ℕ) → i < 8 → attachedAt b i ≡ true
+  pub listed : (i : ℕ) → i < 8 → listedAt b i ≡ true
 
 pub sound-rules : (b : Table) (store : ℕ) → isSound b store ≡ true → Rules b store
-unfolding isSound soundTo blankTo attachedTo
+unfolding isSound soundTo blankTo attachedTo listedTo
 sound-rules b store e =
-    let rest : Bool = both (blankTo 8 (b .drives) (b .count)) (attachedTo 8 b) in
+    let more : Bool = both (attachedTo 8 b) (listedTo 8 b) in
+    let rest : Bool = both (blankTo 8 (b .drives) (b .count)) more in
     let p = both-true (leb (b .count) 8) (both (soundTo (b .count) (b .drives) store) rest) e in
     let q = both-true (soundTo (b .count) (b .drives) store) rest (p .1) in
-    let r = both-true (blankTo 8 (b .drives) (b .count)) (attachedTo 8 b) (q .1) in
+    let r = both-true (blankTo 8 (b .drives) (b .count)) more (q .1) in
+    let s = both-true (attachedTo 8 b) (listedTo 8 b) (r .1) in
     record {
       most = leb-true (b .count) 8 (p .0);
       taken = λ i h. eqb-true _ _ (all-at (b .count) i (takenAt (b .drives) store) (q .0) h);
       blank = λ i l h. rw (le-ltb i (b .count) l) at (all-at 8 i (blankAt (b .drives) (b .count)) (r .0) h);
-      attached = λ i h. all-at 8 i (attachedAt b) (r .1) h;
+      attached = λ i h. all-at 8 i (attachedAt b) (s .0) h;
+      listed = λ i h. all-at 8 i (listedAt b) (s .1) h;
     }
 
--- what a desk's table obeys: the rules, eight slots, and the lengths that the types of the names and of the parameters say
+-- what a desk's table obeys: the rules, eight slots, and the lengths that the types of the names, of the parameters and of the bad blocks say
 pub record Good (b : Table) (store : ℕ) : Type 0 where
   pub sound : isSound b store ≡ true
   pub eight : length (b .drives) ≡ 8
   pub marks : length (b .present) ≡ 8
   pub bytes : length (b .parameters) ≡ 112
+  pub counts : length (b .counts) ≡ 8
+  pub lists : length (b .bad) ≡ 1024
   pub arrays : (i : ℕ) → i < b .count → Arrays (getD (b .drives) i noDrive)
 
 pub good-obeys : (b : Table) (store i : ℕ) → isSound b store ≡ true → i < b .count → Obeys (getD (b .drives) i noDrive) store
@@ -101,10 +110,13 @@ pub record So (store : ℕ) (b : Table) : Type 0 where
   pub eight : length (b .drives) ≡ 8
   pub marks : length (b .present) ≡ 8
   pub bytes : length (b .parameters) ≡ 112
+  pub counts : length (b .counts) ≡ 8
+  pub lists : length (b .bad) ≡ 1024
   pub sound : soundTo (b .count) (b .drives) store ≡ true
   pub blank : (i : ℕ) → b .count ≤ i → i < 8 → getD (b .drives) i noDrive ≡ zeroDrive
   pub arrays : (i : ℕ) → i < b .count → Arrays (getD (b .drives) i noDrive)
   pub attached : (i : ℕ) → i < 8 → attachedAt b i ≡ true
+  pub listed : (i : ℕ) → i < 8 → listedAt b i ≡ true
 
 pub so-empty : (store : ℕ) → So store emptyTable
 unfolding soundTo
@@ -114,12 +126,15 @@ so-empty store =
       eight = refl;
       marks = refl;
       bytes = refl;
+      counts = refl;
+      lists = refl;
       sound = refl;
       blank = λ i l h. getD-replicate 8 i zeroDrive noDrive h;
       arrays = λ i h. absurd (omega arith);
       attached = λ i h.
           attached-intro emptyTable i (λ e. true≢false (hasParameters emptyTable i) e (getD-replicate 8 i false false h))
           (λ e j l. getD-replicate 112 (14 * i + j) 0 0 (omega arith));
+      listed = λ i h. rw (bads-empty i h) (badsOk-noBads (getD (emptyTable .drives) i noDrive .blocks));
     }
 
 pub so-more : (store : ℕ) (b : Table) (d : Drive) → So store b → Arrays d → refusal (b .count) (b .drives) d store ≡ 0 → So store (more b d)
@@ -134,6 +149,8 @@ so-more store b d s a z =
       eight = length-set (b .drives) (b .count) d ∙ s .eight;
       marks = s .marks;
       bytes = s .bytes;
+      counts = s .counts;
+      lists = s .lists;
       sound = rw add-one (both-intro
           (eqb (refusal (b .count) (set (b .drives) (b .count) d) (getD (set (b .drives) (b .count) d) (b .count) noDrive) store) 0)
           (soundTo (b .count) (set (b .drives) (b .count) d) store)
@@ -142,7 +159,36 @@ so-more store b d s a z =
       blank = λ i l h. other i (λ x. omega arith) ∙ s .blank i (omega arith) h;
       arrays = each-more Arrays b d (s .eight) room (s .arrays) a;
       attached = λ i h. attached-intro (more b d) i (λ e. omega (arith, attached-drive b i (s .attached i h) e)) (λ e. attached-zero b i (s .attached i h) e);
+      listed = λ i h. at i h (ℕ-discrete i (b .count));
     }
+  where
+    at : (i : ℕ) → i < 8 → Dec (i ≡ b .count) → listedAt (more b d) i ≡ true
+    at i h (yes x) =
+        let none : badsAt b i ≡ noBads = listed-none b i (s .lists) h (ap (λ (e : Drive). e .blocks) (s .blank i (omega arith) h)) (s .listed i h) in
+        rw none (badsOk-noBads (getD (set (b .drives) (b .count) d) i noDrive .blocks))
+    at i h (no x) = rw (getD-set-other (b .drives) (b .count) i d noDrive x) (s .listed i h)
+
+pub so-bads : (store : ℕ) (b : Table) (i : ℕ) (l : Bads) → So store b → Listed l → badsRefusal b i l ≡ 0 → So store (withBads b i l)
+so-bads store b i l s g z =
+    record {
+      most = s .most;
+      eight = s .eight;
+      marks = s .marks;
+      bytes = s .bytes;
+      counts = length-set (b .counts) i (l .count) ∙ s .counts;
+      lists = length-sets (b .bad) (128 * i) (l .list) ∙ s .lists;
+      sound = s .sound;
+      blank = s .blank;
+      arrays = s .arrays;
+      attached = s .attached;
+      listed = λ k h. at k h (ℕ-discrete k i);
+    }
+  where
+    at : (k : ℕ) → k < 8 → Dec (k ≡ i) → listedAt (withBads b i l) k ≡ true
+    at k h (yes x) =
+        let r = bads-room b i l z in
+        rw (x, bads-same b i l (g .long) (s .counts) (s .lists) (r .slot)) (badsOk-intro l (getD (b .drives) i noDrive .blocks) (g .few) (r .good) (g .zeros))
+    at k h (no x) = rw (bads-other b i l (g .long) k x) (s .listed k h)
 
 pub so-attach : (store : ℕ) (b : Table) (i : ℕ) (p : List ℕ) → So store b → length p ≡ 14 → parametersRefusal b i ≡ 0 → So store (withParameters b i p)
 so-attach store b i p s n z =
@@ -152,10 +198,13 @@ so-attach store b i p s n z =
       eight = s .eight;
       marks = length-set (b .present) i true ∙ s .marks;
       bytes = length-sets (b .parameters) (14 * i) p ∙ s .bytes;
+      counts = s .counts;
+      lists = s .lists;
       sound = s .sound;
       blank = s .blank;
       arrays = s .arrays;
       attached = λ k h. at k h (ℕ-discrete k i);
+      listed = s .listed;
     }
   where
     at : (k : ℕ) → k < 8 → Dec (k ≡ i) → attachedAt (withParameters b i p) k ≡ true
@@ -173,13 +222,16 @@ unfolding isBlank blankNumbers blankNames same
 blank-zero = refl
 
 pub so-good : (store : ℕ) (b : Table) → So store b → Good b store
-unfolding isSound blankTo attachedTo
+unfolding isSound blankTo attachedTo listedTo
 so-good store b s =
     record {
-      sound = both-intro _ _ (le-leb _ _ (s .most)) (both-intro _ _ (s .sound) (both-intro _ _ (all-intro 8 (blankAt (b .drives) (b .count)) at) (all-intro 8 (attachedAt b) (s .attached))));
+      sound = both-intro _ _ (le-leb _ _ (s .most)) (both-intro _ _ (s .sound) (both-intro _ _ (all-intro 8 (blankAt (b .drives) (b .count)) at)
+          (both-intro _ _ (all-intro 8 (attachedAt b) (s .attached)) (all-intro 8 (listedAt b) (s .listed)))));
       eight = s .eight;
       marks = s .marks;
       bytes = s .bytes;
+      counts = s .counts;
+      lists = s .lists;
       arrays = s .arrays;
     }
   where
@@ -196,6 +248,9 @@ unfolding readTable
 read-so t store =
     let r = read-keeps (λ at. So store) t store
     (λ at b s h z. so-more store b (driveOf (part 68 t at)) s (arrays-drive (part 68 t at) (length-whole t at 1 68 h)) z)
+    (λ at n b s h z.
+    let w = bads-whole t at 3 n h refl in
+    so-bads store b (numberIn (part n t at)) (badsIn (part n t at)) s (badsIn-listed (part n t at) (rw (w .0) (w .4))) z)
     (λ at b s h z. so-attach store b (numberIn (part 20 t at)) (parametersIn (part 20 t at)) s (length-parametersIn (part 20 t at) (omega (arith, length-whole t at 4 20 h))) z)
     mostRecords 0 emptyTable (so-empty store) in
     r .1 .0

@@ -3,7 +3,7 @@
 use mathlib.Core.Path.{_≡_, refl, sym, ap, _∙_}
 use mathlib.Core.Logic.{_⊎_, inl, inr, ⊎-elim}
 use mathlib.Core.Bool.{Bool, true, false, not}
-use mathlib.Core.List.{List, [], _∷_, _++_, append-nil}
+use mathlib.Core.List.{List, [], _∷_, _++_, append-nil, append-assoc}
 use Prim.Native.Nat.{ℕ, zero, suc, _+_, _-_, _*_, _≤_, _<_, min}
 use native.Mathlib.Nat.{zero-add, add-assoc}
 use native.Mathlib.Numerals.{add-one, sub-one}
@@ -13,13 +13,16 @@ use lib.Seq.{sets, length-sets, length-take-le, getD-take, getD-drop}
 use lib.Dec.{ltb, leb, eqb}
 use borrow.Author.Tests.{leb-false, lt-leb, ltb-true, ltb-false, lt-ltb, le-ltb, eq-eqb, ne-eqb, eqb-true, eqb-false}
 use Rattle.logic.specs.Logic.{pick, both, either}
-use Rattle.logic.proofs.LogicLaws.{impossible, both-true, either-true, lt-or-le}
+use Rattle.logic.proofs.LogicLaws.{impossible, both-true, both-assoc, either-true, lt-or-le, pick-cases}
 use Rattle.words.specs.Words.{le, leBytes, part}
 use Rattle.words.proofs.WordsLaws.{sets-append, sets-front, length-leBytes, le-ext}
 use Rattle.drive.specs.declared.Drive.{Drive}
 use Rattle.drive.specs.Drive.{driveOf, recordOf, fieldsOk, inStore}
 use Rattle.attached.specs.Parameters.{numberIn, parametersIn, parametersRecord}
+use Rattle.attached.specs.declared.Bads.{Bads}
+use Rattle.attached.specs.Bad.{badLength, badLengthOk, badsIn, heldOf, badRecord, listOk}
 use Rattle.attached.proofs.AttachedLaws.{length-parametersRecord}
+use Rattle.attached.proofs.BadLaws.{held-most, badLengthOk-least, badLengthOk-most, length-badRecord}
 use Rattle.table.specs.declared.Table.{Table}
 use Rattle.table.specs.declared.Header.{Header}
 use Rattle.table.specs.declared.Header.the-variants.{Whole, Bad}
@@ -32,7 +35,7 @@ use Rattle.table.specs.declared.Answer.the-variants.{Accepted, Refused a
 use Rattle.table.specs.declared.Reading.{Reading}
 use Rattle.table.specs.declared.Written.{Written}
 use Rattle.table.specs.declared.Written.the-variants.{Bytes, Refused as WriteRefused}
-use Rattle.table.specs.Table.{emptyTable, mostRecords, badField, pastStore, overlapping, isKind, lengthOk, headerOf, headerAt, cutHeader, isUnfinished, overlapsAny, refusal, noDrive, more, hasParameters, parametersAt, parametersRefusal, withParameters, stepped, recordRefusal, withRecord, recordStep, endStep, stepOf, stepAt, placeAfter, advanced, Advances, begun, reading, goOn, stepNumbers, answerNumbers, writtenNumbers, takenNumbers, wholeNumbers, recordNumbers, onward, numbersFrom, tableNumbers, writeNumbers, readTable, Reads, readFrom, slotBytes, slotRecords, recordsOf, endRecord, bytesOf, drivesOf, nextPlace, tableOf, writeAnswer, writeOut}
+use Rattle.table.specs.Table.{emptyTable, mostRecords, badField, pastStore, overlapping, isKind, lengthOk, headerOf, headerAt, cutHeader, isUnfinished, overlapsAny, refusal, noDrive, more, hasParameters, parametersAt, parametersRefusal, withParameters, badsAt, hasBads, badsRefusal, withBads, stepped, recordRefusal, withRecord, recordStep, endStep, stepOf, stepAt, placeAfter, advanced, Advances, begun, reading, goOn, stepNumbers, answerNumbers, writtenNumbers, takenNumbers, wholeNumbers, recordNumbers, onward, numbersFrom, tableNumbers, writeNumbers, readTable, Reads, readFrom, badsRecord, slotBytes, slotRecords, recordsOf, endRecord, bytesOf, drivesOf, nextPlace, tableOf, writeAnswer, writeOut}
 
 -- ---- the header
 
@@ -94,25 +97,44 @@ lengthOk-zero size = by-test (eqb size 4)
     by-test true = refl
     by-test false = refl
 
+pub lengthOk-three : (size : ℕ) → badLengthOk size ≡ lengthOk 3 size
+lengthOk-three size = by-test (badLengthOk size)
+  where
+    by-test : (x : Bool) → x ≡ either x false
+    by-test true = refl
+    by-test false = refl
+
 -- the kinds with their lengths
-pub lengthOk-cases : (k n : ℕ) → lengthOk k n ≡ true → ((k ≡ 0) × (n ≡ 4)) ⊎ (((k ≡ 1) × (n ≡ 68)) ⊎ ((k ≡ 4) × (n ≡ 20)))
+pub lengthOk-cases : (k n : ℕ) → lengthOk k n ≡ true
+    → ((k ≡ 0) × (n ≡ 4)) ⊎ (((k ≡ 1) × (n ≡ 68)) ⊎ (((k ≡ 3) × (badLengthOk n ≡ true)) ⊎ ((k ≡ 4) × (n ≡ 20))))
 lengthOk-cases k n h =
+    let last : Bool = both (eqb k 4) (eqb n 20) in
+    let third : Bool = either (both (eqb k 3) (badLengthOk n)) last in
     ⊎-elim (λ x. inl (of 0 4 x))
-    (λ y. inr (⊎-elim (λ x. inl (of 1 68 x)) (λ x. inr (of 4 20 x)) (either-true (both (eqb k 1) (eqb n 68)) (both (eqb k 4) (eqb n 20)) y)))
-    (either-true (both (eqb k 0) (eqb n 4)) (either (both (eqb k 1) (eqb n 68)) (both (eqb k 4) (eqb n 20))) h)
+    (λ y. inr (⊎-elim (λ x. inl (of 1 68 x))
+    (λ z. inr (⊎-elim (λ x. inl (listed x)) (λ x. inr (of 4 20 x)) (either-true (both (eqb k 3) (badLengthOk n)) last z)))
+    (either-true (both (eqb k 1) (eqb n 68)) third y)))
+    (either-true (both (eqb k 0) (eqb n 4)) (either (both (eqb k 1) (eqb n 68)) third) h)
   where
     of : (kind size : ℕ) → both (eqb k kind) (eqb n size) ≡ true → (k ≡ kind) × (n ≡ size)
     of kind size x = let p = both-true (eqb k kind) (eqb n size) x in (eqb-true k kind (p .0), eqb-true n size (p .1))
 
+    listed : both (eqb k 3) (badLengthOk n) ≡ true → (k ≡ 3) × (badLengthOk n ≡ true)
+    listed x = let p = both-true (eqb k 3) (badLengthOk n) x in (eqb-true k 3 (p .0), p .1)
+
 pub lengthOk-end : (k n : ℕ) → lengthOk k n ≡ true → k ≡ 0 → n ≡ 4
-lengthOk-end k n h e = ⊎-elim (λ x. x .1) (λ y. ⊎-elim (λ x. absurd (omega (arith, x .0))) (λ x. absurd (omega (arith, x .0))) y) (lengthOk-cases k n h)
+lengthOk-end k n h e = eqb-true n 4 (lengthOk-zero n ∙ rw e at h)
 
 pub lengthOk-drive : (k n : ℕ) → lengthOk k n ≡ true → k ≡ 1 → n ≡ 68
-lengthOk-drive k n h e = ⊎-elim (λ x. absurd (omega (arith, x .0))) (λ y. ⊎-elim (λ x. x .1) (λ x. absurd (omega (arith, x .0))) y) (lengthOk-cases k n h)
+lengthOk-drive k n h e = eqb-true n 68 (lengthOk-one n ∙ rw e at h)
 
--- a kind that neither ends the table nor is a drive's is that of parameters
-pub lengthOk-parameters : (k n : ℕ) → lengthOk k n ≡ true → (k ≡ 0 → ⊥) → (k ≡ 1 → ⊥) → (k ≡ 4) × (n ≡ 20)
-lengthOk-parameters k n h e f = ⊎-elim (λ x. absurd (e (x .0))) (λ y. ⊎-elim (λ x. absurd (f (x .0))) (λ x. x) y) (lengthOk-cases k n h)
+pub lengthOk-bad : (k n : ℕ) → lengthOk k n ≡ true → k ≡ 3 → badLengthOk n ≡ true
+lengthOk-bad k n h e = lengthOk-three n ∙ rw e at h
+
+-- a kind that neither ends the table nor is a drive's or that of bad blocks is that of parameters
+pub lengthOk-parameters : (k n : ℕ) → lengthOk k n ≡ true → (k ≡ 0 → ⊥) → (k ≡ 1 → ⊥) → (k ≡ 3 → ⊥) → (k ≡ 4) × (n ≡ 20)
+lengthOk-parameters k n h e f g =
+    ⊎-elim (λ x. absurd (e (x .0))) (λ y. ⊎-elim (λ x. absurd (f (x .0))) (λ z. ⊎-elim (λ x. absurd (g (x .0))) (λ x. x) z) y) (lengthOk-cases k n h)
 
 -- the bytes of a whole record of a length
 size-whole : (t : List ℕ) (at k n m : ℕ) → headerAt t at ≡ Whole k n → n ≡ m → (length (part n t at) ≡ m) × (at + m ≤ length t)
@@ -121,13 +143,29 @@ size-whole t at k n m h e = let w = whole-at t at k n h in (length-whole t at k 
 pub drive-whole : (t : List ℕ) (at k n : ℕ) → headerAt t at ≡ Whole k n → k ≡ 1 → (length (part n t at) ≡ 68) × (at + 68 ≤ length t)
 drive-whole t at k n h e = size-whole t at k n 68 h (lengthOk-drive k n (whole-at t at k n h .right) e)
 
-pub parameters-whole : (t : List ℕ) (at k n : ℕ) → headerAt t at ≡ Whole k n → (k ≡ 0 → ⊥) → (k ≡ 1 → ⊥) → (length (part n t at) ≡ 20) × (at + 20 ≤ length t)
-parameters-whole t at k n h e f = size-whole t at k n 20 h (lengthOk-parameters k n (whole-at t at k n h .right) e f .1)
+pub bads-whole : (t : List ℕ) (at k n : ℕ) → headerAt t at ≡ Whole k n → k ≡ 3
+    → (length (part n t at) ≡ n) × (14 ≤ n) × (n ≤ 134) × (at + n ≤ length t) × (badLengthOk n ≡ true)
+bads-whole t at k n h e =
+    let w = whole-at t at k n h in
+    let g : badLengthOk n ≡ true = lengthOk-bad k n (w .right) e in
+    (length-whole t at k n h, badLengthOk-least n g, badLengthOk-most n g, omega (arith, w .whole, w .header), g)
 
--- no record is longer than a drive's
-pub lengthOk-most : (k n : ℕ) → lengthOk k n ≡ true → n ≤ 68
+pub parameters-whole : (t : List ℕ) (at k n : ℕ) → headerAt t at ≡ Whole k n → (k ≡ 0 → ⊥) → (k ≡ 1 → ⊥) → (k ≡ 3 → ⊥)
+    → (length (part n t at) ≡ 20) × (at + 20 ≤ length t)
+parameters-whole t at k n h e f g = size-whole t at k n 20 h (lengthOk-parameters k n (whole-at t at k n h .right) e f g .1)
+
+-- a record that neither ends the table nor is a drive's has a number
+pub attached-least : (t : List ℕ) (at k n : ℕ) → headerAt t at ≡ Whole k n → (k ≡ 0 → ⊥) → (k ≡ 1 → ⊥) → 6 ≤ n
+attached-least t at k n h e f =
+    ⊎-elim (λ x. absurd (e (x .0)))
+    (λ y. ⊎-elim (λ x. absurd (f (x .0))) (λ z. ⊎-elim (λ x. omega (arith, badLengthOk-least n (x .1))) (λ x. omega (arith, x .1)) z) y)
+    (lengthOk-cases k n (whole-at t at k n h .right))
+
+-- no record is longer than one of sixteen bad blocks
+pub lengthOk-most : (k n : ℕ) → lengthOk k n ≡ true → n ≤ 134
 lengthOk-most k n h =
-    ⊎-elim (λ x. omega (arith, x .1)) (λ y. ⊎-elim (λ x. omega (arith, x .1)) (λ x. omega (arith, x .1)) y) (lengthOk-cases k n h)
+    ⊎-elim (λ x. omega (arith, x .1))
+    (λ y. ⊎-elim (λ x. omega (arith, x .1)) (λ z. ⊎-elim (λ x. badLengthOk-most n (x .1)) (λ x. omega (arith, x .1)) z) y) (lengthOk-cases k n h)
 
 -- a word of a part is the word
 pub le-part : (k n : ℕ) (s : List ℕ) (at i : ℕ) → i + k ≤ n → le k (part n s at) i ≡ le k s (at + i)
@@ -179,6 +217,10 @@ pub parameters-taken : (b : Table) (i : ℕ) → i < 8 → i + 1 ≡ b .count �
 unfolding parametersRefusal
 parameters-taken b i h e m = rw (lt-ltb i 8 h, eq-eqb (i + 1) (b .count) e, m)
 
+-- a slot that a record names, as the code tested it
+pub slot-named : {a : Bool} (i : ℕ) (x : Bool) → a ≡ both (ltb i 8) x → a ≡ true → i < 8
+slot-named i x e z = ltb-true i 8 (both-true (ltb i 8) x (sym e ∙ z) .0)
+
 -- the refusal from what the code tested
 parameters-is : {a : Bool} (b : Table) (i : ℕ) → a ≡ both (ltb i 8) (both (eqb (i + 1) (b .count)) (not (hasParameters b i))) → pick a 0 9 ≡ parametersRefusal b i
 unfolding parametersRefusal
@@ -189,6 +231,62 @@ parameters-none b i e z = rw z at (parameters-is b i e)
 
 pub parameters-nine : {a : Bool} (b : Table) (i : ℕ) → a ≡ both (ltb i 8) (both (eqb (i + 1) (b .count)) (not (hasParameters b i))) → a ≡ false → 9 ≡ parametersRefusal b i
 parameters-nine b i e z = rw z at (parameters-is b i e)
+
+-- ---- a drive's bad blocks among the drives before them
+
+-- what those that are taken are: of the last drive, which has neither bad blocks nor parameters, and a list of its blocks
+pub record BadsRoom (b : Table) (i : ℕ) (l : Bads) : Type 0 where
+  pub slot : i < 8
+  pub last : i + 1 ≡ b .count
+  pub none : getD (b .counts) i 0 ≡ 0
+  pub bare : hasParameters b i ≡ false
+  pub good : listOk l (getD (b .drives) i noDrive .blocks) ≡ true
+
+pub bads-room : (b : Table) (i : ℕ) (l : Bads) → badsRefusal b i l ≡ 0 → BadsRoom b i l
+unfolding badsRefusal
+bads-room b i l h =
+    by-tests (ltb i 8) (eqb (i + 1) (b .count)) (eqb (getD (b .counts) i 0) 0) (hasParameters b i) (listOk l (getD (b .drives) i noDrive .blocks)) refl refl refl refl refl h
+  where
+    by-tests : (x y u v g : Bool) → ltb i 8 ≡ x → eqb (i + 1) (b .count) ≡ y → eqb (getD (b .counts) i 0) 0 ≡ u → hasParameters b i ≡ v
+        → listOk l (getD (b .drives) i noDrive .blocks) ≡ g → _≡_ {A = ℕ} (pick (both x (both y (not (either (not u) v)))) (pick g 0 5) 9) 0 → BadsRoom b i l
+    by-tests false y u v g p q r s o e = absurd (omega arith)
+    by-tests true false u v g p q r s o e = absurd (omega arith)
+    by-tests true true false v g p q r s o e = absurd (omega arith)
+    by-tests true true true true g p q r s o e = absurd (omega arith)
+    by-tests true true true false false p q r s o e = absurd (omega arith)
+    by-tests true true true false true p q r s o e =
+        record { slot = ltb-true i 8 p; last = eqb-true (i + 1) (b .count) q; none = eqb-true (getD (b .counts) i 0) 0 r; bare = s; good = o }
+
+pub bads-none : (b : Table) (i : ℕ) (l : Bads) → BadsRoom b i l → badsRefusal b i l ≡ 0
+unfolding badsRefusal
+bads-none b i l r = rw (lt-ltb i 8 (r .slot), eq-eqb (i + 1) (b .count) (r .last), r .none, r .bare, r .good)
+
+-- the refusal from what the code tested: not the last drive or one with parameters, and else one with bad blocks or the list
+pub bads-nine : {a : Bool} (b : Table) (i : ℕ) (l : Bads) → a ≡ both (ltb i 8) (both (eqb (i + 1) (b .count)) (not (hasParameters b i))) → a ≡ false → 9 ≡ badsRefusal b i l
+unfolding badsRefusal
+bads-nine b i l e z =
+    let g : ℕ = pick (listOk l (getD (b .drives) i noDrive .blocks)) 0 5 in
+    by-tests (ltb i 8) (eqb (i + 1) (b .count)) (hasBads b i) (hasParameters b i) g (sym e ∙ z)
+  where
+    by-tests : (x y u v : Bool) (g : ℕ) → both x (both y (not v)) ≡ false → 9 ≡ pick (both x (both y (not (either u v)))) g 9
+    by-tests false y u v g q = refl
+    by-tests true false u v g q = refl
+    by-tests true true true v g q = refl
+    by-tests true true false true g q = refl
+    by-tests true true false false g q = impossible (cc)
+
+pub bads-named : {a : Bool} (b : Table) (i : ℕ) (l : Bads) → a ≡ both (ltb i 8) (both (eqb (i + 1) (b .count)) (not (hasParameters b i))) → a ≡ true
+    → pick (eqb (getD (b .counts) i 0) 0) (pick (listOk l (getD (b .drives) i noDrive .blocks)) 0 5) 9 ≡ badsRefusal b i l
+unfolding badsRefusal
+bads-named b i l e z =
+    let t = both-true (ltb i 8) (both (eqb (i + 1) (b .count)) (not (hasParameters b i))) (sym e ∙ z) in
+    let u = both-true (eqb (i + 1) (b .count)) (not (hasParameters b i)) (t .1) in
+    rw (t .0, u .0) (by-tests (eqb (getD (b .counts) i 0) 0) (hasParameters b i) (pick (listOk l (getD (b .drives) i noDrive .blocks)) 0 5) (u .1))
+  where
+    by-tests : (u v : Bool) (g : ℕ) → not v ≡ true → pick u g 9 ≡ pick (not (either (not u) v)) g 9
+    by-tests true true g q = impossible (cc)
+    by-tests true false g q = refl
+    by-tests false v g q = refl
 
 -- ---- a step, by cases
 
@@ -223,6 +321,17 @@ pub parameters-refused : {i n : ℕ} (r : List ℕ) (at : ℕ) (b : Table) (stor
     → stepped (Refused n at) b ≡ recordStep 4 20 r b at store
 unfolding recordRefusal
 parameters-refused r at b store e q z = recordStep-refused 4 20 r b at store (rw (← e) q) z
+
+-- and of a record of bad blocks
+pub bads-next : {i n : ℕ} {l : Bads} {p : Table} (r : List ℕ) (at : ℕ) (b : Table) (store : ℕ) → i ≡ numberIn r → l ≡ badsIn r → n ≡ badsRefusal b i l → n ≡ 0
+    → p ≡ withBads b i l → stepped (Next (at + length r)) p ≡ recordStep 3 (length r) r b at store
+unfolding recordRefusal withRecord
+bads-next r at b store e y q z p = rw (p, e, y) (recordStep-next 3 (length r) r b at store (rw (← e, ← y) q) z)
+
+pub bads-refused : {i n : ℕ} {l : Bads} (r : List ℕ) (at : ℕ) (b : Table) (store : ℕ) → i ≡ numberIn r → l ≡ badsIn r → n ≡ badsRefusal b i l → (n ≡ 0 → ⊥)
+    → stepped (Refused n at) b ≡ recordStep 3 (length r) r b at store
+unfolding recordRefusal
+bads-refused r at b store e y q z = recordStep-refused 3 (length r) r b at store (rw (← e, ← y) q) z
 
 pub endStep-byte : (t : List ℕ) (at : ℕ) (b : Table) → at + 4 < length t → stepped (Refused 8 (at + 4)) b ≡ endStep t at b
 unfolding endStep
@@ -260,10 +369,15 @@ stepAt-drive t at k n b store h e =
     let l = lengthOk-drive k n (whole-at t at k n h .right) e in
     (λ i. recordStep (sym e i) (sym l i) (part n t at) b at store) ∙ stepAt-record t at k n b store h (λ z. omega arith)
 
-pub stepAt-parameters : (t : List ℕ) (at k n : ℕ) (b : Table) (store : ℕ) → headerAt t at ≡ Whole k n → (k ≡ 0 → ⊥) → (k ≡ 1 → ⊥)
+pub stepAt-bads : (t : List ℕ) (at k n : ℕ) (b : Table) (store : ℕ) → headerAt t at ≡ Whole k n → k ≡ 3
+    → recordStep 3 n (part n t at) b at store ≡ stepAt t at b store
+stepAt-bads t at k n b store h e =
+    (λ i. recordStep (sym e i) n (part n t at) b at store) ∙ stepAt-record t at k n b store h (λ z. omega arith)
+
+pub stepAt-parameters : (t : List ℕ) (at k n : ℕ) (b : Table) (store : ℕ) → headerAt t at ≡ Whole k n → (k ≡ 0 → ⊥) → (k ≡ 1 → ⊥) → (k ≡ 3 → ⊥)
     → recordStep 4 20 (part n t at) b at store ≡ stepAt t at b store
-stepAt-parameters t at k n b store h e f =
-    let l = lengthOk-parameters k n (whole-at t at k n h .right) e f in
+stepAt-parameters t at k n b store h e f g =
+    let l = lengthOk-parameters k n (whole-at t at k n h .right) e f g in
     (λ i. recordStep (sym (l .0) i) (sym (l .1) i) (part n t at) b at store) ∙ stepAt-record t at k n b store h e
 
 -- a whole record that is taken, by what it says
@@ -277,7 +391,14 @@ pub attach-taken : (t : List ℕ) (at : ℕ) (b : Table) (store i : ℕ) (p : Li
     → parametersRefusal b i ≡ 0 → stepped (Next (at + 20)) (withParameters b i p) ≡ stepAt t at b store
 attach-taken t at b store i p h e q z =
     let l = length-whole t at 4 20 h in
-    rw l at (parameters-next (part 20 t at) at b store l (sym e) (sym q) refl z refl) ∙ stepAt-parameters t at 4 20 b store h (λ x. omega arith) (λ x. omega arith)
+    rw l at (parameters-next (part 20 t at) at b store l (sym e) (sym q) refl z refl)
+    ∙ stepAt-parameters t at 4 20 b store h (λ x. omega arith) (λ x. omega arith) (λ x. omega arith)
+
+pub bads-taken : (t : List ℕ) (at n : ℕ) (b : Table) (store i : ℕ) (l : Bads) → headerAt t at ≡ Whole 3 n → numberIn (part n t at) ≡ i → badsIn (part n t at) ≡ l
+    → badsRefusal b i l ≡ 0 → stepped (Next (at + n)) (withBads b i l) ≡ stepAt t at b store
+bads-taken t at n b store i l h e q z =
+    let w = length-whole t at 3 n h in
+    rw w at (bads-next (part n t at) at b store (sym e) (sym q) refl z refl) ∙ stepAt-bads t at 3 n b store h refl
 
 -- what the step of a record that is not the end record can be
 record-cases : (P : Stepped → Type 0) (kind size : ℕ) (r : List ℕ) (b : Table) (at store : ℕ) → P (stepped (Refused (recordRefusal kind r b store) at) b)
@@ -288,37 +409,42 @@ record-cases P kind size r b at store refuse next = by-refusal (eqb (recordRefus
     by-refusal true e = let z = eqb-true _ _ e in rw (← recordStep-next kind size r b at store refl z) (next z)
     by-refusal false e = rw (← recordStep-refused kind size r b at store refl (eqb-false _ _ e)) refuse
 
--- what a step can be: a refusal, the end record with nothing after it, one more drive, or parameters for the last one
+-- what a step can be: a refusal, the end record with nothing after it, one more drive, or bad blocks or parameters for the last one
 pub stepAt-cases : (P : Stepped → Type 0) (t : List ℕ) (at : ℕ) (b : Table) (store : ℕ)
     → ((n p : ℕ) → P (stepped (Refused n p) b))
     → (headerAt t at ≡ Whole 0 4 → length t ≤ at + 4 → P (stepped Done b))
     → (headerAt t at ≡ Whole 1 68 → refusal (b .count) (b .drives) (driveOf (part 68 t at)) store ≡ 0 → P (stepped (Next (at + 68)) (more b (driveOf (part 68 t at)))))
+    → ((n : ℕ) → headerAt t at ≡ Whole 3 n → badsRefusal b (numberIn (part n t at)) (badsIn (part n t at)) ≡ 0
+    → P (stepped (Next (at + n)) (withBads b (numberIn (part n t at)) (badsIn (part n t at)))))
     → (headerAt t at ≡ Whole 4 20 → parametersRefusal b (numberIn (part 20 t at)) ≡ 0
     → P (stepped (Next (at + 20)) (withParameters b (numberIn (part 20 t at)) (parametersIn (part 20 t at)))))
     → P (stepAt t at b store)
 unfolding recordRefusal withRecord
-stepAt-cases P t at b store refuse finish next attach = by-header (headerAt t at) refl
+stepAt-cases P t at b store refuse finish next list attach = by-header (headerAt t at) refl
   where
     by-byte : headerAt t at ≡ Whole 0 4 → (x : Bool) → ltb (at + 4) (length t) ≡ x → P (endStep t at b)
     by-byte h true e = rw (← endStep-byte t at b (ltb-true (at + 4) (length t) e)) (refuse 8 (at + 4))
     by-byte h false e = let l = ltb-false (at + 4) (length t) e in rw (← endStep-done t at b l) (finish h l)
 
-    by-kind : (k n : ℕ) → headerAt t at ≡ Whole k n → (x y : Bool) → eqb k 0 ≡ x → eqb k 1 ≡ y → P (stepAt t at b store)
-    by-kind k n h true y e f =
+    by-kind : (k n : ℕ) → headerAt t at ≡ Whole k n → (x y z : Bool) → eqb k 0 ≡ x → eqb k 1 ≡ y → eqb k 3 ≡ z → P (stepAt t at b store)
+    by-kind k n h true y u e f g =
         let z = eqb-true k 0 e in
         let l = lengthOk-end k n (whole-at t at k n h .right) z in
         rw (← stepAt-end t at k n b store h z) (by-byte (rw (z, l) at h) (ltb (at + 4) (length t)) refl)
-    by-kind k n h false true e f =
+    by-kind k n h false true u e f g =
         let z = eqb-true k 1 f in
         let l = lengthOk-drive k n (whole-at t at k n h .right) z in
         rw (← stepAt-record t at k n b store h (eqb-false k 0 e), z, l) (record-cases P 1 68 (part 68 t at) b at store (refuse _ at) (next (rw (z, l) at h)))
-    by-kind k n h false false e f =
-        let z = lengthOk-parameters k n (whole-at t at k n h .right) (eqb-false k 0 e) (eqb-false k 1 f) in
+    by-kind k n h false false true e f g =
+        let z = eqb-true k 3 g in
+        rw (← stepAt-record t at k n b store h (eqb-false k 0 e), z) (record-cases P 3 n (part n t at) b at store (refuse _ at) (list n (rw z at h)))
+    by-kind k n h false false false e f g =
+        let z = lengthOk-parameters k n (whole-at t at k n h .right) (eqb-false k 0 e) (eqb-false k 1 f) (eqb-false k 3 g) in
         rw (← stepAt-record t at k n b store h (eqb-false k 0 e), z .0, z .1) (record-cases P 4 20 (part 20 t at) b at store (refuse _ at) (attach (rw (z .0, z .1) at h)))
 
     by-header : (h : Header) → headerAt t at ≡ h → P (stepAt t at b store)
     by-header (Bad n) h = rw (← stepAt-bad t at n b store h) (refuse n at)
-    by-header (Whole k n) h = by-kind k n h (eqb k 0) (eqb k 1) refl refl
+    by-header (Whole k n) h = by-kind k n h (eqb k 0) (eqb k 1) (eqb k 3) refl refl refl
 
 -- ---- a step in numbers
 
@@ -331,14 +457,35 @@ taken-numbers {n} kind size r b at store e = by-test (eqb n 0) refl
     by-test true q = rw (e, q)
     by-test false q = rw (e, q)
 
+-- the refusals by word 4 of the record
+parameters-number : (b : Table) (i : ℕ) → parametersRefusal b i ≡ pick (both (both (ltb i 8) (eqb (i + 1) (b .count))) (not (hasParameters b i))) 0 9
+unfolding parametersRefusal
+parameters-number b i = rw (both-assoc (ltb i 8) (eqb (i + 1) (b .count)) (not (hasParameters b i)))
+
+bads-number : (b : Table) (i : ℕ) (l : Bads)
+    → badsRefusal b i l ≡ pick (both (both (ltb i 8) (eqb (i + 1) (b .count))) (both (eqb (getD (b .counts) i 0) 0) (not (hasParameters b i))))
+    (pick (listOk l (getD (b .drives) i noDrive .blocks)) 0 5) 9
+unfolding badsRefusal
+bads-number b i l =
+    ap (λ (x : Bool). pick x (pick (listOk l (getD (b .drives) i noDrive .blocks)) 0 5) 9)
+    (by-tests (ltb i 8) (eqb (i + 1) (b .count)) (eqb (getD (b .counts) i 0) 0) (hasParameters b i))
+  where
+    by-tests : (x y u v : Bool) → both x (both y (not (either (not u) v))) ≡ both (both x y) (both u (not v))
+    by-tests false y u v = refl
+    by-tests true false u v = refl
+    by-tests true true true v = refl
+    by-tests true true false v = refl
+
 -- a whole record, by its kind
 whole-numbers : (t : List ℕ) (at : ℕ) (b : Table) (store kind size : ℕ) → lengthOk kind size ≡ true
     → stepNumbers (stepOf (Whole kind size) t at b store .step) ≡ wholeNumbers t at b store kind size
-unfolding stepNumbers stepOf endStep recordRefusal parametersRefusal
+unfolding stepNumbers stepOf endStep recordRefusal
 whole-numbers t at b store kind size right =
     ⊎-elim (λ x. rw (x .0) (by-end (ltb (at + 4) (length t))))
     (λ y. ⊎-elim (λ x. rw (x .0, x .1) (taken-numbers 1 68 (part 68 t at) b at store refl))
-    (λ x. rw (x .0, x .1) (taken-numbers {n = parametersRefusal b (le 2 t (at + 4))} 4 20 (part 20 t at) b at store (ap (parametersRefusal b) (le-part 2 20 t at 4 (omega arith))))) y)
+    (λ z. ⊎-elim (λ x. rw (x .0) (taken-numbers 3 size (part size t at) b at store
+    (ap (λ (i : ℕ). badsRefusal b i (badsIn (part size t at))) (le-part 2 size t at 4 (omega (arith, badLengthOk-least size (x .1)))) ∙ bads-number b (le 2 t (at + 4)) (badsIn (part size t at)))))
+    (λ x. rw (x .0, x .1) (taken-numbers 4 20 (part 20 t at) b at store (ap (parametersRefusal b) (le-part 2 20 t at 4 (omega arith)) ∙ parameters-number b (le 2 t (at + 4))))) z) y)
     (lengthOk-cases kind size right)
   where
     by-end : (x : Bool) → stepNumbers (pick x (stepped (Refused 8 (at + 4)) b) (stepped Done b) .step) ≡ pick x (8 ∷ (at + 4) ∷ []) (0 ∷ [])
@@ -419,17 +566,20 @@ Kept I t r = (at : ℕ) × (I at (r .table) × (r .answer ≡ Accepted → (head
 
 pub read-keeps : (I : ℕ → Table → Type 0) (t : List ℕ) (store : ℕ)
     → ((at : ℕ) (b : Table) → I at b → headerAt t at ≡ Whole 1 68 → refusal (b .count) (b .drives) (driveOf (part 68 t at)) store ≡ 0 → I (at + 68) (more b (driveOf (part 68 t at))))
+    → ((at n : ℕ) (b : Table) → I at b → headerAt t at ≡ Whole 3 n → badsRefusal b (numberIn (part n t at)) (badsIn (part n t at)) ≡ 0
+    → I (at + n) (withBads b (numberIn (part n t at)) (badsIn (part n t at))))
     → ((at : ℕ) (b : Table) → I at b → headerAt t at ≡ Whole 4 20 → parametersRefusal b (numberIn (part 20 t at)) ≡ 0
     → I (at + 20) (withParameters b (numberIn (part 20 t at)) (parametersIn (part 20 t at))))
     → (k at : ℕ) (b : Table) → I at b → Kept I t (readFrom k t store at b)
 unfolding readFrom
-read-keeps I t store keep attach zero at b i = (at, (i, λ q. impossible (cc)))
-read-keeps I t store keep attach (suc k) at b i =
+read-keeps I t store keep list attach zero at b i = (at, (i, λ q. impossible (cc)))
+read-keeps I t store keep list attach (suc k) at b i =
     stepAt-cases (λ (s : Stepped). Kept I t (goOn (s .step) (s .table) (readFrom k t store))) t at b store
     (λ n p. (at, (i, λ q. impossible (cc))))
     (λ h l. (at, (i, λ q. (h, l))))
-    (λ h z. read-keeps I t store keep attach k (at + 68) (more b (driveOf (part 68 t at))) (keep at b i h z))
-    (λ h z. read-keeps I t store keep attach k (at + 20) (withParameters b (numberIn (part 20 t at)) (parametersIn (part 20 t at))) (attach at b i h z))
+    (λ h z. read-keeps I t store keep list attach k (at + 68) (more b (driveOf (part 68 t at))) (keep at b i h z))
+    (λ n h z. read-keeps I t store keep list attach k (at + n) (withBads b (numberIn (part n t at)) (badsIn (part n t at))) (list at n b i h z))
+    (λ h z. read-keeps I t store keep list attach k (at + 20) (withParameters b (numberIn (part 20 t at)) (parametersIn (part 20 t at))) (attach at b i h z))
 
 -- ---- the reading in numbers
 
@@ -512,12 +662,24 @@ unfolding recordsOf
 recordsOf-ext zero b c f = refl
 recordsOf-ext (suc n) b c f = rw (f n (omega arith), recordsOf-ext n b c (λ i h. f i (omega arith)))
 
--- the records of a slot, by whether it has parameters
-pub slot-without : (b : Table) (i : ℕ) → hasParameters b i ≡ false → slotRecords b i ≡ recordOf (getD (b .drives) i noDrive)
-slot-without b i e = rw e (append-nil (recordOf (getD (b .drives) i noDrive)))
+-- the record of bad blocks, by whether there are any
+pub badsRecord-none : (i : ℕ) (l : Bads) → l .count ≡ 0 → badsRecord i l ≡ []
+badsRecord-none i l e = rw (eq-eqb (l .count) 0 e)
 
-pub slot-with : (b : Table) (i : ℕ) → hasParameters b i ≡ true → slotRecords b i ≡ recordOf (getD (b .drives) i noDrive) ++ parametersRecord i (parametersAt b i)
-slot-with b i e = rw e
+pub badsRecord-some : (i : ℕ) (l : Bads) → (l .count ≡ 0 → ⊥) → badsRecord i l ≡ badRecord i l
+badsRecord-some i l e = rw (ne-eqb (l .count) 0 e)
+
+-- the records of a slot, by whether it has bad blocks and parameters
+pub slot-bads : (b : Table) (i : ℕ) → hasParameters b i ≡ false → slotRecords b i ≡ recordOf (getD (b .drives) i noDrive) ++ badsRecord i (badsAt b i)
+slot-bads b i e = rw e (ap (λ (x : List ℕ). recordOf (getD (b .drives) i noDrive) ++ x) (append-nil (badsRecord i (badsAt b i))))
+
+pub slot-bare : (b : Table) (i : ℕ) → getD (b .counts) i 0 ≡ 0 → hasParameters b i ≡ false → slotRecords b i ≡ recordOf (getD (b .drives) i noDrive)
+slot-bare b i z e =
+    slot-bads b i e ∙ ap (λ (x : List ℕ). recordOf (getD (b .drives) i noDrive) ++ x) (badsRecord-none i (badsAt b i) z) ∙ append-nil (recordOf (getD (b .drives) i noDrive))
+
+pub slot-parameters : (b : Table) (i : ℕ) → hasParameters b i ≡ true
+    → slotRecords b i ≡ (recordOf (getD (b .drives) i noDrive) ++ badsRecord i (badsAt b i)) ++ parametersRecord i (parametersAt b i)
+slot-parameters b i e = rw e (sym (append-assoc (recordOf (getD (b .drives) i noDrive)) (badsRecord i (badsAt b i)) (parametersRecord i (parametersAt b i))))
 
 pub length-slotPart : (l : List ℕ) (i : ℕ) → length l ≡ 112 → i < 8 → length (part 14 l (14 * i)) ≡ 14
 length-slotPart l i e h = length-take-le 14 (drop (14 * i) l) (rw length-drop (omega arith))
@@ -525,32 +687,81 @@ length-slotPart l i e h = length-take-le 14 (drop (14 * i) l) (rw length-drop (o
 pub length-parametersAt : (b : Table) (i : ℕ) → length (b .parameters) ≡ 112 → i < 8 → length (parametersAt b i) ≡ 14
 length-parametersAt b i l h = length-slotPart (b .parameters) i l h
 
-pub length-slot : (b : Table) (i : ℕ) → length (b .parameters) ≡ 112 → i < 8
-    → length (slotRecords b i) ≡ length (recordOf (getD (b .drives) i noDrive)) + pick (hasParameters b i) 20 0
-length-slot b i l h =
-    length-append (recordOf (getD (b .drives) i noDrive)) (pick (hasParameters b i) (parametersRecord i (parametersAt b i)) [])
-    ∙ ap (λ (n : ℕ). length (recordOf (getD (b .drives) i noDrive)) + n) (by-mark (hasParameters b i))
-  where
-    by-mark : (x : Bool) → length (pick x (parametersRecord i (parametersAt b i)) []) ≡ pick x 20 0
-    by-mark true = length-parametersRecord i (parametersAt b i) (length-parametersAt b i l h)
-    by-mark false = refl
+pub length-listPart : (l : List ℕ) (i : ℕ) → length l ≡ 1024 → i < 8 → length (part 128 l (128 * i)) ≡ 128
+length-listPart l i e h = length-take-le 128 (drop (128 * i) l) (rw length-drop (omega arith))
 
-pub length-slotBytes : (r : List ℕ) (d : Drive) (present : Bool) (i : ℕ) (p : List ℕ) → present ≡ true → length r ≡ length (parametersRecord i p)
-    → length (slotBytes d present i p) ≡ length (recordOf d) + length r
-length-slotBytes r d present i p e q = rw (e, q) (length-append (recordOf d) (parametersRecord i p))
+-- the lengths of what follows a drive's record
+pub length-badsRecord : (i : ℕ) (l : Bads) → length (l .list) ≡ 128 → length (badsRecord i l) ≡ pick (eqb (l .count) 0) 0 (badLength (heldOf (l .count)))
+length-badsRecord i l e = by-test (eqb (l .count) 0)
+  where
+    by-test : (x : Bool) → length (pick x [] (badRecord i l)) ≡ pick x 0 (badLength (heldOf (l .count)))
+    by-test true = refl
+    by-test false = length-badRecord i l e
+
+pub length-badsSome : (i : ℕ) (l : Bads) → (l .count ≡ 0 → ⊥) → length (l .list) ≡ 128 → length (badsRecord i l) ≡ badLength (heldOf (l .count))
+length-badsSome i l z e = ap length (badsRecord-some i l z) ∙ length-badRecord i l e
+
+pub length-parametersOf : (present : Bool) (i : ℕ) (p : List ℕ) → length p ≡ 14 → length (pick present (parametersRecord i p) []) ≡ pick present 20 0
+length-parametersOf true i p l = length-parametersRecord i p l
+length-parametersOf false i p l = refl
+
+pub length-slotBytes : (d : Drive) (l : Bads) (present : Bool) (i : ℕ) (p : List ℕ)
+    → length (slotBytes d l present i p) ≡ length (recordOf d) + (length (badsRecord i l) + length (pick present (parametersRecord i p) []))
+length-slotBytes d l present i p = simp length-append
+
+pub length-slot : (b : Table) (i : ℕ) → length (b .parameters) ≡ 112 → length (b .bad) ≡ 1024 → i < 8
+    → length (slotRecords b i)
+    ≡ length (recordOf (getD (b .drives) i noDrive)) + (pick (eqb (getD (b .counts) i 0) 0) 0 (badLength (heldOf (getD (b .counts) i 0))) + pick (hasParameters b i) 20 0)
+length-slot b i l m h =
+    length-slotBytes (getD (b .drives) i noDrive) (badsAt b i) (hasParameters b i) i (parametersAt b i)
+    ∙ rw (length-badsRecord i (badsAt b i) (length-listPart (b .bad) i m h), length-parametersOf (hasParameters b i) i (parametersAt b i) (length-parametersAt b i l h))
+
+-- which are not longer than those of sixteen bad blocks and parameters
+pub attached-most : (n : ℕ) (present : Bool) → _≤_ (pick (eqb n 0) 0 (badLength (heldOf n)) + pick present 20 0) 154
+attached-most n present =
+    pick-cases (λ (x : ℕ). x + pick present 20 0 ≤ 154) (eqb n 0) 0 (badLength (heldOf n))
+    (λ e. pick-cases (λ (x : ℕ). 0 + x ≤ 154) present 20 0 (λ f. omega arith) (λ f. omega arith))
+    (λ e. pick-cases (λ (x : ℕ). badLength (heldOf n) + x ≤ 154) present 20 0 (λ f. omega (arith, held-most n)) (λ f. omega (arith, held-most n)))
+
+-- the record of bad blocks laid from a place on, as the code lays it
+pub bads-unlaid : (l : Bads) (i : ℕ) (s : List ℕ) (at : ℕ) → l .count ≡ 0 → (s ≡ sets s at (badsRecord i l)) × (at ≡ at + length (badsRecord i l))
+bads-unlaid l i s at z = rw (badsRecord-none i l z) (refl, omega arith)
+
+pub bads-laid : {o : List ℕ} {n : ℕ} (l : Bads) (i : ℕ) (s : List ℕ) (at : ℕ) → (l .count ≡ 0 → ⊥) → length (l .list) ≡ 128
+    → o ≡ sets s at (badRecord i l) → n ≡ badLength (heldOf (l .count)) → (o ≡ sets s at (badsRecord i l)) × (at + n ≡ at + length (badsRecord i l))
+bads-laid l i s at z w e n = (e ∙ ap (sets s at) (sym (badsRecord-some i l z)), ap (λ (x : ℕ). at + x) (n ∙ sym (length-badsSome i l z w)))
+
+-- room for the records of a slot is room for the first of them, and for all
+pub slot-room : {r : List ℕ} {m : ℕ} (d : Drive) (l : Bads) (present : Bool) (i : ℕ) (p : List ℕ) (at : ℕ) → r ≡ recordOf d
+    → at + length (slotBytes d l present i p) ≤ m → at + length r + length (badsRecord i l) ≤ m
+slot-room d l present i p at e h = omega (arith, length-slotBytes d l present i p, ap length e)
+
+pub slot-room-both : {r : List ℕ} {m : ℕ} (d : Drive) (l : Bads) (present : Bool) (i : ℕ) (p : List ℕ) (at : ℕ) → present ≡ true → r ≡ parametersRecord i p
+    → at + length (slotBytes d l present i p) ≤ m → at + length (recordOf d) + length (badsRecord i l) + length r ≤ m
+slot-room-both d l present i p at t e h =
+    let x : length (pick present (parametersRecord i p) []) ≡ length (parametersRecord i p) = rw t in
+    omega (arith, length-slotBytes d l present i p, x, ap length e)
 
 -- the records of a slot laid from a place on, as the code lays them
-pub slot-laid : {o r : List ℕ} {n : ℕ} (d : Drive) (present : Bool) (i : ℕ) (p s : List ℕ) (at : ℕ) → present ≡ false → r ≡ recordOf d → n ≡ length (recordOf d) → o ≡ sets s at r
-    → (o ≡ sets s at (slotBytes d present i p)) × (at + n ≡ at + length (slotBytes d present i p))
-slot-laid d present i p s at e q m w =
-    let alone : slotBytes d present i p ≡ recordOf d = rw e (append-nil (recordOf d)) in
-    (w ∙ ap (sets s at) (q ∙ sym alone), ap (λ (x : ℕ). at + x) (m ∙ ap length (sym alone)))
+pub slot-laid : {o₁ o₂ r : List ℕ} {n m : ℕ} (d : Drive) (l : Bads) (present : Bool) (i : ℕ) (p s : List ℕ) (at : ℕ) → present ≡ false
+    → r ≡ recordOf d → n ≡ length (recordOf d) → o₁ ≡ sets s at r → o₂ ≡ sets o₁ (at + n) (badsRecord i l) → m ≡ at + n + length (badsRecord i l)
+    → (o₂ ≡ sets s at (slotBytes d l present i p)) × (m ≡ at + length (slotBytes d l present i p))
+slot-laid d l present i p s at e q k w x y =
+    let alone : slotBytes d l present i p ≡ recordOf d ++ badsRecord i l = rw e (ap (λ (z : List ℕ). recordOf d ++ z) (append-nil (badsRecord i l))) in
+    (rw (alone, x, w, q, k) (sym (sets-append s at (recordOf d) (badsRecord i l))), rw alone (omega (arith, length-append (recordOf d) (badsRecord i l), k, y)))
 
-pub slot-laid-both : {o o₂ r r₂ : List ℕ} {n : ℕ} (d : Drive) (present : Bool) (i : ℕ) (p s : List ℕ) (at : ℕ) → present ≡ true → r ≡ recordOf d → n ≡ length (recordOf d) → o ≡ sets s at r
-    → r₂ ≡ parametersRecord i p → o₂ ≡ sets o (at + n) r₂ → length r₂ ≡ 20 → (o₂ ≡ sets s at (slotBytes d present i p)) × (at + n + 20 ≡ at + length (slotBytes d present i p))
-slot-laid-both d present i p s at e q m w y z l =
-    let x : List ℕ = parametersRecord i p in
-    (rw (z, w, q, y, m, e) (sym (sets-append s at (recordOf d) x)), rw e (omega (arith, length-append (recordOf d) x, m, ap length y, l)))
+pub slot-laid-both : {o₁ o₂ o₃ r r₂ : List ℕ} {n m : ℕ} (d : Drive) (l : Bads) (present : Bool) (i : ℕ) (p s : List ℕ) (at : ℕ) → present ≡ true
+    → r ≡ recordOf d → n ≡ length (recordOf d) → o₁ ≡ sets s at r → o₂ ≡ sets o₁ (at + n) (badsRecord i l) → m ≡ at + n + length (badsRecord i l)
+    → r₂ ≡ parametersRecord i p → o₃ ≡ sets o₂ m r₂ → length r₂ ≡ 20
+    → (o₃ ≡ sets s at (slotBytes d l present i p)) × (m + 20 ≡ at + length (slotBytes d l present i p))
+slot-laid-both {n = n} {m = m} d l present i p s at e q k w x y u v z =
+    let c : List ℕ = badsRecord i l in
+    let g : List ℕ = parametersRecord i p in
+    let a : sets s at (recordOf d ++ (c ++ g)) ≡ sets (sets (sets s at (recordOf d)) (at + length (recordOf d)) c) (at + length (recordOf d) + length c) g =
+    sets-append s at (recordOf d) (c ++ g) ∙ sets-append (sets s at (recordOf d)) (at + length (recordOf d)) c g in (
+      rw (e, v, x, w, q, u, y, k) (sym a),
+      rw e (omega (arith, length-append (recordOf d) (c ++ g), length-append c g, k, y, ap length u, z)),
+    )
 
 -- one slot more, as the code lays it
 pub slot-next : {o : List ℕ} {r : ℕ} (s : List ℕ) (b : Table) (i at : ℕ) (o₀ : List ℕ) → length o₀ ≡ length s → o₀ ≡ sets s 0 (recordsOf i b) → at ≡ length (recordsOf i b)
@@ -567,7 +778,7 @@ pub length-drives : (b : Table) → length (b .drives) ≡ 8 → length (drivesO
 length-drives b l = rw (length-take (b .count) (b .drives), l)
 
 -- where the next record begins, as the code finds it, and the longest table
-pub next-is : {m : ℕ} (b : Table) (n : ℕ) → length (b .drives) ≡ 8 → n ≡ min (b .count) 8 → m ≡ length (recordsOf n b) → m ≤ 88 * n → (m ≡ nextPlace b) × (m + 4 ≤ 708)
+pub next-is : {m : ℕ} (b : Table) (n : ℕ) → length (b .drives) ≡ 8 → n ≡ min (b .count) 8 → m ≡ length (recordsOf n b) → m ≤ 222 * n → (m ≡ nextPlace b) × (m + 4 ≤ 1780)
 unfolding nextPlace
 next-is b n eight held all most = (all ∙ ap (λ (k : ℕ). length (recordsOf k b)) (held ∙ sym (length-drives b eight)), omega arith)
 

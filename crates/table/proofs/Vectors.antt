@@ -1,18 +1,19 @@
--- Tables by number: document 01's 72 bytes, tables that fail one check or two adjoining ones, and tables with parameters.
+-- Tables by number: document 01's 72 bytes, tables that fail one check or two adjoining ones, tables with parameters, and tables with bad blocks.
 -- Assumes nothing.
 use mathlib.Core.Path.{_≡_, refl}
 use mathlib.Core.Bool.{Bool, true, false}
 use mathlib.Core.List.{List, [], _∷_, _++_, map}
 use Prim.Native.Nat.{ℕ, zero, suc, _+_, _*_}
-use lib.ListN.{take, replicate}
+use lib.ListN.{length, take, replicate}
 use lib.Seq.{sets}
 use Rattle.words.specs.Words.{le, leBytes}
 use Rattle.chs.specs.Chs.{inLimits}
 use Rattle.drive.specs.declared.Drive.{Drive}
 use Rattle.drive.specs.Drive.{driveOf, recordOf, geometryBytes, sizeBytes, nameBytes, same, busOk, interfaceOk, geometryFits, fieldsOk, inStore, overlap, blankNumbers, blankNames, isBlank}
 use Rattle.attached.specs.Parameters.{parametersRecord}
+use Rattle.attached.specs.Bad.{badCount, badLengthOk, badsIn, heldOf, badRecord, badAt, ascends, areBlocks, listOk, zeroPast, badsOk}
 use Rattle.table.specs.declared.Table.{Table}
-use Rattle.table.specs.Table.{headerOf, headerAt, overlapsAny, refusal, parametersRefusal, recordRefusal, withRecord, recordStep, endStep, stepOf, stepAt, zeroDrive, emptyTable, readFrom, readTable, recordsOf, bytesOf, tableOf, nextPlace, isUnfinished, longestRecord, longestTable, writeAnswer, writeOut, soundTo, blankTo, attachedTo, isSound, parametersTo, stepNumbers, answerNumbers, writtenNumbers, recordNumbers, numbersFrom, tableNumbers, writeNumbers}
+use Rattle.table.specs.Table.{headerOf, headerAt, overlapsAny, refusal, parametersRefusal, badsAt, badsRefusal, recordRefusal, withRecord, recordStep, endStep, stepOf, stepAt, zeroDrive, emptyTable, readFrom, readTable, recordsOf, bytesOf, tableOf, nextPlace, isUnfinished, longestRecord, longestTable, writeAnswer, writeOut, soundTo, blankTo, attachedTo, listedTo, isSound, parametersTo, stepNumbers, answerNumbers, writtenNumbers, recordNumbers, numbersFrom, tableNumbers, writeNumbers}
 
 -- the drive record of document 01's table, and the end record
 abbrev pub record₁ : List ℕ
@@ -188,7 +189,7 @@ attach-last = refl
 -- 9 comes after 1, 3, 2 and 1, and before 8
 --   three bytes of it, for a later number: 1 at 68
 --   kind 2 of its length: 3 at 68
---   kind 3 of its length: 3 at 68
+--   kind 3 of its length: 2 at 68
 --   kind 5 of its length: 3 at 68
 --   length 19, for a later number: 2 at 68
 --   length 21, for a later number: 2 at 68
@@ -200,9 +201,92 @@ attach-last = refl
 --   for a later number, with a byte after the end: 9 at 68
 --   a byte after the end record behind it: 8 at 92
 pub attach-order : answers ((record₁ ++ take 3 (attach 1)) ∷ (record₁ ++ kind 2 20 ++ end) ∷ (record₁ ++ kind 3 20 ++ end) ∷ (record₁ ++ kind 5 20 ++ end) ∷ (record₁ ++ kind 4 19 ++ end) ∷ (record₁ ++ kind 4 21 ++ end) ∷ (record₁ ++ kind 4 68 ++ end) ∷ (record₁ ++ kind 1 20 ++ end) ∷ (record₁ ++ kind 0 20 ++ end) ∷ (record₁ ++ take 6 (kind 4 19)) ∷ (record₁ ++ take 19 (attach 1)) ∷ (record₁ ++ attach 1 ++ end ++ end) ∷ (record₁ ++ attach 0 ++ end ++ (0 ∷ [])) ∷ [])
-    ≡ (1 ∷ 68 ∷ []) ∷ (3 ∷ 68 ∷ []) ∷ (3 ∷ 68 ∷ []) ∷ (3 ∷ 68 ∷ []) ∷ (2 ∷ 68 ∷ []) ∷ (2 ∷ 68 ∷ []) ∷ (2 ∷ 68 ∷ []) ∷ (2 ∷ 68 ∷ []) ∷ (2 ∷ 68 ∷ []) ∷ (2 ∷ 68 ∷ []) ∷ (1 ∷ 68 ∷ []) ∷ (9 ∷ 68 ∷ []) ∷ (8 ∷ 92 ∷ []) ∷ []
-unfolding le leBytes inLimits driveOf same busOk interfaceOk geometryFits fieldsOk inStore overlap headerOf headerAt overlapsAny refusal parametersRefusal recordRefusal withRecord recordStep endStep stepOf stepAt readFrom readTable answerNumbers
+    ≡ (1 ∷ 68 ∷ []) ∷ (3 ∷ 68 ∷ []) ∷ (2 ∷ 68 ∷ []) ∷ (3 ∷ 68 ∷ []) ∷ (2 ∷ 68 ∷ []) ∷ (2 ∷ 68 ∷ []) ∷ (2 ∷ 68 ∷ []) ∷ (2 ∷ 68 ∷ []) ∷ (2 ∷ 68 ∷ []) ∷ (2 ∷ 68 ∷ []) ∷ (1 ∷ 68 ∷ []) ∷ (9 ∷ 68 ∷ []) ∷ (8 ∷ 92 ∷ []) ∷ []
+unfolding le leBytes inLimits driveOf same busOk interfaceOk geometryFits fieldsOk inStore overlap headerOf headerAt overlapsAny refusal parametersRefusal recordRefusal withRecord recordStep endStep stepOf stepAt readFrom readTable answerNumbers badCount badLengthOk
 attach-order = refl
+
+-- ---- records of bad blocks
+
+-- numbers of eight bytes each, and the record that gives them to a drive
+abbrev numbers : List ℕ → List ℕ
+numbers [] = []
+numbers (x ∷ l) = leBytes 8 x ++ numbers l
+
+abbrev pub bads : ℕ → List ℕ → List ℕ
+bads n l = leBytes 2 (6 + 8 * length l) ++ (3 ∷ 0 ∷ (leBytes 2 n ++ numbers l))
+
+-- sixteen of them
+abbrev pub sixteen : List ℕ
+sixteen = 100 ∷ 101 ∷ 102 ∷ 103 ∷ 104 ∷ 105 ∷ 106 ∷ 107 ∷ 108 ∷ 109 ∷ 110 ∷ 111 ∷ 112 ∷ 113 ∷ 114 ∷ 2047 ∷ []
+
+-- a record of kind 3 of a length, all zeros, for the first drive
+abbrev long : ℕ → List ℕ
+long n = leBytes 2 n ++ (3 ∷ 0 ∷ replicate 140 0)
+
+-- k drives with a record of sixteen bad blocks and one of parameters each
+abbrev pub full : ℕ → List ℕ
+full zero = []
+full (suc k) = full k ++ from (2048 * k) ++ bads k sixteen ++ attach k
+
+-- which drive a record of bad blocks names, and what it follows
+--   no drive read: 9 at 0
+--   for the one drive: 0
+--   for the one drive, and parameters behind it: 0
+--   behind the drive's parameters: 9 at 88
+--   repeated: 9 at 90
+--   repeated behind the parameters: 9 at 110
+--   for a later number: 9 at 68
+--   for an earlier drive: 9 at 136
+--   number 8 after eight drives: 9 at 544
+--   number 7 after eight drives: 0
+--   number 256: 9 at 68
+--   one each: 0
+--   parameters twice behind it: 9 at 110
+pub bads-last : answers ((bads 0 (5 ∷ 7 ∷ []) ++ end) ∷ (record₁ ++ bads 0 (5 ∷ 7 ∷ []) ++ end) ∷ (record₁ ++ bads 0 (5 ∷ 7 ∷ []) ++ attach 0 ++ end) ∷ (record₁ ++ attach 0 ++ bads 0 (5 ∷ 7 ∷ []) ++ end) ∷ (record₁ ++ bads 0 (5 ∷ 7 ∷ []) ++ bads 0 (9 ∷ []) ++ end) ∷ (record₁ ++ bads 0 (5 ∷ 7 ∷ []) ++ attach 0 ++ bads 0 (9 ∷ []) ++ end) ∷ (record₁ ++ bads 1 (5 ∷ 7 ∷ []) ++ end) ∷ (from 0 ++ from 2048 ++ bads 0 (5 ∷ 7 ∷ []) ++ end) ∷ (drives 8 ++ bads 8 (5 ∷ 7 ∷ []) ++ end) ∷ (drives 8 ++ bads 7 (5 ∷ 7 ∷ []) ++ end) ∷ (record₁ ++ bads 256 (5 ∷ 7 ∷ []) ++ end) ∷ (from 0 ++ bads 0 (5 ∷ 7 ∷ []) ++ from 2048 ++ bads 1 (5 ∷ 7 ∷ []) ++ end) ∷ (record₁ ++ bads 0 (5 ∷ 7 ∷ []) ++ attach 0 ++ attach 0 ++ end) ∷ [])
+    ≡ (9 ∷ 0 ∷ []) ∷ (0 ∷ []) ∷ (0 ∷ []) ∷ (9 ∷ 88 ∷ []) ∷ (9 ∷ 90 ∷ []) ∷ (9 ∷ 110 ∷ []) ∷ (9 ∷ 68 ∷ []) ∷ (9 ∷ 136 ∷ []) ∷ (9 ∷ 544 ∷ []) ∷ (0 ∷ []) ∷ (9 ∷ 68 ∷ []) ∷ (0 ∷ []) ∷ (9 ∷ 110 ∷ []) ∷ []
+unfolding le leBytes inLimits driveOf same busOk interfaceOk geometryFits fieldsOk inStore overlap headerOf headerAt overlapsAny refusal parametersRefusal recordRefusal withRecord recordStep endStep stepOf stepAt readFrom readTable answerNumbers badCount badLengthOk badsIn heldOf ascends areBlocks listOk badsRefusal
+bads-last = refl
+
+-- the numbers of the blocks, which count from the drive's first, and 9 before 5
+--   one number: 0
+--   the last block: 0
+--   one past it: 5 at 68
+--   one past it, behind another: 5 at 68
+--   the number 2^64 - 1: 5 at 68
+--   not in order: 5 at 68
+--   repeated: 5 at 68
+--   sixteen: 0
+--   sixteen, the last two the same: 5 at 68
+--   a block of the store, not of the second drive: 5 at 136
+--   not in order, and for a later number: 9 at 68
+--   not in order, and behind the drive's parameters: 9 at 88
+--   not in order, with a byte after the end: 5 at 68
+pub bads-list : answers ((record₁ ++ bads 0 (0 ∷ []) ++ end) ∷ (record₁ ++ bads 0 (2047 ∷ []) ++ end) ∷ (record₁ ++ bads 0 (2048 ∷ []) ++ end) ∷ (record₁ ++ bads 0 (5 ∷ 2048 ∷ []) ++ end) ∷ (record₁ ++ bads 0 (18446744073709551615 ∷ []) ++ end) ∷ (record₁ ++ bads 0 (7 ∷ 5 ∷ []) ++ end) ∷ (record₁ ++ bads 0 (5 ∷ 5 ∷ []) ++ end) ∷ (record₁ ++ bads 0 sixteen ++ end) ∷ (record₁ ++ sets (bads 0 sixteen) 126 (leBytes 8 114) ++ end) ∷ (from 0 ++ from 2048 ++ bads 1 (2048 ∷ []) ++ end) ∷ (record₁ ++ bads 1 (7 ∷ 5 ∷ []) ++ end) ∷ (record₁ ++ attach 0 ++ bads 0 (7 ∷ 5 ∷ []) ++ end) ∷ (record₁ ++ bads 0 (7 ∷ 5 ∷ []) ++ end ++ end) ∷ [])
+    ≡ (0 ∷ []) ∷ (0 ∷ []) ∷ (5 ∷ 68 ∷ []) ∷ (5 ∷ 68 ∷ []) ∷ (5 ∷ 68 ∷ []) ∷ (5 ∷ 68 ∷ []) ∷ (5 ∷ 68 ∷ []) ∷ (0 ∷ []) ∷ (5 ∷ 68 ∷ []) ∷ (5 ∷ 136 ∷ []) ∷ (9 ∷ 68 ∷ []) ∷ (9 ∷ 88 ∷ []) ∷ (5 ∷ 68 ∷ []) ∷ []
+unfolding le leBytes inLimits driveOf same busOk interfaceOk geometryFits fieldsOk inStore overlap headerOf headerAt overlapsAny refusal parametersRefusal recordRefusal withRecord recordStep endStep stepOf stepAt readFrom readTable answerNumbers badCount badLengthOk badsIn heldOf ascends areBlocks listOk badsRefusal
+bads-list = refl
+
+-- the lengths: 14 and 8 more up to 134
+--   length 6, of no number: 2 at 68
+--   length 13: 2 at 68
+--   length 15: 2 at 68
+--   length 142, of seventeen numbers: 2 at 68
+--   length 15, for a later number, cut off: 2 at 68
+--   sixteen, cut off by one byte: 1 at 68
+--   cut off, not in order: 1 at 68
+--   kind 1 of length 14: 2 at 68
+--   kind 4 of length 22: 2 at 68
+pub bads-size : answers ((record₁ ++ long 6 ++ end) ∷ (record₁ ++ long 13 ++ end) ∷ (record₁ ++ long 15 ++ end) ∷ (record₁ ++ long 142 ++ end) ∷ (record₁ ++ (15 ∷ 0 ∷ 3 ∷ 0 ∷ 1 ∷ 0 ∷ [])) ∷ (record₁ ++ take 133 (bads 0 sixteen)) ∷ (record₁ ++ take 21 (bads 0 (7 ∷ 5 ∷ []))) ∷ (record₁ ++ (14 ∷ 0 ∷ 1 ∷ 0 ∷ replicate 10 0) ++ end) ∷ (record₁ ++ sets (bads 0 (5 ∷ 7 ∷ [])) 2 (4 ∷ []) ++ end) ∷ [])
+    ≡ (2 ∷ 68 ∷ []) ∷ (2 ∷ 68 ∷ []) ∷ (2 ∷ 68 ∷ []) ∷ (2 ∷ 68 ∷ []) ∷ (2 ∷ 68 ∷ []) ∷ (1 ∷ 68 ∷ []) ∷ (1 ∷ 68 ∷ []) ∷ (2 ∷ 68 ∷ []) ∷ (2 ∷ 68 ∷ []) ∷ []
+unfolding le leBytes inLimits driveOf same busOk interfaceOk geometryFits fieldsOk inStore overlap headerOf headerAt overlapsAny refusal parametersRefusal recordRefusal withRecord recordStep endStep stepOf stepAt readFrom readTable answerNumbers badCount badLengthOk badsIn heldOf ascends areBlocks listOk badsRefusal
+bads-size = refl
+
+-- eight drives with both each, and a ninth after them
+--   the longest table: 0
+--   a ninth drive: 4 at 1776
+pub bads-full : answers ((full 8 ++ end) ∷ (full 8 ++ record₁ ++ end) ∷ []) ≡ (0 ∷ []) ∷ (4 ∷ 1776 ∷ []) ∷ []
+unfolding le leBytes inLimits driveOf same busOk interfaceOk geometryFits fieldsOk inStore overlap headerOf headerAt overlapsAny refusal parametersRefusal recordRefusal withRecord recordStep endStep stepOf stepAt readFrom readTable answerNumbers badCount badLengthOk badsIn heldOf ascends areBlocks listOk badsRefusal
+bads-full = refl
 
 -- ---- the same by the second promise of each call: the numbers straight from the bytes
 
@@ -225,9 +309,28 @@ unfolding le leBytes inLimits driveOf same busOk interfaceOk geometryFits fields
 attach-last-given = refl
 
 pub attach-order-given : given ((record₁ ++ take 3 (attach 1)) ∷ (record₁ ++ kind 2 20 ++ end) ∷ (record₁ ++ kind 3 20 ++ end) ∷ (record₁ ++ kind 5 20 ++ end) ∷ (record₁ ++ kind 4 19 ++ end) ∷ (record₁ ++ kind 4 21 ++ end) ∷ (record₁ ++ kind 4 68 ++ end) ∷ (record₁ ++ kind 1 20 ++ end) ∷ (record₁ ++ kind 0 20 ++ end) ∷ (record₁ ++ take 6 (kind 4 19)) ∷ (record₁ ++ take 19 (attach 1)) ∷ (record₁ ++ attach 1 ++ end ++ end) ∷ (record₁ ++ attach 0 ++ end ++ (0 ∷ [])) ∷ [])
-    ≡ (1 ∷ 68 ∷ []) ∷ (3 ∷ 68 ∷ []) ∷ (3 ∷ 68 ∷ []) ∷ (3 ∷ 68 ∷ []) ∷ (2 ∷ 68 ∷ []) ∷ (2 ∷ 68 ∷ []) ∷ (2 ∷ 68 ∷ []) ∷ (2 ∷ 68 ∷ []) ∷ (2 ∷ 68 ∷ []) ∷ (2 ∷ 68 ∷ []) ∷ (1 ∷ 68 ∷ []) ∷ (9 ∷ 68 ∷ []) ∷ (8 ∷ 92 ∷ []) ∷ []
-unfolding le leBytes inLimits driveOf same busOk interfaceOk geometryFits fieldsOk inStore overlap headerOf headerAt overlapsAny refusal parametersRefusal recordRefusal withRecord recordStep endStep stepOf stepAt recordNumbers numbersFrom tableNumbers
+    ≡ (1 ∷ 68 ∷ []) ∷ (3 ∷ 68 ∷ []) ∷ (2 ∷ 68 ∷ []) ∷ (3 ∷ 68 ∷ []) ∷ (2 ∷ 68 ∷ []) ∷ (2 ∷ 68 ∷ []) ∷ (2 ∷ 68 ∷ []) ∷ (2 ∷ 68 ∷ []) ∷ (2 ∷ 68 ∷ []) ∷ (2 ∷ 68 ∷ []) ∷ (1 ∷ 68 ∷ []) ∷ (9 ∷ 68 ∷ []) ∷ (8 ∷ 92 ∷ []) ∷ []
+unfolding le leBytes inLimits driveOf same busOk interfaceOk geometryFits fieldsOk inStore overlap headerOf headerAt overlapsAny refusal parametersRefusal recordRefusal withRecord recordStep endStep stepOf stepAt recordNumbers numbersFrom tableNumbers badCount badLengthOk
 attach-order-given = refl
+
+pub bads-last-given : given ((bads 0 (5 ∷ 7 ∷ []) ++ end) ∷ (record₁ ++ bads 0 (5 ∷ 7 ∷ []) ++ end) ∷ (record₁ ++ bads 0 (5 ∷ 7 ∷ []) ++ attach 0 ++ end) ∷ (record₁ ++ attach 0 ++ bads 0 (5 ∷ 7 ∷ []) ++ end) ∷ (record₁ ++ bads 0 (5 ∷ 7 ∷ []) ++ bads 0 (9 ∷ []) ++ end) ∷ (record₁ ++ bads 0 (5 ∷ 7 ∷ []) ++ attach 0 ++ bads 0 (9 ∷ []) ++ end) ∷ (record₁ ++ bads 1 (5 ∷ 7 ∷ []) ++ end) ∷ (from 0 ++ from 2048 ++ bads 0 (5 ∷ 7 ∷ []) ++ end) ∷ (drives 8 ++ bads 8 (5 ∷ 7 ∷ []) ++ end) ∷ (drives 8 ++ bads 7 (5 ∷ 7 ∷ []) ++ end) ∷ (record₁ ++ bads 256 (5 ∷ 7 ∷ []) ++ end) ∷ (from 0 ++ bads 0 (5 ∷ 7 ∷ []) ++ from 2048 ++ bads 1 (5 ∷ 7 ∷ []) ++ end) ∷ (record₁ ++ bads 0 (5 ∷ 7 ∷ []) ++ attach 0 ++ attach 0 ++ end) ∷ [])
+    ≡ (9 ∷ 0 ∷ []) ∷ (0 ∷ []) ∷ (0 ∷ []) ∷ (9 ∷ 88 ∷ []) ∷ (9 ∷ 90 ∷ []) ∷ (9 ∷ 110 ∷ []) ∷ (9 ∷ 68 ∷ []) ∷ (9 ∷ 136 ∷ []) ∷ (9 ∷ 544 ∷ []) ∷ (0 ∷ []) ∷ (9 ∷ 68 ∷ []) ∷ (0 ∷ []) ∷ (9 ∷ 110 ∷ []) ∷ []
+unfolding le leBytes inLimits driveOf same busOk interfaceOk geometryFits fieldsOk inStore overlap headerOf headerAt overlapsAny refusal parametersRefusal recordRefusal withRecord recordStep endStep stepOf stepAt recordNumbers numbersFrom tableNumbers badCount badLengthOk badsIn heldOf ascends areBlocks listOk badsRefusal
+bads-last-given = refl
+
+pub bads-list-given : given ((record₁ ++ bads 0 (0 ∷ []) ++ end) ∷ (record₁ ++ bads 0 (2047 ∷ []) ++ end) ∷ (record₁ ++ bads 0 (2048 ∷ []) ++ end) ∷ (record₁ ++ bads 0 (5 ∷ 2048 ∷ []) ++ end) ∷ (record₁ ++ bads 0 (18446744073709551615 ∷ []) ++ end) ∷ (record₁ ++ bads 0 (7 ∷ 5 ∷ []) ++ end) ∷ (record₁ ++ bads 0 (5 ∷ 5 ∷ []) ++ end) ∷ (record₁ ++ bads 0 sixteen ++ end) ∷ (record₁ ++ sets (bads 0 sixteen) 126 (leBytes 8 114) ++ end) ∷ (from 0 ++ from 2048 ++ bads 1 (2048 ∷ []) ++ end) ∷ (record₁ ++ bads 1 (7 ∷ 5 ∷ []) ++ end) ∷ (record₁ ++ attach 0 ++ bads 0 (7 ∷ 5 ∷ []) ++ end) ∷ (record₁ ++ bads 0 (7 ∷ 5 ∷ []) ++ end ++ end) ∷ [])
+    ≡ (0 ∷ []) ∷ (0 ∷ []) ∷ (5 ∷ 68 ∷ []) ∷ (5 ∷ 68 ∷ []) ∷ (5 ∷ 68 ∷ []) ∷ (5 ∷ 68 ∷ []) ∷ (5 ∷ 68 ∷ []) ∷ (0 ∷ []) ∷ (5 ∷ 68 ∷ []) ∷ (5 ∷ 136 ∷ []) ∷ (9 ∷ 68 ∷ []) ∷ (9 ∷ 88 ∷ []) ∷ (5 ∷ 68 ∷ []) ∷ []
+unfolding le leBytes inLimits driveOf same busOk interfaceOk geometryFits fieldsOk inStore overlap headerOf headerAt overlapsAny refusal parametersRefusal recordRefusal withRecord recordStep endStep stepOf stepAt recordNumbers numbersFrom tableNumbers badCount badLengthOk badsIn heldOf ascends areBlocks listOk badsRefusal
+bads-list-given = refl
+
+pub bads-size-given : given ((record₁ ++ long 6 ++ end) ∷ (record₁ ++ long 13 ++ end) ∷ (record₁ ++ long 15 ++ end) ∷ (record₁ ++ long 142 ++ end) ∷ (record₁ ++ (15 ∷ 0 ∷ 3 ∷ 0 ∷ 1 ∷ 0 ∷ [])) ∷ (record₁ ++ take 133 (bads 0 sixteen)) ∷ (record₁ ++ take 21 (bads 0 (7 ∷ 5 ∷ []))) ∷ (record₁ ++ (14 ∷ 0 ∷ 1 ∷ 0 ∷ replicate 10 0) ++ end) ∷ (record₁ ++ sets (bads 0 (5 ∷ 7 ∷ [])) 2 (4 ∷ []) ++ end) ∷ [])
+    ≡ (2 ∷ 68 ∷ []) ∷ (2 ∷ 68 ∷ []) ∷ (2 ∷ 68 ∷ []) ∷ (2 ∷ 68 ∷ []) ∷ (2 ∷ 68 ∷ []) ∷ (1 ∷ 68 ∷ []) ∷ (1 ∷ 68 ∷ []) ∷ (2 ∷ 68 ∷ []) ∷ (2 ∷ 68 ∷ []) ∷ []
+unfolding le leBytes inLimits driveOf same busOk interfaceOk geometryFits fieldsOk inStore overlap headerOf headerAt overlapsAny refusal parametersRefusal recordRefusal withRecord recordStep endStep stepOf stepAt recordNumbers numbersFrom tableNumbers badCount badLengthOk badsIn heldOf ascends areBlocks listOk badsRefusal
+bads-size-given = refl
+
+pub bads-full-given : given ((full 8 ++ end) ∷ (full 8 ++ record₁ ++ end) ∷ []) ≡ (0 ∷ []) ∷ (4 ∷ 1776 ∷ []) ∷ []
+unfolding le leBytes inLimits driveOf same busOk interfaceOk geometryFits fieldsOk inStore overlap headerOf headerAt overlapsAny refusal parametersRefusal recordRefusal withRecord recordStep endStep stepOf stepAt recordNumbers numbersFrom tableNumbers badCount badLengthOk badsIn heldOf ascends areBlocks listOk badsRefusal
+bads-full-given = refl
 
 -- one record: a drive with the next place, the end, and fewer than 4 bytes left
 pub steps-given : map (λ (at : ℕ). stepNumbers (stepAt (record₁ ++ end) at emptyTable store .step)) (0 ∷ 68 ∷ 69 ∷ [])
@@ -251,9 +354,9 @@ first-bytes = 68 ∷ 0 ∷ 1 ∷ 0 ∷ 11 ∷ 0 ∷ 0 ∷ 0 ∷ 12 ∷ 0 ∷ 0 �
 abbrev second-bytes : List ℕ
 second-bytes = 68 ∷ 0 ∷ 1 ∷ 0 ∷ 31 ∷ 0 ∷ 0 ∷ 0 ∷ 32 ∷ 0 ∷ 0 ∷ 0 ∷ 33 ∷ 0 ∷ 0 ∷ 0 ∷ 160 ∷ 15 ∷ 0 ∷ 0 ∷ 0 ∷ 0 ∷ 0 ∷ 0 ∷ 100 ∷ 0 ∷ 0 ∷ 0 ∷ 0 ∷ 0 ∷ 0 ∷ 0 ∷ 34 ∷ 0 ∷ 10 ∷ 0 ∷ 11 ∷ 0 ∷ 12 ∷ 0 ∷ 80 ∷ 67 ∷ 73 ∷ 0 ∷ 65 ∷ 84 ∷ 65 ∷ 80 ∷ 73 ∷ 0 ∷ 0 ∷ 0 ∷ 17 ∷ 18 ∷ 19 ∷ 20 ∷ 21 ∷ 22 ∷ 23 ∷ 24 ∷ 25 ∷ 26 ∷ 27 ∷ 28 ∷ 29 ∷ 30 ∷ 31 ∷ 32 ∷ []
 
--- a table by its drives and its count, with no parameters
+-- a table by its drives and its count, with neither parameters nor bad blocks
 abbrev table : List Drive → ℕ → Table
-table ds n = record { drives = ds; count = n; present = replicate 8 false; parameters = replicate 112 0 }
+table ds n = record { drives = ds; count = n; present = replicate 8 false; parameters = replicate 112 0; counts = replicate 8 0; bad = replicate 1024 0 }
 
 abbrev two : Table
 two = table (first-drive ∷ second-drive ∷ replicate 6 zeroDrive) 2
@@ -294,6 +397,8 @@ two-attached = record {
   count = 2;
   present = false ∷ true ∷ replicate 6 false;
   parameters = replicate 14 0 ++ (given-bytes ++ replicate 84 0);
+  counts = replicate 8 0;
+  bad = replicate 1024 0;
 }
 
 -- both have them, each its own
@@ -303,6 +408,8 @@ both-attached = record {
   count = 2;
   present = true ∷ true ∷ replicate 6 false;
   parameters = given-bytes ++ (replicate 14 7 ++ replicate 84 0);
+  counts = replicate 8 0;
+  bad = replicate 1024 0;
 }
 
 abbrev both-bytes : List ℕ
@@ -336,6 +443,89 @@ pub attached-buffers : map (λ (n : ℕ). writtenNumbers (writeAnswer two-attach
 unfolding leBytes recordOf geometryBytes sizeBytes nameBytes parametersRecord recordsOf bytesOf tableOf writeAnswer writtenNumbers
 attached-buffers = refl
 
+-- bad blocks: the first drive has 5 and 7, the second 3999, its last, and parameters
+abbrev two-listed : Table
+two-listed = record {
+  drives = first-drive ∷ second-drive ∷ replicate 6 zeroDrive;
+  count = 2;
+  present = false ∷ true ∷ replicate 6 false;
+  parameters = replicate 14 0 ++ (given-bytes ++ replicate 84 0);
+  counts = 2 ∷ 1 ∷ replicate 6 0;
+  bad = numbers (5 ∷ 7 ∷ []) ++ (replicate 112 0 ++ (numbers (3999 ∷ []) ++ replicate 888 0));
+}
+
+abbrev listed-bytes : List ℕ
+listed-bytes = first-bytes ++ bads 0 (5 ∷ 7 ∷ []) ++ second-bytes ++ bads 1 (3999 ∷ []) ++ attach 1 ++ end
+
+-- read: how many and their bytes in the slot of their drive, and zeros behind them
+pub listed-read : readTable listed-bytes 14000 .table ≡ two-listed
+unfolding le leBytes inLimits driveOf same busOk interfaceOk geometryFits fieldsOk inStore overlap headerOf headerAt overlapsAny refusal parametersRefusal recordRefusal withRecord recordStep endStep stepOf stepAt readFrom readTable badCount badLengthOk badsIn heldOf ascends areBlocks listOk badsRefusal
+listed-read = refl
+
+-- the slot of one drive with both: how many, and the numbers
+pub listed-slot : badsAt (readTable (record₁ ++ bads 0 (5 ∷ 7 ∷ []) ++ attach 0 ++ end) store .table) 0 .count
+    ∷ map (badAt (badsAt (readTable (record₁ ++ bads 0 (5 ∷ 7 ∷ []) ++ attach 0 ++ end) store .table) 0)) (0 ∷ 1 ∷ 2 ∷ 15 ∷ [])
+    ≡ 2 ∷ 5 ∷ 7 ∷ 0 ∷ 0 ∷ []
+unfolding le leBytes inLimits driveOf same busOk interfaceOk geometryFits fieldsOk inStore overlap headerOf headerAt overlapsAny refusal parametersRefusal recordRefusal withRecord recordStep endStep stepOf stepAt readFrom readTable badCount badLengthOk badsIn heldOf ascends areBlocks listOk badsRefusal
+listed-slot = refl
+
+-- and back byte for byte
+pub listed-back : tableOf (readTable (record₁ ++ bads 0 (5 ∷ 7 ∷ []) ++ attach 0 ++ end) store .table) ≡ record₁ ++ bads 0 (5 ∷ 7 ∷ []) ++ attach 0 ++ end
+unfolding le leBytes inLimits driveOf same busOk interfaceOk geometryFits fieldsOk inStore overlap headerOf headerAt overlapsAny refusal parametersRefusal recordRefusal withRecord recordStep endStep stepOf stepAt readFrom readTable badCount badLengthOk badsIn heldOf ascends areBlocks listOk badsRefusal recordOf geometryBytes sizeBytes nameBytes parametersRecord badRecord recordsOf bytesOf tableOf
+listed-back = refl
+
+-- refused, the table has what came before it
+pub listed-before : readTable (first-bytes ++ bads 0 (5 ∷ 7 ∷ []) ++ second-bytes ++ bads 1 (3999 ∷ []) ++ attach 1 ++ bads 1 (9 ∷ [])) 14000 .table ≡ two-listed
+unfolding le leBytes inLimits driveOf same busOk interfaceOk geometryFits fieldsOk inStore overlap headerOf headerAt overlapsAny refusal parametersRefusal recordRefusal withRecord recordStep endStep stepOf stepAt readFrom readTable badCount badLengthOk badsIn heldOf ascends areBlocks listOk badsRefusal
+listed-before = refl
+
+-- written: a drive's record, then that of its bad blocks, then its parameters'
+pub listed-written : tableOf two-listed ≡ listed-bytes
+unfolding leBytes recordOf geometryBytes sizeBytes nameBytes parametersRecord heldOf badRecord recordsOf bytesOf tableOf
+listed-written = refl
+
+-- a list for a drive behind one with parameters, which stay
+abbrev kept-listed : Table
+kept-listed = record {
+  drives = first-drive ∷ second-drive ∷ replicate 6 zeroDrive;
+  count = 2;
+  present = true ∷ replicate 7 false;
+  parameters = given-bytes ++ replicate 98 0;
+  counts = 0 ∷ 3 ∷ replicate 6 0;
+  bad = replicate 128 0 ++ (numbers (5 ∷ 7 ∷ 3999 ∷ []) ++ replicate 872 0);
+}
+
+pub listed-kept : readTable (first-bytes ++ attach 0 ++ second-bytes ++ bads 1 (5 ∷ 7 ∷ 3999 ∷ []) ++ end) 14000 .table ≡ kept-listed
+unfolding le leBytes inLimits driveOf same busOk interfaceOk geometryFits fieldsOk inStore overlap headerOf headerAt overlapsAny refusal parametersRefusal recordRefusal withRecord recordStep endStep stepOf stepAt readFrom readTable badCount badLengthOk badsIn heldOf ascends areBlocks listOk badsRefusal
+listed-kept = refl
+
+-- the drive whose list it is, and whether that one has another: the first has 5000 blocks, the second 4000
+--   the last block of the first: 0
+--   the last block of the second: 0
+--   one past it: 5 at 136
+--   the same drives in the other order, block 4500 of the second: 0
+--   a list of one, and another: 9 at 82
+--   a list of one each: 0
+--   a list for the second, the first having parameters, and a byte after the end: 8 at 194
+pub bads-own : answers ((first-bytes ++ bads 0 (4999 ∷ []) ++ end) ∷ (first-bytes ++ second-bytes ++ bads 1 (3999 ∷ []) ++ end) ∷ (first-bytes ++ second-bytes ++ bads 1 (4000 ∷ []) ++ end) ∷ (second-bytes ++ first-bytes ++ bads 1 (4500 ∷ []) ++ end) ∷ (first-bytes ++ bads 0 (5 ∷ []) ++ bads 0 (9 ∷ []) ++ end) ∷ (first-bytes ++ bads 0 (5 ∷ []) ++ second-bytes ++ bads 1 (9 ∷ []) ++ end) ∷ (first-bytes ++ attach 0 ++ second-bytes ++ bads 1 (9 ∷ []) ++ attach 1 ++ end ++ end) ∷ [])
+    ≡ (0 ∷ []) ∷ (0 ∷ []) ∷ (5 ∷ 136 ∷ []) ∷ (0 ∷ []) ∷ (9 ∷ 82 ∷ []) ∷ (0 ∷ []) ∷ (8 ∷ 194 ∷ []) ∷ []
+unfolding le leBytes inLimits driveOf same busOk interfaceOk geometryFits fieldsOk inStore overlap headerOf headerAt overlapsAny refusal parametersRefusal recordRefusal withRecord recordStep endStep stepOf stepAt readFrom readTable answerNumbers badCount badLengthOk badsIn heldOf ascends areBlocks listOk badsRefusal
+bads-own = refl
+
+pub bads-own-given : given ((first-bytes ++ bads 0 (4999 ∷ []) ++ end) ∷ (first-bytes ++ second-bytes ++ bads 1 (3999 ∷ []) ++ end) ∷ (first-bytes ++ second-bytes ++ bads 1 (4000 ∷ []) ++ end) ∷ (second-bytes ++ first-bytes ++ bads 1 (4500 ∷ []) ++ end) ∷ (first-bytes ++ bads 0 (5 ∷ []) ++ bads 0 (9 ∷ []) ++ end) ∷ (first-bytes ++ bads 0 (5 ∷ []) ++ second-bytes ++ bads 1 (9 ∷ []) ++ end) ∷ (first-bytes ++ attach 0 ++ second-bytes ++ bads 1 (9 ∷ []) ++ attach 1 ++ end ++ end) ∷ [])
+    ≡ (0 ∷ []) ∷ (0 ∷ []) ∷ (5 ∷ 136 ∷ []) ∷ (0 ∷ []) ∷ (9 ∷ 82 ∷ []) ∷ (0 ∷ []) ∷ (8 ∷ 194 ∷ []) ∷ []
+unfolding le leBytes inLimits driveOf same busOk interfaceOk geometryFits fieldsOk inStore overlap headerOf headerAt overlapsAny refusal parametersRefusal recordRefusal withRecord recordStep endStep stepOf stepAt recordNumbers numbersFrom tableNumbers badCount badLengthOk badsIn heldOf ascends areBlocks listOk badsRefusal
+bads-own-given = refl
+
+-- what the steps are handed for a slot: how many, and 128 bytes
+pub listed-slots : badsAt two-listed 0 ∷ badsAt two-listed 1 ∷ badsAt two-listed 7 ∷ []
+    ≡ record { count = 2; list = numbers (5 ∷ 7 ∷ []) ++ replicate 112 0 }
+    ∷ record { count = 1; list = numbers (3999 ∷ []) ++ replicate 120 0 }
+    ∷ record { count = 0; list = replicate 128 0 }
+    ∷ []
+unfolding leBytes
+listed-slots = refl
+
 -- the records of parameters of the first 1, 2 and 8 slots
 pub counted : map (λ (n : ℕ). parametersTo n two-attached) (1 ∷ 2 ∷ 8 ∷ []) ++ map (λ (n : ℕ). parametersTo n both-attached) (1 ∷ 2 ∷ 8 ∷ []) ≡ 0 ∷ 1 ∷ 1 ∷ 1 ∷ 2 ∷ 2 ∷ []
 unfolding parametersTo
@@ -343,19 +533,21 @@ counted = refl
 
 -- ---- where the next record begins (document 02, 2026-03)
 
--- behind no drive, two drives, two of which the second has parameters, and both: 0, 136, 156, 176; the bytes of a table with no end record
-pub next-places : map nextPlace (emptyTable ∷ two ∷ two-attached ∷ both-attached ∷ []) ≡ 0 ∷ 136 ∷ 156 ∷ 176 ∷ []
-unfolding leBytes recordOf geometryBytes sizeBytes nameBytes recordsOf nextPlace parametersRecord
+-- behind no drive, two drives, two of which the second has parameters, both, and with three bad blocks: 0, 136, 156, 176, 192; the bytes of a table
+-- with no end record
+pub next-places : map nextPlace (emptyTable ∷ two ∷ two-attached ∷ both-attached ∷ two-listed ∷ []) ≡ 0 ∷ 136 ∷ 156 ∷ 176 ∷ 192 ∷ []
+unfolding leBytes recordOf geometryBytes sizeBytes nameBytes recordsOf nextPlace parametersRecord heldOf badRecord
 next-places = refl
 
--- a record that is cut off: no byte, three, a drive's but one; not so an unknown kind, a wrong length, a drive's record, nor a byte more
-pub cut : map isUnfinished ([] ∷ (4 ∷ 0 ∷ 9 ∷ []) ∷ take 67 record₁ ∷ (5 ∷ 0 ∷ 9 ∷ 0 ∷ []) ∷ (67 ∷ 0 ∷ 1 ∷ 0 ∷ []) ∷ record₁ ∷ (record₁ ++ (4 ∷ [])) ∷ [])
-    ≡ true ∷ true ∷ true ∷ false ∷ false ∷ false ∷ false ∷ []
-unfolding isUnfinished headerAt headerOf le
+-- a record that is cut off: no byte, three, a drive's but one, of sixteen bad blocks but one; not so an unknown kind, a wrong length, a drive's
+-- record, a byte more, nor the record of sixteen bad blocks
+pub cut : map isUnfinished ([] ∷ (4 ∷ 0 ∷ 9 ∷ []) ∷ take 67 record₁ ∷ take 133 (bads 0 sixteen) ∷ (5 ∷ 0 ∷ 9 ∷ 0 ∷ []) ∷ (67 ∷ 0 ∷ 1 ∷ 0 ∷ []) ∷ record₁ ∷ (record₁ ++ (4 ∷ [])) ∷ bads 0 sixteen ∷ [])
+    ≡ true ∷ true ∷ true ∷ true ∷ false ∷ false ∷ false ∷ false ∷ false ∷ []
+unfolding isUnfinished headerAt headerOf le leBytes badCount badLengthOk
 cut = refl
 
--- the longest record is a drive's, the longest table has eight drives with parameters each
-pub longest : longestRecord ∷ longestTable ∷ [] ≡ 68 ∷ 708 ∷ []
+-- the longest record is one of sixteen bad blocks, the longest table has eight drives with such a record and parameters each
+pub longest : longestRecord ∷ longestTable ∷ [] ≡ 134 ∷ 1780 ∷ []
 longest = refl
 
 -- ---- a table that obeys the rules
@@ -378,17 +570,25 @@ pub sound : map (λ (b : Table). isSound b 14000)
     ∷ table (first-drive ∷ second-drive ∷ replicate 6 zeroDrive) 9
     ∷ [])
     ≡ true ∷ true ∷ false ∷ false ∷ true ∷ false ∷ false ∷ []
-unfolding inLimits same busOk interfaceOk geometryFits fieldsOk inStore overlap overlapsAny refusal blankNumbers blankNames isBlank soundTo blankTo attachedTo isSound
+unfolding inLimits same busOk interfaceOk geometryFits fieldsOk inStore overlap overlapsAny refusal blankNumbers blankNames isBlank soundTo blankTo attachedTo listedTo isSound heldOf ascends areBlocks listOk zeroPast badsOk le
 sound = refl
 
 -- and in one of 13999: the drive from 9000 ends past it
 pub sound-short : isSound two 13999 ∷ isSound two 14000 ∷ [] ≡ false ∷ true ∷ []
-unfolding inLimits same busOk interfaceOk geometryFits fieldsOk inStore overlap overlapsAny refusal blankNumbers blankNames isBlank soundTo blankTo attachedTo isSound
+unfolding inLimits same busOk interfaceOk geometryFits fieldsOk inStore overlap overlapsAny refusal blankNumbers blankNames isBlank soundTo blankTo attachedTo listedTo isSound heldOf ascends areBlocks listOk zeroPast badsOk le
 sound-short = refl
 
 -- the two drives with other marks and bytes
 abbrev marks : List Bool → List ℕ → Table
-marks m p = record { drives = first-drive ∷ second-drive ∷ replicate 6 zeroDrive; count = 2; present = m; parameters = p }
+marks m p =
+    record {
+      drives = first-drive ∷ second-drive ∷ replicate 6 zeroDrive;
+      count = 2;
+      present = m;
+      parameters = p;
+      counts = replicate 8 0;
+      bad = replicate 1024 0;
+    }
 
 -- parameters, in a store of 14000 blocks
 --   of the second drive: true
@@ -410,5 +610,57 @@ pub sound-attached : map (λ (b : Table). isSound b 14000)
     ∷ marks (replicate 8 false) (replicate 111 0 ++ (1 ∷ []))
     ∷ [])
     ≡ true ∷ true ∷ true ∷ false ∷ false ∷ false ∷ false ∷ false ∷ []
-unfolding inLimits same busOk interfaceOk geometryFits fieldsOk inStore overlap overlapsAny refusal blankNumbers blankNames isBlank soundTo blankTo attachedTo isSound
+unfolding inLimits same busOk interfaceOk geometryFits fieldsOk inStore overlap overlapsAny refusal blankNumbers blankNames isBlank soundTo blankTo attachedTo listedTo isSound heldOf ascends areBlocks listOk zeroPast badsOk le
 sound-attached = refl
+
+-- the two drives with other counts and lists
+abbrev listed : List ℕ → List ℕ → Table
+listed n l =
+    record {
+      drives = first-drive ∷ second-drive ∷ replicate 6 zeroDrive;
+      count = 2;
+      present = replicate 8 false;
+      parameters = replicate 112 0;
+      counts = n;
+      bad = l;
+    }
+
+-- bad blocks, in a store of 14000 blocks
+--   of both drives, and parameters of the second: true
+--   of the first, one: true
+--   one that is past its blocks: false
+--   not in order: false
+--   a number behind them: false
+--   a last byte behind them: false
+--   bytes in a slot that has none: false
+--   seventeen: false
+--   of a slot past the count: false
+pub sound-listed : map (λ (b : Table). isSound b 14000)
+    (two-listed
+    ∷ listed (1 ∷ replicate 7 0) (numbers (4999 ∷ []) ++ replicate 1016 0)
+    ∷ listed (1 ∷ replicate 7 0) (numbers (5000 ∷ []) ++ replicate 1016 0)
+    ∷ listed (2 ∷ replicate 7 0) (numbers (7 ∷ 5 ∷ []) ++ replicate 1008 0)
+    ∷ listed (1 ∷ replicate 7 0) (numbers (5 ∷ 7 ∷ []) ++ replicate 1008 0)
+    ∷ listed (1 ∷ replicate 7 0) (numbers (5 ∷ []) ++ (replicate 119 0 ++ (1 ∷ replicate 896 0)))
+    ∷ listed (replicate 8 0) (numbers (5 ∷ []) ++ replicate 1016 0)
+    ∷ listed (17 ∷ replicate 7 0) (numbers sixteen ++ replicate 896 0)
+    ∷ listed (0 ∷ 0 ∷ 1 ∷ replicate 5 0) (replicate 1024 0)
+    ∷ [])
+    ≡ true ∷ true ∷ false ∷ false ∷ false ∷ false ∷ false ∷ false ∷ false ∷ []
+unfolding leBytes inLimits same busOk interfaceOk geometryFits fieldsOk inStore overlap overlapsAny refusal blankNumbers blankNames isBlank soundTo blankTo attachedTo listedTo isSound heldOf ascends areBlocks listOk zeroPast badsOk le
+sound-listed = refl
+
+-- the second drive has 4000 blocks, the first 5000; the other slots have no drive
+--   the last block of the second: true
+--   one past it: false
+--   no number, a byte in the last slot: false
+--   one number in the last slot: false
+pub sound-own : map (λ (b : Table). isSound b 14000)
+    (listed (0 ∷ 1 ∷ replicate 6 0) (replicate 128 0 ++ (numbers (3999 ∷ []) ++ replicate 888 0))
+    ∷ listed (0 ∷ 1 ∷ replicate 6 0) (replicate 128 0 ++ (numbers (4000 ∷ []) ++ replicate 888 0))
+    ∷ listed (replicate 8 0) (replicate 1023 0 ++ (1 ∷ []))
+    ∷ listed (replicate 7 0 ++ (1 ∷ [])) (replicate 1024 0)
+    ∷ [])
+    ≡ true ∷ false ∷ false ∷ false ∷ []
+unfolding leBytes inLimits same busOk interfaceOk geometryFits fieldsOk inStore overlap overlapsAny refusal blankNumbers blankNames isBlank soundTo blankTo attachedTo listedTo isSound heldOf ascends areBlocks listOk zeroPast badsOk le
+sound-own = refl

@@ -1,4 +1,4 @@
--- Document 01, "The drive table", and document 02, 2026-01: little-endian records, read record by record in the paper's order of checks, and
+-- Document 01, "The drive table", and document 02, 2026-01 and 2026-04: little-endian records, read record by record in the paper's order of checks, and
 -- written back.
 -- Assumes nothing.
 use Prim.Native.Nat.{ℕ, zero, suc, _+_, _-_, _*_}
@@ -13,6 +13,8 @@ use Rattle.words.specs.Words.{le, leBytes, part}
 use Rattle.drive.specs.declared.Drive.{Drive}
 use Rattle.drive.specs.Drive.{driveKind, driveLength, driveOf, recordOf, fieldsOk, inStore, overlap, isBlank}
 use Rattle.attached.specs.Parameters.{parametersKind, parametersLength, givenLength, numberIn, parametersIn, parametersRecord}
+use Rattle.attached.specs.declared.Bads.{Bads}
+use Rattle.attached.specs.Bad.{badKind, mostBad, listLength, badLength, badLengthOk, badsIn, badRecord, listOk, badsOk}
 use Rattle.table.specs.declared.Table.{Table}
 use Rattle.table.specs.declared.Header.{Header}
 use Rattle.table.specs.declared.Header.the-variants.{Whole, Bad}
@@ -44,7 +46,7 @@ wrongLength = 2
 abbrev pub ninthDrive : ℕ
 ninthDrive = 4
 
--- 5 a field breaks its rule
+-- 5 a field breaks its rule; a list of bad blocks is unsorted, repeated or outside the drive (document 02, 2026-04)
 abbrev pub badField : ℕ
 badField = 5
 
@@ -56,7 +58,8 @@ pastStore = 6
 abbrev pub overlapping : ℕ
 overlapping = 7
 
--- 9 a record of kind 4 names any but the last drive read, or repeats one (document 02, 2026-01)
+-- 9 a record of kind 3 or 4 names any but the last drive read, or repeats one; or one of kind 3 follows its drive's of kind 4 (document 02, 2026-01
+-- and 2026-04)
 abbrev pub notLast : ℕ
 notLast = 9
 
@@ -78,23 +81,24 @@ endKind = 0
 abbrev pub endLength : ℕ
 endLength = 4
 
--- the kinds that there are: 0, 1 and 4
+-- the kinds that there are: 0, 1, 3 and 4
 abbrev pub isKind : ℕ → Bool
-isKind kind = either (eqb kind endKind) (either (eqb kind driveKind) (eqb kind parametersKind))
+isKind kind = either (eqb kind endKind) (either (eqb kind driveKind) (either (eqb kind badKind) (eqb kind parametersKind)))
 
--- the length for the kind: 4 for kind 0, 68 for kind 1, 20 for kind 4
+-- the length for the kind: 4 for kind 0, 68 for kind 1, one to sixteen numbers for kind 3, 20 for kind 4
 abbrev pub lengthOk : ℕ → ℕ → Bool
 lengthOk kind size =
     either (both (eqb kind endKind) (eqb size endLength))
-    (either (both (eqb kind driveKind) (eqb size driveLength)) (both (eqb kind parametersKind) (eqb size parametersLength)))
+    (either (both (eqb kind driveKind) (eqb size driveLength))
+    (either (both (eqb kind badKind) (badLengthOk size)) (both (eqb kind parametersKind) (eqb size parametersLength))))
 
 -- the length word and the kind
 abbrev pub headerLength : ℕ
 headerLength = 4
 
--- the longest record that there is, a drive's
+-- the longest record that there is, of sixteen bad blocks
 abbrev pub longestRecord : ℕ
-longestRecord = driveLength
+longestRecord = badLength mostBad
 
 -- checks 1, 3, 2, 1 of a record, from the bytes left, its length word and its kind: its refusal, or a whole record of a kind and a length
 unfoldable pub headerOf : ℕ → ℕ → ℕ → Header
@@ -147,7 +151,15 @@ refusal n l d store = refusalBy n (overlapsAny n l d) d store
 
 -- the drives so far with one more
 abbrev pub more : Table → Drive → Table
-more b d = record { drives = set (b .drives) (b .count) d; count = b .count + 1; present = b .present; parameters = b .parameters }
+more b d =
+    record {
+      drives = set (b .drives) (b .count) d;
+      count = b .count + 1;
+      present = b .present;
+      parameters = b .parameters;
+      counts = b .counts;
+      bad = b .bad;
+    }
 
 -- ---- "2026-01", a drive's parameters among the drives before them: check 9
 
@@ -166,7 +178,44 @@ parametersRefusal b i = pick (both (ltb i mostDrives) (both (eqb (i + 1) (b .cou
 -- the drives so far with parameters for the one in slot i
 abbrev pub withParameters : Table → ℕ → List ℕ → Table
 withParameters b i p =
-    record { drives = b .drives; count = b .count; present = set (b .present) i true; parameters = sets (b .parameters) (givenLength * i) p }
+    record {
+      drives = b .drives;
+      count = b .count;
+      present = set (b .present) i true;
+      parameters = sets (b .parameters) (givenLength * i) p;
+      counts = b .counts;
+      bad = b .bad;
+    }
+
+-- ---- "2026-04", a drive's bad blocks among the drives before them: checks 9 and 5
+
+-- the bad blocks of slot i: how many, 0 where there is no record of them, and the bytes of sixteen numbers
+abbrev pub badsAt : Table → ℕ → Bads
+badsAt b i = record { count = getD (b .counts) i 0; list = part listLength (b .bad) (listLength * i) }
+
+-- slot i has a record of bad blocks
+abbrev pub hasBads : Table → ℕ → Bool
+hasBads b i = not (eqb (getD (b .counts) i 0) 0)
+
+-- 9 unless the record names the last drive read, and that one has none yet, nor parameters, which come behind them; then 5 unless the list is
+-- one of blocks of that drive; or 0 where it is taken
+unfoldable pub badsRefusal : Table → ℕ → Bads → ℕ
+badsRefusal b i l =
+    pick (both (ltb i mostDrives) (both (eqb (i + 1) (b .count)) (not (either (hasBads b i) (hasParameters b i)))))
+    (pick (listOk l (getD (b .drives) i noDrive .blocks)) 0 badField)
+    notLast
+
+-- the drives so far with bad blocks for the one in slot i
+abbrev pub withBads : Table → ℕ → Bads → Table
+withBads b i l =
+    record {
+      drives = b .drives;
+      count = b .count;
+      present = b .present;
+      parameters = b .parameters;
+      counts = set (b .counts) i (l .count);
+      bad = sets (b .bad) (listLength * i) (l .list);
+    }
 
 -- ---- "The drive table", one step of the reader; a refusal names the record's start
 
@@ -176,11 +225,17 @@ stepped s b = record { step = s; table = b }
 
 -- the refusal of a whole record that is not the end record, by its kind and its bytes; or 0 where it is taken
 unfoldable pub recordRefusal : ℕ → List ℕ → Table → ℕ → ℕ
-recordRefusal kind r b store = pick (eqb kind driveKind) (refusal (b .count) (b .drives) (driveOf r) store) (parametersRefusal b (numberIn r))
+recordRefusal kind r b store =
+    pick (eqb kind driveKind) (refusal (b .count) (b .drives) (driveOf r) store)
+    (pick (eqb kind badKind) (badsRefusal b (numberIn r) (badsIn r))
+    (parametersRefusal b (numberIn r)))
 
 -- the drives after it, where it is taken
 unfoldable pub withRecord : ℕ → List ℕ → Table → Table
-withRecord kind r b = pick (eqb kind driveKind) (more b (driveOf r)) (withParameters b (numberIn r) (parametersIn r))
+withRecord kind r b =
+    pick (eqb kind driveKind) (more b (driveOf r))
+    (pick (eqb kind badKind) (withBads b (numberIn r) (badsIn r))
+    (withParameters b (numberIn r) (parametersIn r)))
 
 -- refused at its start, or taken, and on behind it
 unfoldable pub recordStep : ℕ → ℕ → List ℕ → Table → ℕ → ℕ → Stepped
@@ -223,7 +278,14 @@ zeroDrive = record { cylinders = 0; heads = 0; sectors = 0; blocks = 0; first = 
 -- the table with no drive
 abbrev pub emptyTable : Table
 emptyTable =
-    record { drives = replicate mostDrives zeroDrive; count = 0; present = replicate mostDrives false; parameters = replicate (givenLength * mostDrives) 0 }
+    record {
+      drives = replicate mostDrives zeroDrive;
+      count = 0;
+      present = replicate mostDrives false;
+      parameters = replicate (givenLength * mostDrives) 0;
+      counts = replicate mostDrives 0;
+      bad = replicate (listLength * mostDrives) 0;
+    }
 
 -- before the first record
 abbrev pub begun : Cursor
@@ -244,9 +306,9 @@ unfoldable pub readFrom : ℕ → List ℕ → ℕ → ℕ → Table → Reading
 readFrom zero t store at b = reading (AnswerRefused ninthDrive at) b
 readFrom (suc k) t store at b = goOn (stepAt t at b store .step) (stepAt t at b store .table) (readFrom k t store)
 
--- enough records: eight drives with a record of parameters each, and the end record or one more, which is refused
+-- enough records: eight drives with a record of bad blocks and one of parameters each, and the end record or one more, which is refused
 abbrev pub mostRecords : ℕ
-mostRecords = 17
+mostRecords = 25
 
 -- the drives of a table's bytes, or the refusal with its place and the drives before it
 unfoldable pub readTable : List ℕ → ℕ → Reading
@@ -276,13 +338,18 @@ refusalAmong n firsts sizes d store = refusalBy n (overlapsRun n firsts sizes d)
 abbrev pub endRecord : List ℕ
 endRecord = leBytes 2 endLength ++ leBytes 2 endKind
 
--- the records of slot i: its drive's, then that of its parameters, where it has them, with the slot's number and the bytes as they were read
-abbrev pub slotBytes : Drive → Bool → ℕ → List ℕ → List ℕ
-slotBytes d present i p = recordOf d ++ pick present (parametersRecord i p) []
+-- the record of the bad blocks of slot i, where it has any
+abbrev pub badsRecord : ℕ → Bads → List ℕ
+badsRecord i l = pick (eqb (l .count) 0) [] (badRecord i l)
+
+-- the records of slot i: its drive's, then that of its bad blocks and that of its parameters, where it has them, with the slot's number and the
+-- bytes as they were read
+abbrev pub slotBytes : Drive → Bads → Bool → ℕ → List ℕ → List ℕ
+slotBytes d l present i p = recordOf d ++ (badsRecord i l ++ pick present (parametersRecord i p) [])
 
 -- of a table
 abbrev pub slotRecords : Table → ℕ → List ℕ
-slotRecords b i = slotBytes (getD (b .drives) i noDrive) (hasParameters b i) i (parametersAt b i)
+slotRecords b i = slotBytes (getD (b .drives) i noDrive) (badsAt b i) (hasParameters b i) i (parametersAt b i)
 
 -- the records of the first n slots
 unfoldable pub recordsOf : ℕ → Table → List ℕ
@@ -301,9 +368,9 @@ drivesOf b = take (b .count) (b .drives)
 unfoldable pub nextPlace : Table → ℕ
 nextPlace b = length (recordsOf (length (drivesOf b)) b)
 
--- the longest table: eight drives with parameters each, and the end record
+-- the longest table: eight drives with sixteen bad blocks and parameters each, and the end record
 abbrev pub longestTable : ℕ
-longestTable = mostDrives * (driveLength + parametersLength) + endLength
+longestTable = mostDrives * (driveLength + badLength mostBad + parametersLength) + endLength
 
 -- the table's bytes: the records of its drives' slots, and the end record
 unfoldable pub tableOf : Table → List ℕ
@@ -339,13 +406,20 @@ writtenNumbers (WriteRefused n) = n ∷ []
 abbrev pub takenNumbers : ℕ → ℕ → ℕ → List ℕ
 takenNumbers n at size = pick (eqb n 0) (0 ∷ 1 ∷ (at + size) ∷ []) (n ∷ at ∷ [])
 
--- the numbers of a whole record of a kind: the end record's, a drive's of 68 bytes with its refusal, or those of a drive's parameters, of 20 bytes,
--- which are 9 unless word 4 names the last drive read and that one has none yet
+-- word 4 of a record at a place is the number of the last drive read
+abbrev pub namesLast : List ℕ → ℕ → Table → Bool
+namesLast t at b = both (ltb (le 2 t (at + 4)) 8) (eqb (le 2 t (at + 4) + 1) (b .count))
+
+-- the numbers of a whole record of a kind: the end record's; a drive's of 68 bytes with its refusal; those of a drive's bad blocks, which are 9 unless
+-- word 4 names the last drive read and that one has neither bad blocks nor parameters yet, then 5 unless they are good; or those of a drive's
+-- parameters, of 20 bytes, which are 9 unless word 4 names the last drive read and that one has none yet
 abbrev pub wholeNumbers : List ℕ → ℕ → Table → ℕ → ℕ → ℕ → List ℕ
 wholeNumbers t at b store kind size =
     pick (eqb kind 0) (pick (ltb (at + 4) (length t)) (8 ∷ (at + 4) ∷ []) (0 ∷ []))
     (pick (eqb kind 1) (takenNumbers (refusal (b .count) (b .drives) (driveOf (part size t at)) store) at 68)
-    (takenNumbers (pick (both (ltb (le 2 t (at + 4)) 8) (both (eqb (le 2 t (at + 4) + 1) (b .count)) (not (getD (b .present) (le 2 t (at + 4)) false)))) 0 9) at 20))
+    (pick (eqb kind 3) (takenNumbers (pick (both (namesLast t at b) (both (eqb (getD (b .counts) (le 2 t (at + 4)) 0) 0) (not (getD (b .present) (le 2 t (at + 4)) false))))
+    (pick (listOk (badsIn (part size t at)) (getD (b .drives) (le 2 t (at + 4)) noDrive .blocks)) 0 5) 9) at size)
+    (takenNumbers (pick (both (namesLast t at b) (not (getD (b .present) (le 2 t (at + 4)) false))) 0 9) at 20)))
 
 -- the numbers of a record at a place, straight from its length word, its kind and its bytes: the checks in the paper's order
 unfoldable pub recordNumbers : List ℕ → ℕ → Table → ℕ → List ℕ
@@ -414,11 +488,20 @@ attachedAt b i = pick (hasParameters b i) (ltb i (b .count)) (allBelow givenLeng
 unfoldable pub attachedTo : ℕ → Table → Bool
 attachedTo n b = allBelow n (attachedAt b)
 
--- at most eight drives, each of which the reader would take, blank slots past them, and parameters of drives only
+-- slot i has bad blocks of its drive only, in ascending order, and zeros behind them
+abbrev pub listedAt : Table → ℕ → Bool
+listedAt b i = badsOk (badsAt b i) (getD (b .drives) i noDrive .blocks)
+
+-- of the first n slots
+unfoldable pub listedTo : ℕ → Table → Bool
+listedTo n b = allBelow n (listedAt b)
+
+-- at most eight drives, each of which the reader would take, blank slots past them, and parameters and bad blocks of drives only
 unfoldable pub isSound : Table → ℕ → Bool
 isSound b store =
     both (leb (b .count) mostDrives)
-    (both (soundTo (b .count) (b .drives) store) (both (blankTo mostDrives (b .drives) (b .count)) (attachedTo mostDrives b)))
+    (both (soundTo (b .count) (b .drives) store)
+    (both (blankTo mostDrives (b .drives) (b .count)) (both (attachedTo mostDrives b) (listedTo mostDrives b))))
 
 -- ---- "2026-01", how many records of parameters there are
 

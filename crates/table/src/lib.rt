@@ -1,16 +1,18 @@
 // The drive table: a cursor that reads one record, a reader that holds its bytes, the whole table, and the writer.
+use attached::Bads;
 use drive::Drive;
 ghost use mathlib.Core.Path.{_≡_};
 ghost use Prim.Native.Nat.{_+_, _-_, _*_, _^_, _≤_, _<_, min};
 ghost use lib.ListN.{length, getD};
 ghost use lib.Dec.{ltb, eqb};
-ghost use mathlib.Core.Bool.{not, false};
+ghost use mathlib.Core.Bool.{not, true, false};
 ghost use lib.Seq.{sets};
 ghost use Rattle.drive.specs.Drive.{driveKind, recordOf, fieldsOk, inStore};
 ghost use Rattle.words.specs.Words.{part};
-ghost use Rattle.logic.specs.Logic.{pick, both, allBelow};
+ghost use Rattle.logic.specs.Logic.{pick, both, either, allBelow};
 ghost use Rattle.attached.specs.Parameters.{parametersKind};
-ghost use Rattle.table.specs.Table.{isKind, lengthOk, headerAt, isUnfinished, overlapsAny, refusal, more, parametersAt, withParameters, endStep, recordStep, stepAt, placeAfter, Advances, begun, zeroDrive, emptyTable, reading, endAnswer, Reads, slotBytes, recordsOf, endLength, endRecord, drivesOf, nextPlace, longestTable, tableOf, writeAnswer, writeOut, writtenNumbers, writeNumbers, soundTo, blankTo, attachedTo, isSound, overlapRuns, overlapsRun, refusalAmong};
+ghost use Rattle.attached.specs.Bad.{badKind, listPlace, listLength, badLength, heldOf, listOk};
+ghost use Rattle.table.specs.Table.{notLast, badField, isKind, lengthOk, headerAt, isUnfinished, overlapsAny, refusal, more, parametersAt, withParameters, badsAt, badsRefusal, withBads, endStep, recordStep, stepAt, placeAfter, Advances, begun, zeroDrive, emptyTable, reading, endAnswer, Reads, badsRecord, slotBytes, recordsOf, endLength, endRecord, drivesOf, nextPlace, longestTable, tableOf, writeAnswer, writeOut, writtenNumbers, writeNumbers, soundTo, blankTo, attachedTo, listedTo, isSound, overlapRuns, overlapsRun, refusalAmong};
 
 // Document 01's refusals of a table, in the order of the checks.
 pub const CUT_OFF: u8 = 1;
@@ -27,7 +29,8 @@ const PAST_STORE: u8 = 6;
 
 const OVERLAPPING: u8 = 7;
 
-// Of a record of kind 4 that does not name the last drive read, or repeats one (document 02, 2026-01).
+// Of a record of kind 3 or 4 that does not name the last drive read, or repeats one, and of one of kind 3 behind its drive's of kind 4
+// (document 02, 2026-01 and 2026-04).
 const NOT_LAST: u8 = 9;
 
 pub const BYTE_FOLLOWS: u8 = 8;
@@ -43,25 +46,33 @@ pub const END_LENGTH: u16 = 4;
 // The length word and the kind.
 const HEADER_LENGTH: usize = 4;
 
-// The longest record that there is, a drive's: all that a reader of fragments keeps of one.
-pub const LONGEST_RECORD: usize = drive::DRIVE_LENGTH as usize;
+// The longest record that there is, of sixteen bad blocks: all that a reader of fragments keeps of one.
+pub const LONGEST_RECORD: usize = attached::LONGEST_BAD;
 
-// Enough records: eight drives with a record of parameters each, and the end record or one more, which is refused.
-const MOST_RECORDS: usize = 17;
+// Enough records: eight drives with a record of bad blocks and one of parameters each, and the end record or one more, which is refused.
+const MOST_RECORDS: usize = 25;
 
 // Drives: 0 to 8.
 pub const MOST_DRIVES: usize = 8;
 
-// The longest table: eight drives with a record of parameters each, and the end record.
-pub const LONGEST_TABLE: usize = 708;
+// The longest table: eight drives with a record of bad blocks and one of parameters each, and the end record.
+pub const LONGEST_TABLE: usize = MOST_DRIVES * LONGEST_SLOT + END_LENGTH as usize;
+
+// The records of a slot at most: its drive's, that of sixteen bad blocks, and that of its parameters.
+const LONGEST_SLOT: usize = drive::DRIVE_LENGTH as usize
+    + attached::LONGEST_BAD
+    + attached::PARAMETERS_LENGTH as usize;
 
 // The drives in table order; the first `count` slots are in use. Where a slot has a record of parameters, `present` says so, and its fourteen
-// bytes stand from 14 times the slot's number on, as the record has them; else they are zero.
+// bytes stand from 14 times the slot's number on, as the record has them; else they are zero. Where it has a record of bad blocks, `counts` says
+// how many they are, and their numbers stand from 128 times the slot's number on, as the record has them, and zeros behind them; else it is 0.
 pub struct Table {
     pub drives: [Drive; 8],
     pub count: usize,
     pub present: [bool; 8],
     pub parameters: [u8; 112],
+    pub counts: [u8; 8],
+    pub bad: [u8; 1024],
 }
 
 // What the first four bytes of a record and the bytes left say: a whole record of a kind and a length, or its refusal.
@@ -122,7 +133,17 @@ fn is_kind(kind: u16) -> bool
     if kind == drive::DRIVE_KIND {
         return true;
     }
-    logic::or(kind == END_KIND, kind == attached::PARAMETERS_KIND)
+    logic::or(kind == END_KIND, is_attached(kind))
+}
+
+// The kinds of records that belong to a drive.
+fn is_attached(kind: u16) -> bool
+    ensures { λ r. ⌜ r ≡ either (eqb kind badKind) (eqb kind parametersKind) ⌝ }
+{
+    logic::or(
+        kind == attached::BAD_KIND,
+        kind == attached::PARAMETERS_KIND,
+    )
 }
 
 // The length for the kind.
@@ -134,6 +155,9 @@ fn length_ok(kind: u16, size: u16) -> bool
     }
     if kind == END_KIND {
         return size == END_LENGTH;
+    }
+    if kind == attached::BAD_KIND {
+        return attached::bad_length_ok(size);
     }
     logic::and(
         kind == attached::PARAMETERS_KIND,
@@ -249,9 +273,9 @@ fn push(b: Table, d: Drive) -> Table
     next
 }
 
-// ---- a drive's parameters
+// ---- what belongs to the last drive read
 
-// A record of parameters names the last drive read, by its number, and that one has none yet.
+// A record names the last drive read, by its number, and that one has no parameters yet.
 fn names_last(count: usize, present: [bool; 8], number: u16) -> bool
     ensures { λ r. ⌜ r ≡ both (ltb number 8) (both (eqb (number + 1) count) (not (getD present number false))) ⌝ }
 {
@@ -304,6 +328,80 @@ pub fn parameters_at(b: Table, i: usize) -> [u8; 14]
 {
     let bytes = b.parameters;
     bytes_at(&bytes, i)
+}
+
+// The bad blocks of one slot among those of all.
+fn bads_in_slot(n: u8, bad: &[u8], i: usize) -> Bads
+    requires { ⌜ (length (now bad) ≡ 1024) × (i < 8) ⌝ }
+    ensures { λ l. ⌜ (l .count ≡ n) × (l .list ≡ part 128 (now (bad .entry)) (128 * i)) ⌝ }
+{
+    let from = attached::LIST_LENGTH * i;
+    let end = from + attached::LIST_LENGTH;
+    let mut list = [0u8; 128];
+    words::store(&mut list, 0, &bad[from..end]);
+    Bads { count: n, list }
+}
+
+// The bad blocks of a slot, one of the eight.
+pub fn bads_at(b: Table, i: usize) -> Bads
+    requires { ⌜ i < 8 ⌝ }
+    ensures { λ l. ⌜ l ≡ badsAt b i ⌝ }
+{
+    let counts = b.counts;
+    let bad = b.bad;
+    bads_in_slot(counts[i], &bad, i)
+}
+
+// The refusal of a list for the last drive read, which has so many bad blocks already and so many blocks, or 0.
+fn list_refusal(count: u8, l: Bads, blocks: u64) -> u8
+    ensures { λ r. ⌜ r ≡ pick (eqb count 0) (pick (listOk l blocks) 0 badField) notLast ⌝ }
+{
+    if count != 0 {
+        return NOT_LAST;
+    }
+    if attached::list_ok(l, blocks) {
+        return 0;
+    }
+    BAD_FIELD
+}
+
+// The refusal of a record of bad blocks, by the number of its drive, or 0.
+fn bads_refusal(b: Table, number: u16, l: Bads) -> u8
+    ensures { λ r. ⌜ r ≡ badsRefusal b number l ⌝ }
+{
+    let present = b.present;
+    if !names_last(b.count, present, number) {
+        return NOT_LAST;
+    }
+    let i = number as usize;
+    let counts = b.counts;
+    let drives = b.drives;
+    let d = drives[i];
+    list_refusal(counts[i], l, d.blocks)
+}
+
+// The numbers of all slots with those of one slot.
+fn with_list(bad: [u8; 1024], i: usize, list: [u8; 128]) -> [u8; 1024]
+    requires { ⌜ i < 8 ⌝ }
+    ensures { λ r. ⌜ r ≡ sets bad (128 * i) list ⌝ }
+{
+    let mut next = bad;
+    words::store(&mut next, attached::LIST_LENGTH * i, &list);
+    next
+}
+
+// The drives so far with bad blocks for a slot.
+fn with_bads(b: Table, i: usize, l: Bads) -> Table
+    requires { ⌜ i < 8 ⌝ }
+    ensures { λ r. ⌜ r ≡ withBads b i l ⌝ }
+{
+    let bad = b.bad;
+    let list = l.list;
+    let laid = with_list(bad, i, list);
+    let mut next = b;
+    next.counts[i] = l.count;
+    next.bad = laid;
+    next
 }
 
 // ---- the cursor
@@ -364,6 +462,26 @@ fn parameters_step(r: &[u8], at: usize, b: Table, store: u64) -> Stepped
     }
 }
 
+// The bytes of a record of bad blocks, likewise.
+fn bads_step(r: &[u8], at: usize, b: Table, store: u64) -> Stepped
+    requires { ⌜ (listPlace ≤ length (now r)) × (length (now r) ≤ listPlace + listLength) × (at + length (now r) < 2 ^ 64) ⌝ }
+    ensures { λ q. ⌜ q ≡ recordStep badKind (length (now (r .entry))) (now (r .entry)) b at store ⌝ }
+{
+    let number = attached::number_in(r);
+    let l = attached::bads_in(r);
+    let n = bads_refusal(b, number, l);
+    if n != 0 {
+        return Stepped {
+            step: Step::Refused(n, at),
+            table: b,
+        };
+    }
+    Stepped {
+        step: Step::Next(at + r.len()),
+        table: with_bads(b, number as usize, l),
+    }
+}
+
 // The record at a place, given the drives before it and the store's number of blocks.
 fn step_at(t: &[u8], at: usize, b: Table, store: u64) -> Stepped
     ensures { λ r. ⌜ r ≡ stepAt (now (t .entry)) at b store ⌝ }
@@ -381,6 +499,9 @@ fn step_at(t: &[u8], at: usize, b: Table, store: u64) -> Stepped
             let next = at + size;
             if kind == drive::DRIVE_KIND {
                 return drive_step(&t[at..next], at, b, store);
+            }
+            if kind == attached::BAD_KIND {
+                return bads_step(&t[at..next], at, b, store);
             }
             parameters_step(&t[at..next], at, b, store)
         }
@@ -482,6 +603,8 @@ pub fn empty_table() -> Table
         count: 0,
         present: [false; 8],
         parameters: [0u8; 112],
+        counts: [0u8; 8],
+        bad: [0u8; 1024],
     }
 }
 
@@ -513,7 +636,7 @@ fn end_answer(next: usize, n: usize) -> Answer
 }
 
 // All drives of a table, for a store of that many blocks. The runs of the drives so far stand beside them, and nothing is handed on that holds
-// them all: a step of the cursor's would copy eight drives for each record.
+// them all: a step of the cursor's would copy eight drives, and their lists, for each record.
 pub fn read_table(t: &[u8], store: u64) -> Reading
     ensures { λ r. ⌜ Reads (now (t .entry)) store r ⌝ }
 {
@@ -552,6 +675,21 @@ pub fn read_table(t: &[u8], store: u64) -> Reading
                     return ended(Answer::Refused(NOT_LAST, at), b);
                 }
                 let i = number as usize;
+                if kind == attached::BAD_KIND {
+                    let l = attached::bads_in(&t[at..next]);
+                    let refused = list_refusal(b.counts[i], l, sizes[i]);
+                    if refused != 0 {
+                        return ended(Answer::Refused(refused, at), b);
+                    }
+                    let bad = b.bad;
+                    let list = l.list;
+                    let laid = with_list(bad, i, list);
+                    b.counts[i] = l.count;
+                    b.bad = laid;
+                    at = next;
+                    left -= 1;
+                    continue;
+                }
                 let bytes = b.parameters;
                 let laid = with_bytes(bytes, i, attached::parameters_in(&t[at..next]));
                 b.present[i] = true;
@@ -577,28 +715,39 @@ fn held(count: usize) -> usize
     }
 }
 
-// The length of the records of a slot, by its drive and whether it has parameters.
-fn slot_length(d: Drive, present: bool) -> usize
-    ensures { λ r. ⌜ (r ≡ length (recordOf d) + pick present 20 0) × (r ≤ 88) ⌝ }
+// The length of the record of n bad blocks; with none there is no record.
+fn bads_length(n: u8) -> usize
+    ensures { λ r. ⌜ (r ≡ pick (eqb n 0) 0 (badLength (heldOf n))) × (r ≤ 134) ⌝ }
 {
-    let n = drive::record_length(d);
-    if present {
-        return n + attached::PARAMETERS_LENGTH as usize;
+    if n == 0 {
+        return 0;
     }
-    n
+    attached::bad_length(n)
+}
+
+// The length of the records of a slot behind its drive's, by its number of bad blocks and whether it has parameters.
+pub fn attached_length(n: u8, present: bool) -> usize
+    ensures { λ r. ⌜ (r ≡ pick (eqb n 0) 0 (badLength (heldOf n)) + pick present 20 0) × (r ≤ 154) ⌝ }
+{
+    let bads = bads_length(n);
+    if present {
+        return bads + attached::PARAMETERS_LENGTH as usize;
+    }
+    bads
 }
 
 // The length of the records of the first n slots. `write_table` asks for at most eight.
 fn records_length(b: Table, n: usize) -> usize
     requires { ⌜ n ≤ 8 ⌝ }
-    ensures { λ r. ⌜ (r ≡ length (recordsOf n b)) × (r ≤ 88 * n) ⌝ }
+    ensures { λ r. ⌜ (r ≡ length (recordsOf n b)) × (r ≤ 222 * n) ⌝ }
 {
     let mut total: usize = 0;
     let mut i = 0;
     while i < n {
         let d = b.drives[i];
+        let count = b.counts[i];
         let present = b.present[i];
-        total += slot_length(d, present);
+        total += drive::record_length(d) + attached_length(count, present);
         i += 1;
     }
     total
@@ -611,14 +760,35 @@ pub fn next_place(b: Table) -> usize
     records_length(b, held(b.count))
 }
 
-// The records of slot i, which has that drive and, where `present` says so, its bytes of all, laid from a place on; the place behind them.
-pub fn put_slot(d: Drive, present: bool, i: usize, bytes: &[u8], out: &mut [u8], at: usize) -> usize
-    requires { ⌜ (length (now bytes) ≡ 112) × (i < 8) × (at + length (slotBytes d present i (part 14 (now bytes) (14 * i))) ≤ length (now out)) ⌝ }
-    ensures { λ r. ⌜ (now (out .exit) ≡ sets (now (out .entry)) at (slotBytes d present i (part 14 (now (bytes .entry)) (14 * i)))) × (r ≡ at + length (slotBytes d present i (part 14 (now (bytes .entry)) (14 * i)))) ⌝ }
+// The record of bad blocks of slot i, where it has any, laid from a place on; the place behind it.
+fn put_bads(l: Bads, i: usize, out: &mut [u8], at: usize) -> usize
+    requires { ⌜ (length (l .list) ≡ 128) × (i < 8) × (at + length (badsRecord i l) ≤ length (now out)) ⌝ }
+    ensures { λ r. ⌜ (now (out .exit) ≡ sets (now (out .entry)) at (badsRecord i l)) × (r ≡ at + length (badsRecord i l)) ⌝ }
+{
+    if l.count == 0 {
+        return at;
+    }
+    attached::put_bads(l, i as u16, out, at);
+    at + attached::bad_length(l.count)
+}
+
+// The records of slot i, which has that drive, those bad blocks and, where `present` says so, its bytes of all, laid from a place on; the place
+// behind them.
+pub fn put_slot(
+    d: Drive,
+    l: Bads,
+    present: bool,
+    i: usize,
+    bytes: &[u8],
+    out: &mut [u8],
+    at: usize,
+) -> usize
+    requires { ⌜ (length (l .list) ≡ 128) × (length (now bytes) ≡ 112) × (i < 8) × (at + length (slotBytes d l present i (part 14 (now bytes) (14 * i))) ≤ length (now out)) ⌝ }
+    ensures { λ r. ⌜ (now (out .exit) ≡ sets (now (out .entry)) at (slotBytes d l present i (part 14 (now (bytes .entry)) (14 * i)))) × (r ≡ at + length (slotBytes d l present i (part 14 (now (bytes .entry)) (14 * i)))) ⌝ }
 {
     let r = drive::encode(d);
     words::store(out, at, &r);
-    let behind = at + drive::record_length(d);
+    let behind = put_bads(l, i, out, at + drive::record_length(d));
     if !present {
         return behind;
     }
@@ -638,7 +808,8 @@ fn put_records(b: Table, n: usize, out: &mut [u8])
     while i < n {
         let d = b.drives[i];
         let present = b.present[i];
-        at = put_slot(d, present, i, &bytes, out, at);
+        let l = bads_at(b, i);
+        at = put_slot(d, l, present, i, &bytes, out, at);
         i += 1;
     }
 }
@@ -759,7 +930,23 @@ fn attached_to(b: Table) -> bool
     good
 }
 
-// At most eight drives, each of which the reader would take after those before it, blank slots past them, and parameters of drives only.
+// Bad blocks of its drive in each slot, in ascending order, and zeros behind them.
+fn listed_to(b: Table) -> bool
+    ensures { λ r. ⌜ r ≡ listedTo 8 b ⌝ }
+{
+    let drives = b.drives;
+    let mut good = true;
+    let mut i = 0;
+    while i < MOST_DRIVES {
+        let d = drives[i];
+        good = logic::and(attached::bads_ok(bads_at(b, i), d.blocks), good);
+        i += 1;
+    }
+    good
+}
+
+// At most eight drives, each of which the reader would take after those before it, blank slots past them, and parameters and bad blocks of
+// drives only.
 pub fn is_sound(b: Table, store: u64) -> bool
     ensures { λ r. ⌜ r ≡ isSound b store ⌝ }
 {
@@ -768,6 +955,7 @@ pub fn is_sound(b: Table, store: u64) -> bool
         return false;
     }
     let drives = b.drives;
-    let blank = logic::and(blank_past(b), attached_to(b));
+    let more = logic::and(attached_to(b), listed_to(b));
+    let blank = logic::and(blank_past(b), more);
     logic::and(sound_to(n, drives, store), blank)
 }

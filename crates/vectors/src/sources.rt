@@ -83,7 +83,7 @@ fn writes() {
 }
 
 // The count word of a packet at place 0, after the call.
-fn say_count(window: &[u8]) {
+pub(crate) fn say_count(window: &[u8]) {
     if window.len() < 4 {
         return;
     }
@@ -226,7 +226,7 @@ fn limits_table(flags: u8, c: u16, h: u16, s: u8) -> [u8; 72] {
     t
 }
 
-fn say_answer(answer: Answer) {
+pub(crate) fn say_answer(answer: Answer) {
     match answer {
         Answer::Accepted => say(b"table ok"),
         Answer::Refused(number, _) => {

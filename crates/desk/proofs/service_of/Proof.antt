@@ -1,6 +1,5 @@
-use Prim.Native.Nat.{_+_}
-use borrow.Author.Tests.{lt-ltb, le-ltb}
-use Rattle.desk.specs.Calls.{stageAfter, quota}
+use mathlib.Core.Path.{sym, _∙_}
+use Rattle.desk.specs.Calls.{stageAfter}
 use borrow.Author.Needs.{needs}
 use Rattle.desk.proofs.service_of.Statement.{statement}
 use Rattle.desk.proofs.service_of.Tie as tie
@@ -8,17 +7,15 @@ use Rattle.desk.proofs.service_of.Tie as tie
 returns : tie.Need-returns
 unfolding stageAfter
 returns c =
-    let q = c .before .before .before .before .before .args .q in
-    let k = c .before .before .before .before .quota-of .ensures in
-    rw (lt-ltb (q .moved + quota q) (q .job .count) (rw k at (c .if1 .taken)), ← k)
+    let k = c .before .before .before .before .moves-now .ensures .0 in
+    rw (← k, sym (c .before .goes-on .ensures) ∙ c .if1 .taken)
 
 returns-2 : tie.Need-returns-2
 unfolding stageAfter
 returns-2 c =
-    let q = c .before .before .before .before .before .before .before .args .q in
-    let k = c .before .before .before .before .before .before .quota-of .ensures in
-    rw (le-ltb (q .moved + quota q) (q .job .count) (rw k at (c .before .before .if1 .left)), c .succeed .ensures, ← k)
+    let k = c .before .before .before .before .before .before .moves-now .ensures .0 in
+    rw (c .ended .ensures, ← k, sym (c .before .before .before .goes-on .ensures) ∙ c .before .before .if1 .left)
 
 pub service-of-spec : {M : Type 1} → statement M
 service-of-spec =
-    tie.close (tie.spec (search needs) (search needs) returns (search needs) returns-2)
+    tie.close (tie.spec (search needs) (search needs) (search needs) returns (search needs) returns-2)

@@ -1,4 +1,4 @@
-use mathlib.Core.Path.{_≡_, refl, sym, subst, _∙_}
+use mathlib.Core.Path.{_≡_, refl, sym, ap, subst, _∙_}
 use mathlib.Core.Bool.{true}
 use mathlib.Core.List.{List, [], _∷_}
 use types.Run.{OneOf}
@@ -6,6 +6,7 @@ use denote.Enum.Declared.{tagOf}
 use Prim.Native.Nat.{ℕ, _<_}
 use native.Mathlib.Omega.{arith}
 use denote.Ref.{now}
+use Rattle.attached.specs.declared.Bads.{Bads}
 use Rattle.int13.specs.Steps.{driveAt}
 use Rattle.desk.proofs.Stage as stage
 use lib.ListN.{length}
@@ -17,13 +18,13 @@ use Rattle.desk.specs.declared.Next.the-variants.{Guest}
 use Rattle.desk.specs.declared.TurnAnswer.the-variants.{Refused as TurnRefused}
 use Rattle.desk.specs.Parts.{windowSize, stageAt}
 use Rattle.desk.specs.Acceptable.{accept}
-use Rattle.desk.specs.Calls.{isLent, done, firstWaiting, Transferred, turnNext, turnOf}
+use Rattle.desk.specs.Calls.{isLent, done, firstWaiting, serviceOf, badsFor, Transferred, turnNext, turnOf}
 use Rattle.desk.specs.Numbers.{turnNumbers}
 use Rattle.desk.proofs.AcceptableLaws.{accept-true, Waits}
-use Rattle.desk.proofs.CallsLaws.{house-refused, Passed, house-passed, turn-nobody, turn-other, turn-served, seek-below, waiting-facts, in-range}
+use Rattle.desk.proofs.CallsLaws.{house-refused, Passed, house-passed, turn-nobody, turn-other, turn-served, seek-below, waiting-facts, servable, in-range, ending-facts}
 use Rattle.image.specs.Image.{deskSize, deskOf}
 use Rattle.exports.specs.Exports.{over, turnCall}
-use Rattle.exports.proofs.Exports.{block, pointer-read, next-read, stage-read, drive-read, put-turn}
+use Rattle.exports.proofs.Exports.{block, pointer-read, next-read, stage-read, drive-read, bads-read, put-turn}
 use borrow.Author.Needs.{needs}
 use Rattle.exports.proofs.edd_turn.Statement.{statement}
 use Rattle.exports.proofs.edd_turn.Tie as tie
@@ -117,31 +118,63 @@ returns-3 c =
 drive-named-requires : tie.Need-drive-named-requires
 drive-named-requires c κs = sized (tested (sought (c .before)))
 
+bads-of-requires : tie.Need-bads-of-requires
+bads-of-requires c κs = sized (tested (sought (c .before .before .before)))
+
+service-of-requires : tie.Need-service-of-requires
+service-of-requires c κs =
+    let t = c .before .before .before .before in
+    let h = house t in
+    servable (desk h) (arena h) (store h) (guest (sought t)) (request t) (passed (tested (sought t))) (below (sought t)) (holds t)
+    (omega (arith, h .before .before .before .before .before .good .1 .1 .0 .0))
+
+-- what the turn does to it
+service : (c : tie.After-service-of) → let t = c .before .before .before .before .before in c .service-of .result ≡ serviceOf (badsFor (desk (house t)) (request t)) (request t)
+service c =
+    let t = c .before .before .before .before .before in
+    let bads = bads-read (bytes (house t)) (passed (tested (sought t)) .acceptable) (request t .job .drive) (c .before .bads-of .ensures) in
+    c .service-of .ensures ∙ ap (λ (l : Bads). serviceOf l (request t)) bads
+
 transfer-requires : tie.Need-transfer-requires
 transfer-requires c κs =
-    let t = c .before .before .before .before .before in
+    let s = c .before .before in
+    let n = s .before .before .before in
+    let t = n .before .before in
     let h = house t in
     let g = h .before .before .before .before .before .good in
-    rw (named (c .before .before .before))
+    rw (named n)
     (in-range (desk h) (arena h) (store h) (guest (sought t)) (request t) (passed (tested (sought t))) (below (sought t)) (holds t)
-    (omega (arith, g .1 .0 .0)) (omega (arith, g .1 .1 .0 .0)) (c .before .before .service-of .ensures))
+    (omega (arith, g .1 .0 .0)) (omega (arith, g .1 .1 .0 .0)) (service s))
+
+report-ending-requires : tie.Need-report-ending-requires
+report-ending-requires c κs =
+    let x = c .before .before .before .before .before in
+    let s = x .before .before .before in
+    let n = s .before .before .before in
+    let t = n .before .before in
+    let h = house t in
+    let p = passed (tested (sought t)) in
+    ending-facts (desk h) (arena h) (store h) (n .drive-named .result .first) (guest (sought t)) (request t) (p .acceptable) (p .lent) (below (sought t)) (holds t) (service s) (x .transfer .ensures)
 
 put-served-requires : tie.Need-put-served-requires
-put-served-requires c κs = let w = sought (c .before .before .before .before .before .before .before .before .before .before .before) in (sized (tested w), below w)
+put-served-requires c κs =
+    let w = sought (c .before .before .before .before .before .before .before .before .before .before .before .before .before .before .before .before .before) in
+    (sized (tested w), below w)
 
 returns-4 : tie.Need-returns-4
 unfolding turnCall over turnNumbers
 returns-4 c =
-    let x = c .before .before .before .before .before .before .before .before in
-    let n = x .before .before .before .before in
+    let r = c .before .before .before .before .before .before in
+    let x = r .before .before .before .before .before .before in
+    let s = x .before .before .before in
+    let n = s .before .before .before in
     let t = n .before .before in
     let w = sought t in
     let h = house t in
     let p = passed (tested w) in
-    let s = x .before .before .before .service-of in
-    let e : Transferred (driveAt (desk h .table) (request t .job .drive) .first) (request t) (s .result .moved) (guest w) (arena h) (store h) _ _ = rw (named n) at (x .transfer .ensures) in
-    let k = put-turn (bytes h) (p .acceptable) (guest w) (s .result .stage) (below w) (c .before .before .put-served .ensures) in
-    rw (← turn-served (desk h) (arena h) (store h) p (guest w) (request t) (found w) (holds t) (s .ensures) refl refl e, k)
+    let e : Transferred (driveAt (desk h .table) (request t .job .drive) .first) (request t) (s .service-of .result .moved) (guest w) (arena h) (store h) _ _ = rw (named n) at (x .transfer .ensures) in
+    let k = put-turn (bytes h) (p .acceptable) (guest w) (s .service-of .result .stage) (below w) (c .before .before .put-served .ensures) in
+    rw (← turn-served (desk h) (arena h) (store h) p (guest w) (request t) (found w) (holds t) (service s) refl refl e (r .report-ending .ensures), k)
 
 pub edd-turn-spec : {M : Type 1} → statement M
 edd-turn-spec =
@@ -161,8 +194,10 @@ edd-turn-spec =
     (search needs)
     returns-3
     drive-named-requires
-    (search needs)
+    bads-of-requires
+    service-of-requires
     transfer-requires
+    report-ending-requires
     put-served-requires
     (search needs)
     (search needs)

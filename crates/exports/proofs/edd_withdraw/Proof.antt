@@ -3,6 +3,7 @@ use mathlib.Core.List.{List, [], _∷_}
 use types.Run.{OneOf}
 use denote.Enum.Declared.{tagOf}
 use Prim.Native.Nat.{ℕ, _<_}
+use native.Mathlib.Omega.{arith}
 use lib.ListN.{length}
 use lib.Dec.{ltb}
 use borrow.Author.Tests.{ltb-true}
@@ -66,7 +67,7 @@ holds : (c : tie.After-known-told) → stageAt (deskOf (bytes (house c))) (guest
 holds c = sym (stage-read (bytes (house c)) (passed (tested c) .acceptable) (guest (house c)) (c .before .before .before .stage-of .ensures)) ∙ c .before .stage .given .1
 
 facts : (c : tie.After-known-told) → Report (request c) (guest (house c)) (length (arena (house c)))
-facts c = let h = house c in report-facts (deskOf (bytes h)) (arena h) (store h) (guest h) (request c) (passed (tested c)) (holds c)
+facts c = let h = house c in report-facts (deskOf (bytes h)) (arena h) (store h) (guest h) (request c) (passed (tested c) .acceptable) (passed (tested c) .lent) (below (tested c)) (holds c)
 
 returns : tie.Need-returns
 unfolding withdrawCall over withdrawNumbers
@@ -84,7 +85,7 @@ returns-2 c =
     rw (← withdraw-other (deskOf (bytes h)) (guest h) (arena h) (store h) p (subst (λ (x : Stage). OneOf (0 ∷ 2 ∷ []) (tagOf stage.the-type x)) s (c .match .keys2)))
 
 report-moved-requires : tie.Need-report-moved-requires
-report-moved-requires c κs = let f = facts (c .before) in (f .guest, f .packet, f .moved)
+report-moved-requires c κs = let f = facts (c .before) in (f .guest, f .packet, omega (arith, f .moved))
 
 put-stage-requires : tie.Need-put-stage-requires
 put-stage-requires c κs = let t = tested (c .before .before .before .before .before) in (sized t, below t)

@@ -11,7 +11,7 @@ use Rattle.feed.proofs.leaves_open.Tie as tie
 -- there is room for the byte
 inside : (c : tie.Else1) → c .before .args .n + 1 ≤ length (set (c .before .args .held) (c .before .args .n) (c .before .args .x))
 inside c =
-    let room : length (c .before .args .held) ≡ 68 = search needs in
+    let room : length (c .before .args .held) ≡ 134 = search needs in
     omega (arith, room, c .if1 .left, length-set (c .before .args .held) (c .before .args .n) (c .before .args .x))
 
 returns : tie.Need-returns

@@ -16,9 +16,10 @@ returns c =
     let p : length (a .d .placed) ≡ 8 = search (needs, length-mapped) in
     let l : length (a .d .addresses) ≡ 8 = search (needs, length-mapped) in
     let q : length (a .d .table .present) ≡ 8 = search (needs, length-mapped) in
+    let n : length (a .d .table .counts) ≡ 8 = search (needs, length-mapped) in
     c .before .before .put-more .ensures
     ∙ rw (c .before .before .before .before .before .before .put-words .ensures, c .before .before .before .before .before .before .before .before .before .before .before .put-drives .ensures, c .before .before .before .before .before .before .before .before .before .before .before .before .before .before .before .put-rows .ensures)
-    (laid-out (now (a .out)) (a .d) (h .pre) r t p l q)
+    (laid-out (now (a .out)) (a .d) (h .pre) r t p l q n)
 
 pub lay-spec : {M : Type 1} → statement M
 lay-spec =

@@ -1,15 +1,16 @@
 use borrow.Author.Needs.{needs}
 use native.Mathlib.Omega.{arith}
 use Prim.Native.Nat.{_-_, _≤_, _<_}
-use mathlib.Core.Path.{_≡_, refl, ap}
+use mathlib.Core.Path.{_≡_, refl, ap, _∙_}
 use lib.ListN.{length}
 use lib.Seq.{sets}
 use denote.Ref.{now}
 use Rattle.memory.proofs.Sets.{length-part}
+use Rattle.attached.specs.declared.Bads.{Bads}
 use Rattle.table.specs.Table.{recordsOf}
 use Rattle.table.proofs.TableLaws.{length-more, length-up}
 use Rattle.image.specs.Image.{readDesk}
-use Rattle.image.proofs.Written.{slot-read, slot-more}
+use Rattle.image.proofs.Written.{length-numbers, slot-read, slot-more}
 use Rattle.image.proofs.put_records.Statement.{statement}
 use Rattle.image.proofs.put_records.Tie as tie
 
@@ -26,7 +27,8 @@ loop-holds c = (search needs, refl, refl, refl)
 put-slot-requires : tie.Need-put-slot-requires Inv-loop μ-loop
 put-slot-requires c κs =
     let mark = c .before .before in
-    let test = mark .before .before in
+    let drive = mark .before .before in
+    let test = drive .before in
     let h = test .before in
     let s = h .before .before .before in
     let b = s .args .b .now in
@@ -35,21 +37,23 @@ put-slot-requires c κs =
     let most : i < 8 = omega (arith, t, s .pre .1) in
     let m = length-more i (readDesk b .table) in
     let l = length-up i (s .args .n) (readDesk b .table) t in
-    let e = ap length (slot-read b i most (mark .before .drive-in .ensures) (mark .mark-at .ensures)) in
-    (length-part 112 b 2592 (omega (arith, s .pre .0)), most, omega (arith, e, m, l, h .loop .inv .1, h .loop .inv .3, s .pre .2))
+    let e = ap length (slot-read b i most (drive .drive-in .ensures) (mark .before .bads-in .ensures) (mark .mark-at .ensures)) in
+    let numbers = ap (λ (x : Bads). length (x .list)) (mark .before .bads-in .ensures) ∙ length-numbers b i (s .pre .0) most in
+    (numbers, length-part 112 b 2592 (omega (arith, s .pre .0)), most, omega (arith, e, m, l, h .loop .inv .1, h .loop .inv .3, s .pre .2))
 
 loop-again : tie.Need-loop-again Inv-loop μ-loop
 loop-again c =
     let put = c .before .before in
     let mark = put .before .before .before in
-    let test = mark .before .before in
+    let drive = mark .before .before in
+    let test = drive .before in
     let h = test .before in
     let s = h .before .before .before in
     let b = s .args .b .now in
     let i = h .loop .i in
     let t : i < s .args .n = test .loop-test .taken in
     let most : i < 8 = omega (arith, t, s .pre .1) in
-    let n = slot-more (now (s .args .out)) b i (h .loop .at) (h .loop .out) most (mark .before .drive-in .ensures) (mark .mark-at .ensures)
+    let n = slot-more (now (s .args .out)) b i (h .loop .at) (h .loop .out) most (drive .drive-in .ensures) (mark .before .bads-in .ensures) (mark .mark-at .ensures)
     (h .loop .inv .1) (h .loop .inv .2) (h .loop .inv .3) (put .put-slot .ensures .0) (put .put-slot .ensures .1) in
     (omega (arith, t), n .0, n .1, n .2)
 
@@ -66,6 +70,7 @@ put-records-spec =
     Inv-loop
     μ-loop
     loop-holds
+    (search needs)
     (search needs)
     (search needs)
     (search needs)

@@ -6,11 +6,13 @@ use Rattle.image.proofs.table_of.Tie as tie
 returns : tie.Need-returns
 unfolding readDesk
 returns c =
-    let d = c .before .before .before in
+    let d = c .before .before .before .before .before in
     rw (
-      c .parameters-of .ensures,
-      c .before .present-of .ensures,
-      c .before .before .get64 .ensures,
+      c .lists-of .ensures,
+      c .before .counts-of .ensures,
+      c .before .before .parameters-of .ensures,
+      c .before .before .before .present-of .ensures,
+      c .before .before .before .before .get64 .ensures,
       d .drive-in8 .ensures,
       d .before .drive-in7 .ensures,
       d .before .before .drive-in6 .ensures,
@@ -36,4 +38,6 @@ table-of-spec =
     (search needs)
     (search needs)
     (λ c κs. c .before .before .before .before .before .before .before .before .before .before .before .pre)
+    (λ c κs. c .before .before .before .before .before .before .before .before .before .before .before .before .pre)
+    (λ c κs. c .before .before .before .before .before .before .before .before .before .before .before .before .before .pre)
     returns)

@@ -48,8 +48,8 @@ returns-3 c = rw (few (c .before .before .before .before .before .before .before
 returns-4 : tie.Need-returns-4
 unfolding packetTests
 returns-4 c =
-    let verify : eqb (ah (c .before .before .before .before .before .before .before .before .before .before .before .args .r)) 0x44 ≡ true = eq-eqb _ _ (sym (c .before .before .before .before .before .before .before .before .function-of .ensures) ∙ c .if4 .taken) in
-    rw (few (c .before .before .before .before .before .before .before .before .before), allowed (c .before .before .before .before), inside (c .before), verify)
+    let verify : eqb (ah (c .before .before .before .before .before .before .before .before .before .before .before .before .before .args .r)) 0x44 ≡ true = eq-eqb _ _ (sym (c .before .before .before .before .before .before .before .before .before .before .function-of .ensures) ∙ c .before .before .if4 .taken) in
+    rw (few (c .before .before .before .before .before .before .before .before .before .before .before), allowed (c .before .before .before .before .before .before), inside (c .before .before .before), verify, c .verified .ensures, c .before .good2 .ensures .0)
 
 returns-5 : tie.Need-returns-5
 unfolding packetTests
@@ -76,6 +76,8 @@ packet-tests-spec =
     (λ c. omega arith)
     (search needs)
     returns-3
+    (search needs)
+    (search needs)
     returns-4
     (λ c. omega arith)
     (λ c. omega arith)

@@ -7,7 +7,7 @@ use borrow.Author.Tests.{not-true, not-false}
 use Rattle.logic.proofs.LogicLaws.{length-mapped}
 use Rattle.int13.specs.declared.Shown.{Shown}
 use Rattle.int13.specs.Steps.{isDrive, shownOf}
-use Rattle.int13.proofs.StepsLaws.{count-most, isDrive-true}
+use Rattle.int13.proofs.StepsLaws.{drive-slot}
 use borrow.Author.Needs.{needs}
 use Rattle.int13.proofs.shown_of.Statement.{statement}
 use Rattle.int13.proofs.shown_of.Tie as tie
@@ -21,8 +21,7 @@ slot : (c : tie.Else1) → (128 ≤ c .before .before .args .n) × (c .before .b
 slot c =
     let a = c .before .before .args in
     let l : length (a .b .drives) ≡ 8 = search (needs, length-mapped) in
-    let t = isDrive-true (a .b) (a .n) (known c) in
-    (omega arith, omega (arith, count-most (a .b) l))
+    drive-slot (a .b) (a .n) l (known c)
 
 returns : tie.Need-returns
 unfolding shownOf

@@ -13,8 +13,8 @@ returns : tie.Need-returns
 returns c =
     let s = c .before .before .before .before .before in
     let b = now (s .args .b) in
-    let l : length (part 68 b 40) ≡ 68 = length-take-le 68 (drop 40 b) (rw length-drop (omega (arith, s .pre))) in
-    c .before .store .ensures ∙ sets-whole (replicate 68 0) (part 68 b 40) (sym l)
+    let l : length (part 134 b 40) ≡ 134 = length-take-le 134 (drop 40 b) (rw length-drop (omega (arith, s .pre))) in
+    c .before .store .ensures ∙ sets-whole (replicate 134 0) (part 134 b 40) (sym l)
 
 pub held-at-spec : {M : Type 1} → statement M
 held-at-spec =

@@ -13,14 +13,14 @@ use Rattle.reader.proofs.lay.Statement.{statement}
 use Rattle.reader.proofs.lay.Tie as tie
 
 -- what the types say
-held : (c : tie.Start) → length (c .args .f .held) ≡ 68
+held : (c : tie.Start) → length (c .args .f .held) ≡ 134
 held c = search needs
 
 -- the table's length, as the code found it
 abbrev drives : tie.After-next-place → Table
 drives c = c .before .before .before .before .args .f .table
 
-fits : (c : tie.After-next-place) → (c .next-place .result + 4 ≡ length (tableOf (drives c))) × (length (tableOf (drives c)) ≤ 708)
+fits : (c : tie.After-next-place) → (c .next-place .result + 4 ≡ length (tableOf (drives c))) × (length (tableOf (drives c)) ≤ 1780)
 fits c = table-fits (drives c) (c .next-place .ensures .0) (c .next-place .ensures .1)
 
 put-head-requires : tie.Need-put-head-requires

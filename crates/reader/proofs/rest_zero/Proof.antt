@@ -11,10 +11,10 @@ use Rattle.reader.proofs.rest_zero.Statement.{statement}
 use Rattle.reader.proofs.rest_zero.Tie as tie
 
 abbrev Inv-loop : tie.InvT-loop
-Inv-loop n held zero₀ j₀ zero j = (j ≤ 68) × (zero ≡ allBelow j (λ k. either (ltb k n) (eqb (getD held k 0) 0)))
+Inv-loop n held zero₀ j₀ zero j = (j ≤ 134) × (zero ≡ allBelow j (λ k. either (ltb k n) (eqb (getD held k 0) 0)))
 
 abbrev μ-loop : tie.MeasureT-loop
-μ-loop n held zero₀ j₀ zero j = 68 - j
+μ-loop n held zero₀ j₀ zero j = 134 - j
 
 loop-holds : tie.Need-loop-holds Inv-loop μ-loop
 loop-holds c = (omega arith, refl)
@@ -30,7 +30,7 @@ unfolding restZero
 returns c =
     let h = c .before in
     let a = h .before .args in
-    let e : h .loop .j ≡ 68 = omega arith in
+    let e : h .loop .j ≡ 134 = omega arith in
     h .loop .inv .1 ∙ ap (λ (m : ℕ). allBelow m (λ k. either (ltb k (a .n)) (eqb (getD (a .t1) k 0) 0))) e
 
 pub rest-zero-spec : {M : Type 1} → statement M

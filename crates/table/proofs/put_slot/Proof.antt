@@ -1,17 +1,16 @@
 use borrow.Author.Needs.{needs}
 use native.Mathlib.Omega.{arith}
 use mathlib.Core.Path.{_≡_, ap, _∙_}
-use lib.ListN.{length, length-append}
+use lib.ListN.{length}
 use lib.Seq.{length-sets}
 use borrow.Author.Tests.{not-true, not-false}
 use denote.Ref.{now}
-use Prim.Native.Nat.{ℕ, _*_}
-use mathlib.Core.List.{List, []}
+use Prim.Native.Nat.{ℕ, _+_, _*_, _^_, _≤_, _<_}
+use mathlib.Core.List.{List}
 use Rattle.words.specs.Words.{part}
-use Rattle.logic.specs.Logic.{pick}
-use Rattle.drive.specs.Drive.{recordOf}
 use Rattle.attached.specs.Parameters.{parametersRecord}
-use Rattle.table.proofs.TableLaws.{length-slotBytes, slot-laid, slot-laid-both}
+use Rattle.table.specs.Table.{badsRecord}
+use Rattle.table.proofs.TableLaws.{slot-room, slot-room-both, slot-laid, slot-laid-both}
 use Rattle.table.proofs.put_slot.Statement.{statement}
 use Rattle.table.proofs.put_slot.Tie as tie
 
@@ -19,45 +18,111 @@ use Rattle.table.proofs.put_slot.Tie as tie
 given : (c : tie.Start) → List ℕ
 given c = part 14 (now (c .args .bytes)) (14 * c .args .i)
 
-store-requires : tie.Need-store-requires
+-- where it began
+start : (c : tie.After-encode2) → tie.Start
+start c = c .before .before .before .before .before .before .before .before .before .before .before .before .before .before .before .before
+
+-- room for the records of the drive and of its bad blocks
+room : (c : tie.After-encode)
+    → c .before .before .before .args .at + length (c .encode .result) + length (badsRecord (c .before .before .before .args .i) (c .before .before .before .args .l)) ≤ length (now (c .before .before .before .args .out))
 unfolding given
-store-requires c κs =
-    let s = c .before .before .before .before .before in
-    omega (arith, length-append (recordOf (s .args .d)) (pick (s .args .present) (parametersRecord (s .args .i) (given s)) []), ap length (c .before .before .encode .ensures), s .pre .2)
+room c =
+    let s = c .before .before .before in
+    let a = s .args in
+    slot-room (a .d) (a .l) (a .present) (a .i) (given s) (a .at) (c .encode .ensures) (s .pre .3)
+
+-- a buffer's length fits its word
+short : (c : tie.After-encode) → length (now (c .before .before .before .args .out)) < 2 ^ 64
+short c = omega arith
+
+-- the buffer with the drive's record, and with both
+stored : (c : tie.After-store) → length (c .store .last .0) ≡ length (now (c .before .before .before .before .before .before .args .out))
+stored c =
+    let s = c .before .before .before .before .before .before in
+    ap length (c .store .ensures) ∙ length-sets (now (s .args .out)) (s .args .at) (c .before .before .before .encode .result)
+
+listed : (c : tie.After-put-bads) → length (c .put-bads .last .1 .1 .0) ≡ length (now (c .before .before .before .before .before .before .before .before .before .before .before .args .out))
+listed c =
+    let a = c .before .before .before .before .before .before .before .before .before .before .before .args in
+    let o = c .before .before .before .before .before in
+    ap length (c .put-bads .ensures .0) ∙ length-sets (o .store .last .0) (a .at + c .before .record-length .result) (badsRecord (a .i) (a .l)) ∙ stored o
+
+store-requires : tie.Need-store-requires
+store-requires c κs = omega (arith, room (c .before .before))
+
+put-bads-requires : tie.Need-put-bads-requires
+put-bads-requires c κs =
+    let o = c .before .before .before .before in
+    let e = o .before .before .before in
+    let s = e .before .before .before in
+    (s .pre .0, s .pre .2, omega (arith, room e, stored o, c .record-length .ensures .1))
 
 returns : tie.Need-returns
 unfolding given
 returns c =
-    let e = c .before .before .before .before .before .before .before in
+    let p = c .before .before .before in
+    let o = p .before .before .before .before .before in
+    let e = o .before .before .before in
     let s = e .before .before .before in
     let a = s .args in
-    slot-laid (a .d) (a .present) (a .i) (given s) (now (a .out)) (a .at) (not-true _ (c .if1 .taken)) (e .encode .ensures) (c .before .record-length .ensures .0) (c .before .before .before .before .store .ensures)
+    slot-laid (a .d) (a .l) (a .present) (a .i) (given s) (now (a .out)) (a .at) (not-true _ (c .if1 .taken)) (e .encode .ensures) (p .before .record-length .ensures .0) (o .store .ensures)
+    (p .put-bads .ensures .0) (p .put-bads .ensures .1)
+
+add-put-bads : tie.Need-add-put-bads
+add-put-bads c =
+    let e = c .before .before .before .before .before .before .before in
+    omega (arith, room e, c .record-length .ensures .1)
+
+same-length : tie.Need-same-length
+same-length c = listed (c .before .before .before)
 
 -- the record of the slot's parameters
-attached : (c : tie.After-encode2) → c .encode2 .result ≡ parametersRecord (c .before .before .before .before .before .before .before .before .before .before .before .before .args .i) (given (c .before .before .before .before .before .before .before .before .before .before .before .before))
-unfolding given
-attached c = c .encode2 .ensures ∙ ap (parametersRecord (c .before .before .before .before .before .before .before .before .before .before .before .before .args .i)) (c .before .bytes-at .ensures)
+attached : (c : tie.After-encode2) → c .encode2 .result ≡ parametersRecord (start c .args .i) (given (start c))
+unfolding given start
+attached c = c .encode2 .ensures ∙ ap (parametersRecord (start c .args .i)) (c .before .bytes-at .ensures)
 
 twenty : (c : tie.After-encode2) → length (c .encode2 .result) ≡ 20
 twenty c = search needs
 
+-- room for it
+behind : (c : tie.After-encode2) → c .before .before .before .before .before .put-bads .result + 20 ≤ length (now (start c .args .out))
+unfolding given start
+behind c =
+    let p = c .before .before .before .before .before in
+    let a = start c .args in
+    let r = slot-room-both (a .d) (a .l) (a .present) (a .i) (given (start c)) (a .at) (not-false _ (c .before .before .if1 .left)) (attached c) (start c .pre .3) in
+    omega (arith, r, twenty c, p .before .record-length .ensures .0, p .put-bads .ensures .1)
+
 store-requires-2 : tie.Need-store-requires-2
-unfolding given
+unfolding start
 store-requires-2 c κs =
-    let e = c .before .before .before .before .before .before .before .before .before .before .before in
-    let s = e .before .before .before in
-    let m = length-slotBytes (c .before .before .encode2 .result) (s .args .d) (s .args .present) (s .args .i) (given s) (not-false _ (c .before .before .before .before .if1 .left)) (ap length (attached (c .before .before))) in
-    let same : length (c .before .before .before .before .before .before .before .before .store .last .0) ≡ length (now (s .args .out)) = ap length (c .before .before .before .before .before .before .before .before .store .ensures) ∙ length-sets (now (s .args .out)) (s .args .at) (e .encode .result) in
-    omega (arith, m, twenty (c .before .before), same, c .before .before .before .before .before .record-length .ensures .0, s .pre .2)
+    let e = c .before .before in
+    omega (arith, behind e, twenty e, listed (e .before .before .before .before .before))
+
+add-result : tie.Need-add-result
+unfolding start
+add-result c =
+    let e = c .before .before .before .before .before in
+    let k = e .before .before .before .before .before .before .before .before .before .before .before .before .before in
+    omega (arith, behind e, short k)
+
+same-length-2 : tie.Need-same-length-2
+same-length-2 c =
+    let e = c .before .before .before .before .before in
+    let p = e .before .before .before .before .before in
+    ap length (c .before .before .store2 .ensures) ∙ length-sets (p .put-bads .last .1 .1 .0) (p .put-bads .result) (e .encode2 .result) ∙ listed p
 
 returns-2 : tie.Need-returns-2
-unfolding given
+unfolding given start
 returns-2 c =
-    let e = c .before .before .before .before .before .before .before .before .before .before .before .before .before .before in
+    let q = c .before .before .before .before .before in
+    let p = q .before .before .before .before .before in
+    let o = p .before .before .before .before .before in
+    let e = o .before .before .before in
     let s = e .before .before .before in
     let a = s .args in
-    slot-laid-both (a .d) (a .present) (a .i) (given s) (now (a .out)) (a .at) (not-false _ (c .before .before .before .before .before .before .before .if1 .left)) (e .encode .ensures) (c .before .before .before .before .before .before .before .before .record-length .ensures .0) (c .before .before .before .before .before .before .before .before .before .before .before .store .ensures)
-    (attached (c .before .before .before .before .before)) (c .before .before .store2 .ensures) (twenty (c .before .before .before .before .before))
+    slot-laid-both (a .d) (a .l) (a .present) (a .i) (given s) (now (a .out)) (a .at) (not-false _ (q .before .before .if1 .left)) (e .encode .ensures) (p .before .record-length .ensures .0) (o .store .ensures)
+    (p .put-bads .ensures .0) (p .put-bads .ensures .1) (attached q) (c .before .before .store2 .ensures) (twenty q)
 
 pub put-slot-spec : {M : Type 1} → statement M
 put-slot-spec =
@@ -67,8 +132,9 @@ put-slot-spec =
     (search needs)
     store-requires
     (λ c κs. tt)
-    (search needs)
-    (search needs)
+    add-put-bads
+    put-bads-requires
+    same-length
     returns
     (search needs)
     (search needs)
@@ -76,6 +142,6 @@ put-slot-spec =
     (search needs)
     store-requires-2
     (search needs)
-    (search needs)
-    (search needs)
+    add-result
+    same-length-2
     returns-2)

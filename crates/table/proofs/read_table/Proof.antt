@@ -7,8 +7,8 @@ use borrow.Author.Tests.{not-true, not-false}
 use denote.Ref.{now}
 use Rattle.table.specs.declared.Header.the-variants.{Whole}
 use Rattle.table.specs.Table.{headerAt, Reads}
-use Rattle.table.proofs.TableLaws.{whole-at, drive-whole, parameters-whole, reads-end}
-use Rattle.table.proofs.Runs.{Stands, stands-first, slot-left, slot-named, header-reads, end-reads, drive-reads, drive-stands, parameters-reads, parameters-stands}
+use Rattle.table.proofs.TableLaws.{whole-at, length-whole, drive-whole, bads-whole, parameters-whole, attached-least, slot-named, reads-end}
+use Rattle.table.proofs.Runs.{Stands, stands-first, slot-left, header-reads, end-reads, drive-reads, drive-stands, attached-reads, bads-reads, bads-stands, parameters-stands}
 use Rattle.table.proofs.read_table.Statement.{statement}
 use Rattle.table.proofs.read_table.Tie as tie
 
@@ -90,42 +90,94 @@ part-number-in-end c = let w = whole-at _ _ _ _ (header (c .before .before .befo
 
 number-in-requires : tie.Need-number-in-requires Inv-loop μ-loop
 number-in-requires c κs =
-    let d = parameters-whole _ _ _ _ (header (c .before .before .before .before)) (c .before .before .if1 .left) (c .before .if2 .left) in
-    rw add-sub-cancel-left (omega (arith, d .0))
+    let k = c .before .before .before .before in
+    rw (add-sub-cancel-left, length-whole _ _ _ _ (header k)) (attached-least _ _ _ _ (header k) (c .before .before .if1 .left) (c .before .if2 .left))
 
 returns-4 : tie.Need-returns-4 Inv-loop μ-loop
 returns-4 c =
-    let k = c .before .before .before .before .before .before .before .before .before in
+    let r = c .before .before .before .before in
+    let k = r .before .before .before .before .before in
     let f = k .before .before .before in
-    rw (c .ended4 .ensures) (parameters-reads (f .before .loop .inv) (f .loop-test .taken) (header k) (c .before .before .before .before .before .before .before .if1 .left) (c .before .before .before .before .before .before .if2 .left) (rw add-sub-cancel-left at (c .before .before .before .before .number-in .ensures)) (c .before .before .names-last .ensures) (not-true _ (c .before .if4 .taken)))
-
-part-parameters-in-end : tie.Need-part-parameters-in-end Inv-loop μ-loop
-part-parameters-in-end c = let w = whole-at _ _ _ _ (header (c .before .before .before .before .before .before .before .before .before)) in omega arith
-
-parameters-in-requires : tie.Need-parameters-in-requires Inv-loop μ-loop
-parameters-in-requires c κs =
-    let d = parameters-whole _ _ _ _ (header (c .before .before .before .before .before .before .before .before .before .before)) (c .before .before .before .before .before .before .before .before .if1 .left) (c .before .before .before .before .before .before .before .if2 .left) in
-    rw add-sub-cancel-left (omega (arith, d .0))
+    rw (c .ended4 .ensures) (attached-reads (f .before .loop .inv) (f .loop-test .taken) (header k) (rw add-sub-cancel-left at (r .number-in .ensures)) (c .before .before .names-last .ensures) (r .before .before .before .if1 .left) (r .before .before .if2 .left) (not-true _ (c .before .if4 .taken)))
 
 -- the drive that was named has a slot
 named : (c : tie.Else4 Inv-loop μ-loop) → c .before .before .before .number-in .result < 8
 named c = slot-named _ _ (c .before .names-last .ensures) (not-false _ (c .if4 .left))
 
-with-bytes-requires : tie.Need-with-bytes-requires Inv-loop μ-loop
-with-bytes-requires c κs = named (c .before .before .before)
+part-bads-in-end : tie.Need-part-bads-in-end Inv-loop μ-loop
+part-bads-in-end c = let w = whole-at _ _ _ _ (header (c .before .before .before .before .before .before .before .before .before)) in omega arith
+
+bads-in-requires : tie.Need-bads-in-requires Inv-loop μ-loop
+bads-in-requires c κs =
+    let w = bads-whole _ _ _ _ (header (c .before .before .before .before .before .before .before .before .before .before)) (c .before .if5 .taken) in
+    rw (add-sub-cancel-left, w .0) (omega (arith, w .1), w .2)
+
+element-copy-out-list-refusal : tie.Need-element-copy-out-list-refusal Inv-loop μ-loop
+element-copy-out-list-refusal c = omega (arith, named (c .before .before .before), c .before .before .before .before .before .before .before .before .before .before .before .before .before .before .before .loop .inv .marks .1)
+
+mul-list-refusal : tie.Need-mul-list-refusal Inv-loop μ-loop
+mul-list-refusal c = omega (arith, named (c .before .before .before .before))
+
+array-read-list-refusal : tie.Need-array-read-list-refusal Inv-loop μ-loop
+array-read-list-refusal c = omega (arith, named (c .before .before .before .before), c .before .before .before .before .before .before .before .before .before .before .before .before .before .before .before .before .loop .inv .eight .2)
+
+returns-5 : tie.Need-returns-5 Inv-loop μ-loop
+returns-5 c =
+    let r = c .before .before .before .before .before .before .before in
+    let g = r .before .before .before in
+    let k = g .before .before .before .before .before in
+    let f = k .before .before .before in
+    rw (c .ended5 .ensures)
+    (bads-reads (f .before .loop .inv) (f .loop-test .taken) (header k) (rw add-sub-cancel-left at (g .number-in .ensures)) (r .before .names-last .ensures) (c .before .before .before .before .before .before .if5 .taken) (not-false _ (r .if4 .left))
+    (rw add-sub-cancel-left at (c .before .before .before .before .bads-in .ensures)) (c .before .before .list-refusal .ensures) (c .before .if6 .taken))
+
+with-list-requires : tie.Need-with-list-requires Inv-loop μ-loop
+with-list-requires c κs = named (c .before .before .before .before .before .before .before .before)
 
 element-write-b : tie.Need-element-write-b Inv-loop μ-loop
-element-write-b c = omega (arith, named (c .before .before .before .before), c .before .before .before .before .before .before .before .before .before .before .before .before .before .before .before .before .loop .inv .marks)
+element-write-b c = omega (arith, named (c .before .before .before .before .before .before .before .before .before), c .before .before .before .before .before .before .before .before .before .before .before .before .before .before .before .before .before .before .before .before .before .loop .inv .marks .1)
+
+loop-less-2 : tie.Need-loop-less-2 Inv-loop μ-loop
+loop-less-2 c = omega (arith, c .before .before .before .before .before .before .before .before .before .before .before .before .before .before .before .before .before .before .before .before .loop-test .taken)
 
 loop-again-2 : tie.Need-loop-again-2 Inv-loop μ-loop
 loop-again-2 c =
-    let k = c .before .before .before .before .before .before .before .before .before .before .before .before in
+    let r = c .before .before .before .before .before .before .before .before .before in
+    let g = r .before .before .before in
+    let k = g .before .before .before .before .before in
     let f = k .before .before .before in
-    parameters-stands (f .before .loop .inv) (f .loop-test .taken) (header k) (c .before .before .before .before .before .before .before .before .before .before .if1 .left) (c .before .before .before .before .before .before .before .before .before .if2 .left) (rw add-sub-cancel-left at (c .before .before .before .before .before .before .before .number-in .ensures)) (c .before .before .before .before .before .names-last .ensures)
-    (not-false _ (c .before .before .before .before .if4 .left)) (rw add-sub-cancel-left at (c .before .parameters-in .ensures)) (c .with-bytes .ensures)
+    bads-stands (f .before .loop .inv) (f .loop-test .taken) (header k) (rw add-sub-cancel-left at (g .number-in .ensures)) (r .before .names-last .ensures) (c .before .before .before .before .before .before .before .before .if5 .taken) (not-false _ (r .if4 .left))
+    (rw add-sub-cancel-left at (c .before .before .before .before .before .before .bads-in .ensures)) (c .before .before .before .before .list-refusal .ensures) (c .before .before .before .if6 .left) (c .with-list .ensures)
 
-returns-5 : tie.Need-returns-5 Inv-loop μ-loop
-returns-5 c = rw (c .ended5 .ensures) (reads-end _ _ _ _ _ (omega arith) (c .before .before .loop .inv .reads))
+part-parameters-in-end : tie.Need-part-parameters-in-end Inv-loop μ-loop
+part-parameters-in-end c = let w = whole-at _ _ _ _ (header (c .before .before .before .before .before .before .before .before .before .before)) in omega arith
+
+parameters-in-requires : tie.Need-parameters-in-requires Inv-loop μ-loop
+parameters-in-requires c κs =
+    let k = c .before .before .before .before .before .before .before .before .before .before .before in
+    let d = parameters-whole _ _ _ _ (header k) (c .before .before .before .before .before .before .before .before .before .if1 .left) (c .before .before .before .before .before .before .before .before .if2 .left) (c .before .before .if5 .left) in
+    rw add-sub-cancel-left (omega (arith, d .0))
+
+with-bytes-requires : tie.Need-with-bytes-requires Inv-loop μ-loop
+with-bytes-requires c κs = named (c .before .before .before .before)
+
+element-write-b-2 : tie.Need-element-write-b-2 Inv-loop μ-loop
+element-write-b-2 c = omega (arith, named (c .before .before .before .before .before), c .before .before .before .before .before .before .before .before .before .before .before .before .before .before .before .before .before .loop .inv .marks .0)
+
+loop-less-3 : tie.Need-loop-less-3 Inv-loop μ-loop
+loop-less-3 c = omega (arith, c .before .before .before .before .before .before .before .before .before .before .before .before .before .before .before .before .loop-test .taken)
+
+loop-again-3 : tie.Need-loop-again-3 Inv-loop μ-loop
+loop-again-3 c =
+    let r = c .before .before .before .before .before in
+    let g = r .before .before .before in
+    let k = g .before .before .before .before .before in
+    let f = k .before .before .before in
+    parameters-stands (f .before .loop .inv) (f .loop-test .taken) (header k) (rw add-sub-cancel-left at (g .number-in .ensures)) (r .before .names-last .ensures) (g .before .before .before .if1 .left) (g .before .before .if2 .left) (c .before .before .before .before .if5 .left)
+    (not-false _ (r .if4 .left)) (rw add-sub-cancel-left at (c .before .parameters-in .ensures)) (c .with-bytes .ensures)
+
+returns-6 : tie.Need-returns-6 Inv-loop μ-loop
+returns-6 c = rw (c .ended6 .ensures) (reads-end _ _ _ _ _ (omega arith) (c .before .before .loop .inv .reads))
 
 pub read-table-spec : {M : Type 1} → statement M
 read-table-spec =
@@ -171,12 +223,27 @@ read-table-spec =
     (search needs)
     (search needs)
     (search needs)
+    part-bads-in-end
+    bads-in-requires
+    element-copy-out-list-refusal
+    mul-list-refusal
+    array-read-list-refusal
+    (λ c κs. tt)
+    (λ c κs. tt)
+    returns-5
+    with-list-requires
+    element-write-b
+    (search needs)
+    loop-less-2
+    loop-again-2
+    (search needs)
+    (search needs)
     part-parameters-in-end
     parameters-in-requires
     with-bytes-requires
-    element-write-b
+    element-write-b-2
     (search needs)
-    (search needs)
-    loop-again-2
+    loop-less-3
+    loop-again-3
     (λ c κs. tt)
-    returns-5)
+    returns-6)

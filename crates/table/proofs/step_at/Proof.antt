@@ -4,7 +4,7 @@ use native.Mathlib.Omega.{arith}
 use denote.Ref.{now}
 use Rattle.table.specs.declared.Header.the-variants.{Whole}
 use Rattle.table.specs.Table.{headerAt}
-use Rattle.table.proofs.TableLaws.{whole-at, drive-whole, parameters-whole, stepAt-bad, stepAt-end, stepAt-drive, stepAt-parameters}
+use Rattle.table.proofs.TableLaws.{whole-at, drive-whole, bads-whole, parameters-whole, stepAt-bad, stepAt-end, stepAt-drive, stepAt-bads, stepAt-parameters}
 use borrow.Author.Needs.{needs}
 use Rattle.table.proofs.step_at.Statement.{statement}
 use Rattle.table.proofs.step_at.Tie as tie
@@ -34,21 +34,36 @@ returns-2 : tie.Need-returns-2
 returns-2 c =
     rw add-sub-cancel-left at (c .drive-step .ensures) ∙ stepAt-drive _ _ _ _ _ _ (header (c .before .before .before .before .before)) (c .before .before .if2 .taken)
 
+part-bads-step-end : tie.Need-part-bads-step-end
+part-bads-step-end c = let w = whole-at _ _ _ _ (header (c .before .before .before .before)) in omega arith
+
+bads-step-requires : tie.Need-bads-step-requires
+bads-step-requires c κs =
+    let d = bads-whole _ _ _ _ (header (c .before .before .before .before .before)) (c .before .if3 .taken) in
+    rw (add-sub-cancel-left, d .0) (omega (arith, d .1), omega (arith, d .2), omega (arith, d .3))
+
+returns-3 : tie.Need-returns-3
+returns-3 c =
+    let h = header (c .before .before .before .before .before .before) in
+    let z = c .before .before .if3 .taken in
+    let l = bads-whole _ _ _ _ h z .0 in
+    rw (add-sub-cancel-left, l) at (c .bads-step .ensures) ∙ stepAt-bads _ _ _ _ _ _ h z
+
 part-parameters-step-end : tie.Need-part-parameters-step-end
-part-parameters-step-end c = let w = whole-at _ _ _ _ (header (c .before .before .before)) in omega arith
+part-parameters-step-end c = let w = whole-at _ _ _ _ (header (c .before .before .before .before)) in omega arith
 
 parameters-step-requires : tie.Need-parameters-step-requires
 parameters-step-requires c κs =
-    let d = parameters-whole _ _ _ _ (header (c .before .before .before .before)) (c .before .before .if1 .left) (c .before .if2 .left) in
+    let d = parameters-whole _ _ _ _ (header (c .before .before .before .before .before)) (c .before .before .before .if1 .left) (c .before .before .if2 .left) (c .before .if3 .left) in
     (rw add-sub-cancel-left (d .0), omega (arith, d .1))
 
-returns-3 : tie.Need-returns-3
-returns-3 c = stepAt-bad _ _ _ _ _ (sym (c .before .before .before .header-at .ensures) ∙ c .before .h .given .1)
-
 returns-4 : tie.Need-returns-4
-returns-4 c =
+returns-4 c = stepAt-bad _ _ _ _ _ (sym (c .before .before .before .header-at .ensures) ∙ c .before .h .given .1)
+
+returns-5 : tie.Need-returns-5
+returns-5 c =
     rw add-sub-cancel-left at (c .parameters-step .ensures)
-    ∙ stepAt-parameters _ _ _ _ _ _ (header (c .before .before .before .before .before)) (c .before .before .before .if1 .left) (c .before .before .if2 .left)
+    ∙ stepAt-parameters _ _ _ _ _ _ (header (c .before .before .before .before .before .before)) (c .before .before .before .before .if1 .left) (c .before .before .before .if2 .left) (c .before .before .if3 .left)
 
 pub step-at-spec : {M : Type 1} → statement M
 step-at-spec =
@@ -67,7 +82,12 @@ step-at-spec =
     returns-2
     (search needs)
     (search needs)
+    part-bads-step-end
+    bads-step-requires
+    returns-3
+    (search needs)
+    (search needs)
     part-parameters-step-end
     parameters-step-requires
-    returns-3
-    returns-4)
+    returns-4
+    returns-5)

@@ -1,9 +1,10 @@
-use mathlib.Core.Path.{_≡_, sym, _∙_}
+use mathlib.Core.Path.{_≡_, sym, ap, _∙_}
 use mathlib.Core.Bool.{true}
 use mathlib.Core.List.{List}
 use Prim.Native.Nat.{ℕ, _<_}
 use native.Mathlib.Omega.{arith}
 use denote.Ref.{now}
+use Rattle.attached.specs.declared.Bads.{Bads}
 use Rattle.int13.specs.Steps.{isDrive, driveAt}
 use Rattle.desk.specs.declared.Request.{Request}
 use Rattle.desk.specs.declared.Stage.the-variants.{Waiting}
@@ -12,9 +13,9 @@ use Rattle.desk.specs.declared.Next.the-variants.{Guest}
 use Rattle.desk.specs.declared.TurnAnswer.the-variants.{Refused as TurnRefused}
 use Rattle.desk.specs.Parts.{stageAt}
 use Rattle.desk.specs.Acceptable.{accept}
-use Rattle.desk.specs.Calls.{isLent, done, firstWaiting, Transferred, turnNext, turnOf}
+use Rattle.desk.specs.Calls.{isLent, done, firstWaiting, serviceOf, badsFor, Transferred, turnNext, turnOf}
 use Rattle.desk.proofs.AcceptableLaws.{accept-true}
-use Rattle.desk.proofs.CallsLaws.{house-refused, Passed, house-passed, turn-nobody, turn-other, turn-served, seek-below, waiting-facts, in-range}
+use Rattle.desk.proofs.CallsLaws.{house-refused, Passed, house-passed, turn-nobody, turn-other, turn-served, seek-below, waiting-facts, servable, in-range, ending-facts}
 use Rattle.desk.proofs.NumbersLaws.{turn-answered}
 use borrow.Author.Needs.{needs}
 use Rattle.desk.proofs.Desk.turn.Statement.{statement}
@@ -84,25 +85,47 @@ returns-3 c =
     turn-answered (desk h) (arena h) (store h)
     (turn-other (desk h) (arena h) (store h) (passed (on w)) (guest w) (found w) (rw (c .before .stage-in .ensures) at (c .match2 .keys2)))
 
+-- what the turn does to it
+service : (c : tie.After-service-of) → c .service-of .result ≡ serviceOf (badsFor (desk (on (met (c .before .before .before .before)) .before)) (asked (c .before .before .before .before))) (asked (c .before .before .before .before))
+service c = c .service-of .ensures ∙ ap (λ (l : Bads). serviceOf l (asked (c .before .before .before .before))) (c .before .bads-of .ensures)
+
+service-of-requires : tie.Need-service-of-requires
+service-of-requires c κs =
+    let w = c .before .before .before in
+    let h = on (met w) .before in
+    servable (desk h) (arena h) (store h) (guest (met w)) (asked w) (passed (on (met w))) (below (met w)) (row w) (omega (arith, h .before .before .before .good .1 .1 .0 .0))
+
 transfer-requires : tie.Need-transfer-requires
 transfer-requires c κs =
-    let w = c .before .before .before .before .before in
+    let k = c .before .before in
+    let w = k .before .before .before .before in
     let h = on (met w) .before in
     let lengths = h .before .before .before .good in
-    rw (c .before .before .before .drive-at .ensures .1 (drive w))
-    (in-range (desk h) (arena h) (store h) (guest (met w)) (asked w) (passed (on (met w))) (below (met w)) (row w) (omega (arith, lengths .1 .0 .0)) (omega (arith, lengths .1 .1 .0 .0)) (c .before .before .service-of .ensures))
+    rw (k .before .before .drive-at .ensures .1 (drive w))
+    (in-range (desk h) (arena h) (store h) (guest (met w)) (asked w) (passed (on (met w))) (below (met w)) (row w) (omega (arith, lengths .1 .0 .0)) (omega (arith, lengths .1 .1 .0 .0)) (service k))
+
+report-ending-requires : tie.Need-report-ending-requires
+report-ending-requires c κs =
+    let t = c .before .before .before .before .before in
+    let k = t .before .before .before in
+    let w = k .before .before .before .before in
+    let h = on (met w) .before in
+    let p = passed (on (met w)) in
+    ending-facts (desk h) (arena h) (store h) (k .before .before .drive-at .result .first) (guest (met w)) (asked w) (p .acceptable) (p .lent) (below (met w)) (row w) (service k) (t .transfer .ensures)
 
 served-requires : tie.Need-served-requires
-served-requires c κs = below (met (c .before .before .before .before .before .before .before .before .before .before))
+served-requires c κs = below (met (c .before .before .before .before .before .before .before .before .before .before .before .before .before .before .before))
 
 returns-4 : tie.Need-returns-4
 returns-4 c =
-    let k = c .before .before .before .before .before .before .before .before in
-    let w = k .before .before .before in
+    let r = c .before .before .before in
+    let t = r .before .before .before .before .before .before in
+    let k = t .before .before .before in
+    let w = k .before .before .before .before in
     let h = on (met w) .before in
-    let t : Transferred (driveAt (desk h .table) (asked w .job .drive) .first) (asked w) (k .service-of .result .moved) (guest (met w)) (arena h) (store h) _ _ = rw (k .before .drive-at .ensures .1 (drive w)) at (c .before .before .before .before .before .transfer .ensures) in
+    let moved : Transferred (driveAt (desk h .table) (asked w .job .drive) .first) (asked w) (k .service-of .result .moved) (guest (met w)) (arena h) (store h) _ _ = rw (k .before .before .drive-at .ensures .1 (drive w)) at (t .transfer .ensures) in
     turn-answered (desk h) (arena h) (store h)
-    (turn-served (desk h) (arena h) (store h) (passed (on (met w))) (guest (met w)) (asked w) (found (met w)) (row w) (k .service-of .ensures) (c .served .ensures .0) (c .served .ensures .1) t)
+    (turn-served (desk h) (arena h) (store h) (passed (on (met w))) (guest (met w)) (asked w) (found (met w)) (row w) (service k) (c .served .ensures .0) (c .served .ensures .1) moved (r .report-ending .ensures))
 
 pub turn-spec : {M : Type 1} → statement M
 turn-spec =
@@ -119,7 +142,9 @@ turn-spec =
     returns-3
     (search needs)
     (search needs)
+    service-of-requires
     transfer-requires
+    report-ending-requires
     served-requires
     (search needs)
     (search needs)

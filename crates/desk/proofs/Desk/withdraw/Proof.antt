@@ -1,6 +1,7 @@
 use mathlib.Core.Path.{_≡_, sym, ap, _∙_}
 use mathlib.Core.List.{List}
 use Prim.Native.Nat.{ℕ, _<_}
+use native.Mathlib.Omega.{arith}
 use lib.ListN.{length}
 use lib.Dec.{ltb}
 use borrow.Author.Tests.{ltb-true}
@@ -47,7 +48,7 @@ row : (c : tie.After-known-told) → stageAt (desk (on c .before)) (guest (on c 
 row c = sym (c .before .before .before .stage-in .ensures) ∙ c .before .stage .given .1
 
 facts : (c : tie.After-known-told) → Report (asked c) (guest (on c .before)) (length (arena (on c .before)))
-facts c = let h = on c .before in report-facts (desk h) (arena h) (store h) (guest h) (asked c) (passed (on c)) (row c)
+facts c = let h = on c .before in report-facts (desk h) (arena h) (store h) (guest h) (asked c) (passed (on c) .acceptable) (passed (on c) .lent) (below (on c)) (row c)
 
 returns : tie.Need-returns
 unfolding withdrawOf
@@ -67,7 +68,7 @@ returns-2 c =
     (withdraw-other (desk h) (guest h) (arena h) (store h) (passed t) (rw (c .before .stage-in .ensures) at (c .match .keys2)))
 
 report-moved-requires : tie.Need-report-moved-requires
-report-moved-requires c κs = let f = facts (c .before) in (f .guest, f .packet, f .moved)
+report-moved-requires c κs = let f = facts (c .before) in (f .guest, f .packet, omega (arith, f .moved))
 
 with-stage-requires : tie.Need-with-stage-requires
 with-stage-requires c κs = facts (c .before .before .before .before) .guest
