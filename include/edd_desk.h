@@ -121,7 +121,7 @@
  *   5 if its numbers are not ascending, are repeated, or lie outside the drive.
  *
  *
- * Example: one block of drive 80h to 0000:0200 of guest 2. The result is 0, AH of a BIOS refusal, or -1.
+ * Example: one block of drive 80h to 0000:0200 of guest 2. The result is 0, AH where carry is set, or -1.
  *
  *   #include "edd_desk.h"
  *
@@ -203,12 +203,12 @@ extern "C" {
  * byte too many.
  */
 #define EDD_TABLE_CUT_OFF 1     /* the table stops inside a record or before the end record: lend or feed all of it */
-#define EDD_TABLE_LENGTH 2      /* the record's length is wrong for its kind: it must be 68 for a drive, 6 + 8 n for n bad blocks,
-                                   n from 1 to 16, 20 for parameters, 4 for the end record */
+#define EDD_TABLE_LENGTH 2      /* the record's length is wrong for its kind: it must be 68 for a drive; 6 + 8 n for n bad blocks,
+                                   n from 1 to 16; 20 for parameters; 4 for the end record */
 #define EDD_TABLE_KIND 3        /* unknown kind of record: this library knows drives (1), bad blocks (3), parameters (4) and the
                                    end (0) */
 #define EDD_TABLE_NINTH_DRIVE 4 /* more than eight drives: use a second desk */
-#define EDD_TABLE_FIELD 5       /* a field of the drive breaks its rule, or bad blocks are not ascending, repeated or outside the
+#define EDD_TABLE_FIELD 5       /* a field of the drive breaks its rule, or the bad blocks are unsorted, repeated or outside the
                                    drive: correct the record */
 #define EDD_TABLE_STORE 6       /* the drive ends past the store: lend a longer store or correct the record */
 #define EDD_TABLE_OVERLAP 7     /* the drive shares a block with an earlier one: correct its first block */
@@ -351,7 +351,8 @@ EDD_NODISCARD uint32_t edd_post(uint8_t *desk, size_t desk_len, uint8_t *arena, 
  *                     write them.
  *   store, store_len  the whole store. A write (03h, 43h) writes the blocks.
  *   guest, moved      which guest was served, 0 to 7, and how many blocks this turn moved, 0 to 16. Fewer than 16, and than
- *                     what remained, means a bad block: the request has ended.
+ *                     what remained, means a bad block: the request has ended. 0 always means that. A host that does not
+ *                     count blocks asks edd_collect, which answers 22 as long as the request waits.
  *
  * 0         a request was served, also if no block of it was moved.
  * 256       idle: no row waits. Nothing is written, and the pointer stays where it is.

@@ -5,7 +5,8 @@
  * request: the registers, what it laid down, what it read, and the blocks of the store that it named. At the end the whole
  * store is compared with those copies. Three disks have a device parameter table, which the host places for half of the
  * guests: they follow the pointer of 48h to it. One disk is worn: its guest meets bad blocks, gets the good ones before them,
- * and reads on behind them. The drive table comes from another process through a pipe, and is read as it arrives. For a monitor of your own, copy host/example, not this.
+ * and reads on behind them. The drive table comes from another process through a pipe, and is read as it arrives. For a
+ * monitor of your own, copy host/example, not this.
  *
  *   demo [-r requests] [-s seed] [-p pause]
  */

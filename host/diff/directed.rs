@@ -2551,24 +2551,24 @@ fn h28_reader_block(service: &dyn Service) {
             is(&reader, what, reader_block(3, number, 64, &[], &table[..records]));
         }
     }
-    let longest = parameters_table();
+    let eight = parameters_table();
     let mut reader = Arrival::open(service, 8);
-    assert_eq!(reader.feed(&[&longest[..704], &longest[..67]].concat()), MORE);
-    is(&reader, "full", reader_block(0, 0, 8, &longest[..67], &longest[..704]));
+    assert_eq!(reader.feed(&[&eight[..704], &eight[..67]].concat()), MORE);
+    is(&reader, "full", reader_block(0, 0, 8, &eight[..67], &eight[..704]));
 }
 
 // rule: Reader.accepted readReader Reader.Exact
 /// Each byte of some good blocks changed by one: every call answers as the model does, and leaves the same block.
 fn h29_every_byte_of_the_block(service: &dyn Service) {
     let list = [with_parameters(small_drive(0, 4), 0x30), small_drive(4, 4)];
-    let (table, longest) = (drives::table(&list), parameters_table());
+    let (table, eight) = (drives::table(&list), parameters_table());
     let blocks = [
         reader_block(0, 0, 64, &[], &[]),
         reader_block(0, 0, 64, &table[88..118], &table[..88]),
         reader_block(0, 0, 64, &table[68..71], &table[..68]),
         reader_block(0, 0, 64, &table[68..87], &table[..68]),
         reader_block(1, 0, 64, &[], &table[..156]),
-        reader_block(2, 0, 8, &[], &longest[..704]),
+        reader_block(2, 0, 8, &[], &eight[..704]),
         reader_block(3, 5, 64, &[], &table[..68]),
     ];
     for (which, good) in blocks.iter().enumerate() {
@@ -3105,7 +3105,7 @@ fn h38_count_word_on_top_of_the_data(service: &dyn Service) {
 
 // rule: turnOf serve badsFor movedBy
 fn h39_two_guests(service: &dyn Service) {
-    // guest 2 meets block 20 in its second part, guest 5 does not; guest 6 writes what lies before it, guest 0 begins with it
+    // guest 2 meets block 20 in its second part, guest 5 does not; guest 6 ends just before block 90, guest 0 begins with block 20
     for (ah, code) in [(0x42, 0x10), (0x43, 0xCC)] {
         let mut stand = Stand::open(service, &[worn(small_drive(0, 120), &[20, 90])], 8 * 21_000, 120 * 512);
         for (guest, count, start) in [(2, 40, 0), (5, 40, 40), (0, 1, 20), (6, 40, 50)] {

@@ -12,8 +12,8 @@ use lib.ListN.{length, getD, take, drop, replicate, length-append, length-drop, 
 use lib.Seq.{sets, ext-getD, getD-drop, length-take-le, take-all, take-at, getD-append-add}
 use lib.Dec.{leb, ltb, eqb}
 use borrow.Author.Tests.{leb-true, le-leb, lt-leb, ltb-true, lt-ltb, le-ltb, eqb-true, eqb-false, eq-eqb}
-use Rattle.logic.specs.Logic.{pick, both, either, inRange, someBelow}
-use Rattle.logic.proofs.LogicLaws.{both-true, both-false, either-left, either-right, inRange-true, all-intro, all-at, some-at, lt-or-le, true≢false}
+use Rattle.logic.specs.Logic.{pick, both, either, inRange, allBelow, someBelow}
+use Rattle.logic.proofs.LogicLaws.{both-true, both-false, either-left, either-right, inRange-true, all-intro, all-at, all-fails, all-ext, some-at, lt-or-le, true≢false}
 use Rattle.words.specs.Words.{Bytes, le, leBytes, part}
 use Rattle.words.proofs.WordsLaws.{sets-append, sets-front, length-leBytes, read-write, write-read}
 use Rattle.attached.specs.declared.Bads.{Bads}
@@ -34,6 +34,11 @@ held-few n h = omega arith
 pub held-many : (n : ℕ) → 16 ≤ n → heldOf n ≡ 16
 unfolding heldOf
 held-many n h = omega arith
+
+held-ltb : (n j : ℕ) → j < 16 → ltb j (heldOf n) ≡ ltb j n
+unfolding heldOf
+held-ltb n j h =
+    ⊎-elim (λ x. lt-ltb j (heldOf n) (omega arith) ∙ sym (lt-ltb j n x)) (λ x. le-ltb j (heldOf n) (omega arith) ∙ sym (le-ltb j n x)) (lt-or-le j n)
 
 -- ---- the lengths of a record
 
@@ -261,6 +266,32 @@ isBad-block l blocks x k e =
     let s = some-at (heldOf (l .count)) (λ j. eqb (badAt l j) x) e in
     omega (arith, listOk-at l blocks (s .0) k (s .1 .0), eqb-true (badAt l (s .0)) x (s .1 .1))
 
+-- of numbers that ascend each is at most a later one
+ascends-le : (l : Bads) (j k : ℕ) → ascends l ≡ true → j + k < heldOf (l .count) → badAt l j ≤ badAt l (j + k)
+unfolding ascends
+ascends-le l j zero e h = rw add-zero (omega arith)
+ascends-le l j (suc k) e h =
+    let p = ascends-le l j k e (omega arith) in
+    let q = all-at (heldOf (l .count) - 1) (j + k) (λ i. ltb (badAt l i) (badAt l (i + 1))) e (omega arith) in
+    let r : j + k + 1 ≡ j + suc k = omega arith in
+    rw (← r) (omega (arith, p, ltb-true (badAt l (j + k)) (badAt l (j + k + 1)) q))
+
+-- so that all are blocks if the last is one, and only then
+pub ascends-last : (l : Bads) (blocks m : ℕ) → ascends l ≡ true → heldOf (l .count) ≡ m + 1 → ltb (badAt l m) blocks ≡ areBlocks l blocks
+unfolding areBlocks
+ascends-last l blocks m e h = by-test (ltb (badAt l m) blocks) refl
+  where
+    least : (j : ℕ) → j < heldOf (l .count) → badAt l j ≤ badAt l m
+    least j q =
+        let r : j + (m - j) ≡ m = omega arith in
+        rw r at (ascends-le l j (m - j) e (omega arith))
+
+    by-test : (t : Bool) → ltb (badAt l m) blocks ≡ t → t ≡ areBlocks l blocks
+    by-test true f =
+        sym (all-intro (heldOf (l .count)) (λ j. ltb (badAt l j) blocks)
+        (λ j q. lt-ltb (badAt l j) blocks (omega (arith, least j q, ltb-true (badAt l m) blocks f))))
+    by-test false f = all-fails (heldOf (l .count)) m (λ j. ltb (badAt l j) blocks) (omega arith) refl f
+
 -- without blocks there is none
 pub badsOk-zero : (l : Bads) → badsOk l 0 ≡ true → l .count ≡ 0
 badsOk-zero l e =
@@ -270,6 +301,22 @@ badsOk-zero l e =
 pub badsOk-noBads : (blocks : ℕ) → badsOk noBads blocks ≡ true
 unfolding badsOk listOk ascends areBlocks zeroPast heldOf le
 badsOk-noBads blocks = refl
+
+-- the loop of `zero_past`, which begins behind the n numbers that a list has: before them there is nothing to test
+pub past-first : (n : ℕ) (list : List ℕ) → true ≡ allBelow n (λ j. either (ltb j n) (eqb (le 8 list (badSize * j)) 0))
+past-first n list =
+    sym (all-intro n (λ j. either (ltb j n) (eqb (le 8 list (badSize * j)) 0)) (λ j h. either-left (ltb j n) (eqb (le 8 list (badSize * j)) 0) (lt-ltb j n h)))
+
+-- behind them a zero
+pub past-test : {x : ℕ} (n j : ℕ) (list : List ℕ) → n ≤ j → x ≡ le 8 list (badSize * j) → eqb x 0 ≡ either (ltb j n) (eqb (le 8 list (badSize * j)) 0)
+past-test n j list h e = let f = le-ltb j n h in rw (e, f)
+
+-- and that is what is asked, by the count
+pub past-all : (l : Bads) → allBelow 16 (λ j. either (ltb j (heldOf (l .count))) (eqb (badAt l j) 0)) ≡ zeroPast l
+unfolding zeroPast
+past-all l =
+    all-ext 16 (λ j. either (ltb j (heldOf (l .count))) (eqb (badAt l j) 0)) (λ j. either (ltb j (l .count)) (eqb (badAt l j) 0))
+    (λ j h. ap (λ t. either t (eqb (badAt l j) 0)) (held-ltb (l .count) j h))
 
 pub no-bads : (l : Bads) → l .count ≡ 0 → length (l .list) ≡ 128 → zeroPast l ≡ true → l ≡ noBads
 no-bads l c e z =

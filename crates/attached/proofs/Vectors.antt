@@ -82,7 +82,7 @@ pub bads-written : badRecord 2 three ≡ record₂
 unfolding leBytes badRecord heldOf
 bads-written = refl
 
--- of ten blocks from 3 on two are good; 5 is bad; 6 is not; nor are the hundred behind 7
+-- of ten blocks from 3 on two come before the first bad one; 5 is bad; 6 is not; nor are the hundred behind 7
 pub bads-good : good three 3 10 ∷ good three 5 4 ∷ good three 6 1 ∷ good three 8 100 ∷ [] ≡ 2 ∷ 0 ∷ 1 ∷ 100 ∷ []
 unfolding good isBad heldOf le
 bads-good = refl
@@ -151,6 +151,11 @@ pub sixteen-written : badRecord 7 (sixteen 17) ≡ (134 ∷ 0 ∷ 3 ∷ 0 ∷ 7 
 unfolding leBytes badRecord heldOf
 sixteen-written = refl
 
-pub sixteen-heeded : good (sixteen 16) 16 100 ∷ good (sixteen 16) 41 100 ∷ [] ≡ 24 ∷ 100 ∷ []
+pub sixteen-heeded : good (sixteen 16) 16 100 ∷ good (sixteen 16) 41 100 ∷ good (sixteen 17) 16 100 ∷ good (sixteen 17) 0 1 ∷ [] ≡ 24 ∷ 100 ∷ 24 ∷ 1 ∷ []
 unfolding leBytes good isBad heldOf le
 sixteen-heeded = refl
+
+-- and taken as sixteen, by check 5
+pub sixteen-taken : listOk (sixteen 17) 41 ∷ listOk (sixteen 17) 40 ∷ [] ≡ true ∷ false ∷ []
+unfolding leBytes listOk ascends areBlocks heldOf le
+sixteen-taken = refl

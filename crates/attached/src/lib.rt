@@ -1,6 +1,7 @@
 // The records of a drive table that follow a drive's and belong to it: kind 3, the drive's bad blocks, and kind 4, bytes 0 to 13 of its device
 // parameter table.
 ghost use mathlib.Core.Path.{_≡_};
+ghost use mathlib.Core.Bool.{true};
 ghost use Prim.Native.Nat.{_+_, _*_, _≤_, _<_};
 ghost use lib.ListN.{length};
 ghost use lib.Seq.{sets};
@@ -169,36 +170,37 @@ fn ascends(l: Bads) -> bool
     good
 }
 
+// Of numbers that ascend the last is the greatest: it alone is looked at.
 fn are_blocks(l: Bads, blocks: u64) -> bool
+    requires { ⌜ ascends l ≡ true ⌝ }
     ensures { λ r. ⌜ r ≡ areBlocks l blocks ⌝ }
 {
     let list = l.list;
     let n = held(l.count);
-    let mut good = true;
-    let mut j = 0;
-    while j < n {
-        good = logic::and(bad_at(&list, j) < blocks, good);
-        j += 1;
+    if n == 0 {
+        return true;
     }
-    good
+    bad_at(&list, n - 1) < blocks
 }
 
 // Ascending numbers of blocks of a drive that has so many.
 pub fn list_ok(l: Bads, blocks: u64) -> bool
     ensures { λ r. ⌜ r ≡ listOk l blocks ⌝ }
 {
-    logic::and(ascends(l), are_blocks(l, blocks))
+    if ascends(l) {
+        return are_blocks(l, blocks);
+    }
+    false
 }
 
 fn zero_past(l: Bads) -> bool
     ensures { λ r. ⌜ r ≡ zeroPast l ⌝ }
 {
     let list = l.list;
-    let n = l.count as usize;
     let mut zero = true;
-    let mut j = 0;
+    let mut j = held(l.count);
     while j < MOST_BAD {
-        zero = logic::and(logic::or(j < n, bad_at(&list, j) == 0), zero);
+        zero = logic::and(bad_at(&list, j) == 0, zero);
         j += 1;
     }
     zero

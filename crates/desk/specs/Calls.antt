@@ -1,4 +1,5 @@
--- Document 01, "Calls the host makes" and "Numbers given back": what each call answers, and the desk, arena and store it leaves.
+-- Document 01, "Calls the host makes" and "Numbers given back", and document 02, 2026-01 and 2026-04: what each call answers, and the desk, arena
+-- and store it leaves.
 -- Assumes nothing.
 use Prim.Native.Nat.{ℕ, zero, suc, _+_, _-_, _/_, min}
 use mathlib.Core.Path.{_≡_}

@@ -1,8 +1,9 @@
--- Demand 3 at work on a worn disk: guest 2 reads 20 blocks, of which the eighteenth is bad, over its own packet, and guest 5 writes 3, of which the
--- first is bad; guest 6 writes a block between guest 2's two turns. Every condition of `equal` is met for both. Guest 2's turns move 16 and 1,
--- guest 5's moves none, as `counted` says; each ends with carry set, and its packet's count word is what it moved.
+-- Demand 3 at work on a worn disk: guest 2 reads 20 blocks, of which the eighteenth is bad, over its own packet, guest 5 writes 3, of which the
+-- first is bad, and guest 6 writes 6 by 03h, of which the last is bad, between guest 2's two turns. Every condition of `equal` is met for each.
+-- Guest 2's turns move 16 and 1, guest 5's none, guest 6's 5, as `counted` says; each ends with carry set, and its packet's count word, or AL of
+-- guest 6, is what it moved.
 -- Assumes nothing.
-use Prim.Native.Nat.{ℕ, _+_, _<_}
+use Prim.Native.Nat.{ℕ, _+_, _-_, _≤_, _<_}
 use mathlib.Core.Path.{_≡_, refl, sym, ap, subst, _∙_}
 use mathlib.Core.Logic.{inr}
 use mathlib.Core.Bool.{true, false}
@@ -10,6 +11,7 @@ use mathlib.Core.List.{List, [], _∷_, _++_}
 use native.Mathlib.Omega.{arith}
 use lib.ListN.{length, replicate, length-replicate, length-append}
 use lib.Seq.{sets, length-sets}
+use borrow.Author.Tests.{le-ltb}
 use Rattle.words.specs.Words.{le, leBytes, part}
 use Rattle.words.proofs.WordsLaws.{length-leBytes}
 use Rattle.chs.specs.Chs.{inLimits, isValid, blockOf}
@@ -31,7 +33,7 @@ use Rattle.int13.specs.declared.Job.{Job}
 use Rattle.int13.specs.declared.Outcome.the-variants.{Waits}
 use Rattle.int13.specs.declared.Plan.{Plan}
 use Rattle.int13.specs.declared.Plan.the-variants.{Wait}
-use Rattle.int13.specs.Answers.{succeed, ended, posted as postedRegisters}
+use Rattle.int13.specs.Answers.{ended, posted as postedRegisters}
 use Rattle.int13.specs.Steps.{unchanged, isDrive, badsOf, verifyOk, packetJob, packetTests, packetRead, packetPlan, withCount, carryOut, sectors, fed, steps, begin}
 use Rattle.int13.specs.Alone.{storeBlock, moves, reported, alone}
 use Rattle.desk.specs.declared.Request.{Request}
@@ -115,9 +117,9 @@ claimed calls =
     subst (λ (o : Opening). NoneOpens (run (o .desk) calls) → Claim tableBytes (o .desk) M calls) opening
     (demand tableBytes arenaLength storeLength calls (ap (λ (o : Opening). o .answer) opening))
 
--- ---- the requests; the packets stand at 0001:0008
+-- ---- the requests
 
--- guest 2: 42h, the drive's blocks 8 to 27, store blocks 12 to 31; buffer 0000:0005, which covers the packet
+-- guest 2: 42h, the drive's blocks 8 to 27, store blocks 12 to 31; packet at 0001:0008, buffer 0000:0005, which covers it
 abbrev pub reads : Registers
 reads = record { ax = 0x42A5; bx = 0x1111; cx = 0x2222; dx = 0x3380; ds = 1; si = 8; es = 0x4444; carry = false }
 
@@ -128,37 +130,41 @@ packet₂ = record { size = 16; count = 20; buffer = 5; start = 8 }
 abbrev pub reads-ends : Registers
 reads-ends = record { ax = 0x10A5; bx = 0x1111; cx = 0x2222; dx = 0x3380; ds = 1; si = 8; es = 0x4444; carry = true }
 
--- guest 5: 43h, the blocks 33 to 35; buffer 0009:0007
+-- guest 5: 43h, the blocks 33 to 35; packet at 0002:0006, buffer 0009:0007
 abbrev pub writes : Registers
-writes = record { ax = 0x4300; bx = 0x5555; cx = 0x6666; dx = 0x7780; ds = 1; si = 8; es = 0x8888; carry = false }
+writes = record { ax = 0x4301; bx = 0x5555; cx = 0x6666; dx = 0x7780; ds = 2; si = 6; es = 0x8888; carry = false }
 
 abbrev pub packet₅ : Packet
 packet₅ = record { size = 16; count = 3; buffer = 151; start = 33 }
 
 -- CCh and carry
 abbrev pub writes-ends : Registers
-writes-ends = record { ax = 0xCC00; bx = 0x5555; cx = 0x6666; dx = 0x7780; ds = 1; si = 8; es = 0x8888; carry = true }
+writes-ends = record { ax = 0xCC01; bx = 0x5555; cx = 0x6666; dx = 0x7780; ds = 2; si = 6; es = 0x8888; carry = true }
 
--- guest 6: 03h, the sector 1/1/4, block 28 and store block 32, the first that guest 2 does not name; buffer 0004:0009
+-- guest 6: 03h, six sectors from 1/1/4 on, blocks 28 to 33 and store blocks 32 to 37, of which guest 2 does not name the first; buffer 0004:0009
 abbrev pub saved : Registers
-saved = record { ax = 0x0301; bx = 9; cx = 0x0104; dx = 0x0180; ds = 0x3333; si = 0x4444; es = 4; carry = false }
+saved = record { ax = 0x0306; bx = 9; cx = 0x0104; dx = 0x0180; ds = 0x3333; si = 0x4444; es = 4; carry = false }
 
 abbrev pub saveJob : Job
-saveJob = record { registers = postedRegisters saved; drive = 0x80; start = 28; count = 1; buffer = 73; packet = 0 }
+saveJob = record { registers = postedRegisters saved; drive = 0x80; start = 28; count = 6; buffer = 73; packet = 0 }
 
-by-packet : (r : Registers) (p : Packet) (w : List ℕ) → length w ≡ M → packetAt w 24 ≡ p
-    → begin (fed table noPlacement) r w ≡ carryOut (packetRead worn (badsOf table 0x80) r (length w) (readPacket w 24)) r w
+-- CCh and carry, and 5 in AL
+abbrev pub saved-ends : Registers
+saved-ends = record { ax = 0xCC05; bx = 9; cx = 0x0104; dx = 0x0180; ds = 0x3333; si = 0x4444; es = 4; carry = true }
+
+by-packet : (r : Registers) (p : Packet) (at : ℕ) (w : List ℕ) → length w ≡ M → at + 16 ≤ M → packetAt w at ≡ p
+    → begin (fed table noPlacement) r w ≡ carryOut (packetRead worn (badsOf table 0x80) r (length w) (readPacket w at)) r w
     → packetRead worn (badsOf table 0x80) r M (Whole p) ≡ Wait (packetJob r p)
     → begin (fed table noPlacement) r w ≡ unchanged w (Waits (packetJob r p))
 unfolding readPacket
-by-packet r p w l e f g =
+by-packet r p at w l b e f g =
     f
     ∙ ap (λ (x : PacketRead). carryOut (packetRead worn (badsOf table 0x80) r (length w) x) r w) whole
     ∙ ap (λ (n : ℕ). carryOut (packetRead worn (badsOf table 0x80) r n (Whole p)) r w) l
     ∙ ap (λ (x : Plan). carryOut x r w) g
   where
-    whole : readPacket w 24 ≡ Whole p
-    whole = rw l (ap Whole e)
+    whole : readPacket w at ≡ Whole p
+    whole = rw (l, le-ltb M (at + 16) b) (ap Whole e)
 
 check-save : (w : List ℕ) → length w ≡ M → begin (fed table noPlacement) saved w ≡ unchanged w (Waits saveJob)
 unfolding begin steps sectors isDrive blockOf inLimits isValid
@@ -183,27 +189,28 @@ abbrev asks₆ : Line
 asks₆ = waiting 6 saved saveJob
 
 abbrev only₆ : Line
-only₆ = serving 6 (request saveJob 0) 1 (Finished (succeed saved))
+only₆ = serving 6 (request saveJob 0) 5 (Finished saved-ends)
 
 -- one block more
 abbrev last₂ : Line
 last₂ = serving 2 (request (packetJob reads packet₂) 16) 1 (Finished reads-ends)
 
 abbrev later : List Line
-later = collecting 5 writes-ends ∷ collecting 2 reads-ends ∷ []
+later = collecting 5 writes-ends ∷ collecting 2 reads-ends ∷ collecting 6 saved-ends ∷ []
 
 -- ---- the count word in a window that was written
 
 span-there : (x : List ℕ) (g : ℕ) → length x ≡ arenaLength → g < guests → spanLength (length x) g M ≡ M
 span-there x g l b = ap (λ (k : ℕ). spanLength k g M) l ∙ span-in arenaLength g M (omega arith) b .1
 
--- of guest g, k blocks of its request q being moved before it is written
-word-of : (p : Place) → Sized p → p .desk .arena ≡ arenaLength → windowSize (p .desk) ≡ M → (g : ℕ) (q : Request) (k n : ℕ) → g < guests
-    → part 2 (windowOf (withWindow (p .arena) g M (withCount (movedBy (p .desk) g q k (p .arena) (p .store) .window) 24 n)) g M) 26 ≡ leBytes 2 n
-word-of p z la lm g q k n b =
-    ap (λ (v : List ℕ). part 2 v 26) (window-with-same (p .arena) g M (withCount w 24 n) (length-sets w 26 (leBytes 2 n) ∙ long ∙ sym (span-there (p .arena) g (z .arena ∙ la) b)))
-    ∙ ap (λ (k : ℕ). part k (sets w 26 (leBytes 2 n)) 26) (sym (length-leBytes 2 n))
-    ∙ part-sets-same w 26 (leBytes 2 n) (omega (arith, length-leBytes 2 n, long))
+-- of guest g with a packet at a place, k blocks of its request q being moved before it is written
+word-of : (p : Place) → Sized p → p .desk .arena ≡ arenaLength → windowSize (p .desk) ≡ M → (g : ℕ) (q : Request) (k n at : ℕ) → g < guests → at + 16 ≤ M
+    → part 2 (windowOf (withWindow (p .arena) g M (withCount (movedBy (p .desk) g q k (p .arena) (p .store) .window) at n)) g M) (at + 2) ≡ leBytes 2 n
+word-of p z la lm g q k n at b i =
+    ap (λ (v : List ℕ). part 2 v (at + 2))
+    (window-with-same (p .arena) g M (withCount w at n) (length-sets w (at + 2) (leBytes 2 n) ∙ long ∙ sym (span-there (p .arena) g (z .arena ∙ la) b)))
+    ∙ ap (λ (k : ℕ). part k (sets w (at + 2) (leBytes 2 n)) (at + 2)) (sym (length-leBytes 2 n))
+    ∙ part-sets-same w (at + 2) (leBytes 2 n) (omega (arith, length-leBytes 2 n, long))
   where
     w : List ℕ
     w = movedBy (p .desk) g q k (p .arena) (p .store) .window
@@ -216,7 +223,7 @@ word-of p z la lm g q k n b =
 -- ---- the calls, over any arena and store of those lengths with the two packets in the windows
 
 module _ (a s : List ℕ) (la : length a ≡ arenaLength) (ls : length s ≡ storeLength)
-    (held₂ : packetAt (windowOf a 2 M) 24 ≡ packet₂) (held₅ : packetAt (windowOf a 5 M) 24 ≡ packet₅) where
+    (held₂ : packetAt (windowOf a 2 M) 24 ≡ packet₂) (held₅ : packetAt (windowOf a 5 M) 38 ≡ packet₅) where
   abbrev pub p₀ : Place
   p₀ = place d₀ a s
 
@@ -225,11 +232,11 @@ module _ (a s : List ℕ) (la : length a ≡ arenaLength) (ls : length s ≡ sto
 
   checks₂ : begin (fed table noPlacement) reads (windowOf a 2 M) ≡ unchanged (windowOf a 2 M) (Waits (packetJob reads packet₂))
   unfolding begin steps packetPlan verifyOk isDrive packetTests
-  checks₂ = by-packet reads packet₂ (windowOf a 2 M) (window-lent d₀ a 2 la (omega arith)) held₂ refl refl
+  checks₂ = by-packet reads packet₂ 24 (windowOf a 2 M) (window-lent d₀ a 2 la (omega arith)) (omega arith) held₂ refl refl
 
   checks₅ : begin (fed table noPlacement) writes (windowOf a 5 M) ≡ unchanged (windowOf a 5 M) (Waits (packetJob writes packet₅))
   unfolding begin steps packetPlan verifyOk isDrive packetTests
-  checks₅ = by-packet writes packet₅ (windowOf a 5 M) (window-lent d₀ a 5 la (omega arith)) held₅ refl refl
+  checks₅ = by-packet writes packet₅ 38 (windowOf a 5 M) (window-lent d₀ a 5 la (omega arith)) (omega arith) held₅ refl refl
 
   -- the lines before guest 6 posts, and the arena then
   abbrev four : List Line
@@ -252,6 +259,7 @@ module _ (a s : List ℕ) (la : length a ≡ arenaLength) (ls : length s ≡ sto
       also (refl, refl, check-save (windowOf a₄ 6 M) (window-lent d₀ a₄ 6 (sized four p₀ z₀ front .arena) (omega arith)))
       also (refl, refl, refl, refl)
       also (refl, refl, refl, refl)
+      also (refl, refl)
       also (refl, refl)
       also (refl, refl)
       also tt
@@ -303,7 +311,7 @@ module _ (a s : List ℕ) (la : length a ≡ arenaLength) (ls : length s ≡ sto
   unfolding reported leBytes
   word₂ =
       ap (λ (o : Out). part 2 (windowOf (o .arena) 2 M) 26) (stepped story z₀)
-      ∙ word-of (middle story) (at-middle story z₀) refl refl 2 (request (packetJob reads packet₂) 16) 1 17 (omega arith)
+      ∙ word-of (middle story) (at-middle story z₀) refl refl 2 (request (packetJob reads packet₂) 16) 1 17 24 (omega arith) (omega arith)
 
   -- ---- guest 5
 
@@ -363,11 +371,56 @@ module _ (a s : List ℕ) (la : length a ≡ arenaLength) (ls : length s ≡ sto
   pub registers₅ : stageAt (step (after (step (after d₀ (callsOf p₀ ahead)) (posting story₅) .desk) (meanwhile story₅)) (finishing story₅) .desk) 5 ≡ Finished writes-ends
   registers₅ = ap (λ (o : Out). stageAt (o .desk) 5) then₅
 
-  pub word₅ : part 2 (windowOf (step (after (step (after d₀ (callsOf p₀ ahead)) (posting story₅) .desk) (meanwhile story₅)) (finishing story₅) .arena) 5 M) 26 ≡ 0 ∷ 0 ∷ []
+  pub word₅ : part 2 (windowOf (step (after (step (after d₀ (callsOf p₀ ahead)) (posting story₅) .desk) (meanwhile story₅)) (finishing story₅) .arena) 5 M) 40 ≡ 0 ∷ 0 ∷ []
   unfolding reported leBytes
   word₅ =
-      ap (λ (o : Out). part 2 (windowOf (o .arena) 5 M) 26) then₅
-      ∙ word-of (middle story₅) (at-middle story₅ (z p₀ ahead story₅ z₀ aheads)) refl refl 5 (request (packetJob writes packet₅) 0) 0 0 (omega arith)
+      ap (λ (o : Out). part 2 (windowOf (o .arena) 5 M) 40) then₅
+      ∙ word-of (middle story₅) (at-middle story₅ (z p₀ ahead story₅ z₀ aheads)) refl refl 5 (request (packetJob writes packet₅) 0) 0 0 38 (omega arith) (omega arith)
+
+  -- ---- guest 6
+
+  abbrev pub p₄ : Place
+  p₄ = placeAfter p₀ four
+
+  abbrev pub story₆ : Story p₄
+  story₆ =
+      record {
+        guest = 6;
+        registers = saved;
+        job = saveJob;
+        between = [];
+        last = only₆;
+        rest = last₂ ∷ later;
+        lines = lines .1 .1 .1 .1;
+      }
+
+  start₆ : firstBy table M (posting story₆) 6 saved ≡ 32
+  unfolding blockOf inLimits isValid
+  start₆ = refl
+
+  -- a 03h that ends at a bad block: registers, window and store blocks 32 to 37 are those of its write served alone
+  pub example₆ : Same M 6 (firstBy table M (posting story₆) 6 saved) (askedBy M (posting story₆) 6 saved)
+      (step (after (step (after d₀ (callsOf p₀ four)) (posting story₆) .desk) (meanwhile story₆)) (finishing story₆))
+      (alone (fed tableBytes noPlacement) saved (foundBy M (posting story₆) 6))
+  example₆ =
+      equal-later p₀ four story₆ z₀ front M 6 32 refl start₆ refl (waiting-on story₆ 6 refl (omega arith) refl) (inr (refl, omega arith)) tableBytes
+      (claimed (calls-later p₀ four story₆ z₀ front) (closed-later p₀ four story₆ z₀ front)) refl refl refl
+
+  good₆ : goodBy table M (posting story₆) 6 saved ≡ 5
+  unfolding blockOf inLimits isValid badsOf isDrive good isBad heldOf le
+  good₆ = refl
+
+  -- its turn answers 5
+  pub moved₆ : moved 6 (run (step (after d₀ (callsOf p₀ four)) (posting story₆) .desk) (meanwhile story₆ ++ finishing story₆ ∷ [])) ≡ 5
+  moved₆ =
+      counted-later p₀ four story₆ z₀ front M 6 32 refl start₆ refl (waiting-on story₆ 6 refl (omega arith) refl) (inr (refl, omega arith)) tableBytes
+      (claimed (calls-later p₀ four story₆ z₀ front) (closed-later p₀ four story₆ z₀ front)) ∙ good₆
+
+  -- CCh with carry, and 5 in AL
+  pub registers₆ : stageAt (step (after (step (after d₀ (callsOf p₀ four)) (posting story₆) .desk) (meanwhile story₆)) (finishing story₆) .desk) 6 ≡ Finished saved-ends
+  registers₆ =
+      ap (λ (d : Desk). stageAt (step (after (step d (posting story₆) .desk) (meanwhile story₆)) (finishing story₆) .desk) 6) (arrived p₀ four story₆ z₀ front)
+      ∙ ap (λ (o : Out). stageAt (o .desk) 6) (stepped story₆ (z p₀ four story₆ z₀ front))
 
 -- ---- such an arena, and a store: zeros but for the packets
 
@@ -377,51 +430,51 @@ bytes₂ = 16 ∷ 0 ∷ 20 ∷ 0 ∷ 5 ∷ 0 ∷ 0 ∷ 0 ∷ 8 ∷ 0 ∷ 0 ∷ 0
 abbrev pub bytes₅ : List ℕ
 bytes₅ = 16 ∷ 0 ∷ 3 ∷ 0 ∷ 7 ∷ 0 ∷ 9 ∷ 0 ∷ 33 ∷ 0 ∷ 0 ∷ 0 ∷ 0 ∷ 0 ∷ 0 ∷ 0 ∷ []
 
--- 16 bytes at 24 of a window
-abbrev windowWith : List ℕ → List ℕ
-windowWith bytes = replicate 24 0 ++ (bytes ++ replicate 10264 0)
+-- 16 bytes at a place of a window
+abbrev windowWith : ℕ → List ℕ → List ℕ
+windowWith at bytes = replicate at 0 ++ (bytes ++ replicate (10288 - at) 0)
 
-length-window-with : (bytes : List ℕ) → length bytes ≡ 16 → length (windowWith bytes) ≡ M
-length-window-with bytes e =
-    length-append (replicate 24 0) (bytes ++ replicate 10264 0)
-    ∙ omega (arith, length-append bytes (replicate 10264 0), length-replicate {A = ℕ} 10264 0, length-replicate {A = ℕ} 24 0, e)
+length-window-with : (at : ℕ) (bytes : List ℕ) → at ≤ 10288 → length bytes ≡ 16 → length (windowWith at bytes) ≡ M
+length-window-with at bytes h e =
+    length-append (replicate at 0) (bytes ++ replicate (10288 - at) 0)
+    ∙ omega (arith, length-append bytes (replicate (10288 - at) 0), length-replicate {A = ℕ} (10288 - at) 0, length-replicate {A = ℕ} at 0, e)
 
 pub zeros : List ℕ
 zeros = replicate arenaLength 0
 
 pub with₂ : List ℕ
-with₂ = withWindow zeros 2 M (windowWith bytes₂)
+with₂ = withWindow zeros 2 M (windowWith 24 bytes₂)
 
 pub someArena : List ℕ
-someArena = withWindow with₂ 5 M (windowWith bytes₅)
+someArena = withWindow with₂ 5 M (windowWith 38 bytes₅)
 
 pub someStore : List ℕ
 someStore = replicate storeLength 7
 
 long₂ : length with₂ ≡ arenaLength
 unfolding with₂ zeros
-long₂ = length-with-window zeros 2 M (windowWith bytes₂) ∙ length-replicate {A = ℕ} arenaLength 0
+long₂ = length-with-window zeros 2 M (windowWith 24 bytes₂) ∙ length-replicate {A = ℕ} arenaLength 0
 
 pub long-arena : length someArena ≡ arenaLength
 unfolding someArena
-long-arena = length-with-window with₂ 5 M (windowWith bytes₅) ∙ long₂
+long-arena = length-with-window with₂ 5 M (windowWith 38 bytes₅) ∙ long₂
 
 pub long-store : length someStore ≡ storeLength
 unfolding someStore
 long-store = length-replicate {A = ℕ} storeLength 7
 
-pub held₅-there : packetAt (windowOf someArena 5 M) 24 ≡ packet₅
+pub held₅-there : packetAt (windowOf someArena 5 M) 38 ≡ packet₅
 unfolding packetAt le someArena
 held₅-there =
-    ap (λ (w : List ℕ). packetAt w 24)
-    (window-with-same with₂ 5 M (windowWith bytes₅) (length-window-with bytes₅ refl ∙ sym (span-there with₂ 5 long₂ (omega arith))))
+    ap (λ (w : List ℕ). packetAt w 38)
+    (window-with-same with₂ 5 M (windowWith 38 bytes₅) (length-window-with 38 bytes₅ (omega arith) refl ∙ sym (span-there with₂ 5 long₂ (omega arith))))
 
 pub held₂-there : packetAt (windowOf someArena 2 M) 24 ≡ packet₂
 unfolding packetAt le someArena with₂ zeros
 held₂-there =
     ap (λ (w : List ℕ). packetAt w 24)
-    (window-with-other with₂ 5 2 M (windowWith bytes₅) (λ e. omega arith) (length-window-with bytes₅ refl ∙ sym (span-there with₂ 5 long₂ (omega arith)))
-    ∙ window-with-same zeros 2 M (windowWith bytes₂) (length-window-with bytes₂ refl ∙ sym (span-there zeros 2 (length-replicate {A = ℕ} arenaLength 0) (omega arith))))
+    (window-with-other with₂ 5 2 M (windowWith 38 bytes₅) (λ e. omega arith) (length-window-with 38 bytes₅ (omega arith) refl ∙ sym (span-there with₂ 5 long₂ (omega arith)))
+    ∙ window-with-same zeros 2 M (windowWith 24 bytes₂) (length-window-with 24 bytes₂ (omega arith) refl ∙ sym (span-there zeros 2 (length-replicate {A = ℕ} arenaLength 0) (omega arith))))
 
 abbrev pub storyOfBytes : Story (place d₀ someArena someStore)
 storyOfBytes = story someArena someStore long-arena long-store held₂-there held₅-there

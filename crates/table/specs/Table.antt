@@ -28,7 +28,7 @@ use Rattle.table.specs.declared.Reading.{Reading}
 use Rattle.table.specs.declared.Written.{Written}
 use Rattle.table.specs.declared.Written.the-variants.{Bytes, Refused as WriteRefused}
 
--- ---- "The drive table", the numbers of the refusals, in the order of the checks
+-- ---- "The drive table", the numbers of the refusals, in the order of the checks; for bad blocks 9 comes before 5
 
 -- 1 fewer than 4 bytes left, or the record is cut off
 abbrev pub cutOff : ℕ

@@ -14,7 +14,7 @@ ghost use Rattle.attached.specs.Parameters.{parametersKind};
 ghost use Rattle.attached.specs.Bad.{badKind, listPlace, listLength, badLength, heldOf, listOk};
 ghost use Rattle.table.specs.Table.{notLast, badField, isKind, lengthOk, headerAt, isUnfinished, overlapsAny, refusal, more, parametersAt, withParameters, badsAt, badsRefusal, withBads, endStep, recordStep, stepAt, placeAfter, Advances, begun, zeroDrive, emptyTable, reading, endAnswer, Reads, badsRecord, slotBytes, recordsOf, endLength, endRecord, drivesOf, nextPlace, longestTable, tableOf, writeAnswer, writeOut, writtenNumbers, writeNumbers, soundTo, blankTo, attachedTo, listedTo, isSound, overlapRuns, overlapsRun, refusalAmong};
 
-// Document 01's refusals of a table, in the order of the checks.
+// Document 01's refusals of a table, in the order of the checks; for bad blocks 9 comes before 5 (document 02, 2026-04).
 pub const CUT_OFF: u8 = 1;
 
 const UNKNOWN_KIND: u8 = 3;
@@ -380,14 +380,12 @@ fn bads_refusal(b: Table, number: u16, l: Bads) -> u8
     list_refusal(counts[i], l, d.blocks)
 }
 
-// The numbers of all slots with those of one slot.
-fn with_list(bad: [u8; 1024], i: usize, list: [u8; 128]) -> [u8; 1024]
+// The numbers of one slot, laid among those of all: in place, since a copy of all of them would be most of what a list costs.
+fn put_list(bad: &mut [u8; 1024], i: usize, list: &[u8; 128])
     requires { ⌜ i < 8 ⌝ }
-    ensures { λ r. ⌜ r ≡ sets bad (128 * i) list ⌝ }
+    ensures { λ _. ⌜ now (bad .exit) ≡ sets (now (bad .entry)) (128 * i) (now (list .entry)) ⌝ }
 {
-    let mut next = bad;
-    words::store(&mut next, attached::LIST_LENGTH * i, &list);
-    next
+    words::store(bad, attached::LIST_LENGTH * i, list);
 }
 
 // The drives so far with bad blocks for a slot.
@@ -395,12 +393,10 @@ fn with_bads(b: Table, i: usize, l: Bads) -> Table
     requires { ⌜ i < 8 ⌝ }
     ensures { λ r. ⌜ r ≡ withBads b i l ⌝ }
 {
-    let bad = b.bad;
     let list = l.list;
-    let laid = with_list(bad, i, list);
     let mut next = b;
     next.counts[i] = l.count;
-    next.bad = laid;
+    put_list(&mut next.bad, i, &list);
     next
 }
 
@@ -681,11 +677,9 @@ pub fn read_table(t: &[u8], store: u64) -> Reading
                     if refused != 0 {
                         return ended(Answer::Refused(refused, at), b);
                     }
-                    let bad = b.bad;
                     let list = l.list;
-                    let laid = with_list(bad, i, list);
                     b.counts[i] = l.count;
-                    b.bad = laid;
+                    put_list(&mut b.bad, i, &list);
                     at = next;
                     left -= 1;
                     continue;

@@ -1,8 +1,8 @@
 // Runs document 01's "run by program" cases and its sums, the ends of the two largest geometries, the sources' worked values that document 01 keeps
 // or document 02 brings back (`sources`), parameter tables that are placed (`placement`), a table that arrives in pieces (`fragments`), and a worn
 // disk (`worn`). A line for each. The functions are called on the paper's 72-byte table and a window of 65,536 bytes; the turns of P9 and P10 are
-// given at desks with a drive of 64 blocks. The check pays for each slice that is lent, and in each statement for every local, a desk or a table most: so a case is a call
-// with numbers that makes its own table and window, and a function that holds a desk or a table does little else.
+// given at desks with a drive of 64 blocks. The check pays for each slice that is lent, and in each statement for every local, a desk or a table
+// most: so a case is a call with numbers that makes its own table and window, and a function that holds a desk or a table does little else.
 mod fragments;
 mod placement;
 mod sources;

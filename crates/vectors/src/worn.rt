@@ -161,16 +161,17 @@ fn lists() {
     list_case(20, 64);
 }
 
-// 40 blocks from block 3 on, of which 17 are good.
+// 40 blocks from block 3 on, of which 17 come before the first bad one.
 fn by_function(arena: &mut [u8], store: &mut [u8]) {
     request(0x4200, 3, 40, arena, store);
-    request(0x4300, 3, 40, arena, store);
     request(0x0228, 3, 40, arena, store);
+    request(0x4300, 3, 40, arena, store);
     request(0x0328, 3, 40, arena, store);
 }
 
-// A bad block first, none in the range, and 44h.
+// A bad block behind data that lies over the packet, a bad block first, none in the range, and 44h.
 fn by_range(arena: &mut [u8], store: &mut [u8]) {
+    request(0x4200, 15, 8, arena, store);
     request(0x4200, 20, 2, arena, store);
     request(0x4200, 21, 20, arena, store);
     request(0x4400, 3, 40, arena, store);

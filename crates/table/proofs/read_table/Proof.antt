@@ -131,23 +131,23 @@ returns-5 c =
     (bads-reads (f .before .loop .inv) (f .loop-test .taken) (header k) (rw add-sub-cancel-left at (g .number-in .ensures)) (r .before .names-last .ensures) (c .before .before .before .before .before .before .if5 .taken) (not-false _ (r .if4 .left))
     (rw add-sub-cancel-left at (c .before .before .before .before .bads-in .ensures)) (c .before .before .list-refusal .ensures) (c .before .if6 .taken))
 
-with-list-requires : tie.Need-with-list-requires Inv-loop μ-loop
-with-list-requires c κs = named (c .before .before .before .before .before .before .before .before)
-
 element-write-b : tie.Need-element-write-b Inv-loop μ-loop
-element-write-b c = omega (arith, named (c .before .before .before .before .before .before .before .before .before), c .before .before .before .before .before .before .before .before .before .before .before .before .before .before .before .before .before .before .before .before .before .loop .inv .marks .1)
+element-write-b c = omega (arith, named (c .before .before .before .before .before .before .before), c .before .before .before .before .before .before .before .before .before .before .before .before .before .before .before .before .before .before .before .loop .inv .marks .1)
+
+put-list-requires : tie.Need-put-list-requires Inv-loop μ-loop
+put-list-requires c κs = named (c .before .before .before .before .before .before .before .before .before)
 
 loop-less-2 : tie.Need-loop-less-2 Inv-loop μ-loop
-loop-less-2 c = omega (arith, c .before .before .before .before .before .before .before .before .before .before .before .before .before .before .before .before .before .before .before .before .loop-test .taken)
+loop-less-2 c = omega (arith, c .before .before .before .before .before .before .before .before .before .before .before .before .before .before .before .before .before .before .before .before .before .loop-test .taken)
 
 loop-again-2 : tie.Need-loop-again-2 Inv-loop μ-loop
 loop-again-2 c =
-    let r = c .before .before .before .before .before .before .before .before .before in
+    let r = c .before .before .before .before .before .before .before .before .before .before in
     let g = r .before .before .before in
     let k = g .before .before .before .before .before in
     let f = k .before .before .before in
-    bads-stands (f .before .loop .inv) (f .loop-test .taken) (header k) (rw add-sub-cancel-left at (g .number-in .ensures)) (r .before .names-last .ensures) (c .before .before .before .before .before .before .before .before .if5 .taken) (not-false _ (r .if4 .left))
-    (rw add-sub-cancel-left at (c .before .before .before .before .before .before .bads-in .ensures)) (c .before .before .before .before .list-refusal .ensures) (c .before .before .before .if6 .left) (c .with-list .ensures)
+    bads-stands (f .before .loop .inv) (f .loop-test .taken) (header k) (rw add-sub-cancel-left at (g .number-in .ensures)) (r .before .names-last .ensures) (c .before .before .before .before .before .before .before .before .before .if5 .taken) (not-false _ (r .if4 .left))
+    (rw add-sub-cancel-left at (c .before .before .before .before .before .before .before .bads-in .ensures)) (c .before .before .before .before .before .list-refusal .ensures) (c .before .before .before .before .if6 .left) (c .put-list .ensures)
 
 part-parameters-in-end : tie.Need-part-parameters-in-end Inv-loop μ-loop
 part-parameters-in-end c = let w = whole-at _ _ _ _ (header (c .before .before .before .before .before .before .before .before .before .before)) in omega arith
@@ -231,8 +231,8 @@ read-table-spec =
     (λ c κs. tt)
     (λ c κs. tt)
     returns-5
-    with-list-requires
     element-write-b
+    put-list-requires
     (search needs)
     loop-less-2
     loop-again-2
