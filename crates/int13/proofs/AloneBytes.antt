@@ -1,4 +1,5 @@
--- Served alone, byte by byte: what a request that waits asks, from its registers and its packet, and the bytes that its moves and its end lay down.
+-- Served alone, byte by byte: what a request that waits asks, from its registers and its packet, and the bytes that its moves and its end lay down;
+-- and 44h.
 -- Assumes nothing.
 use Prim.Native.Nat.{ℕ, suc, _+_, _-_, _*_, _/_, _%_, _≤_, _<_}
 use mathlib.Core.Path.{_≡_, refl, sym, ap, subst, _∙_}
@@ -10,9 +11,9 @@ use native.Mathlib.Omega.{arith}
 use lib.ListN.{length, getD, set, drop, length-take, length-set}
 use lib.Seq.{getD-take, getD-drop, getD-set-same, getD-set-other, length-sets}
 use lib.Dec.{leb, ltb, eqb}
-use borrow.Author.Tests.{leb-true, lt-ltb, le-ltb, ltb-false, eqb-true, eqb-false, not-false}
+use borrow.Author.Tests.{leb-true, ltb-true, lt-ltb, le-ltb, ltb-false, eqb-true, eqb-false, eq-eqb, not-false}
 use Rattle.logic.specs.Logic.{pick, both, either}
-use Rattle.logic.proofs.LogicLaws.{either-true, pick-cases, true≢false}
+use Rattle.logic.proofs.LogicLaws.{both-true, either-true, pick-cases, some-ext, true≢false}
 use Rattle.words.specs.Words.{le, leBytes, part}
 use Rattle.chs.specs.declared.ToBlock.{ToBlock}
 use Rattle.chs.specs.declared.ToBlock.the-variants.{Block, Refused as NoBlock}
@@ -20,11 +21,12 @@ use Rattle.chs.specs.Chs.{size, blockOf, addressIn}
 use Rattle.drive.specs.Drive.{geometryOf, isProtected}
 use Rattle.drive.proofs.DriveLaws.{geometry-inside}
 use Rattle.attached.specs.declared.Bads.{Bads}
-use Rattle.attached.specs.Bad.{isBad, good}
-use Rattle.attached.proofs.BadLaws.{good-most, good-clean, good-worn}
+use Rattle.attached.specs.Bad.{heldOf, badAt, isBad, good}
+use Rattle.attached.proofs.BadLaws.{held-few, badsOk-true, good-most, good-clean, good-worn}
 use Rattle.table.specs.declared.Table.{Table}
-use Rattle.table.specs.Table.{readTable}
-use Rattle.table.proofs.Sound.{Obeys, Good, good-obeys, accepted-good}
+use Rattle.table.specs.Table.{noDrive, badsAt, readTable}
+use Rattle.table.proofs.TableLaws.{le-part}
+use Rattle.table.proofs.Sound.{Obeys, Good, sound-rules, good-obeys, accepted-good}
 use Rattle.layout.specs.declared.Packet.{Packet}
 use Rattle.layout.specs.declared.PacketRead.{PacketRead}
 use Rattle.layout.specs.declared.PacketRead.the-variants.{Whole, Refused as NoPacket}
@@ -41,11 +43,11 @@ use Rattle.int13.specs.declared.Shown.{Shown}
 use Rattle.int13.specs.declared.Outcome.{Outcome}
 use Rattle.int13.specs.declared.Outcome.the-variants.{Answered, Waits}
 use Rattle.int13.specs.declared.Plan.{Plan}
-use Rattle.int13.specs.Answers.{ah, al, dl, isSectors, isWrite, posted, badCode, ended}
+use Rattle.int13.specs.Answers.{ah, al, dl, isSectors, isWrite, succeed, refuse, posted, badCode, ended}
 use Rattle.int13.specs.Steps.{Checked, fed, isDrive, driveCount, driveNamed, badsOf, shownOf, packetPlace, verifyOk, withCount, verified, packetTests, packetRead, packetPlan, packetJob, carryOut, extended, seekRead, seek, sectorBuffer, sectorJob, sectorRun, sectors, parameters, extensions, resultGiven, result, steps, begin}
 use Rattle.int13.specs.Alone.{Memory, Served, asked, askedStart, namedFrom, storeBlock, moves, goodOf, reported, endedMemory, servedTo, finish, alone}
-use Rattle.int13.specs.AloneBytes.{askedBuffer, ReadBytes, WrittenBytes, PostedWell, PostedBad, CountBytes, AfterData, wornBlock, AloneBytes, AloneMoves}
-use Rattle.int13.proofs.StepsLaws.{isDrive-true}
+use Rattle.int13.specs.AloneBytes.{askedBuffer, ReadBytes, WrittenBytes, PostedWell, PostedBad, CountBytes, AfterData, wornBlock, AloneBytes, AloneMoves, VerifiedTo, VerifiedWhole, VerifyBytes, AloneVerifies}
+use Rattle.int13.proofs.StepsLaws.{isDrive-true, drive-slot, steps-42-43-44}
 
 -- ---- what a request that waits asks
 
@@ -236,6 +238,21 @@ module _ (b : Table) (r : Registers) (w : List ℕ) where
       let h : j .start + j .count ≤ driveNamed b r .blocks = ⊎-elim (λ x. x) (λ x. omega (arith, x, geometry-inside (driveNamed b r) (o .fields))) (a .range) in
       omega (arith, a .named, h, o .inside)
 
+-- ---- the bad blocks of a drive
+
+-- where the table is sound, a drive's list is its part of the table's array
+listed-worn : (b : Table) (r : Registers) (store x : ℕ) → Good b store → isDrive b (dl r) ≡ true → isBad (badsOf b (dl r)) x ≡ wornBlock b r x
+unfolding badsOf isBad
+listed-worn b r store x g d =
+    let i : ℕ = dl r - 128 in
+    let n : ℕ = getD (b .counts) i 0 in
+    let listed = sound-rules b store (g .sound) .listed i (drive-slot b (dl r) (g .eight) d .1) in
+    let few : n ≤ 16 = badsOk-true (badsAt b i) (getD (b .drives) i noDrive .blocks) listed .0 in
+    let held : heldOf n ≡ n = held-few n few in
+    rw (d, held)
+    (some-ext n (λ j. eqb (badAt (badsAt b i) j) x) (λ j. eqb (le 8 (b .bad) (128 * i + 8 * j)) x)
+    (λ j h. ap (λ (y : ℕ). eqb y x) (le-part 8 128 (b .bad) (128 * i) (8 * j) (omega arith))))
+
 -- ---- the bytes that a move lays down
 
 module _ (d : List ℕ) (at : ℕ) (s : List ℕ) (from k : ℕ) (hd : at + 512 * k ≤ length d) (hs : from + 512 * k ≤ length s) where
@@ -311,6 +328,17 @@ count-other w place n x o =
     getD-set-other (set w (place + 2) (n % 256)) (suc (place + 2)) x (n / 256 % 256) 0 (apart (suc (place + 2)) (omega arith) (omega arith))
     ∙ getD-set-other w (place + 2) x (n % 256) 0 (apart (place + 2) (omega arith) (omega arith))
 
+count-written : (r : Registers) (k : ℕ) (m : Memory) → packetPlace r + 4 ≤ length (m .window) → k < 256
+    → CountBytes k r m (record { window = withCount (m .window) (packetPlace r) k; store = m .store })
+count-written r k m room few =
+    record {
+      low = count-low (m .window) (packetPlace r) k room few;
+      high = count-high (m .window) (packetPlace r) k room few;
+      other = count-other (m .window) (packetPlace r) k;
+      size = length-sets (m .window) (packetPlace r + 2) (leBytes 2 k);
+      store = refl;
+    }
+
 -- ---- the end
 
 -- functions with a packet, and without
@@ -348,14 +376,7 @@ module _ (b : Table) (r : Registers) (w : List ℕ) (j : Job) (a : Asks b r w j)
       let room : packetPlace r + 4 ≤ length (m .window) = omega (arith, p .1, same) in
       let is : endedMemory j k m ≡ record { window = withCount (m .window) (packetPlace r) k; store = m .store }
       = end-packet j k m (job-sectors false s) h ∙ ap (λ (n : ℕ). record { window = withCount (m .window) n k; store = m .store }) (p .0) in
-      subst (CountBytes k r m) (sym is)
-      (record {
-        low = count-low (m .window) (packetPlace r) k room few;
-        high = count-high (m .window) (packetPlace r) k room few;
-        other = count-other (m .window) (packetPlace r) k;
-        size = length-sets (m .window) (packetPlace r + 2) (leBytes 2 k);
-        store = refl;
-      })
+      subst (CountBytes k r m) (sym is) (count-written r k m room few)
 
   after-data : AfterData (j .count) k r m (endedMemory j k m)
   after-data =
@@ -365,11 +386,14 @@ module _ (b : Table) (r : Registers) (w : List ℕ) (j : Job) (a : Asks b r w j)
         packet = λ f h. count-bytes (packeted (ah r) f) h;
       }
 
+succeed-well : (r : Registers) → PostedWell r (succeed r)
+succeed-well r = record { ax = omega arith; bx = refl; cx = refl; dx = refl; ds = refl; si = refl; es = refl; carry = refl }
+
 posted-well : (n k : ℕ) (r : Registers) → k ≡ n → PostedWell r (ended n k (posted r))
 unfolding ended
 posted-well n k r e =
     let all : ltb k n ≡ false = le-ltb k n (omega arith) in
-    rw all (record { ax = omega arith; bx = refl; cx = refl; dx = refl; ds = refl; si = refl; es = refl; carry = refl })
+    rw all (succeed-well r)
 
 -- halves of AX
 high-half : (high low : ℕ) → low < 256 → (256 * high + low) / 256 ≡ high
@@ -407,7 +431,8 @@ alone-is t p r m j b q e =
     ∙ ap (λ (x : Table). finish x (begin (fed x p) r (m .window) .outcome) (begin (fed x p) r (m .window) .window) m) q
 
 -- what holds of the job's numbers holds of those that were asked
-module _ (b : Table) (r : Registers) (m : Memory) (j : Job) (a : Asks b r (m .window) j) (inside : 512 * (storeBlock b j + j .count) ≤ length (m .store)) where
+module _ (b : Table) (r : Registers) (m : Memory) (j : Job) (a : Asks b r (m .window) j) (store : ℕ) (g : Good b store)
+    (inside : 512 * (storeBlock b j + j .count) ≤ length (m .store)) where
   abbrev l : Bads
   l = badsOf b (j .drive)
 
@@ -424,6 +449,7 @@ module _ (b : Table) (r : Registers) (m : Memory) (j : Job) (a : Asks b r (m .wi
   worn x =
       ap (λ (n : ℕ). isBad (badsOf b n) (j .start + 0 + x)) (a .drive)
       ∙ ap (λ (n : ℕ). isBad (badsOf b (dl r)) (n + x)) (add-zero (j .start) ∙ a .start)
+      ∙ listed-worn b r store (askedStart b r (m .window) + x) g (a .known)
 
   function : (x : Bool) → isWrite (ah r) ≡ x → isWrite (ah (j .registers)) ≡ x
   function x h = ap (λ (y : Registers). isWrite (ah y)) (a .registers) ∙ h
@@ -438,6 +464,7 @@ module _ (b : Table) (r : Registers) (m : Memory) (j : Job) (a : Asks b r (m .wi
       record {
         some = subst (λ (n : ℕ). 0 < n) (a .count) (a .some);
         room = rw (a .count, a .buffer) at (a .room);
+        packetRoom = λ f. a .packet (packeted (ah r) f) .1;
         inside = rw (a .count, a .first) at inside;
         function = a .function;
         k = moved;
@@ -458,6 +485,154 @@ pub alone-moves : AloneMoves
 alone-moves t p r m j acc e =
     let b : Table = readTable t (length (m .store) / 512) .table in
     let a : Asks b r (m .window) j = waits-asks b r (m .window) p j e in
-    let low : storeBlock b j + j .count ≤ length (m .store) / 512
-    = waits-inside b r (m .window) j (length (m .store) / 512) (accepted-good t (length (m .store) / 512) acc) a in
-    subst (AloneBytes b r m) (alone-is t p r m j b refl e) (job-bytes b r m j a (omega arith))
+    let g : Good b (length (m .store) / 512) = accepted-good t (length (m .store) / 512) acc in
+    let low : storeBlock b j + j .count ≤ length (m .store) / 512 = waits-inside b r (m .window) j (length (m .store) / 512) g a in
+    subst (AloneBytes b r m) (alone-is t p r m j b refl e) (job-bytes b r m j a (length (m .store) / 512) g (omega arith))
+
+-- ---- 44h
+
+module _ (b : Table) (r : Registers) (m : Memory) (store : ℕ) (g : Good b store) (f : ah r ≡ 0x44) where
+  abbrev answered : Registers → List ℕ → Served
+  answered x w = record { registers = x; memory = record { window = w; store = m .store } }
+
+  -- what is said of an answer, whichever way it was given
+  record Verifies (s : Served) : Type 0 where
+    refused :
+        s .registers .carry ≡ true → (s .registers .ax / 256 ≡ 0x01) ⊎ (s .registers .ax / 256 ≡ 0x04) ⊎ (s .registers .ax / 256 ≡ 0x10)
+    stopped : s .registers .ax / 256 ≡ 0x10 → VerifiedTo b r m s
+    whole : s .registers .carry ≡ false → VerifiedWhole b r m s
+
+  -- it never waits
+  abbrev Reports : Outcome → List ℕ → Type 0
+  Reports (Answered x) w = Verifies (answered x w)
+  Reports (Waits j) w = ⊥
+
+  abbrev ReportsAll : Checked → Type 0
+  ReportsAll k = Reports (k .outcome) (k .window)
+
+  abbrev Carried : Plan → Type 0
+  Carried p = ReportsAll (carryOut p r (m .window))
+
+  verify-sectors : isSectors (ah r) ≡ false
+  verify-sectors = rw f
+
+  refused-high : (code : ℕ) → refuse code r .ax / 256 ≡ code
+  refused-high code = high-half code (pick (isSectors (ah r)) 0 (al r)) (rw verify-sectors (omega arith))
+
+  refusal-says : (code : ℕ) (w : List ℕ) → (code ≡ 0x01) ⊎ (code ≡ 0x04) → Verifies (answered (refuse code r) w)
+  refusal-says code w o =
+      record {
+        refused = λ e. ⊎-elim (λ x. inl (refused-high code ∙ x)) (λ x. inr (inl (refused-high code ∙ x))) o;
+        stopped = λ e. absurd (⊎-elim (λ x. omega (arith, refused-high code, e, x)) (λ x. omega (arith, refused-high code, e, x)) o);
+        whole = λ e. true≢false true refl e;
+      }
+
+  abbrev asks : Packet
+  asks = packetAt (m .window) (packetPlace r)
+
+  abbrev clean : ℕ
+  clean = good (badsOf b (dl r)) (asks .start) (asks .count)
+
+  module _ (d : isDrive b (dl r) ≡ true) (room : packetPlace r + 16 ≤ length (m .window)) where
+    worn-says : (x : ℕ) → isBad (badsOf b (dl r)) x ≡ wornBlock b r x
+    worn-says x = listed-worn b r store x g d
+
+    stopped-bad : PostedBad clean r (refuse 0x10 r)
+    stopped-bad =
+        record {
+          read = λ o. refused-high 0x10;
+          write = λ o. absurd (⊎-elim (λ x. omega (arith, f, x)) (λ x. omega (arith, f, x)) o);
+          al = rw verify-sectors (omega arith);
+          bx = refl;
+          cx = refl;
+          dx = refl;
+          ds = refl;
+          si = refl;
+          es = refl;
+          carry = refl;
+        }
+
+    abbrev Within : Type 0
+    Within = asks .start + asks .count ≤ driveNamed b r .blocks
+
+    stopped-says : Within → asks .count ≤ 127 → clean < asks .count → Verifies (answered (refuse 0x10 r) (withCount (m .window) (packetPlace r) clean))
+    unfolding packetAt
+    stopped-says within most h =
+        record {
+          refused = λ e. inr (inr (refused-high 0x10));
+          stopped = λ e.
+              record {
+                packetRoom = room;
+                inside = within;
+                k = clean;
+                fewer = h;
+                good = λ i l. sym (worn-says _) ∙ good-clean (badsOf b (dl r)) (asks .start) (asks .count) i l;
+                bad = sym (worn-says _) ∙ good-worn (badsOf b (dl r)) (asks .start) (asks .count) h;
+                registers = stopped-bad;
+                count = count-written r clean m (omega arith) (omega arith);
+              };
+          whole = λ e. true≢false true refl e;
+        }
+
+    whole-says : Within → clean ≡ asks .count → Verifies (answered (succeed r) (m .window))
+    unfolding packetAt
+    whole-says within h =
+        record {
+          refused = λ e. true≢false true refl (sym e);
+          stopped = λ e. absurd (omega (arith, e));
+          whole = λ e.
+              record {
+                packetRoom = room;
+                inside = within;
+                good = λ i l. sym (worn-says _) ∙ good-clean (badsOf b (dl r)) (asks .start) (asks .count) i (omega (arith, h, l));
+                registers = succeed-well r;
+                memory = refl;
+              };
+        }
+
+    range-says : Within → asks .count ≤ 127 → Carried (verified clean (asks .count))
+    unfolding verified
+    range-says within most =
+        pick-cases Carried (ltb clean (asks .count)) _ _ (λ e. stopped-says within most (ltb-true clean (asks .count) e))
+        (λ e. whole-says within (omega (arith, ltb-false clean (asks .count) e, good-most (badsOf b (dl r)) (asks .start) (asks .count))))
+
+    tests-say : Carried (packetTests (driveNamed b r) (badsOf b (dl r)) r (length (m .window)) asks)
+    unfolding packetTests
+    tests-say =
+        pick-cases Carried (ltb 127 (asks .count)) _ _ (λ e. refusal-says 0x01 _ (inl refl)) (λ e₁.
+        pick-cases Carried (both (isWrite (ah r)) (isProtected (driveNamed b r))) _ _ (λ e. no-write e) (λ e₂.
+        pick-cases Carried (ltb (driveNamed b r .blocks) (asks .start + asks .count)) _ _ (λ e. refusal-says 0x04 _ (inr refl)) (λ e₃.
+        pick-cases Carried (eqb (ah r) 0x44) _ _
+        (λ e. range-says (ltb-false (driveNamed b r .blocks) (asks .start + asks .count) e₃) (ltb-false 127 (asks .count) e₁))
+        (λ e. true≢false (eqb (ah r) 0x44) (eq-eqb (ah r) 0x44 f) e))))
+      where
+        no-write : {A : Type 0} → both (isWrite (ah r)) (isProtected (driveNamed b r)) ≡ true → A
+        no-write e = true≢false (isWrite (ah r)) (both-true (isWrite (ah r)) (isProtected (driveNamed b r)) e .0) (rw f)
+
+  plan-says : ReportsAll (extended (isDrive b (dl r)) (driveNamed b r) (badsOf b (dl r)) r (m .window))
+  unfolding packetPlan readPacket
+  plan-says =
+      pick-cases Carried (not (isDrive b (dl r))) _ _ (λ e. refusal-says 0x01 _ (inl refl)) (λ e₁.
+      pick-cases Carried (both (isWrite (ah r)) (not (verifyOk (al r) (driveNamed b r .flags)))) _ _ (λ e. refusal-says 0x01 _ (inl refl)) (λ e₂.
+      pick-cases (λ (p : PacketRead). Carried (packetRead (driveNamed b r) (badsOf b (dl r)) r (length (m .window)) p))
+      (leb (packetPlace r + 16) (length (m .window))) _ _
+      (λ e₃. pick-cases Carried (ltb (asks .size) 16) _ _ (λ e. refusal-says 0x01 _ (inl refl))
+      (λ e₄. tests-say (not-false _ e₁) (leb-true (packetPlace r + 16) (length (m .window)) e₃)))
+      (λ e₃. refusal-says 0x01 _ (inl refl))))
+
+  begin-says : (p : Placement) → ReportsAll (begin (fed b p) r (m .window))
+  unfolding begin
+  begin-says p = subst ReportsAll (sym (steps-42-43-44 _ _ _ _ _ r (m .window) (sym f) refl)) plan-says
+
+  verify-bytes : (p : Placement) (o : Outcome) (w : List ℕ) → begin (fed b p) r (m .window) .outcome ≡ o → Reports o w
+      → VerifyBytes b p r m (finish b o w m)
+  verify-bytes p (Answered x) w e v = record { atOnce = e; refused = v .refused; stopped = v .stopped; whole = v .whole }
+  verify-bytes p (Waits j) w e v = absurd v
+
+pub alone-verifies : AloneVerifies
+unfolding alone
+alone-verifies t p r m acc f =
+    let b : Table = readTable t (length (m .store) / 512) .table in
+    let g : Good b (length (m .store) / 512) = accepted-good t (length (m .store) / 512) acc in
+    verify-bytes b r m (length (m .store) / 512) g f p (begin (fed b p) r (m .window) .outcome) (begin (fed b p) r (m .window) .window) refl
+    (begin-says b r m (length (m .store) / 512) g f p)

@@ -34,7 +34,7 @@ use Rattle.int13.specs.Placement.{noPlacement, placedAt, tablesTo, table
 use Rattle.int13.specs.Steps.{Checked, fed, isDrive, badsOf, shownOf, driveAt, driveIn, driveNamed, verifyOk, verified, packetTests, packetPlan, seek, sectors, parameters, extensions, result, steps, begin}
 use Rattle.int13.specs.Numbers.{sectorsGiven, parametersGiven, checkGiven, packetTestsGiven, packetNumbersAt, extendedGiven, seekGiven, bufferGiven, stepsGiven, beginGiven}
 use Rattle.int13.specs.Alone.{asked, namedFrom, Memory, storeBlock, moves, goodOf, reported, Served, servedBy, alone}
-use Rattle.int13.specs.AloneBytes.{askedBuffer}
+use Rattle.int13.specs.AloneBytes.{askedBuffer, wornBlock}
 
 -- ---- tables
 
@@ -948,6 +948,11 @@ ends ax n k after carry = holds (ended n k (posted (own ax 5 0x0242 0x0181))) (k
 pub record Worn : Type 0 where
   -- of the drives 80h, 81h, 82h, and of numbers that are no drive's
   pub lists : map bads (0x80 ∷ 0x81 ∷ 0x82 ∷ 0x83 ∷ 0x00 ∷ []) ≡ (2 ∷ 6 ∷ 261 ∷ 0 ∷ []) ∷ (3 ∷ 5 ∷ 7 ∷ 2999 ∷ []) ∷ (1 ∷ 4 ∷ 0 ∷ 0 ∷ []) ∷ replicate 2 (0 ∷ 0 ∷ 0 ∷ 0 ∷ [])
+  -- whether a block is bad, straight from the table's bytes: 5, 6, 261 and 0 of 80h, 5, 6, 7, 2999, 183 (B7h, the low byte of 2999) and 0 of 81h, 4, 5
+  -- and 0 of 82h
+  pub worn-blocks : map (wornBlock worn (own 0x4277 5 0x0242 0x0180)) (5 ∷ 6 ∷ 261 ∷ 0 ∷ [])
+      ++ (map (wornBlock worn (own 0x4277 5 0x0242 0x0181)) (5 ∷ 6 ∷ 7 ∷ 2999 ∷ 183 ∷ 0 ∷ []) ++ map (wornBlock worn (own 0x4277 5 0x0242 0x0182)) (4 ∷ 5 ∷ 0 ∷ []))
+      ≡ false ∷ true ∷ true ∷ false ∷ true ∷ false ∷ true ∷ true ∷ false ∷ false ∷ true ∷ false ∷ false ∷ []
   -- 44h, by DL, start and count: 10h gives the good blocks before the first bad one in the count word, and AL stays; success leaves the packet
   --   81h, 3 and 4: 10h, count word 2
   --   81h, 5 and 1: 10h, count word 0
@@ -1032,6 +1037,7 @@ unfolding ended le leBytes inLimits isValid blockOf readPacket packetAt heldOf i
 worn-vectors =
     record {
       lists = refl;
+      worn-blocks = refl;
       worn-verify = refl;
       worn-over = refl;
       worn-calls = refl;
@@ -1134,7 +1140,7 @@ ending ax carry window store = record {
   memory = record { window = window; store = store };
 }
 
--- 02h and 03h of four sectors from block 3, of which two are good and move, and there is no count word; 02h of these two
+-- 02h and 03h of four sectors from block 3, of which two come before the first bad one and move, and there is no count word; 02h of these two
 pub worn-sectors : (window store : List ℕ) → length window ≡ 2085 → length store ≡ 5120
     → wears 0x0204 window store ∷ wears 0x0304 window store ∷ wears 0x0202 window store ∷ []
     ≡ ending 0x1002 true (blocks window 37 store 2048 2) store

@@ -1,24 +1,25 @@
--- Document 01, "The words of demand 3", Served alone, and document 02, 2026-04, byte by byte and from outside: what a request that waits comes to.
+-- Document 01, "The words of demand 3", Served alone, and document 02, 2026-04, byte by byte and from outside: what a request that waits comes to,
+-- and a 44h.
 -- The numbers of the papers stand here as they are there, so that nothing below is proved against itself.
 -- Assumes nothing.
-use Prim.Native.Nat.{ℕ, _+_, _*_, _/_, _%_, _≤_, _<_}
+use Prim.Native.Nat.{ℕ, _+_, _-_, _*_, _/_, _%_, _≤_, _<_}
 use mathlib.Core.Path.{_≡_}
 use mathlib.Core.Logic.{_⊎_}
 use mathlib.Core.Bool.{Bool, true, false}
 use mathlib.Core.List.{List}
 use lib.ListN.{length, getD}
-use Rattle.logic.specs.Logic.{pick}
+use lib.Dec.{eqb}
+use Rattle.logic.specs.Logic.{pick, someBelow}
 use Rattle.words.specs.Words.{le}
-use Rattle.attached.specs.Bad.{isBad}
 use Rattle.table.specs.declared.Table.{Table}
 use Rattle.table.specs.declared.Answer.the-variants.{Accepted}
 use Rattle.table.specs.Table.{readTable}
 use Rattle.int13.specs.declared.Registers.{Registers}
 use Rattle.int13.specs.declared.Job.{Job}
 use Rattle.int13.specs.declared.Placement.{Placement}
-use Rattle.int13.specs.declared.Outcome.the-variants.{Waits}
+use Rattle.int13.specs.declared.Outcome.the-variants.{Answered, Waits}
 use Rattle.int13.specs.Answers.{ah, isSectors}
-use Rattle.int13.specs.Steps.{fed, badsOf, begin}
+use Rattle.int13.specs.Steps.{fed, driveNamed, begin}
 use Rattle.int13.specs.Alone.{Memory, Served, asked, askedStart, namedFrom, alone}
 
 -- ---- "The words of demand 3", Served alone: what moves, byte by byte
@@ -56,9 +57,10 @@ pub record PostedWell (r x : Registers) : Type 0 where
 
 -- ---- document 02, 2026-04: the end at a bad block
 
--- block x of the drive that DL names is one of its bad ones, or is not
+-- block x of the drive that DL names is one of its bad ones, or is not: drive 80h + i of the table that was read has counts[i] of them, eight bytes
+-- each from byte 128 x i of `bad`
 abbrev pub wornBlock : Table → Registers → ℕ → Bool
-wornBlock b r x = isBad (badsOf b (r .dx % 256)) x
+wornBlock b r x = someBelow (getD (b .counts) (r .dx % 256 - 0x80) 0) (λ j. eqb (le 8 (b .bad) (128 * (r .dx % 256 - 0x80) + 8 * j)) x)
 
 -- "carry set, AH = 10h for a read, CCh for a write", AL giving the n good blocks moved for 02h and 03h
 pub record PostedBad (n : ℕ) (r x : Registers) : Type 0 where
@@ -94,6 +96,8 @@ pub record AfterData (n k : ℕ) (r : Registers) (m m′ : Memory) : Type 0 wher
 pub record AloneBytes (b : Table) (r : Registers) (m : Memory) (s : Served) : Type 0 where
   pub some : 0 < asked r (m .window)
   pub room : askedBuffer r (m .window) + 512 * asked r (m .window) ≤ length (m .window)
+  -- the sixteen bytes of the packet at DS:SI lie inside the window, and so the count word does
+  pub packetRoom : (ah r ≡ 0x42) ⊎ (ah r ≡ 0x43) → 16 * r .ds + r .si + 16 ≤ length (m .window)
   pub inside : 512 * (namedFrom b r (m .window) + asked r (m .window)) ≤ length (m .store)
   pub function : ((ah r ≡ 0x02) ⊎ (ah r ≡ 0x42)) ⊎ ((ah r ≡ 0x03) ⊎ (ah r ≡ 0x43))
   pub k : ℕ
@@ -114,3 +118,41 @@ AloneMoves =
     → readTable t (length (m .store) / 512) .answer ≡ Accepted
     → begin (fed (readTable t (length (m .store) / 512) .table) p) r (m .window) .outcome ≡ Waits j
     → AloneBytes (readTable t (length (m .store) / 512) .table) r m (alone (fed t p) r m)
+
+-- ---- document 02, 2026-04: 44h
+
+-- "44h reports the first bad block of its range at once with 10h, after the 04h check, the count word giving the good blocks before it": of the
+-- blocks that the packet at DS:SI names, from qword 8 on as many as word 2 says, k are good and the next one is bad; nothing moves
+pub record VerifiedTo (b : Table) (r : Registers) (m : Memory) (s : Served) : Type 0 where
+  pub packetRoom : 16 * r .ds + r .si + 16 ≤ length (m .window)
+  pub inside : le 8 (m .window) (16 * r .ds + r .si + 8) + le 2 (m .window) (16 * r .ds + r .si + 2) ≤ driveNamed b r .blocks
+  pub k : ℕ
+  pub fewer : k < le 2 (m .window) (16 * r .ds + r .si + 2)
+  pub good : (i : ℕ) → i < k → wornBlock b r (le 8 (m .window) (16 * r .ds + r .si + 8) + i) ≡ false
+  pub bad : wornBlock b r (le 8 (m .window) (16 * r .ds + r .si + 8) + k) ≡ true
+  pub registers : PostedBad k r (s .registers)
+  pub count : CountBytes k r m (s .memory)
+
+-- a success: none of them is bad, and no byte changes
+pub record VerifiedWhole (b : Table) (r : Registers) (m : Memory) (s : Served) : Type 0 where
+  pub packetRoom : 16 * r .ds + r .si + 16 ≤ length (m .window)
+  pub inside : le 8 (m .window) (16 * r .ds + r .si + 8) + le 2 (m .window) (16 * r .ds + r .si + 2) ≤ driveNamed b r .blocks
+  pub good : (i : ℕ) → i < le 2 (m .window) (16 * r .ds + r .si + 2) → wornBlock b r (le 8 (m .window) (16 * r .ds + r .si + 8) + i) ≡ false
+  pub registers : PostedWell r (s .registers)
+  pub memory : s .memory ≡ m
+
+-- what a 44h comes to, which the steps always answer at once: refused with 01h or 04h, with 10h at a bad block and only there, or a success
+pub record VerifyBytes (b : Table) (p : Placement) (r : Registers) (m : Memory) (s : Served) : Type 0 where
+  pub atOnce : begin (fed b p) r (m .window) .outcome ≡ Answered (s .registers)
+  pub refused :
+      s .registers .carry ≡ true → (s .registers .ax / 256 ≡ 0x01) ⊎ (s .registers .ax / 256 ≡ 0x04) ⊎ (s .registers .ax / 256 ≡ 0x10)
+  pub stopped : s .registers .ax / 256 ≡ 0x10 → VerifiedTo b r m s
+  pub whole : s .registers .carry ≡ false → VerifiedWhole b r m s
+
+-- for every table that an opening accepts, placement, registers of a 44h, window and store
+abbrev pub AloneVerifies : Type 0
+AloneVerifies =
+    (t : List ℕ) (p : Placement) (r : Registers) (m : Memory)
+    → readTable t (length (m .store) / 512) .answer ≡ Accepted
+    → ah r ≡ 0x44
+    → VerifyBytes (readTable t (length (m .store) / 512) .table) p r m (alone (fed t p) r m)

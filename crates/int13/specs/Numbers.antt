@@ -1,4 +1,5 @@
--- Document 01, "Steps of each function": the numbers of every call's answer, straight from the registers, the drive and the window's bytes.
+-- Document 01, "Steps of each function", and document 02, 2026-04: the numbers of every call's answer, straight from the registers, the drive, its
+-- bad blocks and the window's bytes.
 -- The tests stand in the paper's order with the codes printed there, and no answer is named: what the steps promise goes through this list.
 -- Assumes nothing.
 use Prim.Native.Nat.{ℕ, _+_, _-_, _*_, _/_, _%_}

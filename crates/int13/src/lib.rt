@@ -208,7 +208,7 @@ fn bad_code(r: Registers) -> u8
     BAD_READ
 }
 
-// A request of n blocks that ends after some of them: all, and it succeeds, or those before a bad block. A turn moves no more than a byte counts.
+// A request of n blocks that ends after some of them: all, and it succeeds, or those before a bad block. A request moves no more than a byte counts.
 pub fn ended(n: u64, moved: u64, r: Registers) -> Registers
     requires { ⌜ moved < 256 ⌝ }
     ensures { λ a. ⌜ a ≡ ended n moved r ⌝ }
