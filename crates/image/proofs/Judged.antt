@@ -703,6 +703,16 @@ zero-given s at e f g =
     (all-intro 8 _ (λ j l. all-at 14 j (λ j. eqb (getD s (at + j) 0) 0) t (omega arith)))
     (all-intro 8 _ (λ j l. let z : at + (6 + j) ≡ at + 6 + j = omega arith in rw z at (all-at 14 (6 + j) (λ j. eqb (getD s (at + j) 0) 0) t (omega arith)))))))
 
+-- words tested in runs, one after the other
+pub below-more : {r t u : Bool} (m n end : ℕ) (b : List ℕ) (at : ℕ) → t ≡ below m end b at → u ≡ below n end b (at + 8 * m) → r ≡ both t u
+    → r ≡ below (m + n) end b at
+unfolding below
+below-more {u = u} m n end b at e f g =
+    let word : ℕ → Bool = λ j. ltb (le 8 b (at + 8 * j)) end in
+    g ∙ ap (λ (x : Bool). both x u) e
+    ∙ ap (both (allBelow m word)) (f ∙ all-ext n (λ j. ltb (le 8 b (at + 8 * m + 8 * j)) end) (λ j. word (m + j)) (λ j h. ap (λ (k : ℕ). ltb (le 8 b k) end) (omega arith)))
+    ∙ sym (all-add m n word)
+
 -- n words that are all zero
 module _ (b : List ℕ) (at n : ℕ) (e : below n 1 b at ≡ true) where
   word-zero : (j : ℕ) → j < n → le 8 b (at + 8 * j) ≡ 0

@@ -22,7 +22,7 @@ ghost use lib.Dec.{eqb};
 ghost use Rattle.logic.specs.Logic.{pick, both};
 ghost use Rattle.words.specs.Words.{part};
 ghost use Rattle.attached.specs.Parameters.{givenLength};
-ghost use Rattle.attached.specs.Bad.{listLength};
+ghost use Rattle.attached.specs.Bad.{mostBad, listLength};
 ghost use Rattle.table.specs.Table.{mostDrives, attachedAt, attachedTo, badsAt, listedAt, listedTo, parametersTo, recordsOf, writeAnswer, writeOut};
 ghost use Rattle.desk.specs.declared.Stage.the-variants.{Waiting, Finished};
 ghost use Rattle.desk.specs.Parts.{stageAt, isWaiting, placementAt};
@@ -77,12 +77,10 @@ const BAD_LISTS: usize = BAD_COUNTS + 8 * MOST_DRIVES;
 // Bytes of a block.
 pub const SIZE: usize = BAD_LISTS + attached::LIST_LENGTH * MOST_DRIVES;
 
-// Words of the placements, of the parameters and of the bad blocks.
+// Words of the placements and of the parameters.
 const PLACE_WORDS: usize = (PRESENT - MARKS) / 8;
 
 const PARAMETER_WORDS: usize = (BAD_COUNTS - PRESENT) / 8;
-
-const BAD_WORDS: usize = (SIZE - BAD_COUNTS) / 8;
 
 // The BIOS number of the first drive; bytes of a block of the store.
 const FIRST_DRIVE: u8 = int13::FIRST_DRIVE;
@@ -772,12 +770,33 @@ fn all_listed(b: &[u8]) -> bool
     true
 }
 
+// No slot has bad blocks, and all words for them are zero. They are tested slot by slot: of a fixed number of words that is not large the
+// compiler makes one test, and of all of them at once a loop of many.
+fn none_listed(b: &[u8]) -> bool
+    requires { ⌜ length (now b) ≡ deskSize ⌝ }
+    ensures { λ r. ⌜ r ≡ below (mostDrives + mostBad * mostDrives) 1 (now (b .entry)) (badsCountAt 0) ⌝ }
+{
+    let mut none = below(b, BAD_COUNTS, MOST_DRIVES, 1);
+    let mut i = 0;
+    while i < MOST_DRIVES {
+        let zero = below(
+            b,
+            BAD_LISTS + attached::LIST_LENGTH * i,
+            attached::MOST_BAD,
+            1,
+        );
+        none = logic::and(none, zero);
+        i += 1;
+    }
+    none
+}
+
 // The bad blocks of all slots. In most blocks there are none, and zeros for them, which are good.
 fn bads_good(b: &[u8]) -> bool
     requires { ⌜ length (now b) ≡ deskSize ⌝ }
     ensures { λ r. ⌜ r ≡ badsGood (now (b .entry)) ⌝ }
 {
-    if below(b, BAD_COUNTS, BAD_WORDS, 1) {
+    if none_listed(b) {
         return true;
     }
     logic::and(below(b, BAD_COUNTS, MOST_DRIVES, 256), all_listed(b))

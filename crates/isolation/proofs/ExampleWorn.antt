@@ -11,7 +11,7 @@ use mathlib.Core.List.{List, [], _∷_, _++_}
 use native.Mathlib.Omega.{arith}
 use lib.ListN.{length, replicate, length-replicate, length-append}
 use lib.Seq.{sets, length-sets}
-use borrow.Author.Tests.{le-ltb}
+use borrow.Author.Tests.{le-leb}
 use Rattle.words.specs.Words.{le, leBytes, part}
 use Rattle.words.proofs.WordsLaws.{length-leBytes}
 use Rattle.chs.specs.Chs.{inLimits, isValid, blockOf}
@@ -164,7 +164,7 @@ by-packet r p at w l b e f g =
     ∙ ap (λ (x : Plan). carryOut x r w) g
   where
     whole : readPacket w at ≡ Whole p
-    whole = rw (l, le-ltb M (at + 16) b) (ap Whole e)
+    whole = rw (l, le-leb (at + 16) M b) (ap Whole e)
 
 check-save : (w : List ℕ) → length w ≡ M → begin (fed table noPlacement) saved w ≡ unchanged w (Waits saveJob)
 unfolding begin steps sectors isDrive blockOf inLimits isValid
