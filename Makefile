@@ -21,7 +21,7 @@ MODEL = $(if $(shell command -v rustc),target/bench/model.so)
 
 help:
 	@echo 'To use the library:'
-	@echo 'make library    proves and compiles $(LIBRARY); some seven minutes the first time'
+	@echo 'make library    proves and compiles $(LIBRARY); some ten minutes the first time'
 	@echo 'make install    header, library and pkg-config file below PREFIX=$(PREFIX); DESTDIR is put before it'
 	@echo 'make uninstall  removes them again'
 	@echo 'To watch it:'

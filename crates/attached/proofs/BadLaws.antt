@@ -35,6 +35,7 @@ pub held-many : (n : ℕ) → 16 ≤ n → heldOf n ≡ 16
 unfolding heldOf
 held-many n h = omega arith
 
+-- below sixteen, what is behind the numbers that a list has room for is behind the count
 held-ltb : (n j : ℕ) → j < 16 → ltb j (heldOf n) ≡ ltb j n
 unfolding heldOf
 held-ltb n j h =

@@ -141,7 +141,8 @@ pub record VerifiedWhole (b : Table) (r : Registers) (m : Memory) (s : Served) :
   pub registers : PostedWell r (s .registers)
   pub memory : s .memory ≡ m
 
--- what a 44h comes to, which the steps always answer at once: refused with 01h or 04h, with 10h at a bad block and only there, or a success
+-- what a 44h comes to, which the steps always answer at once: refused with 01h or 04h, which of them and when being the promise of the steps; with 10h
+-- only at a bad block; a success only where none is bad
 pub record VerifyBytes (b : Table) (p : Placement) (r : Registers) (m : Memory) (s : Served) : Type 0 where
   pub atOnce : begin (fed b p) r (m .window) .outcome ≡ Answered (s .registers)
   pub refused :
