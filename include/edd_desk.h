@@ -1,7 +1,7 @@
 /*
  * edd_desk.h - an INT 13h disk service as a desk: a guest posts its registers, the host gives turns, the guest collects.
  *
- * Link with -ledd_desk. For C11 and C++17, on 64-bit hosts only. EDD_VERSION is the version of this interface.
+ * Link with -ledd_desk. For C11 and C++17, on x86-64 hosts only. EDD_VERSION is the version of this interface.
  *
  *
  * The parts
@@ -36,7 +36,8 @@
  *   The caller owns everything. The library keeps no pointer after a call returns, allocates nothing, starts nothing, and
  *   has no variable of its own: no static record, no cache, no errno. A call uses at most EDD_STACK_MAX bytes of stack. That
  *   much is for edd_open and the calls of a reader; the other calls use at most EDD_STACK_DESK_MAX. Both are tested and not
- *   proved.
+ *   proved. Outside itself the library calls only memcpy, memmove, memset and their like, and no support routine of a
+ *   compiler; what a loader uses that looks up such a name at its first call comes on top.
  *
  *   What may run at the same time. All calls on one desk, its arena and its store run one at a time, under the host's own
  *   lock, and so do all calls on one reader. Calls with different desks, arenas and stores, or different readers, need no
@@ -153,12 +154,12 @@
 #include <stddef.h>
 #include <stdint.h>
 
-/* The length of a slice is a size_t, and the library takes it as 64 bits. */
+/* The length of a slice is a size_t, and the library, which is compiled for x86-64, takes it as 64 bits. */
 #if SIZE_MAX < UINT64_MAX
-#error "edd_desk.h is for 64-bit hosts only: the library takes a size_t of 64 bits"
+#error "edd_desk.h is for 64-bit hosts: compile for x86-64, without -m32 or -mx32. The library takes a size_t of 64 bits"
 #endif
 
-/* The version of this header. Each change request raises it by 1; edd_version() answers that of the library. */
+/* The version of this header. A change that a program can see raises it by 1; edd_version() answers that of the library. */
 #define EDD_VERSION 5
 
 /* Asks the compiler to warn where the result of a call is ignored. Define it yourself, as nothing, to switch that off. */

@@ -3,7 +3,7 @@
 //!
 //! Letters: a refusals, b functions, c the drive table, d the desk block, e windows and turns, g sums and threads, h change requests:
 //! parameter tables (2026-01), information flags (2026-02, from h15 on), a table in fragments (2026-03, from h18 on), bad blocks (2026-04,
-//! from h31 on).
+//! from h31 on), division (2026-05, h52).
 
 use crate::chance::Chance;
 use crate::drives::{self, paper_drive, Bad, Drive};
@@ -3704,6 +3704,37 @@ fn h51_no_other_memory_is_touched(service: &dyn Service) {
     }
 }
 
+// ---- h: division (change request 2026-05)
+
+// rule: addressOf exports::edd_address
+/// A block number of 64 bits is compared whole before anything is divided (2026-05): no multiple of 2^32, of S x 2^32 or of S x H x 2^32
+/// more than a good block is taken for it, and every block of the largest geometry has its address.
+fn h52_blocks_of_64_bits(service: &dyn Service) {
+    let of = |c, h, s| Geometry { cylinders: c, heads: h, sectors: s };
+    let address = |g, number| {
+        let mut out = Address { cylinder: 91, head: 92, sector: 93 };
+        let answer = service.address(g, number, &mut out);
+        (answer, [out.cylinder, out.head, out.sector])
+    };
+    for g in [of(1, 1, 1), of(3, 4, 5), of(2, 255, 1), of(1024, 1, 63), of(1024, 255, 63)] {
+        let (c, h, s) = (u64::from(g.cylinders), u64::from(g.heads), u64::from(g.sectors));
+        let size = c * h * s;
+        assert_eq!(address(g, size - 1), (DONE, [g.cylinders - 1, g.heads - 1, g.sectors]));
+        for step in [1, s, s * h, size].map(|by| by << 32) {
+            for times in [1, 2, 3, u64::MAX / step] {
+                for block in [0, 1, s - 1, s, s * h - 1, size - 1].into_iter().filter(|block| *block < size) {
+                    let Some(beyond) = (times * step).checked_add(block) else { continue };
+                    assert_eq!(address(g, beyond), (4, [91, 92, 93]), "block {beyond}");
+                }
+            }
+        }
+    }
+    for number in 0..LARGEST as u32 {
+        let expected = [number / 63 / 255, number / 63 % 255, number % 63 + 1];
+        assert_eq!(address(of(1024, 255, 63), u64::from(number)), (DONE, expected), "block {number}");
+    }
+}
+
 macro_rules! cases {
     ($($name:ident),* $(,)?) => { &[$((stringify!($name), $name as fn(&dyn Service))),*] };
 }
@@ -3820,6 +3851,7 @@ const CASES: &[(&str, fn(&dyn Service))] = cases![
     h49_what_settles_a_list,
     h50_readers_of_lists,
     h51_no_other_memory_is_touched,
+    h52_blocks_of_64_bits,
 ];
 
 /// The case that runs, for the message when the machine stops it.

@@ -1,4 +1,4 @@
-//! Cylinder, head and sector: document 01, "Steps of each function", 02h and 03h.
+//! Cylinder, head and sector: document 01, "Steps of each function", 02h and 03h. Only numbers of 32 bits are divided (2026-05).
 
 /// C, H and S of the table, 1 to 1024, 1 to 255 and 1 to 63.
 #[derive(Clone, Copy)]

@@ -55,7 +55,7 @@ fn number(call: impl FnOnce() -> Result<u32, u32>) -> u32 {
 
 // ---- the calls
 
-/// The header's EDD_VERSION; each change request raises both.
+/// The header's EDD_VERSION; a change request that a program can see raises both.
 pub fn version() -> u32 {
     5
 }

@@ -1,4 +1,4 @@
-//! Document 01 and change requests 2026-01 to 2026-04 once more. It follows the papers, the tables of words in docs/BLOCK.md, the C
+//! Document 01 and change requests 2026-01 to 2026-05 once more. It follows the papers, the tables of words in docs/BLOCK.md, the C
 //! interface and the readings in docs/DECISIONS.md, and shares no code with the crates. The differential test (host/diff) compares the library
 //! with it, and the benchmark measures against it.
 //!

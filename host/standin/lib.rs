@@ -926,8 +926,27 @@ pub extern "C" fn edd_block(c: u32, h: u32, s: u32, cylinder: u32, head: u32, se
 pub extern "C" fn edd_address(c: u32, h: u32, s: u32, block: u64, cylinder: &mut u32, head: &mut u32, sector: &mut u32) -> u32 {
     #[cfg(fault = "block_narrowed")]
     let block = u64::from(block as u32);
+    #[cfg(any(fault = "wide_division", fault = "quotient_narrowed"))]
+    return divided_wide(c, h, s, block, cylinder, head, sector);
+    #[allow(unreachable_code)]
     let mut at = Address { cylinder: *cylinder, head: *head, sector: *sector };
     let answer = model::address(Geometry { cylinders: c, heads: h, sectors: s }, block, &mut at);
     (*cylinder, *head, *sector) = (at.cylinder, at.head, at.sector);
     answer
+}
+
+/// Divides 64-bit numbers, and only then compares: the same answers, which only host/division_test can tell from the model's. A quotient
+/// that is narrowed before it is compared takes blocks from 2^32 x S on for others.
+#[cfg(any(fault = "wide_division", fault = "quotient_narrowed"))]
+fn divided_wide(c: u32, h: u32, s: u32, block: u64, cylinder: &mut u32, head: &mut u32, sector: &mut u32) -> u32 {
+    if !((1..=1024).contains(&c) && (1..=255).contains(&h) && (1..=63).contains(&s)) {
+        return 4;
+    }
+    let track = block / u64::from(s);
+    let track = if cfg!(fault = "quotient_narrowed") { u64::from(track as u32) } else { track };
+    if track >= u64::from(c * h) {
+        return 4;
+    }
+    (*cylinder, *head, *sector) = (track as u32 / h, track as u32 % h, (block % u64::from(s)) as u32 + 1);
+    0
 }

@@ -104,6 +104,7 @@ pub fn block_of(g: Geometry, a: Address) -> ToBlock
 
 // ---- from a block to its address
 
+// Numbers of 32 bits are divided, and nothing wider (2026-05).
 fn split(g: Geometry, n: u32) -> Address
     requires { ⌜ inLimits g ≡ true ⌝ }
     ensures { λ r. ⌜ r ≡ split g n ⌝ }

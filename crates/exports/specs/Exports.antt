@@ -41,7 +41,7 @@ use Rattle.reader.specs.Reader.{readerSize, readReader, accepted as readerAccep
 
 -- ---- the version, ours and in no paper: a block is for the library of its version, since a change request may give it another form
 
--- 1 is the base; each change request adds 1: 2 has 2026-01, 3 has 2026-02, 4 has 2026-03, 5 has 2026-04
+-- 1 is the base; each change request that a program can see adds 1: 2 has 2026-01, 3 has 2026-02, 4 has 2026-03, 5 has 2026-04
 abbrev pub version : ℕ
 version = 5
 

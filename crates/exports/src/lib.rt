@@ -52,7 +52,7 @@ const NOT_WAITING: u32 = desk::NOT_WAITING as u32;
 
 const BAD_PLACE: u32 = desk::BAD_PLACE as u32;
 
-// The version of the interface and of the block's form: 1 is the base, and each change request adds 1.
+// The version of the interface and of the block's form: 1 is the base, and each change request that a program can see adds 1.
 const VERSION: u32 = 5;
 
 // Bytes of a block of the store.
