@@ -1,7 +1,8 @@
 /*
  * edd_desk.h - an INT 13h disk service as a desk: a guest posts its registers, the host gives turns, the guest collects.
  *
- * Link with -ledd_desk. For C11 and C++17, on x86-64 hosts only. EDD_VERSION is the version of this interface.
+ * Link with -ledd_desk. For C11 and C++17, on 64-bit hosts only: the library is compiled for x86-64. EDD_VERSION is the
+ * version of this interface.
  *
  *
  * The parts
@@ -37,7 +38,8 @@
  *   has no variable of its own: no static record, no cache, no errno. A call uses at most EDD_STACK_MAX bytes of stack. That
  *   much is for edd_open and the calls of a reader; the other calls use at most EDD_STACK_DESK_MAX. Both are tested and not
  *   proved. Outside itself the library calls only memcpy, memmove, memset and their like, and no support routine of a
- *   compiler; what a loader uses that looks up such a name at its first call comes on top.
+ *   compiler. A loader that looks up such a name at its first call uses stack of its own: link with -z now where that
+ *   matters.
  *
  *   What may run at the same time. All calls on one desk, its arena and its store run one at a time, under the host's own
  *   lock, and so do all calls on one reader. Calls with different desks, arenas and stores, or different readers, need no

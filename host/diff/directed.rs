@@ -3707,8 +3707,8 @@ fn h51_no_other_memory_is_touched(service: &dyn Service) {
 // ---- h: division (change request 2026-05)
 
 // rule: addressOf exports::edd_address
-/// A block number of 64 bits is compared whole before anything is divided (2026-05): no multiple of 2^32, of S x 2^32 or of S x H x 2^32
-/// more than a good block is taken for it, and every block of the largest geometry has its address.
+/// Every block of the largest geometry has its address, and a number of 64 bits is compared whole: one that is a multiple of 2^32, of
+/// S x 2^32, S x H x 2^32 or C x H x S x 2^32 above a good block, which a narrowed block or quotient would be taken for, is refused.
 fn h52_blocks_of_64_bits(service: &dyn Service) {
     let of = |c, h, s| Geometry { cylinders: c, heads: h, sectors: s };
     let address = |g, number| {
