@@ -16,7 +16,7 @@ TOUCH = target/touch/$(OVER)/touch
 CFLAGS ?= -O2 -g
 HOST_CFLAGS = -std=c11 -D_POSIX_C_SOURCE=200809L -Wall -Wextra -Wshadow -Wconversion $(CFLAGS) -Iinclude
 CALLS = version desk_size open write post turn collect withdraw place window block address \
-	reader_size reader_open reader_feed reader_end reader_write
+	reader_size reader_open reader_feed reader_end reader_write convert_up convert_down
 MODEL = $(if $(shell command -v rustc),target/bench/model.so)
 
 help:

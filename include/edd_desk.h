@@ -24,8 +24,8 @@
  *
  * What every call keeps to
  *
- *   All input has an answer. Registers, packets, tables, fragments, desk blocks and reader blocks may hold anything; a
- *   guest's number, the lengths given at an opening and the address of edd_place may be any number. A slice may have any
+ *   All input has an answer. Registers, packets, tables, records, fragments, desk blocks and reader blocks may hold anything;
+ *   a guest's number, the lengths given at an opening and the address of edd_place may be any number. A slice may have any
  *   length, provided that its memory really is that long. The result is EDD_DONE (0), a number that says why the call was
  *   refused, or EDD_NOTHING_YET (256) where there is nothing to hand out yet.
  *
@@ -42,12 +42,12 @@
  *   matters.
  *
  *   What may run at the same time. All calls on one desk, its arena and its store run one at a time, under the host's own
- *   lock, and so do all calls on one reader. Calls with different desks, arenas and stores, or different readers, need no
- *   lock and may run on any threads: the library has nothing of its own that they could share, so no request can meet
- *   another's scratch data.
+ *   lock, and so do all calls on one reader. Calls with different desks, arenas and stores, or different readers, and calls
+ *   that are lent none of these, need no lock and may run on any threads: the library has nothing of its own that they could
+ *   share, so no request can meet another's scratch data.
  *
  *   What is proved is about the bytes at the beginning and at the end of a call. It holds if nobody else writes, while the
- *   call runs, the desk or reader block, the table, fragment or buffer that is lent, the window of the guest that is
+ *   call runs, the desk or reader block, the table, fragment, record or buffer that is lent, the window of the guest that is
  *   posted, served, withdrawn or placed for, or the blocks that are moved. Of the rest of arena and store a call uses only
  *   the lengths: a post, a withdrawal or a placement touches no window but its guest's; a turn touches no window but that
  *   of the guest it serves, whose request was waiting, and no block but those it moves; no other call touches a block. This
@@ -58,15 +58,15 @@
  *   writing it. It may overwrite its packet, but two bytes there, the count word, are written by a withdrawal, and by the turn
  *   that meets a bad block, of a write (43h) as of a read (42h).
  *
- *   What is lent to one call must not overlap: desk, reader, arena, store, table, fragment and buffer must not overlap
- *   each other, nor the places of the results, and no two result or register pointers may be the same. This is the
- *   caller's duty and is not tested.
+ *   What is lent to one call must not overlap: desk, reader, arena, store, table, fragment, record and buffer (out) must not
+ *   overlap each other, nor the places of the results, and no two result or register pointers may be the same. So a record is
+ *   not converted in its own place. This is the caller's duty and is not tested.
  *
  *   Pointers. A slice is a pointer and its length in bytes. NULL with length 0 is an empty slice. No other pointer may be
  *   NULL: neither that of a slice longer than 0 nor that of a result or a register. A slice needs no alignment; results
  *   and registers are aligned as their types require.
  *
- *   The interface may grow by change request. The names of these seventeen calls and the order and types of their
+ *   The interface may grow by change request. The names of these nineteen calls and the order and types of their
  *   parameters stay; a call that needs more arguments comes under a new name. Everything else can change from one version
  *   to the next: the sizes (EDD_DESK_SIZE, EDD_READER_SIZE, EDD_TABLE_SIZE_MAX, EDD_STACK_MAX and so on), the form of the blocks,
  *   the refusals, and what a turn may answer. Compile with the header that came with the library; edd_version() ==
@@ -86,8 +86,9 @@
  * The drive table
  *
  *   Records, one after the other, every number little-endian. A record starts with its length in bytes (2 bytes), which
- *   counts the whole record, and its kind (2 bytes). The end record, length 4 and kind 0, comes last. A drive has length
- *   68 and kind 1:
+ *   counts the whole record, and its kind (2 bytes). The end record, length 4 and kind 0, comes last. A drive is a record of
+ *   kind 1, length 68, or of kind 2, length 76. Kind 2 has a device path of sixteen bytes where kind 1 has eight, and knows one
+ *   interface more, I2O; all else is the same, and one table may have drives of both kinds:
  *
  *      4  4 bytes each: physical cylinders, heads, sectors; any numbers, handed out by 48h
  *     16  8 bytes: the drive's number of blocks, at least 1
@@ -99,13 +100,18 @@
  *     38  1 byte: sectors, 1 to 63; cylinders * heads * sectors is at most the number of blocks
  *     39  1 byte: 1 for a protected drive, otherwise 0
  *     40  4 bytes: host bus, "ISA" or "PCI"; the rest is filled with NUL
- *     44  8 bytes: interface, "ATA", "ATAPI", "SCSI", "USB", "1394" or "FIBRE"; the rest is filled with NUL
- *     52  8 bytes each: interface path, device path; any bytes, handed out by 48h
+ *     44  8 bytes: interface, "ATA", "ATAPI", "SCSI", "USB", "1394" or "FIBRE", in kind 2 also "I2O"; the rest is filled with
+ *         NUL
+ *     52  8 bytes: interface path; any bytes, handed out by 48h. With the host bus PCI they begin with bus, slot, function and
+ *         channel
+ *     60  8 bytes in kind 1, 16 bytes in kind 2: device path; any bytes, handed out by 48h
  *
- *   Each drive lies inside the store, and no two drives share a block.
+ *   Each drive lies inside the store, and no two drives share a block. What 48h hands out of a drive is said at edd_post. A
+ *   drive of kind 1 is to guests what it is as kind 2 with eight zero bytes at 68: edd_convert_up makes that record of it, and
+ *   edd_convert_down leads back where nothing is lost.
  *
- *   Directly after its drive two further records may stand, one of kind 3 and one of kind 4, in this order; each drive may
- *   have either, both or none.
+ *   Directly after its drive, of kind 1 or 2, two further records may stand, one of kind 3 and one of kind 4, in this order;
+ *   each drive may have either, both or none.
  *
  *   Kind 3, length 6 + 8 * n, lists n bad blocks of the drive, 1 to 16 of them. Reads and writes stop before a bad block
  *   (edd_turn), and 44h reports it (edd_post); nothing else looks at the list. A drive without this record has no bad block.
@@ -162,7 +168,7 @@
 #endif
 
 /* The version of this header. A change that a program can see raises it by 1; edd_version() answers that of the library. */
-#define EDD_VERSION 5
+#define EDD_VERSION 6
 
 /* Asks the compiler to warn where the result of a call is ignored. Define it yourself, as nothing, to switch that off. */
 #ifndef EDD_NODISCARD
@@ -183,15 +189,17 @@ extern "C" {
 
 /* ---- sizes */
 
-#define EDD_DESK_SIZE 3792      /* bytes of a desk block; edd_desk_size() answers the same */
-#define EDD_READER_SIZE 1954    /* bytes of a reader block; edd_reader_size() answers the same */
+#define EDD_DESK_SIZE 3920      /* bytes of a desk block; edd_desk_size() answers the same */
+#define EDD_READER_SIZE 2018    /* bytes of a reader block; edd_reader_size() answers the same */
 #define EDD_BLOCK_SIZE 512      /* bytes of a block of the store */
 #define EDD_GUESTS 8            /* guests are 0 to 7 */
 #define EDD_DRIVES 8            /* drives of a table, at most */
 #define EDD_BAD_BLOCKS 16       /* bad blocks of a drive, at most */
-#define EDD_TABLE_SIZE_MAX 1780 /* bytes of the longest table: eight drives of 68 + 134 + 20 and the end record of 4 */
+#define EDD_RECORD_SIZE 68      /* bytes of a drive's record of kind 1, whose device path has eight bytes */
+#define EDD_RECORD_SIZE_WIDE 76 /* bytes of a drive's record of kind 2, whose device path has sixteen */
+#define EDD_TABLE_SIZE_MAX 1844 /* bytes of the longest table: eight drives of 76 + 134 + 20 and the end record of 4 */
 #define EDD_TURN_BLOCKS 16      /* blocks that one turn moves, at most */
-#define EDD_STACK_MAX 24576     /* bytes of stack that a call uses, at most */
+#define EDD_STACK_MAX 28672     /* bytes of stack that a call uses, at most */
 #define EDD_STACK_DESK_MAX 4096 /* the same of all calls but edd_open and those of a reader */
 
 /* ---- results of every call */
@@ -206,18 +214,24 @@ extern "C" {
  * byte too many.
  */
 #define EDD_TABLE_CUT_OFF 1     /* the table stops inside a record or before the end record: lend or feed all of it */
-#define EDD_TABLE_LENGTH 2      /* the record's length is wrong for its kind: it must be 68 for a drive; 6 + 8 n for n bad blocks,
-                                   n from 1 to 16; 20 for parameters; 4 for the end record */
-#define EDD_TABLE_KIND 3        /* unknown kind of record: this library knows drives (1), bad blocks (3), parameters (4) and the
-                                   end (0) */
-#define EDD_TABLE_NINTH_DRIVE 4 /* more than eight drives: use a second desk */
+#define EDD_TABLE_LENGTH 2      /* the record's length is wrong for its kind: it must be 68 for a drive of kind 1 and 76 for one of
+                                   kind 2; 6 + 8 n for n bad blocks, n from 1 to 16; 20 for parameters; 4 for the end record */
+#define EDD_TABLE_KIND 3        /* unknown kind of record: this library knows drives (1 and 2), bad blocks (3), parameters (4) and
+                                   the end (0) */
+#define EDD_TABLE_NINTH_DRIVE 4 /* more than eight drives, kinds 1 and 2 together: use a second desk */
 #define EDD_TABLE_FIELD 5       /* a field of the drive breaks its rule, or the bad blocks are unsorted, repeated or outside the
-                                   drive: correct the record */
+                                   drive: correct the record. A drive of interface I2O must be of kind 2. */
 #define EDD_TABLE_STORE 6       /* the drive ends past the store: lend a longer store or correct the record */
 #define EDD_TABLE_OVERLAP 7     /* the drive shares a block with an earlier one: correct its first block */
 #define EDD_TABLE_TRAILING 8    /* a byte follows the end record: lend or feed the table without it */
 #define EDD_TABLE_NOT_LAST 9    /* the record of kind 3 or 4 does not name the last drive read or repeats one, or one of kind 3
                                    stands behind its drive's kind 4: correct the table */
+
+/*
+ * Refusal of edd_convert_up and edd_convert_down: a slice has another size than it must have, the record is not a sound one of
+ * its kind, or kind 1 cannot hold the drive. See there.
+ */
+#define EDD_CONVERSION 10
 
 /* House refusals. Where several apply the order is 25, 24, 20, then 19, 21, 22 or 23, then 26. */
 #define EDD_BUFFER_SHORT 19      /* edd_write, edd_reader_write: the buffer is shorter than the table: EDD_TABLE_SIZE_MAX is
@@ -324,6 +338,22 @@ EDD_NODISCARD uint32_t edd_write(const uint8_t *desk, size_t desk_len, uint8_t *
  * kind 4, and a guest for which edd_place was done since the opening, these are CX 0005h and a pointer to the drive's
  * parameter table. The information flags at offset 2 are those of the drive's record, with bits 4 to 6 (change line,
  * lockable, maximum geometry) as zero where bit 2 (removable) is clear: without it they mean nothing.
+ *
+ * How long the result of 48h is depends on the size that the guest asks with, the word at its start:
+ *
+ *   below 26  none: 01h
+ *   26 to 29  26 bytes
+ *   30 to 65  30 bytes: also the pointer
+ *   66 to 73  66 bytes: also the device path information, with the key BEDDh at 30 and the length byte 24h at 32; but 30 bytes
+ *             for a drive of interface I2O, as if the guest had asked with 30
+ *   from 74   74 bytes, for every drive: the same with the length byte 2Ch and a longer device path
+ *
+ * The 66 bytes have host bus and interface, at 36 and 40, as the record has them, filled with NUL; the interface path at 48;
+ * the first eight bytes of the device path at 56, whatever the drive's kind; and a checksum at 65. The 74 bytes have host bus
+ * and interface filled with 20h in place of each NUL; the interface path at 48; all sixteen bytes of the device path at 56, of
+ * which the last eight are zero for a drive of kind 1; and the checksum at 73. The checksum makes the sum of the bytes from 30
+ * on zero modulo 256. The word at 0 is then the number of bytes returned. All of them must lie inside the window (01h), and
+ * bytes of the buffer behind them stay as they are.
  *
  * 44h tests its blocks at once: if one of them is bad, and all tests of its parameters passed, it is answered with carry 1
  * and AH 10h, and AL stays. A count of 0 meets none. The bad blocks that a 02h, 03h, 42h or 43h names are not looked at
@@ -509,6 +539,39 @@ EDD_NODISCARD uint32_t edd_reader_end(uint8_t *reader, size_t reader_len, uint64
  */
 EDD_NODISCARD uint32_t edd_reader_write(const uint8_t *reader, size_t reader_len, uint8_t *out, size_t out_len,
                                         uint64_t *written);
+
+/*
+ * Turns a drive's record of kind 1 into the record of kind 2 for the same drive: the same bytes, but with length 76 and kind 2
+ * in the first four, and eight zero bytes at the end (68 to 75), the second half of the device path. To guests both are the
+ * same drive: 48h gives the same bytes in each of its sizes. So a host may keep all its drives as kind 2. Needs no desk, and
+ * changes none: put the new record into a table, and open a desk with that.
+ *
+ *   record, record_len  the record alone, EDD_RECORD_SIZE bytes (68); only read
+ *   out, out_len        where the new record goes, EDD_RECORD_SIZE_WIDE bytes (76), no more and no fewer
+ *
+ * 0         done: all of out is written. edd_convert_down makes of it the record that was given, byte for byte.
+ * 10        record_len is not 68 or out_len not 76 (for the sizes the other way round there is edd_convert_down): lend slices
+ *           of these sizes. Or the record is not a sound one of kind 1: its length word is not 68, its kind not 1, or a field
+ *           breaks its rule, for which a table is refused with 5: correct the record. Nothing is written.
+ *
+ * A record is judged by itself here. Whether its drive lies inside the store (6) and apart from the other drives (7) is not
+ * asked: that depends on the store and on the rest of the table.
+ */
+EDD_NODISCARD uint32_t edd_convert_up(const uint8_t *record, size_t record_len, uint8_t *out, size_t out_len);
+
+/*
+ * The way back: turns a drive's record of kind 2 into the record of kind 1 for the same drive, its first 68 bytes with length
+ * 68 and kind 1. It is refused where kind 1 cannot say what the record says: nothing is lost. Needs no desk, and changes none.
+ *
+ *   record, record_len  the record alone, EDD_RECORD_SIZE_WIDE bytes (76); only read
+ *   out, out_len        where the new record goes, EDD_RECORD_SIZE bytes (68), no more and no fewer
+ *
+ * 0         done: all of out is written. edd_convert_up makes of it the record that was given, byte for byte.
+ * 10        record_len is not 76 or out_len not 68: lend slices of these sizes. Or the record is not a sound one of kind 2, as
+ *           above: correct it. Or it is sound, and its last eight bytes, the second half of the device path, are not all zero,
+ *           or its interface is I2O: leave that drive in kind 2. Nothing is written.
+ */
+EDD_NODISCARD uint32_t edd_convert_down(const uint8_t *record, size_t record_len, uint8_t *out, size_t out_len);
 
 /*
  * Where a guest's window lies in an arena of that length: bytes *start to *start + *length - 1. For a guest of 8 or more

@@ -267,12 +267,22 @@ static uint32_t post_41(struct place *p, const struct service *s)
     return place_post(p, s, 0, &r);
 }
 
-static uint32_t post_48(struct place *p, const struct service *s)
+static uint32_t post_48_of(struct place *p, const struct service *s, uint8_t size)
 {
     struct registers r = { .ax = 0x4800, .dx = 0x80, .si = 0x400 };
-    p->arena[0x400] = 66;
+    p->arena[0x400] = size;
     p->arena[0x401] = 0;
     return place_post(p, s, 0, &r);
+}
+
+static uint32_t post_48(struct place *p, const struct service *s)
+{
+    return post_48_of(p, s, 66);
+}
+
+static uint32_t post_48_wide(struct place *p, const struct service *s)
+{
+    return post_48_of(p, s, 74);
 }
 
 static uint32_t post_44(struct place *p, const struct service *s)
@@ -362,6 +372,31 @@ static uint32_t open_desk(struct place *p, const struct service *s)
     return s->open(p->desk, sizeof p->desk, open_table, open_length, p->arena_length, p->store_length, &at);
 }
 
+/* The records of a drive as kind 1 and as kind 2; the second has eight zero bytes more. */
+static uint8_t record[EDD_TABLE_SIZE_MAX], wide_record[EDD_RECORD_SIZE_WIDE];
+
+static void make_records(void)
+{
+    place_table(record, 1, NOTHING, 1 * MIB);
+    memcpy(wide_record, record, EDD_RECORD_SIZE);
+    wide_record[0] = EDD_RECORD_SIZE_WIDE;
+    wide_record[2] = 2;
+}
+
+static uint32_t convert_up(struct place *p, const struct service *s)
+{
+    uint8_t out[EDD_RECORD_SIZE_WIDE];
+    (void)p;
+    return s->convert_up(record, EDD_RECORD_SIZE, out, sizeof out);
+}
+
+static uint32_t convert_down(struct place *p, const struct service *s)
+{
+    uint8_t out[EDD_RECORD_SIZE];
+    (void)p;
+    return s->convert_down(wide_record, sizeof wide_record, out, sizeof out);
+}
+
 static uint32_t window(struct place *p, const struct service *s)
 {
     uint64_t start, length;
@@ -386,6 +421,7 @@ static uint32_t address(struct place *p, const struct service *s)
 static const struct call calls[] = {
     { "post 41h, answered at once", VACANT, 0, EDD_DONE, post_41 },
     { "post 48h, answered at once", VACANT, 1, EDD_DONE, post_48 },
+    { "post 48h, 74 bytes at once", VACANT, 1, EDD_DONE, post_48_wide },
     { "post 44h, 16 blocks at once", VACANT, 1, EDD_DONE, post_44 },
     { "post 42h, 01h at once", VACANT, 0, EDD_DONE, post_unknown },
     { "post 42h, waits", VACANT, 1, EDD_NOTHING_YET, post_42 },
@@ -407,6 +443,8 @@ static const struct call calls[] = {
     { "write", VACANT, 0, EDD_DONE, write_table },
     { "write refused, 19", VACANT, 0, EDD_BUFFER_SHORT, write_short },
     { "open", VACANT, 0, EDD_DONE, open_desk },
+    { "record of kind 1 to kind 2", VACANT, 0, EDD_DONE, convert_up },
+    { "record of kind 2 to kind 1", VACANT, 0, EDD_DONE, convert_down },
     { "window", VACANT, 0, EDD_DONE, window },
     { "block of an address", VACANT, 0, EDD_DONE, block },
     { "address of a block", VACANT, 0, EDD_DONE, address },
@@ -502,7 +540,8 @@ static int moves_nothing(const struct call *c)
         return c->answer == EDD_NOTHING_YET;
     if (c->make == write_table || c->make == place)
         return c->answer != EDD_DONE;
-    return c->make != open_desk && c->make != window && c->make != block && c->make != address;
+    return c->make != open_desk && c->make != convert_up && c->make != convert_down && c->make != window && c->make != block &&
+           c->make != address;
 }
 
 /* A row for each call, a column for each setting. The last two columns: the model in the last setting, and the ratio to it. */
@@ -568,7 +607,7 @@ static struct summary table_calls(const struct setting *settings, unsigned count
 static double read_longest(const struct service *s, size_t piece)
 {
     static uint8_t desk[EDD_DESK_SIZE], reader[EDD_READER_SIZE], table[EDD_TABLE_SIZE_MAX], out[EDD_TABLE_SIZE_MAX];
-    const size_t length = place_table(table, EDD_DRIVES, BAD_BLOCKS | PARAMETERS, 1 * MIB);
+    const size_t length = place_table(table, EDD_DRIVES, WIDE | BAD_BLOCKS | PARAMETERS, 1 * MIB);
     const unsigned rounds = piece == 0 ? 2000 : piece < 64 ? 10 : 200;
     uint64_t at = 0, written = 0;
     uint32_t wrong = EDD_DONE;
@@ -588,6 +627,7 @@ static double read_longest(const struct service *s, size_t piece)
         settle();
     }
     double taken = (nanoseconds() - begun) / rounds;
+    expect(length == EDD_TABLE_SIZE_MAX, "the longest table is as long as the header says");
     expect(wrong == EDD_DONE && (piece == 0 || (written == length && memcmp(out, table, length) == 0)), "the longest table is read");
     return taken;
 }
@@ -672,6 +712,7 @@ int main(int argc, char **argv)
     memset(store, 2, LARGE);
     memset(arena, 1, LARGE);
 
+    make_records();
     printf("Of %d batches: best / median. Ratios likewise: of the best times / of the medians.\n\n", BATCHES);
     table_turn();
     table_request();

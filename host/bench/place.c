@@ -21,11 +21,12 @@ static void put_word(uint8_t *at, unsigned bytes, uint64_t value)
 size_t place_table(uint8_t table[EDD_TABLE_SIZE_MAX], unsigned drives, unsigned attached, size_t store_length)
 {
     uint64_t blocks = store_length / EDD_BLOCK_SIZE / EDD_DRIVES;
+    size_t record = attached & WIDE ? EDD_RECORD_SIZE_WIDE : EDD_RECORD_SIZE;
     uint8_t *at = table;
     memset(table, 0, EDD_TABLE_SIZE_MAX);
-    for (unsigned i = 0; i < drives; i++, at += 68) {
-        put_word(at + 0, 2, 68);
-        put_word(at + 2, 2, 1);
+    for (unsigned i = 0; i < drives; i++) {
+        put_word(at + 0, 2, record);
+        put_word(at + 2, 2, attached & WIDE ? 2 : 1);
         put_word(at + 16, 8, blocks);
         put_word(at + 24, 8, blocks * i);
         put_word(at + 34, 2, 2); /* C, H, S of 128 blocks, whatever the size of the drive */
@@ -33,19 +34,21 @@ size_t place_table(uint8_t table[EDD_TABLE_SIZE_MAX], unsigned drives, unsigned 
         at[38] = 32;
         memcpy(at + 40, "PCI", 3);
         memcpy(at + 44, "ATA", 3);
+        memset(at + 60, (int)i + 1, record - 60); /* device path */
+        at += record;
         if (attached & BAD_BLOCKS) {
-            put_word(at + 68, 2, 6 + 8 * EDD_BAD_BLOCKS);
-            put_word(at + 70, 2, 3);
-            put_word(at + 72, 2, i);
+            put_word(at + 0, 2, 6 + 8 * EDD_BAD_BLOCKS);
+            put_word(at + 2, 2, 3);
+            put_word(at + 4, 2, i);
             for (unsigned j = 0; j < EDD_BAD_BLOCKS; j++)
-                put_word(at + 74 + 8 * j, 8, blocks - EDD_BAD_BLOCKS + j);
+                put_word(at + 6 + 8 * j, 8, blocks - EDD_BAD_BLOCKS + j);
             at += 6 + 8 * EDD_BAD_BLOCKS;
         }
         if (attached & PARAMETERS) {
-            put_word(at + 68, 2, 20);
-            put_word(at + 70, 2, 4);
-            put_word(at + 72, 2, i);
-            memset(at + 74, (int)i + 1, 14);
+            put_word(at + 0, 2, 20);
+            put_word(at + 2, 2, 4);
+            put_word(at + 4, 2, i);
+            memset(at + 6, (int)i + 1, 14);
             at += 20;
         }
     }

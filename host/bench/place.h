@@ -17,8 +17,11 @@ struct registers {
     uint16_t ax, bx, cx, dx, ds, si, es, carry;
 };
 
-/* What the drives' records have behind them: either or both. The bad blocks are sixteen, the last ones of each drive. */
-enum attached { NOTHING = 0, PARAMETERS = 1, BAD_BLOCKS = 2 };
+/*
+ * What the drives' records have behind them, either or both: the bad blocks are sixteen, the last ones of each drive. And whether the
+ * records are of kind 2, which are longer by eight bytes of device path.
+ */
+enum attached { NOTHING = 0, PARAMETERS = 1, BAD_BLOCKS = 2, WIDE = 4 };
 
 /* The table of so many drives, each an eighth of the store. Returns its length. */
 size_t place_table(uint8_t table[EDD_TABLE_SIZE_MAX], unsigned drives, unsigned attached, size_t store_length);

@@ -34,6 +34,8 @@ void service_load(struct service *s, const char *name, const char *path)
     find(object, "edd_reader_feed", &s->reader_feed);
     find(object, "edd_reader_end", &s->reader_end);
     find(object, "edd_reader_write", &s->reader_write);
+    find(object, "edd_convert_up", &s->convert_up);
+    find(object, "edd_convert_down", &s->convert_down);
     find(object, "edd_window", &s->window);
     find(object, "edd_block", &s->block);
     find(object, "edd_address", &s->address);

@@ -23,6 +23,8 @@ struct service {
     uint32_t (*reader_feed)(uint8_t *, size_t, const uint8_t *, size_t, uint64_t *);
     uint32_t (*reader_end)(uint8_t *, size_t, uint64_t *);
     uint32_t (*reader_write)(const uint8_t *, size_t, uint8_t *, size_t, uint64_t *);
+    uint32_t (*convert_up)(const uint8_t *, size_t, uint8_t *, size_t);
+    uint32_t (*convert_down)(const uint8_t *, size_t, uint8_t *, size_t);
     uint32_t (*window)(uint64_t, uint64_t, uint64_t *, uint64_t *);
     uint32_t (*block)(uint32_t, uint32_t, uint32_t, uint32_t, uint32_t, uint32_t, uint32_t *);
     uint32_t (*address)(uint32_t, uint32_t, uint32_t, uint64_t, uint32_t *, uint32_t *, uint32_t *);

@@ -153,7 +153,8 @@ static void table_refusals(void)
 
     CHECK(refused_at(0, 0x44, 140, &place) == EDD_DONE && place == 77);
     CHECK(refused_at(0, 0x45, 140, &place) == EDD_TABLE_LENGTH && place == 0);
-    CHECK(refused_at(68 + 2, 2, 140, &place) == EDD_TABLE_KIND && place == 68);
+    CHECK(refused_at(68 + 2, 2, 140, &place) == EDD_TABLE_LENGTH && place == 68); /* kind 2 has 76 bytes */
+    CHECK(refused_at(68 + 2, 5, 140, &place) == EDD_TABLE_KIND && place == 68);
     CHECK(refused_at(68 + 39, 2, 140, &place) == EDD_TABLE_FIELD && place == 68);
     CHECK(refused_at(68 + 25, 0x07, 140, &place) == EDD_TABLE_OVERLAP && place == 68);
     CHECK(refused_at(140, 0, 141, &place) == EDD_TABLE_TRAILING && place == 140);
@@ -404,6 +405,249 @@ static void worn_disk(machine *m)
     free(table);
 }
 
+/* document 01's drive as a record of kind 2, with that interface and that device path of sixteen bytes, and the end record */
+enum { WIDE = EDD_RECORD_SIZE_WIDE + 4 };
+
+static void put_wide(uint8_t *table, const char *interface, const uint8_t *path)
+{
+    memset(table, 0, WIDE);
+    memcpy(table, paper_table, 44);
+    table[0] = 76, table[2] = 2, table[76] = 4;
+    memcpy(table + 44, interface, strlen(interface));
+    memcpy(table + 52, paper_table + 52, 8);
+    memcpy(table + 60, path, 16);
+}
+
+static const uint8_t no_path[16] = {0}, path_16[16] = {1, 2, 3, 4, 5, 6, 7, 8, 9, 10, 11, 12, 13, 14, 15, 16};
+
+/* 48h of guest 4 with that size, at that address of its window: the size that is returned, or AX where carry is set; and EEh behind */
+static uint32_t asked(machine *m, unsigned address, unsigned size)
+{
+    registers r = set(0x4800, 1, 2, 0x0080, (uint16_t)(address / 16), (uint16_t)(address % 16), 8), expected = r;
+    uint8_t *result = m->arena + 4 * WINDOW + address;
+    unsigned room = WINDOW - address < 80 ? WINDOW - address : 80, behind = 0;
+
+    memset(result, 0xEE, room);
+    result[0] = (uint8_t)size, result[1] = (uint8_t)(size >> 8);
+    CHECK(post(m, 4, &r) == EDD_DONE);
+    expected.carry = r.carry, expected.ax = r.carry ? EDD_AH_BAD_PARAMETER << 8 : 0;
+    CHECK(same(r, expected) && r.carry < 2);
+    unsigned said = (unsigned)(result[0] | result[1] << 8), from = r.carry ? 2 : said;
+    CHECK(!r.carry || said == size);
+    while (from + behind < room && result[from + behind] == 0xEE)
+        behind++;
+    CHECK(from + behind == room);
+    return r.carry ? r.ax : said;
+}
+
+/* the sizes that guests ask with: what is returned, and of a drive of interface I2O */
+static void all_sizes(machine *m, int i2o)
+{
+    static const unsigned sizes[][3] = {{0, 0x0100, 0x0100}, {25, 0x0100, 0x0100}, {26, 26, 26}, {29, 26, 26}, {30, 30, 30}, {65, 30, 30},
+                                        {66, 66, 30},        {73, 66, 30},         {74, 74, 74}, {75, 74, 74}, {65535, 74, 74}};
+
+    for (size_t i = 0; i < sizeof sizes / sizeof sizes[0]; i++)
+        CHECK(asked(m, 0x200, sizes[i][0]) == sizes[i][i2o ? 2 : 1]);
+    /* as the last bytes of the window, and with a byte less */
+    for (unsigned size = 26; size <= 74; size += size == 26 ? 4 : size == 30 ? 36 : 8) {
+        unsigned returned = i2o && size == 66 ? 30 : size;
+        CHECK(asked(m, WINDOW - returned, size) == returned);
+        CHECK(asked(m, WINDOW - returned + 1, size) == 0x0100);
+    }
+}
+
+static uint32_t open_table(machine *m, const uint8_t *table, size_t length, uint64_t *place)
+{
+    return edd_open(m->desk, EDD_DESK_SIZE, table, length, ARENA, STORE, place);
+}
+
+/* rule: exports::edd_open exports::edd_post exports::edd_write */
+/* 48h of 74 bytes: document 01's drive in kind 1 and in kind 2, a longer device path, and the interface I2O */
+static void device_paths(machine *m)
+{
+    static const uint8_t wide[74] = {74,   0,    2,    0,    2,    0,    0,    0,    16,   0,    0,    0,    63, 0,    0, 0, 0, 8, 0,
+                                     0,    0,    0,    0,    0,    0,    2,    0xFF, 0xFF, 0xFF, 0xFF, 0xDD, 0xBE, 0x2C, 0, 0, 0, 'P', 'C',
+                                     'I',  0x20, 'A',  'T',  'A',  0x20, 0x20, 0x20, 0x20, 0x20, 0,    0x1F, 1,  0,    0, 0, 0, 0, 0,
+                                     0,    0,    0,    0,    0,    0,    0,    0,    0,    0,    0,    0,    0,  0,    0, 0, 0xA7};
+    uint8_t *table = bytes(WIDE + 20, 0), *out = bytes(WIDE + 20, 0);
+    const uint8_t *result = m->arena + 4 * WINDOW + 0x200;
+    uint64_t place = 77, written = 77;
+
+    /* kind 1, then the same drive as kind 2, which is written back as that */
+    CHECK(open_table(m, paper_table, 72, &place) == EDD_DONE);
+    all_sizes(m, 0);
+    CHECK(asked(m, 0x200, 74) == 74 && memcmp(result, wide, 74) == 0);
+    CHECK(asked(m, 0x200, 66) == 66 && memcmp(result + 2, wide + 2, 30) == 0 && result[32] == 0x24 && result[65] == 0x6F);
+    put_wide(table, "ATA", no_path);
+    CHECK(open_table(m, table, WIDE, &place) == EDD_DONE && place == 77);
+    all_sizes(m, 0);
+    CHECK(asked(m, 0x200, 74) == 74 && memcmp(result, wide, 74) == 0);
+    CHECK(asked(m, 0x200, 66) == 66 && memcmp(result + 2, wide + 2, 30) == 0 && result[32] == 0x24 && result[65] == 0x6F);
+    CHECK(edd_write(m->desk, EDD_DESK_SIZE, out, WIDE, &written) == EDD_DONE && written == WIDE && memcmp(out, table, WIDE) == 0);
+    CHECK(edd_write(m->desk, EDD_DESK_SIZE, out, WIDE - 1, &written) == EDD_BUFFER_SHORT);
+    /* the whole path in 74 bytes, its first half in 66; NUL there, and 20h here */
+    put_wide(table, "FIBRE", path_16);
+    CHECK(open_table(m, table, WIDE, &place) == EDD_DONE);
+    all_sizes(m, 0);
+    CHECK(asked(m, 0x200, 66) == 66 && memcmp(result + 36, table + 40, 28) == 0 && result[64] == 0 && result[65] == 0xB9);
+    CHECK(asked(m, 0x200, 74) == 74 && memcmp(result + 36, "PCI FIBRE   ", 12) == 0 && memcmp(result + 48, table + 52, 24) == 0);
+    CHECK(edd_write(m->desk, EDD_DESK_SIZE, out, WIDE, &written) == EDD_DONE && written == WIDE && memcmp(out, table, WIDE) == 0);
+    /* I2O: 66 is answered as 30, with the pointer; a record of kind 4 behind kind 2 */
+    put_wide(table, "I2O", path_16);
+    memset(table + 76, 0, 24);
+    table[76] = 20, table[78] = 4, table[96] = 4;
+    CHECK(open_table(m, table, WIDE + 20, &place) == EDD_DONE);
+    all_sizes(m, 1);
+    CHECK(asked(m, 0x200, 74) == 74 && memcmp(result + 40, "I2O     ", 8) == 0 && memcmp(result + 56, path_16, 16) == 0);
+    CHECK(result[72] == 0 && result[73] == 0x2B);
+    CHECK(edd_place(m->desk, EDD_DESK_SIZE, m->arena, ARENA, m->store, STORE, 4, 0x1010) == EDD_DONE);
+    CHECK(asked(m, 0x200, 66) == 30 && memcmp(result + 26, "\0\0\1\1", 4) == 0);
+    CHECK(edd_write(m->desk, EDD_DESK_SIZE, out, WIDE + 20, &written) == EDD_DONE && memcmp(out, table, WIDE + 20) == 0);
+    CHECK(open_table(m, paper_table, 72, &place) == EDD_DONE && place == 77);
+    free(out);
+    free(table);
+}
+
+/* rule: exports::edd_open exports::edd_write readTable */
+/* tables with kind 2 that are refused, and blocks that no table leads to */
+static void wide_refused(machine *m)
+{
+    static const struct {
+        unsigned word;
+        uint8_t byte, value;
+    } damages[] = {{14, 0, 0}, {14, 0, 3}, {14, 2, 1}, {15, 0, 1}, {15, 7, 1}, {16 + 14, 0, 1}, {16 + 14, 0, 2}, {16 + 15, 3, 1}};
+    uint8_t *table = bytes(8 * 68 + WIDE, 0), *desk = bytes(EDD_DESK_SIZE, 0);
+    uint64_t place = 77, written = 77;
+
+    put_wide(table, "ATA", path_16);
+    table[0] = 68;
+    CHECK(open_table(m, table, WIDE, &place) == EDD_TABLE_LENGTH && place == 0);
+    table[0] = 76, table[2] = 1, place = 77;
+    CHECK(open_table(m, table, WIDE, &place) == EDD_TABLE_LENGTH && place == 0);
+    table[2] = 2, place = 77;
+    CHECK(open_table(m, table, WIDE - 5, &place) == EDD_TABLE_CUT_OFF && place == 0);
+    table[47] = 0x20; /* "ATA " */
+    CHECK(open_table(m, table, WIDE, &place) == EDD_TABLE_FIELD && place == 0);
+    memcpy(table, paper_table, 72); /* I2O in kind 1 */
+    memcpy(table + 44, "I2O", 3);
+    place = 77;
+    CHECK(open_table(m, table, 72, &place) == EDD_TABLE_FIELD && place == 0);
+    memcpy(table, paper_table, 68);
+    put_wide(table + 68, "I2O", no_path);
+    CHECK(open_table(m, table, 68 + WIDE, &place) == EDD_TABLE_OVERLAP && place == 68);
+    table[68 + 25] = 8;
+    CHECK(open_table(m, table, 68 + WIDE, &place) == EDD_TABLE_STORE && place == 68);
+    for (size_t i = 0; i < 8 * 68; i++)
+        table[i] = i % 68 == 25 ? (uint8_t)(8 * (i / 68)) : paper_table[i % 68];
+    put_wide(table + 8 * 68, "USB", no_path);
+    CHECK(edd_open(desk, EDD_DESK_SIZE, table, 8 * 68 + WIDE, ARENA, UINT64_MAX, &place) == EDD_TABLE_NINTH_DRIVE && place == 8 * 68);
+    /* slot 0 has document 01's drive of kind 1, slot 1 none: other kinds, a path that goes on, and I2O */
+    CHECK(open_table(m, paper_table, 72, &place) == EDD_DONE);
+    for (size_t i = 0; i < sizeof damages / sizeof damages[0]; i++) {
+        memcpy(desk, m->desk, EDD_DESK_SIZE);
+        CHECK(edd_write(desk, EDD_DESK_SIZE, table, 72, &written) == EDD_DONE && written == 72);
+        desk[1472 + 8 * damages[i].word + damages[i].byte] = damages[i].value;
+        CHECK(edd_write(desk, EDD_DESK_SIZE, table, 72, &written) == EDD_DESK_NOT_ACCEPTED);
+    }
+    memcpy(desk, m->desk, EDD_DESK_SIZE);
+    memcpy(desk + 1472 + 8 * 11, "I2O", 3);
+    CHECK(edd_write(desk, EDD_DESK_SIZE, table, 72, &written) == EDD_DESK_NOT_ACCEPTED);
+    desk[1472 + 8 * 14] = 2; /* in kind 2 it may be */
+    CHECK(edd_write(desk, EDD_DESK_SIZE, table, WIDE, &written) == EDD_DONE && written == WIDE);
+    free(desk);
+    free(table);
+}
+
+/* a conversion of a record that lies in a block of its own, into another: 0 with the bytes in made, or 10 and nothing is written */
+static uint32_t convert(int up, const uint8_t *record, size_t length, uint8_t *made, size_t room)
+{
+    uint8_t *in = bytes(length, 0), *out = bytes(room, 11), *before = bytes(room, 11);
+
+    memcpy(in, record, length);
+    uint32_t answer = up ? edd_convert_up(in, length, out, room) : edd_convert_down(in, length, out, room);
+    CHECK(memcmp(in, record, length) == 0);
+    CHECK(answer == EDD_DONE || (answer == EDD_CONVERSION && memcmp(out, before, room) == 0));
+    if (answer == EDD_DONE)
+        memcpy(made, out, room);
+    free(before);
+    free(out);
+    free(in);
+    return answer;
+}
+
+static uint32_t convert_up(const uint8_t *record, uint8_t *made)
+{
+    return convert(1, record, EDD_RECORD_SIZE, made, EDD_RECORD_SIZE_WIDE);
+}
+
+static uint32_t convert_down(const uint8_t *record, uint8_t *made)
+{
+    return convert(0, record, EDD_RECORD_SIZE_WIDE, made, EDD_RECORD_SIZE);
+}
+
+/* rule: exports::edd_convert_up exports::edd_convert_down */
+/* up and down again, what kind 1 cannot hold, records that are not sound, and slices of other sizes */
+static void conversions(void)
+{
+    static const struct {
+        uint8_t at, value;
+    } unsound[] = {{0, 0}, {1, 1}, {2, 0}, {2, 3}, {2, 4}, {3, 1}, {17, 0}, {32, 0x80}, {33, 1}, {34, 0}, {35, 8}, {36, 0}, {37, 1},
+                   {38, 0}, {38, 64}, {39, 2}, {40, 'p'}, {43, 0x20}, {44, 'X'}, {47, 0x20}, {51, 1}};
+    static const size_t sizes[] = {0, 1, 4, 67, 68, 69, 75, 76, 77, 80};
+    uint8_t *record = bytes(80, 0), *wide = bytes(80, 0), *made = bytes(80, 0), *again = bytes(80, 0);
+
+    /* kind 1: the bytes of document 01's record, and of one with every path byte set */
+    memcpy(record, paper_table, 68);
+    for (unsigned i = 0; i < 2; i++) {
+        memcpy(wide, record, 68);
+        memset(wide + 68, 0, 8);
+        wide[0] = 76, wide[2] = 2;
+        CHECK(convert_up(record, made) == EDD_DONE && memcmp(made, wide, 76) == 0);
+        CHECK(convert_down(made, again) == EDD_DONE && memcmp(again, record, 68) == 0);
+        CHECK(convert_up(again, made) == EDD_DONE && memcmp(made, wide, 76) == 0);
+        memset(record + 52, 0xC3, 16);
+    }
+    /* the store and other drives are not asked for: a first block that is past every store */
+    memset(record + 24, 0xFF, 8);
+    CHECK(convert_up(record, made) == EDD_DONE && convert_down(made, again) == EDD_DONE && memcmp(again, record, 68) == 0);
+    /* what is lost downward: any of the last eight bytes, and I2O, which is no interface of kind 1 */
+    for (unsigned i = 68; i < 76; i++) {
+        made[i] = 0x80;
+        CHECK(convert_down(made, again) == EDD_CONVERSION);
+        made[i] = 0;
+    }
+    CHECK(convert_down(made, again) == EDD_DONE);
+    put_wide(made, "I2O", no_path);
+    CHECK(convert_down(made, again) == EDD_CONVERSION);
+    made[0] = 68, made[2] = 1;
+    CHECK(convert_up(made, again) == EDD_CONVERSION);
+    /* records that are not sound, and the other kind's record */
+    for (size_t i = 0; i < sizeof unsound / sizeof unsound[0]; i++) {
+        memcpy(record, paper_table, 68);
+        CHECK(convert_up(record, made) == EDD_DONE);
+        record[unsound[i].at] = made[unsound[i].at] = unsound[i].value;
+        CHECK(convert_up(record, again) == EDD_CONVERSION);
+        CHECK(convert_down(made, again) == EDD_CONVERSION);
+    }
+    memcpy(record, paper_table, 72);
+    memset(record + 72, 0, 8);
+    put_wide(wide, "ATA", no_path);
+    CHECK(convert_down(record, again) == EDD_CONVERSION && convert_up(wide, again) == EDD_CONVERSION);
+    for (size_t i = 0; i < sizeof sizes / sizeof sizes[0]; i++) {
+        for (size_t j = 0; j < sizeof sizes / sizeof sizes[0]; j++) {
+            uint32_t up = sizes[i] == 68 && sizes[j] == 76 ? EDD_DONE : EDD_CONVERSION;
+            uint32_t down = sizes[i] == 76 && sizes[j] == 68 ? EDD_DONE : EDD_CONVERSION;
+            CHECK(convert(1, record, sizes[i], again, sizes[j]) == up && convert(1, wide, sizes[i], again, sizes[j]) == EDD_CONVERSION);
+            CHECK(convert(0, wide, sizes[i], again, sizes[j]) == down && convert(0, record, sizes[i], again, sizes[j]) == EDD_CONVERSION);
+        }
+    }
+    CHECK(edd_convert_up(NULL, 0, NULL, 0) == EDD_CONVERSION && edd_convert_down(NULL, 0, NULL, 0) == EDD_CONVERSION);
+    free(again);
+    free(made);
+    free(wide);
+    free(record);
+}
+
 /* rule: exports::edd_write exports::edd_post exports::edd_turn exports::edd_collect exports::edd_withdraw */
 static void house_refusals(machine *m)
 {
@@ -419,15 +663,15 @@ static void house_refusals(machine *m)
     CHECK(edd_turn(m->desk, EDD_DESK_SIZE, m->arena, ARENA, NULL, 0, &guest, &moved) == EDD_LENGTH_DIFFERS);
     CHECK(edd_turn(NULL, 0, NULL, 0, NULL, 0, &guest, &moved) == EDD_DESK_NOT_ACCEPTED);
     memcpy(desk, m->desk, EDD_DESK_SIZE);
-    desk[8 * 297] = 8; /* the turn pointer */
+    desk[8 * 313] = 8; /* the turn pointer */
     CHECK(edd_turn(desk, EDD_DESK_SIZE, m->arena, ARENA, m->store, STORE, &guest, &moved) == EDD_DESK_NOT_ACCEPTED);
     CHECK(edd_write(desk, EDD_DESK_SIZE, NULL, 0, &written) == EDD_DESK_NOT_ACCEPTED);
     CHECK(same(r, given) && guest == 77 && moved == 77 && written == 77);
     free(desk);
 }
 
-/* three drives of 512 blocks, the second with a record of kind 4, the third with three bad blocks, and the end record */
-enum { THREE = 3 * 68 + 20 + 30 + 4 };
+/* three drives of 512 blocks, the second with a record of kind 4, the third of kind 2 and with three bad blocks, and the end record */
+enum { THIRD = 2 * 68 + 20, LIST = THIRD + 76, THREE = LIST + 30 + 4 };
 
 static uint8_t *three_drives(void)
 {
@@ -443,6 +687,9 @@ static uint8_t *three_drives(void)
             at += 20;
         }
     }
+    table[THIRD] = 76, table[THIRD + 2] = 2;
+    memcpy(table + THIRD + 60, "a longer path...", 16);
+    at = table + LIST;
     at[0] = 30, at[2] = 3, at[4] = 2, at[6] = 7, at[14] = 9, at[23] = 1; /* 7, 9 and 256 */
     at[30] = 4;
     return table;
@@ -553,9 +800,15 @@ static void fragments_refused(void)
     refused_once_and_for_all(table, 60, 0, EDD_TABLE_CUT_OFF, 0);
     longer[0] = 67; /* settled by the fourth byte */
     refused_once_and_for_all(longer, 4, 3, EDD_TABLE_LENGTH, 0);
-    longer[0] = 68, longer[68 + 2] = 2;
+    longer[0] = 68, longer[68 + 2] = 5;
     refused_once_and_for_all(longer, 68 + 4, 68 + 3, EDD_TABLE_KIND, 68);
-    longer[68 + 2] = 1, longer[68 + 39] = 2; /* by the last byte of a record */
+    longer[68 + 2] = 2; /* kind 2 of length 68, kind 1 of length 76 */
+    refused_once_and_for_all(longer, 68 + 4, 68 + 3, EDD_TABLE_LENGTH, 68);
+    longer[68 + 2] = 1, longer[THIRD + 2] = 1;
+    refused_once_and_for_all(longer, THIRD + 4, THIRD + 3, EDD_TABLE_LENGTH, THIRD);
+    longer[THIRD + 2] = 2, longer[THIRD + 51] = 0x20; /* a name that is filled with spaces; known with the last byte of kind 2 */
+    refused_once_and_for_all(longer, THIRD + 76, THIRD + 75, EDD_TABLE_FIELD, THIRD);
+    longer[THIRD + 51] = 0, longer[68 + 39] = 2; /* by the last byte of a record */
     refused_once_and_for_all(longer, 2 * 68, 2 * 68 - 1, EDD_TABLE_FIELD, 68);
     longer[68 + 39] = 0, longer[68 + 30] = 1;
     refused_once_and_for_all(longer, THREE + 1, 2 * 68 - 1, EDD_TABLE_STORE, 68);
@@ -563,12 +816,12 @@ static void fragments_refused(void)
     refused_once_and_for_all(longer, THREE, 20, EDD_TABLE_OVERLAP, 68);
     longer[68 + 25] = 2, longer[136 + 4] = 0;
     refused_once_and_for_all(longer, 156, 155, EDD_TABLE_NOT_LAST, 136);
-    longer[136 + 4] = 1, longer[224 + 14] = 7; /* bad blocks: 7 twice; of another drive; of half a number */
-    refused_once_and_for_all(longer, 254, 253, EDD_TABLE_FIELD, 224);
-    longer[224 + 14] = 9, longer[224 + 4] = 1;
-    refused_once_and_for_all(longer, 254, 253, EDD_TABLE_NOT_LAST, 224);
-    longer[224 + 4] = 2, longer[224] = 26;
-    refused_once_and_for_all(longer, 228, 227, EDD_TABLE_LENGTH, 224);
+    longer[136 + 4] = 1, longer[LIST + 14] = 7; /* bad blocks: 7 twice; of another drive; of half a number */
+    refused_once_and_for_all(longer, LIST + 30, LIST + 29, EDD_TABLE_FIELD, LIST);
+    longer[LIST + 14] = 9, longer[LIST + 4] = 1;
+    refused_once_and_for_all(longer, LIST + 30, LIST + 29, EDD_TABLE_NOT_LAST, LIST);
+    longer[LIST + 4] = 2, longer[LIST] = 26;
+    refused_once_and_for_all(longer, LIST + 4, LIST + 3, EDD_TABLE_LENGTH, LIST);
     uint8_t *nine = bytes(9 * 68, 0);
     for (size_t i = 0; i < 9; i++) {
         memcpy(nine + 68 * i, table, 68);
@@ -689,12 +942,18 @@ int main(void)
     parameter_tables(&m);
     information_flags(&m);
     worn_disk(&m);
+    device_paths(&m);
+    wide_refused(&m);
+    conversions();
     house_refusals(&m);
     table_through_a_pipe(&m, 1);
     table_through_a_pipe(&m, 3);
     table_through_a_pipe(&m, 67);
     table_through_a_pipe(&m, 68);
     table_through_a_pipe(&m, 69);
+    table_through_a_pipe(&m, 75);
+    table_through_a_pipe(&m, 76);
+    table_through_a_pipe(&m, 77);
     fragments_refused();
     readers_not_accepted();
     example_of_the_pipe(&m);

@@ -84,6 +84,17 @@ static void do_reader_write(void)
     answer = edd_reader_write(reader, sizeof reader, out, sizeof out, &first);
 }
 
+/* the first drive's record of kind 2 to kind 1, and back */
+static void do_convert_down(void)
+{
+    answer = edd_convert_down(table, EDD_RECORD_SIZE_WIDE, out, EDD_RECORD_SIZE);
+}
+
+static void do_convert_up(void)
+{
+    answer = edd_convert_up(out, EDD_RECORD_SIZE, out + EDD_RECORD_SIZE, EDD_RECORD_SIZE_WIDE);
+}
+
 static void do_numbers(void)
 {
     answer = edd_window(sizeof arena, 7, &first, &second) + edd_block(4, 1, 16, 3, 0, 16, &small[0]) +
@@ -146,8 +157,8 @@ static void measure_reader(size_t size)
 int main(void)
 {
     for (unsigned i = 0; i < EDD_DRIVES; i++) {
-        uint8_t *drive = table + 222 * i, *list = drive + 68, *parameters = drive + 202;
-        drive[0] = 68, drive[2] = 1, drive[16] = DRIVE_BLOCKS, drive[34] = 4, drive[36] = 1, drive[38] = 16;
+        uint8_t *drive = table + 230 * i, *list = drive + 76, *parameters = drive + 210;
+        drive[0] = 76, drive[2] = 2, drive[16] = DRIVE_BLOCKS, drive[34] = 4, drive[36] = 1, drive[38] = 16;
         drive[24] = (uint8_t)(DRIVE_BLOCKS * i), drive[25] = (uint8_t)(DRIVE_BLOCKS * i >> 8);
         memcpy(drive + 40, "PCI", 3);
         memcpy(drive + 44, "ATA", 3);
@@ -156,7 +167,7 @@ int main(void)
             list[6 + 8 * j] = (uint8_t)(DRIVE_BLOCKS - EDD_BAD_BLOCKS + j);
         parameters[0] = 20, parameters[2] = 4, parameters[4] = (uint8_t)i;
     }
-    table[222 * EDD_DRIVES] = 4;
+    table[230 * EDD_DRIVES] = 4;
 
     measure(do_open, "open", EDD_DONE);
     limit = DESK_LIMIT, most = &most_at_desk;
@@ -184,9 +195,15 @@ int main(void)
     ax = 0x0214, bx = 0x1000, cx = 0x0001;
     measure(do_post, "post 02h", EDD_NOTHING_YET);
     measure(do_withdraw, "withdraw", EDD_DONE);
-    arena[7 * WINDOW + PACKET] = 66;
-    ax = 0x4800;
-    measure(do_post, "post 48h", EDD_DONE);
+    for (unsigned i = 0; i < 2; i++) {
+        arena[7 * WINDOW + PACKET] = i ? 74 : 66;
+        ax = 0x4800;
+        measure(do_post, "post 48h", EDD_DONE);
+    }
+    measure(do_convert_down, "conversion down", EDD_DONE);
+    measure(do_convert_up, "conversion up", EDD_DONE);
+    out[38] = 64; /* sectors */
+    measure(do_convert_up, "conversion, refused", EDD_CONVERSION);
     measure(do_numbers, "window, block, address", EDD_DONE);
     limit = EDD_STACK_MAX, most = &most_of_all;
     measure_reader(sizeof table);

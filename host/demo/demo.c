@@ -4,7 +4,8 @@
  * Every guest works on its own disk, keeps its own copy of what its memory and its disk must hold, and compares after each
  * request: the registers, what it laid down, what it read, and the blocks of the store that it named. At the end the whole
  * store is compared with those copies. Three disks have a device parameter table, which the host places for half of the
- * guests: they follow the pointer of 48h to it. One disk is worn: its guest meets bad blocks, gets the good ones before them,
+ * guests: they follow the pointer of 48h to it. Every guest asks 48h for its disk's device path, and that of one disk, whose
+ * record is of kind 2, has all its sixteen bytes. One disk is worn: its guest meets bad blocks, gets the good ones before them,
  * and reads on behind them. The drive table comes from another process through a pipe, and is read as it arrives. For a
  * monitor of your own, copy host/example, not this.
  *
@@ -200,6 +201,24 @@ static void check_table(struct faults *f, struct monitor *m, const uint8_t *tabl
         fault(f, NO_GUEST, "the table written back is not the table sent");
 }
 
+/* The drives' records, each by itself: one of kind 1 goes up and comes down as it was, and that of kind 2 does not go down. */
+static void check_conversions(struct faults *f, const uint8_t *table)
+{
+    uint8_t wide[EDD_RECORD_SIZE_WIDE], narrow[EDD_RECORD_SIZE];
+    unsigned drive = 0;
+    for (const uint8_t *at = table; at[2] != 0; at += at[0]) { /* no record is longer than 255 bytes */
+        if (at[2] == 1) {
+            if (edd_convert_up(at, EDD_RECORD_SIZE, wide, sizeof wide) != EDD_DONE || wide[2] != 2 ||
+                edd_convert_down(wide, sizeof wide, narrow, sizeof narrow) != EDD_DONE || memcmp(narrow, at, sizeof narrow) != 0)
+                fault(f, drive, "its drive's record of kind 1 does not come back from kind 2");
+        } else if (at[2] == 2) {
+            if (edd_convert_down(at, EDD_RECORD_SIZE_WIDE, narrow, sizeof narrow) != EDD_CONVERSION)
+                fault(f, drive, "its drive's record of kind 2 loses half a device path");
+        }
+        drive += at[2] <= 2;
+    }
+}
+
 /* The guests' own checks, and the theorem's bounds. */
 static void check_guests(struct faults *f, const struct monitor *m, const struct guest *guests, uint64_t requests)
 {
@@ -235,7 +254,7 @@ static int verdict(const struct faults *f, uint64_t seed)
 
 static void print_table(const struct monitor *m, const struct guest *guests)
 {
-    uint64_t gap = 0, followed = 0, without = 0;
+    uint64_t gap = 0, followed = 0, without = 0, paths = 0;
     printf("\n%-5s  %-10s %9s %10s %9s  %-16s %8s %10s\n", "guest", "workload", "requests", "blocks", "turns",
            "longest wait", "refused", "withdrawn");
     for (unsigned g = 0; g < EDD_GUESTS; g++) {
@@ -248,11 +267,14 @@ static void print_table(const struct monitor *m, const struct guest *guests)
             gap = n->longest_gap;
         followed += guests[g].followed;
         without += guests[g].without;
+        paths += guests[g].paths;
     }
     printf("\nA wait is counted in turns from the post to the last part, \"of\" its bound 8 * ceil(n / 16).\n"
            "The longest time from one part of a request to its next: %llu turns of 8.\n"
            "The pointer of 48h was followed to a parameter table %llu times, and was FFFF:FFFF %llu times.\n",
            (unsigned long long)gap, (unsigned long long)followed, (unsigned long long)without);
+    printf("48h gave %llu device paths of sixteen bytes, %llu of them to guest %u, whose disk is of kind 2 and has a logical unit there.\n",
+           (unsigned long long)paths, (unsigned long long)guests[FIBRE_DISK].paths, FIBRE_DISK);
     const struct guest *worn = &guests[WORN_DISK];
     printf("The disk of guest %u is worn, %u blocks of it are bad. They ended %llu reads with 10h and %llu writes with CCh, after the\n"
            "good blocks before them had moved; %llu reads went on behind them, and 44h found them %llu times.\n", WORN_DISK,
@@ -344,6 +366,7 @@ int main(int argc, char **argv)
     check_store(&faults, store, guests);
     check_arena(&faults, &monitor, guests);
     check_table(&faults, &monitor, table, table_length);
+    check_conversions(&faults, table);
     monitor_unlock(&monitor);
 
     monitor_close(&monitor);

@@ -6,16 +6,16 @@
 #define NO_BAD 0, { 0 }
 
 const struct disk disks[EDD_DRIVES] = {
-    /* C, H, S        first   blocks  flags   protected         record of kind 4: ports 1F0h and 3F6h, IRQ 14, and so on */
-    { 306, 4, 17,         3,  20808, 0x0000, 0, "ISA", "ATA", "\xf0\x01\xf6\x03\x00\xcb\x0e\x00\x00\x04\x00\x00\x00\x00", NO_BAD },
-    { 80, 2, 18,      20811,   2880, 0x0000, 0, "ISA", "ATA", NULL, NO_BAD }, /* touches the disk before it */
-    { 40, 16, 63,     23700,  40960, 0x0078, 0, "PCI", "SCSI", NULL, NO_BAD }, /* not removable: bits 4 to 6 mean nothing */
-    { 20, 16, 63,     64660,  20480, 0x0002, 0, "PCI", "ATA", "\x70\x01\x76\x03\x50\x07\x0f\x01\x22\x03\x31\x00\x00\x00", NO_BAD },
-    { 17, 7, 33,      86000,   4000, 0x000a, 0, "PCI", "1394", NULL, /* worn: single blocks, neighbours, and the last of all */
+    /* C, H, S        first   blocks  flags   protected      unit   record of kind 4: ports 1F0h and 3F6h, IRQ 14, and so on */
+    { 306, 4, 17,         3,  20808, 0x0000, 0, "ISA", "ATA", 0, "\xf0\x01\xf6\x03\x00\xcb\x0e\x00\x00\x04\x00\x00\x00\x00", NO_BAD },
+    { 80, 2, 18,      20811,   2880, 0x0000, 0, "ISA", "ATA", 0, NULL, NO_BAD }, /* touches the disk before it */
+    { 40, 16, 63,     23700,  40960, 0x0078, 0, "PCI", "SCSI", 0, NULL, NO_BAD }, /* not removable: bits 4 to 6 mean nothing */
+    { 20, 16, 63,     64660,  20480, 0x0002, 0, "PCI", "ATA", 0, "\x70\x01\x76\x03\x50\x07\x0f\x01\x22\x03\x31\x00\x00\x00", NO_BAD },
+    { 17, 7, 33,      86000,   4000, 0x000a, 0, "PCI", "1394", 0, NULL, /* worn: single blocks, neighbours, and the last of all */
       16, { 7, 250, 251, 777, 1023, 1024, 1039, 1500, 1900, 2222, 2500, 2750, 3000, 3500, 3926, 3999 } },
-    { 33, 5, 61,     110000,  10100, 0x0008, 0, "PCI", "USB", NULL, NO_BAD },
-    { 64, 2, 32,     120111,   4401, 0x0000, 0, "PCI", "FIBRE", "any bytes here", NO_BAD },
-    { 80, 2, 15,     124590,   2400, 0x0034, 1, "PCI", "ATAPI", NULL, NO_BAD },
+    { 33, 5, 61,     110000,  10100, 0x0008, 0, "PCI", "USB", 0, NULL, NO_BAD },
+    { 64, 2, 32,     120111,   4401, 0x0000, 0, "PCI", "FIBRE", 0x8877665544332211, "any bytes here", NO_BAD },
+    { 80, 2, 15,     124590,   2400, 0x0034, 1, "PCI", "ATAPI", 0, NULL, NO_BAD },
 };
 
 uint64_t disk_good(const struct disk *disk, uint64_t start, uint64_t blocks)
@@ -32,12 +32,13 @@ void put_word(uint8_t *at, unsigned bytes, uint64_t value)
         at[i] = (uint8_t)(value >> (8 * i));
 }
 
-/* One drive's record, document 01, "The drive table". */
-static void put_drive(uint8_t *at, const struct disk *disk)
+/* One drive's record, document 01, "The drive table", or of kind 2, change request 2026-06. Returns its length. */
+static size_t put_drive(uint8_t *at, const struct disk *disk)
 {
-    memset(at, 0, 68);
-    put_word(at + 0, 2, 68);
-    put_word(at + 2, 2, 1);
+    size_t length = disk->unit ? EDD_RECORD_SIZE_WIDE : EDD_RECORD_SIZE;
+    memset(at, 0, length);
+    put_word(at + 0, 2, length);
+    put_word(at + 2, 2, disk->unit ? 2 : 1);
     put_word(at + 4, 4, disk->cylinders); /* physical geometry: the same here */
     put_word(at + 8, 4, disk->heads);
     put_word(at + 12, 4, disk->sectors);
@@ -52,6 +53,9 @@ static void put_drive(uint8_t *at, const struct disk *disk)
     memcpy(at + 44, disk->interface, strlen(disk->interface));
     put_word(at + 52, 8, disk->first); /* interface and device path may hold anything */
     put_word(at + 60, 8, ~disk->first);
+    if (disk->unit)
+        put_word(at + 68, 8, disk->unit);
+    return length;
 }
 
 /* The record of kind 3 behind it, change request 2026-04. Returns its length. */
@@ -79,8 +83,7 @@ size_t disks_table(uint8_t table[EDD_TABLE_SIZE_MAX])
 {
     size_t length = 0;
     for (unsigned i = 0; i < EDD_DRIVES; i++) {
-        put_drive(table + length, &disks[i]);
-        length += 68;
+        length += put_drive(table + length, &disks[i]);
         if (disks[i].bad_count)
             length += put_bad_blocks(table + length, &disks[i]);
         if (disks[i].parameters) {

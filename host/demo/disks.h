@@ -16,17 +16,22 @@ struct disk {
     uint16_t flags;            /* information flags; bit 3: 43h may be asked to verify; bits 4 to 6 count with bit 2 */
     uint8_t is_protected;
     const char *bus, *interface;
+    uint64_t unit;             /* the last eight bytes of its device path, which only a record of kind 2 has; 0: it is of kind 1 */
     const char *parameters;    /* the 14 bytes of its record of kind 4; NULL where it has none */
     unsigned bad_count;        /* how many of its blocks are bad; 0 where it has no record of kind 3 */
     uint64_t bad[EDD_BAD_BLOCKS];
 };
 
-/* Disk g is drive 80h + g. The last one is protected, and one is worn. Between the disks the store has blocks that belong to nobody. */
+/*
+ * Disk g is drive 80h + g. The last one is protected, one is worn, and one has a record of kind 2. Between the disks the store has
+ * blocks that belong to nobody.
+ */
 extern const struct disk disks[EDD_DRIVES];
 
 #define STORE_BLOCKS 127000
 #define SHARED_DISK 7
 #define WORN_DISK 4
+#define FIBRE_DISK 6 /* of kind 2: its device path names a port, and then a logical unit */
 #define PARAMETERS 14
 
 /* Lays out the drive table of the eight disks and returns its length. */

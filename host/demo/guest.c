@@ -107,7 +107,7 @@ struct request {
     uint64_t packet;          /* where the packet lies; 0 for none */
     int counts;               /* the refusal writes the packet's count word: 0, or for 44h the good blocks */
     uint64_t count;
-    uint8_t result[66];       /* what 48h lays over the start of the first part */
+    uint8_t result[74];       /* what 48h lays over the start of the first part */
     unsigned result_length;
 
     int write;                /* the blocks to be moved: to the disk, or from it */
@@ -484,17 +484,55 @@ static uint16_t flags_shown(const struct disk *disk)
     return disk->flags & 0x04 ? disk->flags : (uint16_t)(disk->flags & ~0x70u);
 }
 
-/* 48h: the whole result, document 01's layout */
-static void parameters(struct guest *g)
+/* The device path information, from the key to the checksum: document 01's of 36 bytes, or that of change request 2026-06, of 44. */
+static void put_path(uint8_t *at, unsigned length, const struct disk *disk)
 {
-    static const uint16_t asked[] = { 26, 29, 30, 65, 66, 1000 };
+    uint8_t sum = 0;
+
+    memset(at, 0, length);
+    put_word(at + 0, 2, 0xbedd);
+    at[2] = (uint8_t)length;
+    if (length == 44) { /* the names are filled with spaces, and the device path goes on */
+        memset(at + 6, 0x20, 12);
+        put_word(at + 34, 8, disk->unit);
+    }
+    memcpy(at + 6, disk->bus, strlen(disk->bus));
+    memcpy(at + 10, disk->interface, strlen(disk->interface));
+    put_word(at + 18, 8, disk->first);
+    put_word(at + 26, 8, ~disk->first);
+    for (unsigned i = 0; i < length - 1; i++)
+        sum = (uint8_t)(sum + at[i]);
+    at[length - 1] = (uint8_t)-sum;
+}
+
+/* As a driver does: the result of 48h in the window has the key, the length and a sum of zero; then the path says which disk it is. */
+static void read_path(struct guest *g, uint64_t result, const struct disk *disk)
+{
+    const uint8_t *path = monitor_window(g->monitor, g->number) + result + 30;
+    uint64_t unit = 0;
+    uint8_t sum = 0;
+    char names[13];
+
+    for (unsigned i = 0; i < 0x2c; i++)
+        sum = (uint8_t)(sum + path[i]);
+    for (unsigned i = 0; i < 8; i++)
+        unit |= (uint64_t)path[34 + i] << (8 * i);
+    snprintf(names, sizeof names, "%-4.4s%-8.8s", disk->bus, disk->interface);
+    if (path[0] != 0xdd || path[1] != 0xbe || path[2] != 0x2c || sum != 0)
+        fail(g, "48h of 74 bytes gives no device path information");
+    else if (memcmp(path + 6, names, 12) != 0 || unit != disk->unit)
+        fail(g, "48h of 74 bytes gives the device path of another disk");
+    g->paths++;
+}
+
+/* 48h with a size: the whole result, document 01's layout */
+static void parameters(struct guest *g, unsigned size)
+{
     const struct disk *disk = &disks[g->number];
     struct request q = begin(g, 0x48);
     uint64_t place = low_place(g);
-    uint16_t size = asked[between(g, 0, 5)];
-    uint8_t sum = 0;
 
-    q.result_length = size >= 66 ? 66 : size >= 30 ? 30 : 26;
+    q.result_length = size >= 74 ? 74 : size >= 66 ? 66 : size >= 30 ? 30 : 26;
     put_word(q.result + 0, 2, q.result_length);
     put_word(q.result + 2, 2, flags_shown(disk));
     put_word(q.result + 4, 4, disk->cylinders);
@@ -506,15 +544,8 @@ static void parameters(struct guest *g)
         put_word(q.result + 26, 4, table_of(g, disk) / 16 << 16); /* offset 0, then the segment */
     else
         put_word(q.result + 26, 4, 0xffffffff);
-    put_word(q.result + 30, 2, 0xbedd);
-    q.result[32] = 0x24;
-    memcpy(q.result + 36, disk->bus, strlen(disk->bus));
-    memcpy(q.result + 40, disk->interface, strlen(disk->interface));
-    put_word(q.result + 48, 8, disk->first);
-    put_word(q.result + 56, 8, ~disk->first);
-    for (unsigned i = 30; i < 65; i++)
-        sum += q.result[i];
-    q.result[65] = (uint8_t)-sum;
+    if (q.result_length > 30)
+        put_path(q.result + 30, q.result_length - 30, disk);
 
     /* The guest lays down the size that it asks for. The result then lies over it, and what follows the result stays. */
     put_word(g->memory + place, 2, size);
@@ -524,15 +555,18 @@ static void parameters(struct guest *g)
     make(g, &q);
     if (q.result_length >= 30)
         follow_pointer(g, place, disk);
+    if (q.result_length == 74)
+        read_path(g, place, disk);
 }
 
 /* 08h, 41h or 48h */
 static void ask(struct guest *g)
 {
+    static const unsigned sizes[] = { 26, 29, 30, 65, 66, 73, 74, 1000 };
     const struct disk *disk = &disks[g->number];
     uint64_t which = between(g, 0, 2);
     if (which == 0) {
-        parameters(g);
+        parameters(g, sizes[between(g, 0, 7)]);
         return;
     }
     struct request q = begin(g, which == 1 ? 0x08 : 0x41);
@@ -666,7 +700,9 @@ void guest_placed(struct guest *g)
 
 void guest_run(struct guest *g, uint64_t requests)
 {
-    for (uint64_t i = 0; i < requests && !g->failed; i++)
+    if (requests > 0)
+        parameters(g, 74); /* a driver first asks which disk this is */
+    for (uint64_t i = 1; i < requests && !g->failed; i++)
         one_request(g);
     monitor_leave(g->monitor);
 }

@@ -25,6 +25,7 @@ struct guest {
     int placed;               /* the host has placed the parameter tables in its window */
     uint64_t followed;        /* pointers of 48h that it has followed to its disk's table */
     uint64_t without;         /* results of 48h whose pointer was FFFF:FFFF */
+    uint64_t paths;           /* results of 48h of 74 bytes, of which it has read the device path */
 
     uint64_t stopped_reads;   /* reads that met a bad block of its disk: 10h, and the good blocks before it were read */
     uint64_t stopped_writes;  /* writes that did: CCh */

@@ -3,7 +3,7 @@
 //!
 //! Letters: a refusals, b functions, c the drive table, d the desk block, e windows and turns, g sums and threads, h change requests:
 //! parameter tables (2026-01), information flags (2026-02, from h15 on), a table in fragments (2026-03, from h18 on), bad blocks (2026-04,
-//! from h31 on), division (2026-05, h52).
+//! from h31 on), division (2026-05, h52), the 74-byte result, drives of kind 2 and conversions (2026-06, from h53 on).
 
 use crate::chance::Chance;
 use crate::drives::{self, paper_drive, Bad, Drive};
@@ -19,19 +19,23 @@ const DONE: u32 = 0;
 const NOTHING_YET: u32 = 256;
 
 // words of the block
-const POINTER: usize = 297;
-const ARENA_LENGTH: usize = 298;
-const STORE_LENGTH: usize = 299;
-const DRIVE_COUNT: usize = 296;
-const PLACED: usize = 300;
-const ADDRESSES: usize = 308;
-const PRESENT: usize = 316;
-const PARAMETERS: usize = 8 * 324; // a byte
-const BAD_COUNTS: usize = 338;
-const BAD_LISTS: usize = 346;
+const POINTER: usize = 313;
+const ARENA_LENGTH: usize = 314;
+const STORE_LENGTH: usize = 315;
+const DRIVE_COUNT: usize = 312;
+const PLACED: usize = 316;
+const ADDRESSES: usize = 324;
+const PRESENT: usize = 332;
+const PARAMETERS: usize = 8 * 340; // a byte
+const BAD_COUNTS: usize = 354;
+const BAD_LISTS: usize = 362;
+// words of a drive's slot
+const TYPE: usize = 11;
+const KIND: usize = 14;
+const TAIL: usize = 15;
 
-/// Eight drives with a record of sixteen bad blocks and one of kind 4 each, and the end record; and the same without bad blocks.
-const LONGEST_TABLE: usize = 8 * (68 + 134 + 20) + 4;
+/// Eight drives of kind 2 with a record of sixteen bad blocks and one of kind 4 each, and the end record; and of kind 1 without bad blocks.
+const LONGEST_TABLE: usize = 8 * (76 + 134 + 20) + 4;
 const PARAMETERS_TABLE: usize = 8 * (68 + 20) + 4;
 /// Where a reader block has its table, and how many bytes the longest record has.
 const READER_TABLE: usize = 40 + LONGEST_RECORD;
@@ -42,7 +46,7 @@ fn row(guest: usize, word: usize) -> usize {
 }
 
 fn drive_word(slot: usize, word: usize) -> usize {
-    184 + 14 * slot + word
+    184 + 16 * slot + word
 }
 
 // ---- a desk with its arena and store
@@ -309,6 +313,11 @@ fn largest_drive() -> Drive {
 /// A drive of some blocks with a geometry of one cylinder and one head.
 fn small_drive(first: u64, blocks: u64) -> Drive {
     Drive { first, blocks, cylinders: 1, heads: 1, sectors: blocks.min(63) as u8, ..paper_drive() }
+}
+
+/// A drive of kind 2 with those last eight bytes of its device path.
+fn wide(drive: Drive, tail: [u8; 8]) -> Drive {
+    Drive { tail: Some(tail), ..drive }
 }
 
 /// A drive with a record of kind 4, whose fourteen bytes count up from the first.
@@ -815,14 +824,15 @@ fn b11_check_extensions(service: &dyn Service) {
 // rule: returnedSize resultAnswer
 fn b12_result_sizes(service: &dyn Service) {
     let mut stand = Stand::paper(service, 1024);
-    for asked in [0u16, 25, 26, 29, 30, 65, 66, 65535] {
+    for asked in [0u16, 25, 26, 29, 30, 65, 66, 73, 74, 65535] {
         let returned = match asked {
             0..=25 => None,
             26..=29 => Some(26),
             30..=65 => Some(30),
-            _ => Some(66),
+            66..=73 => Some(66),
+            _ => Some(74),
         };
-        for left in [0usize, 1, 2, 25, 26, 29, 30, 65, 66, 100] {
+        for left in [0usize, 1, 2, 25, 26, 29, 30, 65, 66, 73, 74, 100] {
             let place = 1024 - left;
             if left >= 2 {
                 stand.window(3)[place..place + 2].copy_from_slice(&asked.to_le_bytes());
@@ -847,7 +857,7 @@ fn b12_result_sizes(service: &dyn Service) {
 // rule: wholeResult checksum
 fn b13_result_bytes(service: &dyn Service) {
     let mut stand = Stand::paper(service, 1024);
-    stand.window(3)[8..10].copy_from_slice(&200u16.to_le_bytes());
+    stand.window(3)[8..10].copy_from_slice(&73u16.to_le_bytes());
     let before = stand.all();
     assert_eq!(stand.post(3, by_packet(0x48, 8)).1.ah(), 0);
     let mut expected = vec![66, 0, 2, 0, 2, 0, 0, 0, 16, 0, 0, 0, 63, 0, 0, 0, 0, 8, 0, 0, 0, 0, 0, 0, 0, 2, 255, 255, 255, 255];
@@ -931,7 +941,7 @@ fn c1_order_of_checks(service: &dyn Service) {
         bytes
     };
     assert_eq!(opened(service, &[5, 0, 2], 9), (1, 0), "three bytes");
-    assert_eq!(opened(service, &[5, 0, 2, 0], 9), (3, 0), "kind before length");
+    assert_eq!(opened(service, &[5, 0, 5, 0], 9), (3, 0), "kind before length");
     assert_eq!(opened(service, &[5, 0, 0, 0], 9), (2, 0), "an end record of length 5");
     assert_eq!(opened(service, &with(0, 67)[..10], 9), (2, 0), "length before cut off");
     assert_eq!(opened(service, &record[..67], 9), (1, 0), "cut off");
@@ -957,14 +967,13 @@ fn c2_places(service: &dyn Service) {
     assert_eq!(opened(service, &[], 9), (1, 0));
     assert_eq!(opened(service, &record, 9), (1, 68), "no end record");
     assert_eq!(opened(service, &[4, 0, 0, 0, 4, 0, 0, 0], 9), (8, 4));
-    assert_eq!(opened(service, &[record.clone(), vec![4, 0, 2, 0]].concat(), 9), (3, 68));
+    assert_eq!(opened(service, &[record.clone(), vec![4, 0, 5, 0]].concat(), 9), (3, 68));
     assert_eq!(opened(service, &[record, vec![4, 0]].concat(), 9), (1, 68));
 }
 
-// rule: fieldsOk
-fn c3_fields(service: &dyn Service) {
-    let good = Drive { blocks: 2048, ..paper_drive() };
-    let cases: [(&str, Drive, u32); 27] = [
+/// A drive of 2048 blocks with one field changed, and what the table's check of its fields says: 5, or 0.
+fn field_cases(good: Drive) -> [(&'static str, Drive, u32); 27] {
+    [
         ("blocks 0", Drive { blocks: 0, ..good }, 5),
         ("blocks below the geometry", Drive { blocks: 2015, ..good }, 5),
         ("blocks as the geometry", Drive { blocks: 2016, ..good }, 0),
@@ -992,8 +1001,12 @@ fn c3_fields(service: &dyn Service) {
         ("ATA and spaces", Drive { interface_type: *b"ATA     ", ..good }, 5),
         ("a byte after ATA", Drive { interface_type: *b"ATA\0\0\0\0\x01", ..good }, 5),
         ("any paths", Drive { interface_path: [0xFF; 8], device_path: [0xFE; 8], physical: [u32::MAX; 3], ..good }, 0),
-    ];
-    for (what, drive, number) in cases {
+    ]
+}
+
+// rule: fieldsOk
+fn c3_fields(service: &dyn Service) {
+    for (what, drive, number) in field_cases(paper_drive()) {
         let expected = (number, if number == 0 { UNWRITTEN } else { 0 });
         assert_eq!(opened(service, &drives::table(&[drive]), 2048), expected, "{what}");
     }
@@ -1182,7 +1195,7 @@ fn d4_words_that_a_stage_does_not_use(service: &dyn Service) {
             stand.refused_with("finished", row(3, k), value);
         }
         for slot in 2..8 {
-            for k in 0..14 {
+            for k in 0..16 {
                 stand.refused_with("an unused slot of the table", drive_word(slot, k), value);
             }
         }
@@ -1315,7 +1328,7 @@ fn e1_windows(service: &dyn Service) {
 
 // rule: windowLength inStore
 fn e2_odd_arenas(service: &dyn Service) {
-    let edges = [1, 2, 25, 26, 29, 30, 65, 66].map(|m| 8 * m + 3);
+    let edges = [1, 2, 25, 26, 29, 30, 65, 66, 73, 74].map(|m| 8 * m + 3);
     for arena_length in [0, 7, 8, 127, 128, 8 * 511, 4096 + 7, 8 * 512 + 7].into_iter().chain(edges) {
         let mut stand = Stand::open(service, &[small_drive(0, 4)], arena_length, 4 * 512 + 100);
         let m = arena_length / 8;
@@ -1342,7 +1355,7 @@ fn e2_odd_arenas(service: &dyn Service) {
             assert!(stand.store.bytes()[4 * 512..] == last[..], "bytes past the last block");
         }
         // P8; None is 01h
-        let sizes = [(25, None), (26, Some(26)), (29, Some(26)), (30, Some(30)), (65, Some(30)), (66, Some(66)), (65535, Some(66))];
+        let sizes = [(25, None), (26, Some(26)), (29, Some(26)), (30, Some(30)), (65, Some(30)), (66, Some(66)), (65535, Some(74))];
         for (asked, returned) in sizes {
             if m >= 2 {
                 stand.window(5)[..2].copy_from_slice(&u16::to_le_bytes(asked));
@@ -1679,12 +1692,14 @@ fn h1_checks_before_9(service: &dyn Service) {
         assert_eq!(at_68(&record), (2, 68), "length {length}");
         assert_eq!(at_68(&record[..4]), (2, 68), "length {length}, cut off");
     }
-    for kind in [2, 5, 0x103, 0x104, 0x300, 0x400] {
+    for kind in [5, 6, 0x103, 0x104, 0x202, 0x300, 0x400] {
         let mut record = bad.clone();
         record[2..4].copy_from_slice(&u16::to_le_bytes(kind));
         assert_eq!(at_68(&record), (3, 68), "kind {kind}");
     }
-    assert_eq!((at_68(&[20, 0, 0, 0]), at_68(&[20, 0, 1, 0])), ((2, 68), (2, 68)), "the length of another kind");
+    for kind in 0..=2 {
+        assert_eq!(at_68(&[20, 0, kind, 0]), (2, 68), "the length of another kind");
+    }
     // before the fields of the drive behind it and the bytes after the end; a record that is good leaves those tests
     let faulty = Drive { sectors: 0, ..small_drive(1, 1) }.record();
     assert_eq!(at_68(&[&bad[..], &faulty].concat()), (9, 68));
@@ -2059,16 +2074,16 @@ fn h15_flags_of_48h(service: &dyn Service) {
     // every word that a table may hold, bit by bit, in every size; no other byte goes by the flags
     for some in 0..16 {
         let mut stand = Stand::open(service, &flagged(8 * some..8 * some + 8), 8 * 1024, 8 * 512);
-        let others = stand.result(6, 0x80, 66).0[4..].to_vec();
         for (dl, flags) in (0x80..).zip(8 * some..8 * some + 8) {
-            for size in [26, 29, 30, 65, 66, 1000] {
+            for size in [26, 29, 30, 65, 66, 73, 74, 1000] {
+                let others = stand.result(6, 0x80, size).0[4..].to_vec();
                 let result = stand.result(6, dl, size).0;
                 for bit in 0..16 {
                     let (given, removable) = (flags >> bit & 1 == 1, flags >> 2 & 1 == 1);
                     let shown = u16::from_le_bytes([result[2], result[3]]) >> bit & 1 == 1;
                     assert_eq!(shown, given && (removable || !(4..=6).contains(&bit)), "flags {flags:02x}, bit {bit}, size {size}");
                 }
-                assert!(result[4..] == others[..result.len() - 4], "flags {flags:02x}, size {size}: byte 65 too");
+                assert!(result[4..] == others, "flags {flags:02x}, size {size}: the checksum too");
             }
         }
     }
@@ -2289,7 +2304,9 @@ fn h20_settling_bytes(service: &dyn Service) {
         let after = |record: &[u8]| [&records(before)[..], record, &drives::END].concat();
         // 3 and 2: with the fourth byte of the record
         for (header, number) in [
-            ([0x44, 0, 2, 0], 3),
+            ([0x44, 0, 2, 0], 2),
+            ([0x4C, 0, 2, 1], 3),
+            ([0x4C, 0, 1, 0], 2),
             ([4, 0, 3, 0], 2),
             ([0x0E, 0, 3, 1], 3),
             ([5, 0, 9, 0], 3),
@@ -2332,7 +2349,7 @@ fn h20_settling_bytes(service: &dyn Service) {
         settles(service, "a ninth drive", &[eight, &ninth.record(), &drives::END].concat(), 9, 704 + 67, (4, 704));
     }
     settles(service, "a ninth drive of length 67", &[eight, &[0x43, 0, 1, 0, 9]].concat(), 9, 707, (2, 704));
-    settles(service, "kind 2 after eight", &[eight, &[0x44, 0, 2, 0, 9]].concat(), 9, 707, (3, 704));
+    settles(service, "kind 5 after eight", &[eight, &[0x44, 0, 5, 0, 9]].concat(), 9, 707, (3, 704));
     settles(service, "parameters repeated", &[eight, &parameters_record(7), &[9]].concat(), 9, 704 + 19, (9, 704));
     settles(service, "a byte behind eight drives with parameters", &[&parameters_table()[..], &[0, 0]].concat(), 9, 708, (8, 708));
 }
@@ -2373,7 +2390,7 @@ fn h22_empty_fragments(service: &dyn Service) {
     reader.ends_with(&table);
     reader.unchanged("nothing was fed", |reader| assert_eq!(reader.feed(&[]), ACCEPTED));
     let mut refused = Arrival::open(service, 64);
-    assert_eq!(refused.feed(&[0x44, 0, 2, 0]), (3, 0));
+    assert_eq!(refused.feed(&[0x44, 0, 5, 0]), (3, 0));
     refused.unchanged("nothing was fed", |reader| assert_eq!(reader.feed(&[]), (3, 0)));
 }
 
@@ -2392,7 +2409,7 @@ fn h23_several_records_in_one(service: &dyn Service) {
     for before in [1, 68, 100, 176, 600] {
         let mut reader = Arrival::open(service, 8);
         assert_eq!(reader.feed(&table[..before]), MORE);
-        assert_eq!(reader.feed(&[&table[before..704], &[4, 0, 2, 0]].concat()), (3, 704), "after {before} bytes");
+        assert_eq!(reader.feed(&[&table[before..704], &[4, 0, 5, 0]].concat()), (3, 704), "after {before} bytes");
     }
     // a long one after the end record, and one that is refused by its first bytes
     let mut reader = Arrival::open(service, 8);
@@ -2407,7 +2424,7 @@ fn h24_after_a_refusal(service: &dyn Service) {
     let one = drives::table(&[small_drive(0, 4)]);
     let refusals: [(&[u8], (u32, u64)); 5] = [
         (&[0x43, 0, 1, 0], (2, 0)),
-        (&[&one[..68], &[4, 0, 2, 0]].concat(), (3, 68)),
+        (&[&one[..68], &[4, 0, 5, 0]].concat(), (3, 68)),
         (&[&one[..68], &one[..68]].concat(), (7, 68)),
         (&[&one[..68], &parameters_record(1)].concat(), (9, 68)),
         (&[&one[..], &[0]].concat(), (8, 72)),
@@ -2489,7 +2506,7 @@ fn h26_written_out(service: &dyn Service) {
 // rule: readerOpenCall Feed.opened exports::edd_reader_open exports::edd_reader_size
 fn h27_size_and_store(service: &dyn Service) {
     assert_eq!(service.reader_size(), READER_SIZE as u64);
-    assert_eq!(READER_SIZE, 1954);
+    assert_eq!(READER_SIZE, 2018);
     let good = Arrival::open(service, 64).block.bytes().to_vec();
     for size in [0, 1, 8, READER_SIZE - 8, READER_SIZE - 1, READER_SIZE + 1, READER_SIZE + 8, DESK_SIZE] {
         let mut bytes = good.clone();
@@ -2538,7 +2555,7 @@ fn h28_reader_block(service: &dyn Service) {
     is(&end_missing, "1", reader_block(3, 1, 64, &[], &table[..88]));
     for (what, bytes, refusal, records) in [
         ("2", [&table[..156], &[0x43, 0, 1, 0]].concat(), (2, 156), 156),
-        ("3", [&table[..88], &[0x44, 0, 2, 0, 5]].concat(), (3, 88), 88),
+        ("3", [&table[..88], &[0x44, 0, 5, 0, 5]].concat(), (3, 88), 88),
         ("7", [&table[..88], &table[..68]].concat(), (7, 88), 88),
         ("8", [&table[..], &[4]].concat(), (8, 160), 156),
         ("9", [&table[..88], &table[68..88]].concat(), (9, 88), 88),
@@ -2663,12 +2680,12 @@ fn h30_rules_of_the_block(service: &dyn Service) {
         block[READER_TABLE + at] = byte;
         refused(what, &block);
     }
-    for length in [0, 4, 88, 92, 156, 159, 161, 708, 709, 1780, 1781, 160 + 256, 1 << 32 | 160, u64::MAX] {
+    for length in [0, 4, 88, 92, 156, 159, 161, 708, 709, 1780, 1844, 1845, 160 + 256, 1 << 32 | 160, u64::MAX] {
         let mut block = reader_block(0, 0, 64, &[], records);
         block[32..40].copy_from_slice(&u64::to_le_bytes(length));
         refused("another length of the table", &block);
     }
-    for at in [160, 161, 707, 1779] {
+    for at in [160, 161, 707, 1779, 1843] {
         let mut block = reader_block(0, 0, 64, &[], records);
         block[READER_TABLE + at] = 1;
         refused("a byte behind the table", &block);
@@ -2832,7 +2849,7 @@ fn h32_order_of_the_checks(service: &dyn Service) {
     let good_and_bad = [drives::bad_record(0, &[0]), drives::bad_record(0, &[9])].concat();
     assert_eq!(at_68(&good_and_bad), (9, 82), "a repeat that is outside: 9 before 5");
     assert_eq!(at_68(&[parameters_record(0), drives::bad_record(0, &[9])].concat()), (9, 88), "behind kind 4 and outside: 9 before 5");
-    for kind in [0x103, 0x300, 0x303, 2, 5] {
+    for kind in [0x103, 0x300, 0x303, 0x202, 5] {
         let mut record = bad.clone();
         record[2..4].copy_from_slice(&u16::to_le_bytes(kind));
         assert_eq!(at_68(&record), (3, 68), "kind {kind:x}");
@@ -2953,10 +2970,11 @@ fn worn_drives(counts: [usize; 8]) -> Vec<Drive> {
     counts.iter().enumerate().map(of).collect()
 }
 
-/// Eight drives of 60 blocks with sixteen bad blocks and parameters, 1780 bytes.
+/// Eight drives of kind 2 of 60 blocks with sixteen bad blocks and parameters, 1844 bytes.
 fn longest_table() -> Vec<u8> {
     let list: Vec<u64> = (0..16).map(|i| 3 * i + 1).collect();
-    drives::table(&(0..8).map(|i| with_parameters(worn(small_drive(60 * i, 60), &list), i as u8)).collect::<Vec<_>>())
+    let of = |i: u64| with_parameters(worn(wide(small_drive(60 * i, 60), [0x91 + i as u8; 8]), &list), i as u8);
+    drives::table(&(0..8).map(of).collect::<Vec<_>>())
 }
 
 // rule: slotRecords badRecord tableOf writeOut withBads badsWords
@@ -2988,8 +3006,8 @@ fn h35_written_back(service: &dyn Service) {
     }
     assert_eq!(longest_table().len(), LONGEST_TABLE);
     assert_eq!(opened(service, &longest_table(), 480), ACCEPTED, "the longest table");
-    assert_eq!(opened(service, &[&longest_table()[..], &[0]].concat(), 480), (8, 1780));
-    assert_eq!((DESK_SIZE, 8 * BAD_COUNTS, 8 * (BAD_LISTS + 128)), (3792, 2704, DESK_SIZE));
+    assert_eq!(opened(service, &[&longest_table()[..], &[0]].concat(), 480), (8, 1844));
+    assert_eq!((DESK_SIZE, 8 * BAD_COUNTS, 8 * (BAD_LISTS + 128)), (3920, 2832, DESK_SIZE));
 }
 
 // rule: movesNow serve stageAfter ended badCode reported good isBad
@@ -3450,7 +3468,7 @@ fn h46_lists_in_the_block(service: &dyn Service) {
         stand.refused_with("the last number at the drive's end", drive_word(slot, 3), last);
     }
     // a drive less: its list has no drive any more
-    for word in 0..14 {
+    for word in 0..16 {
         stand.set_word(drive_word(3, word), 0);
     }
     stand.refused_with("a list past the drives", DRIVE_COUNT, 3);
@@ -3534,14 +3552,14 @@ fn h48_lists_in_fragments(service: &dyn Service) {
     }
     // the longest record in every two pieces, the longest table byte by byte and in pieces around the records' lengths
     let longest = longest_table();
-    for cut in 68..=202 {
+    for cut in 76..=210 {
         let mut reader = Arrival::open(service, 480);
         for piece in [&longest[..cut], &longest[cut..]] {
             assert_eq!(reader.feed(piece), MORE, "cut at {cut}");
         }
         reader.ends_with(&longest);
     }
-    for length in [1, 3, 13, 14, 67, 68, 69, 133, 134, 135, 202, 221, 222, 223, 1776, 1779, 1780] {
+    for length in [1, 3, 13, 14, 75, 76, 77, 133, 134, 135, 210, 229, 230, 231, 1840, 1843, 1844] {
         let mut reader = Arrival::open(service, 480);
         for piece in longest.chunks(length) {
             assert_eq!(reader.feed(piece), MORE, "pieces of {length}");
@@ -3610,10 +3628,10 @@ fn h50_readers_of_lists(service: &dyn Service) {
     // a full block: the longest record but for its last byte, after the longest table
     let longest = longest_table();
     let mut reader = Arrival::open(service, 480);
-    assert_eq!(reader.feed(&[&longest[..1776], &longest[68..201]].concat()), MORE);
-    is(&reader, "full", reader_block(0, 0, 480, &longest[68..201], &longest[..1776]));
-    assert_eq!(reader.feed(&longest[201..202]), (9, 1776));
-    is(&reader, "refused when full", reader_block(3, 9, 480, &[], &longest[..1776]));
+    assert_eq!(reader.feed(&[&longest[..1840], &longest[76..209]].concat()), MORE);
+    is(&reader, "full", reader_block(0, 0, 480, &longest[76..209], &longest[..1840]));
+    assert_eq!(reader.feed(&longest[209..210]), (9, 1840));
+    is(&reader, "refused when full", reader_block(3, 9, 480, &[], &longest[..1840]));
 
     // what may be held: any beginning of a list, of one to sixteen numbers
     let refused = |what: &str, block: &[u8]| Arrival::at(service, block).refused_everywhere(what);
@@ -3735,6 +3753,926 @@ fn h52_blocks_of_64_bits(service: &dyn Service) {
     }
 }
 
+// ---- h: the 74-byte result, drives of kind 2, conversions (change request 2026-06)
+
+/// A drive of kind 2 and of type I2O.
+fn i2o(drive: Drive, tail: [u8; 8]) -> Drive {
+    Drive { interface_type: drives::I2O, ..wide(drive, tail) }
+}
+
+/// A drive of kind 2 and of type I2O with another value in every byte of its record that 48h shows.
+fn i2o_with_all_fields() -> Drive {
+    Drive {
+        physical: [0x0102_0304, 0x0506_0708, 0x090A_0B0C],
+        blocks: 0x0112_1314,
+        first: 17,
+        flags: 0x56,
+        cylinders: 291,
+        heads: 127,
+        sectors: 45,
+        protection: 1,
+        host_bus: *b"ISA\0",
+        interface_type: drives::I2O,
+        interface_path: [0x61, 0x62, 0x63, 0x64, 0x65, 0x66, 0x67, 0x68],
+        device_path: [0x71, 0x72, 0x73, 0x74, 0x75, 0x76, 0x77, 0x78],
+        tail: Some([0x81, 0x82, 0x83, 0x84, 0x85, 0x86, 0x87, 0x88]),
+        bad: Bad::default(),
+        parameters: None,
+    }
+}
+
+fn wide_record(number: u64) -> Vec<u8> {
+    wide(small_drive(number, 1), [0xA0 + number as u8; 8]).record()
+}
+
+impl Stand<'_> {
+    /// A 48h for guest 6 with the size word at 0000:place, or without one where it does not fit, that returns so many bytes or is 01h.
+    /// Nothing else changes.
+    fn returns(&mut self, what: &str, dl: u8, place: usize, asked: u16, returned: Option<usize>) {
+        let length = self.arena.bytes().len() / 8;
+        if place + 2 <= length {
+            self.window(6)[place..place + 2].copy_from_slice(&asked.to_le_bytes());
+        }
+        let before = self.all();
+        let given = Registers { ds: 0, si: place as u16, ..registers(0x48, 9, dl) };
+        let got = self.post(6, given);
+        let Some(size) = returned else {
+            assert_eq!(got, (DONE, refused(given, 0x01)), "{what}: size {asked}");
+            assert!(self.all() == before, "{what}: size {asked}: something changed");
+            return;
+        };
+        assert_eq!(got, (DONE, succeeded(given)), "{what}: size {asked}");
+        let (desk, arena, store) = self.all();
+        let at = 6 * length + place;
+        assert_eq!(arena[at..at + 2], (size as u16).to_le_bytes(), "{what}: size {asked}");
+        assert!(arena[..at] == before.1[..at], "{what}: size {asked}: bytes before the result");
+        assert!(arena[at + size..] == before.1[at + size..], "{what}: size {asked}: bytes past the result stay");
+        assert!((desk, store) == (before.0, before.2), "{what}: size {asked}: desk or store");
+    }
+}
+
+// rule: returnedSize resultAnswer
+fn h53_result_sizes(service: &dyn Service) {
+    let drives = [
+        ("kind 1", small_drive(0, 4), 66),
+        ("kind 2 with eight zeros", wide(small_drive(4, 4), [0; 8]), 66),
+        ("kind 2", wide(small_drive(8, 4), [0x5A; 8]), 66),
+        ("I2O", i2o(small_drive(12, 4), [0x5A; 8]), 30),
+        ("I2O with eight zeros", i2o(small_drive(16, 4), [0; 8]), 30),
+        ("kind 1 behind I2O", small_drive(20, 4), 66),
+    ];
+    let mut stand = Stand::open(service, &drives.map(|(_, drive, _)| drive), 8 * 1024, 24 * 512);
+    // the low byte of some is that of another size
+    let more = [100, 255, 256, 256 + 25, 256 + 26, 256 + 30, 256 + 66, 256 + 74, 0x1A00, 0x4200, 0x4A00, 65534, 65535];
+    for (dl, (what, _, at_66)) in (0x80..).zip(drives) {
+        for asked in (0..=75).chain(more) {
+            let returned = match asked {
+                0..=25 => None,
+                26..=29 => Some(26),
+                30..=65 => Some(30),
+                66..=73 => Some(at_66),
+                _ => Some(74),
+            };
+            stand.returns(what, dl, 0x123, asked, returned);
+        }
+    }
+}
+
+// rule: wholeResult checksum
+fn h54_whole_results(service: &dyn Service) {
+    // document 01's drive: byte 73 makes the sum zero, with 20h in both names
+    let expected = [
+        0x4A, 0, 2, 0, 2, 0, 0, 0, 16, 0, 0, 0, 63, 0, 0, 0, 0, 8, 0, 0, 0, 0, 0, 0, 0, 2, 0xFF, 0xFF, 0xFF, 0xFF, // to 29
+        0xDD, 0xBE, 0x2C, 0, 0, 0, 0x50, 0x43, 0x49, 0x20, 0x41, 0x54, 0x41, 0x20, 0x20, 0x20, 0x20, 0x20, // to 47
+        0, 0x1F, 1, 0, 0, 0, 0, 0, 0, 0, 0, 0, 0, 0, 0, 0, 0, 0, 0, 0, 0, 0, 0, 0, 0, 0xA7,
+    ];
+    let mut stand = Stand::paper(service, 1024);
+    for asked in [74, 75, 1000, 65535] {
+        assert_eq!(stand.result(3, 0x80, asked).0, expected, "document 01's drive, size {asked}");
+    }
+    // its conversion has the same result, and one with a path of sixteen bytes shows the other eight from 64 on
+    let mut stand = Stand::open(service, &[wide(paper_drive(), [0; 8])], 8 * 1024, 2048 * 512);
+    assert_eq!(stand.result(3, 0x80, 74).0, expected, "its conversion");
+    let mut stand = Stand::open(service, &[wide(paper_drive(), [1, 2, 3, 4, 5, 6, 7, 8])], 8 * 1024, 2048 * 512);
+    let mut with_tail = expected;
+    with_tail[64..72].copy_from_slice(&[1, 2, 3, 4, 5, 6, 7, 8]);
+    with_tail[73] = 0x83;
+    assert_eq!(stand.result(3, 0x80, 74).0, with_tail, "with a tail");
+
+    // every byte another value
+    let mut expected = [
+        0x4A, 0, 0x56, 0, 4, 3, 2, 1, 8, 7, 6, 5, 12, 11, 10, 9, 0x14, 0x13, 0x12, 1, 0, 0, 0, 0, 0, 2, 0xFF, 0xFF, 0xFF,
+        0xFF, // to 29
+        0xDD, 0xBE, 0x2C, 0, 0, 0, 0x49, 0x53, 0x41, 0x20, 0x49, 0x32, 0x4F, 0x20, 0x20, 0x20, 0x20, 0x20, // to 47
+        0x61, 0x62, 0x63, 0x64, 0x65, 0x66, 0x67, 0x68, 0x71, 0x72, 0x73, 0x74, 0x75, 0x76, 0x77, 0x78, // to 63
+        0x81, 0x82, 0x83, 0x84, 0x85, 0x86, 0x87, 0x88, 0, 0xE6,
+    ];
+    let drive = i2o_with_all_fields();
+    let store = 512 * (drive.first + drive.blocks) as usize;
+    let mut stand = Stand::vast(service, &[drive], 8 * 1024, store);
+    assert_eq!(stand.result(3, 0x80, 74).0, expected, "I2O");
+    // asked with 66 it is answered as with 30; the size word is 30
+    stand.window(3)[0x21E..0x260].fill(0x77);
+    expected[0] = 30;
+    assert_eq!(stand.result(3, 0x80, 66).0, expected[..30], "I2O, size 66");
+    assert_eq!(stand.window(3)[0x21E..0x260], [0x77; 66], "bytes from 30 on stay");
+    // the same drive of another type has 66 bytes, with NULs, length byte 24h and the first eight bytes of the path
+    let mut stand = Stand::vast(service, &[Drive { interface_type: *b"FIBRE\0\0\0", ..drive }], 8 * 1024, store);
+    expected[0] = 74;
+    expected[40..45].copy_from_slice(b"FIBRE");
+    expected[73] = 0x88;
+    assert_eq!(stand.result(3, 0x80, 74).0, expected, "FIBRE");
+    expected[0] = 66;
+    let end = [
+        0xDD, 0xBE, 0x24, 0, 0, 0, 0x49, 0x53, 0x41, 0, 0x46, 0x49, 0x42, 0x52, 0x45, 0, 0, 0, // to 47
+        0x61, 0x62, 0x63, 0x64, 0x65, 0x66, 0x67, 0x68, 0x71, 0x72, 0x73, 0x74, 0x75, 0x76, 0x77, 0x78, 0, 0x34,
+    ];
+    stand.window(3)[0x242..0x260].fill(0x77);
+    assert_eq!(stand.result(3, 0x80, 66).0, [&expected[..30], &end].concat(), "FIBRE, size 66");
+    assert_eq!(stand.window(3)[0x242..0x260], [0x77; 30], "bytes from 66 on stay");
+}
+
+// rule: wholeResult checksum
+/// The names of document 000, with its padding, in the longer result; with the record's in the shorter one.
+fn h55_padding(service: &dyn Service) {
+    let buses = [(*b"PCI\0", [0x50, 0x43, 0x49, 0x20]), (*b"ISA\0", [0x49, 0x53, 0x41, 0x20])];
+    let types = [
+        (*b"ATA\0\0\0\0\0", [0x41, 0x54, 0x41, 0x20, 0x20, 0x20, 0x20, 0x20]),
+        (*b"ATAPI\0\0\0", [0x41, 0x54, 0x41, 0x50, 0x49, 0x20, 0x20, 0x20]),
+        (*b"SCSI\0\0\0\0", [0x53, 0x43, 0x53, 0x49, 0x20, 0x20, 0x20, 0x20]),
+        (*b"USB\0\0\0\0\0", [0x55, 0x53, 0x42, 0x20, 0x20, 0x20, 0x20, 0x20]),
+        (*b"1394\0\0\0\0", [0x31, 0x33, 0x39, 0x34, 0x20, 0x20, 0x20, 0x20]),
+        (*b"FIBRE\0\0\0", [0x46, 0x49, 0x42, 0x52, 0x45, 0x20, 0x20, 0x20]),
+        (drives::I2O, [0x49, 0x32, 0x4F, 0x20, 0x20, 0x20, 0x20, 0x20]),
+    ];
+    // zeros in the paths are no padding
+    let paths = ([0, 1, 2, 0, 4, 0, 0, 7], [0, 9, 0, 0, 0, 0, 0, 0]);
+    for (host_bus, shown_bus) in buses {
+        for (interface_type, shown_type) in types {
+            let base = Drive { host_bus, interface_type, interface_path: paths.0, device_path: paths.1, ..small_drive(0, 1) };
+            for drive in [base, wide(base, [0; 8]), wide(base, [0, 0xEE, 0, 0, 0, 0, 0, 0x11])] {
+                let is_i2o = interface_type == drives::I2O;
+                if is_i2o && drive.tail.is_none() {
+                    continue;
+                }
+                let mut stand = Stand::open(service, &[drive], 8 * 1024, 512);
+                let long = stand.result(1, 0x80, 74).0;
+                assert_eq!(long[..2], [74, 0]);
+                assert_eq!(long[30..36], [0xDD, 0xBE, 0x2C, 0, 0, 0]);
+                assert_eq!((&long[36..40], &long[40..48]), (&shown_bus[..], &shown_type[..]), "padded with 20h");
+                assert_eq!((&long[48..56], &long[56..64]), (&paths.0[..], &paths.1[..]), "the paths as they are");
+                assert_eq!(long[64..72], drive.tail.unwrap_or([0; 8]));
+                assert_eq!((long[72], long[30..74].iter().fold(0, |sum: u8, byte| sum.wrapping_add(*byte))), (0, 0));
+                let short = stand.result(1, 0x80, 73).0;
+                if is_i2o {
+                    assert_eq!(short.len(), 30);
+                    continue;
+                }
+                assert_eq!(short[..2], [66, 0]);
+                assert_eq!(short[30..36], [0xDD, 0xBE, 0x24, 0, 0, 0]);
+                assert_eq!((&short[36..40], &short[40..48]), (&host_bus[..], &interface_type[..]), "NULs as in the record");
+                assert_eq!((&short[48..56], &short[56..64]), (&paths.0[..], &paths.1[..]));
+                assert_eq!((short[64], short[30..66].iter().fold(0, |sum: u8, byte| sum.wrapping_add(*byte))), (0, 0));
+            }
+        }
+    }
+    // the channel, byte 51, is byte 3 of the interface path: any value, of either kind
+    for channel in [0, 1, 2, 0x20, 0x7F, 0xFF] {
+        let base = Drive { interface_path: [1, 2, 3, channel, 5, 6, 7, 8], ..small_drive(0, 1) };
+        for drive in [base, wide(base, [9; 8]), i2o(base, [9; 8])] {
+            let mut stand = Stand::open(service, &[drive], 8 * 1024, 512);
+            assert_eq!(stand.result(1, 0x80, 74).0[48..56], [1, 2, 3, channel, 5, 6, 7, 8]);
+        }
+    }
+}
+
+// rule: resultAnswer returnedSize
+fn h56_room(service: &dyn Service) {
+    let drives = [small_drive(0, 4), wide(small_drive(4, 4), [0x5A; 8]), i2o(small_drive(8, 4), [0x5A; 8])];
+    let mut stand = Stand::open(service, &drives, 8 * 1024, 12 * 512);
+    for (dl, needed_at_66) in [(0x80, 66), (0x81, 66), (0x82, 30)] {
+        for left in [0, 1, 2, 25, 26, 29, 30, 31, 65, 66, 67, 72, 73, 74, 75] {
+            // it never falls back to a shorter result
+            for (asked, needed) in [(26, 26), (30, 30), (65, 30), (66, needed_at_66), (73, needed_at_66), (74, 74), (75, 74), (65535, 74)] {
+                let returned = (left >= 2 && left >= needed).then_some(needed);
+                stand.returns(&format!("{left} left"), dl, 1024 - left, asked, returned);
+            }
+        }
+    }
+}
+
+// rule: wholeResult pointerOf shownIn
+/// The pointer to the parameter table is there in the longer result, and where an I2O drive is asked with 66.
+fn h57_placed_tables(service: &dyn Service) {
+    let list = [
+        with_parameters(small_drive(0, 4), 0x10),
+        with_parameters(i2o(small_drive(4, 4), [0x5A; 8]), 0x30),
+        i2o(small_drive(8, 4), [0x5A; 8]),
+        with_parameters(wide(small_drive(12, 4), [0; 8]), 0x50),
+    ];
+    let mut stand = Stand::open(service, &list, 8 * 1024, 16 * 512);
+    let sizes = [(26, 26, 26), (30, 30, 30), (65, 30, 30), (66, 66, 30), (73, 66, 30), (74, 74, 74), (65535, 74, 74)];
+    for placed in [false, true] {
+        let pointers = if placed { [[0, 0, 4, 0], [0, 0, 5, 0], NO_POINTER, [0, 0, 6, 0]] } else { [NO_POINTER; 4] };
+        for (dl, pointer) in (0x80..).zip(pointers) {
+            for (asked, other, of_i2o) in sizes {
+                let returned = if matches!(dl, 0x81 | 0x82) { of_i2o } else { other };
+                stand.window(2)[0x200..0x260].fill(0x77);
+                let (result, after_26) = stand.result(2, dl, asked);
+                assert_eq!((result.len(), &result[..2]), (returned, &[returned as u8, 0][..]), "{dl:02x}, size {asked}");
+                assert_eq!(after_26, if asked < 30 { [0x77; 4] } else { pointer }, "{dl:02x}, size {asked}, placed: {placed}");
+                assert!(stand.window(2)[0x200 + returned..0x260].iter().all(|byte| *byte == 0x77), "{dl:02x}, size {asked}: bytes past it");
+            }
+            assert_eq!(stand.shown(2, dl), (pointer, if pointer == NO_POINTER { 1 } else { 5 }), "41h of {dl:02x}");
+        }
+        if !placed {
+            let of_i2o = [0x30, 0x31, 0x32, 0x33, 0xB4, 0x35, 0x36, 0x37, 0x38, 0x39, 0x3A, 0x3B, 0x3C, 0x3D, 0x11, 0x74];
+            stand.place_done(2, 0x40, &[GAPPED[0], of_i2o, GAPPED[1]]);
+        }
+    }
+}
+
+// rule: flagsShown FlagBits
+fn h58_flags_of_every_size(service: &dyn Service) {
+    let words = [(0x7A, 0x0A), (0x7E, 0x7E), (0x70, 0x00), (0x74, 0x74), (0x2B, 0x0B)];
+    for (flags, shown) in words {
+        let base = Drive { flags, ..small_drive(0, 1) };
+        for drive in [base, wide(base, [0; 8]), wide(base, [0x70; 8]), i2o(base, [0x70; 8])] {
+            let mut stand = Stand::open(service, &[drive], 8 * 1024, 512);
+            for asked in [26, 30, 66, 74] {
+                assert_eq!(stand.result(1, 0x80, asked).0[2..4], [shown, 0], "flags {flags:02x}, size {asked}");
+            }
+            assert_eq!(stand.word(drive_word(0, 5)), u64::from(flags), "the block keeps what was written");
+        }
+    }
+}
+
+// rule: recordOf tableOf driveWords writeOut
+fn h59_the_kind_is_kept(service: &dyn Service) {
+    let tails = [None, Some([0; 8]), Some([1, 2, 3, 4, 5, 6, 7, 8]), Some([0, 0, 0, 0, 0, 0, 0, 0x80]), Some([0xFF; 8])];
+    // each pair of neighbours, and all after one another
+    let pairs = tails.iter().flat_map(|a| tails.map(|b| vec![*a, b]));
+    for list in pairs.chain([tails.to_vec(), [tails.to_vec(), tails[..3].to_vec()].concat()]) {
+        let drives_of: Vec<Drive> = list.iter().zip(0..).map(|(tail, i)| Drive { tail: *tail, ..small_drive(i, 1) }).collect();
+        let table = drives::table(&drives_of);
+        assert_eq!(table.len(), list.iter().map(|tail| if tail.is_some() { 76 } else { 68 }).sum::<usize>() + 4);
+        let stand = Stand::open(service, &drives_of, 8 * 1024, 8 * 512);
+        for (slot, tail) in list.iter().enumerate() {
+            let words = (stand.word(drive_word(slot, KIND)), stand.word(drive_word(slot, TAIL)).to_le_bytes());
+            assert_eq!(words, tail.map_or((1, [0; 8]), |tail| (2, tail)), "{list:?}: slot {slot} of the block");
+        }
+        for slot in list.len()..8 {
+            assert_eq!((0..16).map(|word| stand.word(drive_word(slot, word))).sum::<u64>(), 0, "a blank slot");
+        }
+        let mut out = Lent::holding(&vec![0x3C; table.len() + 9], Place::END);
+        assert_eq!(stand.write(out.bytes_mut()), (DONE, table.len() as u64), "{list:?}");
+        assert!(out.bytes()[..table.len()] == table, "{list:?}: byte for byte");
+        assert!(out.bytes()[table.len()..] == [0x3C; 9] && out.margin_intact(), "{list:?}: bytes past it stay");
+        out.set_length(table.len() - 1, Place::END);
+        out.bytes_mut().fill(0x3C);
+        assert_eq!(stand.write(out.bytes_mut()), (19, UNWRITTEN), "{list:?}: one byte less");
+        assert!(out.bytes().iter().all(|byte| *byte == 0x3C));
+    }
+    let all = i2o_with_all_fields();
+    let stand = Stand::vast(service, &[all], 0, 512 * (all.first + all.blocks) as usize);
+    let mut out = [0; 80];
+    assert_eq!(stand.write(&mut out), (DONE, 80));
+    assert!(out[..] == drives::table(&[all])[..], "NULs in the names, as they were");
+    assert_eq!(
+        (out[..4].to_vec(), out[68..].to_vec()),
+        (vec![76, 0, 2, 0], vec![0x81, 0x82, 0x83, 0x84, 0x85, 0x86, 0x87, 0x88, 4, 0, 0, 0])
+    );
+}
+
+// rule: readTable tableOf writeOut feedAll
+/// Eight drives of kind 2 with sixteen bad blocks and parameters each: the longest table, read whole, in fragments, and written.
+fn h60_the_longest_table(service: &dyn Service) {
+    let table = longest_table();
+    assert_eq!((table.len(), LONGEST_TABLE), (1844, 1844));
+    assert_eq!(opened(service, &table, 480), ACCEPTED);
+    assert_eq!(opened(service, &table, 479), (6, 1610), "the last drive does not fit");
+    assert_eq!(opened(service, &[&table[..], &[0]].concat(), 480), (8, 1844));
+    for missing in [1, 3, 4] {
+        assert_eq!(opened(service, &table[..1844 - missing], 480), (1, 1840), "{missing} bytes missing");
+    }
+    assert_eq!(opened(service, &[&table[..1840], &wide_record(9)].concat(), 600), (4, 1840), "a ninth");
+    let mut stand = Stand::open(service, &[], 8 * 1024, 480 * 512);
+    assert_eq!(stand.open_again(&table, 8 * 1024, 480 * 512), ACCEPTED);
+    let mut out = vec![0x3C; 1845];
+    assert_eq!(stand.write(&mut out), (DONE, 1844));
+    assert!(out[..1844] == table && out[1844] == 0x3C);
+    assert_eq!(stand.write(&mut out[..1843]), (19, UNWRITTEN));
+    for length in [1, 2, 75, 76, 77, 134, 230, 921, 1843, 1844, 2000] {
+        let mut reader = Arrival::open(service, 480);
+        for piece in table.chunks(length) {
+            assert_eq!(reader.feed(piece), MORE, "pieces of {length}");
+        }
+        reader.ends_with(&table);
+        assert_eq!(reader.write(&mut out[..1843]), (19, UNWRITTEN));
+    }
+    for cut in (0..=table.len()).step_by(7) {
+        let mut reader = Arrival::open(service, 480);
+        assert_eq!((reader.feed(&table[..cut]), reader.feed(&table[cut..])), (MORE, MORE), "cut at {cut}");
+        reader.ends_with(&table);
+    }
+}
+
+// rule: readTable headerOf lengthOk isKind refusal
+fn h61_records_of_both_kinds(service: &dyn Service) {
+    let (d, w, p) = (small_record, wide_record, parameters_record);
+    let b = |number| drives::bad_record(number, &[0]);
+    let cases: [(&str, Vec<Vec<u8>>, (u32, u64)); 23] = [
+        ("one of kind 2", vec![w(0)], ACCEPTED),
+        ("both kinds", vec![d(0), w(1), d(2), w(3), w(4)], ACCEPTED),
+        ("a list", vec![w(0), b(0)], ACCEPTED),
+        ("parameters", vec![w(0), p(0)], ACCEPTED),
+        ("both", vec![w(0), b(0), p(0)], ACCEPTED),
+        ("both, for both kinds", vec![w(0), b(0), p(0), d(1), b(1), p(1), w(2), p(2)], ACCEPTED),
+        ("a list behind kind 4", vec![w(0), p(0), b(0)], (9, 96)),
+        ("a list twice", vec![w(0), b(0), b(0)], (9, 90)),
+        ("parameters twice", vec![w(0), p(0), p(0)], (9, 96)),
+        ("parameters of the drive before", vec![d(0), w(1), p(0)], (9, 144)),
+        ("a list of the drive before", vec![w(0), d(1), b(0)], (9, 144)),
+        ("a later drive's list", vec![w(0), b(1)], (9, 76)),
+        ("a list outside the drive", vec![w(0), drives::bad_record(0, &[1])], (5, 76)),
+        ("overlap, kind 1 first", vec![d(0), w(0)], (7, 68)),
+        ("overlap, kind 2 first", vec![w(0), d(0)], (7, 76)),
+        ("overlap, both kind 2", vec![w(3), w(1), w(3)], (7, 152)),
+        ("past the store", vec![w(0), w(9)], (6, 76)),
+        ("past the store, the first", vec![w(9)], (6, 0)),
+        ("I2O", vec![i2o(small_drive(2, 1), [1; 8]).record()], ACCEPTED),
+        ("I2O, and eight zeros", vec![i2o(small_drive(2, 1), [0; 8]).record()], ACCEPTED),
+        ("I2O in kind 1", vec![w(0), Drive { interface_type: drives::I2O, ..small_drive(1, 1) }.record()], (5, 76)),
+        ("5 before 6", vec![Drive { sectors: 0, ..wide(small_drive(9, 1), [1; 8]) }.record()], (5, 0)),
+        ("6 before 7", vec![w(8), wide(small_drive(8, 2), [1; 8]).record()], (6, 76)),
+    ];
+    for (what, records, expected) in cases {
+        let table = [records.concat(), drives::END.to_vec()].concat();
+        assert_eq!(opened(service, &table, 9), expected, "{what}");
+    }
+    assert_eq!(opened(service, &w(0), 9), (1, 76), "no end record");
+    // both kinds count for the ninth
+    for kinds in 0..=0xFF {
+        let of = |i: u64| if kinds >> i & 1 == 1 { w(i) } else { d(i) };
+        let eight: Vec<u8> = (0..8).flat_map(of).collect();
+        let place = 8 * 68 + 8 * (kinds as u32).count_ones() as u64;
+        assert_eq!(opened(service, &[&eight[..], &drives::END].concat(), 9), ACCEPTED, "kinds {kinds:08b}");
+        for ninth in [d(8), w(8)] {
+            assert_eq!(opened(service, &[&eight[..], &ninth, &drives::END].concat(), 9), (4, place), "kinds {kinds:08b}");
+            assert_eq!(opened(service, &[&eight[..], &ninth[..67]].concat(), 9), (1, place), "cut off, 1 before 4");
+        }
+        assert_eq!(opened(service, &[&eight[..], &w(8)[..75]].concat(), 9), (1, place), "cut off, 1 before 4");
+    }
+    let faulty = Drive { sectors: 0, ..wide(small_drive(0, 1), [1; 8]) }.record();
+    assert_eq!(opened(service, &[(0..8).flat_map(w).collect(), faulty].concat(), 9), (4, 608), "4 before 5");
+    // lengths: each kind has its own, by the whole word, before 1
+    for (kind, record, length) in [(1u8, d(0), 68), (2, w(0), 76)] {
+        for other in (0..=300).chain([0x4400, 0x4C00, 0x144, 0x14C, 65535]).filter(|other| *other != length) {
+            let mut bytes = record.clone();
+            bytes[..2].copy_from_slice(&u16::to_le_bytes(other));
+            assert_eq!(opened(service, &bytes, 9), (2, 0), "kind {kind} of length {other}");
+            assert_eq!(opened(service, &bytes[..4], 9), (2, 0), "kind {kind} of length {other}, cut off");
+        }
+        for cut in 0..usize::from(length) {
+            assert_eq!(opened(service, &record[..cut], 9), (1, 0), "{cut} bytes of kind {kind}");
+        }
+        for high in [1, 2, 0x80] {
+            let mut bytes = record.clone();
+            bytes[3] = high;
+            assert_eq!(opened(service, &bytes, 9), (3, 0), "kind {kind} and a high byte");
+        }
+    }
+}
+
+// rule: fieldsOk refusal
+fn h62_fields_of_kind_2(service: &dyn Service) {
+    for tail in [[0; 8], [0xFE; 8], *b"I2O\0\0\0\0\0"] {
+        for (what, drive, number) in field_cases(paper_drive()) {
+            let expected = (number, if number == 0 { UNWRITTEN } else { 0 });
+            assert_eq!(opened(service, &drives::table(&[wide(drive, tail)]), 2048), expected, "{what}");
+        }
+    }
+    // I2O, NUL-padded, and in kind 2 only
+    let types = [
+        (*b"I2O\0\0\0\0\0", 0),
+        (*b"I2O     ", 5),
+        (*b"I2O\0\0\0\0 ", 5),
+        (*b"I2O \0\0\0\0", 5),
+        (*b"i2o\0\0\0\0\0", 5),
+        (*b"I20\0\0\0\0\0", 5),
+        (*b"I2O\0\0\0\0\x01", 5),
+        (*b"I2OI2O\0\0", 5),
+        (*b"\0I2O\0\0\0\0", 5),
+        (*b"I2\0\0\0\0\0\0", 5),
+    ];
+    for (interface_type, number) in types {
+        let drive = Drive { interface_type, ..paper_drive() };
+        let expected = (number, if number == 0 { UNWRITTEN } else { 0 });
+        assert_eq!(opened(service, &drives::table(&[wide(drive, [3; 8])]), 2048), expected, "{interface_type:?} in kind 2");
+        assert_eq!(opened(service, &drives::table(&[drive]), 2048), (5, 0), "{interface_type:?} in kind 1");
+    }
+    for host_bus in [*b"I2O\0", *b"ISA ", *b"PCI "] {
+        assert_eq!(opened(service, &drives::table(&[wide(Drive { host_bus, ..paper_drive() }, [0; 8])]), 2048), (5, 0));
+    }
+}
+
+// rule: afterStep refusedAt readerFeedCall Arrives
+fn h63_what_settles_kind_2(service: &dyn Service) {
+    let good = [wide(small_drive(0, 4), [1; 8]), with_parameters(i2o(small_drive(4, 4), [2; 8]), 1), small_drive(8, 4)];
+    for before in 0..=3 {
+        let records = drives::table(&good[..before]).strip_suffix(&drives::END).unwrap().to_vec();
+        let at = records.len();
+        assert_eq!(at, [0, 76, 172, 240][before]);
+        let after = |record: &[u8]| [&records[..], record, &drives::END].concat();
+        for (header, number) in
+            [([0x44, 0, 2, 0], 2), ([0x4B, 0, 2, 0], 2), ([0x4C, 1, 2, 0], 2), ([0x4C, 0, 1, 0], 2), ([0x4C, 0, 5, 0], 3)]
+        {
+            settles(service, "a header", &after(&[&header[..], &[7; 80]].concat()), 64, at + 3, (number, at as u64));
+        }
+        // with the last byte of the tail, though the fields before it say it already
+        let bad = wide(small_drive(12, 4), [9; 8]);
+        for (what, drive, number) in [
+            ("a field", Drive { protection: 2, ..bad }, 5),
+            ("I2O and spaces", Drive { interface_type: *b"I2O     ", ..bad }, 5),
+            ("past the store", Drive { first: 61, ..bad }, 6),
+            ("overlap", Drive { first: 3, ..bad }, 7),
+        ] {
+            if number != 7 || before > 0 {
+                settles(service, what, &after(&drive.record()), 64, at + 75, (number, at as u64));
+            }
+        }
+        let kind_1 = Drive { interface_type: drives::I2O, ..small_drive(12, 4) };
+        settles(service, "I2O in kind 1", &after(&kind_1.record()), 64, at + 67, (5, at as u64));
+    }
+    // the ninth
+    let eight: Vec<u8> = (0..8).flat_map(|i| if i % 2 == 0 { wide_record(i) } else { small_record(i) }).collect();
+    settles(service, "a ninth drive of kind 2", &[&eight[..], &wide_record(8), &drives::END].concat(), 9, 576 + 75, (4, 576));
+    settles(service, "a ninth drive of kind 1", &[&eight[..], &small_record(8), &drives::END].concat(), 9, 576 + 67, (4, 576));
+    // cut in two at every place
+    let table = drives::table(&good);
+    for cut in 0..=table.len() {
+        let mut reader = Arrival::open(service, 64);
+        assert_eq!((reader.feed(&table[..cut]), reader.feed(&table[cut..])), (MORE, MORE), "cut at {cut}");
+        reader.ends_with(&table);
+        let mut ended = Arrival::open(service, 64);
+        assert_eq!(ended.feed(&table[..cut]), MORE);
+        assert_eq!(ended.end(), opened(service, &table[..cut], 64), "ended after {cut} bytes");
+    }
+}
+
+// rule: Reader.image Reader.accept Reader.accepted isCut
+fn h64_readers_of_kind_2(service: &dyn Service) {
+    let list = [wide(small_drive(0, 4), [1; 8]), with_parameters(i2o(small_drive(4, 4), [2; 8]), 1)];
+    let table = drives::table(&list);
+    let is = |reader: &Arrival, what: &str, block: Vec<u8>| {
+        let at = reader.block.bytes().iter().zip(&block).position(|(got, wanted)| got != wanted);
+        assert_eq!(at, None, "{what}: the first byte that differs");
+    };
+    let mut reader = Arrival::open(service, 64);
+    for length in 1..=table.len() {
+        assert_eq!(reader.feed(&table[length - 1..length]), MORE);
+        let taken = [172, 152, 76, 0].into_iter().find(|place| *place <= length).unwrap();
+        let whole = length == table.len();
+        let held = if whole { &[][..] } else { &table[taken..length] };
+        is(&reader, "reading", reader_block(u64::from(whole), 0, 64, held, &table[..taken]));
+    }
+    let refused = |what: &str, block: &[u8]| Arrival::at(service, block).refused_everywhere(what);
+    let says = |what: &str, block: &[u8], answer: (u32, u64)| {
+        let mut reader = Arrival::at(service, block);
+        reader.unchanged(what, |reader| assert_eq!(reader.feed(&[]), answer, "{what}"));
+    };
+    // any beginning of a record of kind 2 may be held, and no whole one
+    let any = [&[76, 0, 2, 0][..], &[0xFF; 72]].concat();
+    for held in 0..76 {
+        says("a beginning", &reader_block(0, 0, 64, &any[..held], &table[..76]), MORE);
+    }
+    refused("a whole record", &reader_block(0, 0, 64, &any, &table[..76]));
+    refused("more than a record", &reader_block(0, 0, 64, &[&any[..], &[0]].concat(), &table[..76]));
+    for header in [[68, 0, 2, 0], [75, 0, 2, 0], [77, 0, 2, 0], [76, 0, 1, 0], [76, 1, 2, 0], [76, 0, 2, 1], [76, 0, 3, 0], [76, 0, 4, 0]] {
+        refused("no beginning", &reader_block(0, 0, 64, &header, &table[..76]));
+    }
+    // the table in it
+    for (what, at, byte) in
+        [("length", 0, 68), ("kind", 2, 1), ("field", 39, 2), ("I2O, another byte", 76 + 47, 0x20), ("overlap", 76 + 24, 3)]
+    {
+        let mut block = reader_block(2, 0, 64, &[], &table[..172]);
+        block[READER_TABLE + at] = byte;
+        refused(what, &block);
+    }
+    for at in (68..76).chain(144..152) {
+        let mut block = reader_block(2, 0, 64, &[], &table[..172]);
+        block[READER_TABLE + at] = 0x99;
+        says("any tail", &block, ACCEPTED);
+    }
+    let kind_1 = Drive { interface_type: drives::I2O, ..small_drive(8, 4) }.record();
+    refused("I2O in kind 1", &reader_block(2, 0, 64, &[], &[&table[..172], &kind_1].concat()));
+    // each byte of two blocks changed: every call answers as the model does, and leaves the same block
+    for good in [reader_block(0, 0, 64, &table[76..151], &table[..76]), reader_block(2, 0, 64, &[], &table[..172])] {
+        for at in 0..40 + LONGEST_RECORD + 200 {
+            for change in [1, 0xFF] {
+                let mut block = good.clone();
+                block[at] = block[at].wrapping_add(change);
+                let by = |service: &dyn Service| {
+                    let (mut fed, mut ended, mut places) = (block.clone(), block.clone(), [UNWRITTEN; 3]);
+                    let [first, second, third] = &mut places;
+                    let feed = service.reader_feed(&mut fed, &[2, 0x14], first);
+                    let end = service.reader_end(&mut ended, second);
+                    let write = service.reader_write(&block, &mut [0; LONGEST_TABLE], third);
+                    ([feed, end, write], places, fed, ended)
+                };
+                assert!(by(service) == by(&Model), "byte {at}");
+            }
+        }
+    }
+}
+
+// rule: isSound isImage driveWords
+fn h65_kinds_in_the_block(service: &dyn Service) {
+    let list = [
+        small_drive(0, 4),
+        wide(small_drive(4, 4), [0; 8]),
+        wide(small_drive(8, 4), [1, 2, 3, 4, 5, 6, 7, 8]),
+        i2o(small_drive(12, 4), [0; 8]),
+    ];
+    let mut stand = Stand::open(service, &list, 8 * 1024, 16 * 512);
+    let (kind, tail, of_type) = (|slot| drive_word(slot, KIND), |slot| drive_word(slot, TAIL), |slot| drive_word(slot, TYPE));
+    let type_word = u64::from_le_bytes(drives::I2O);
+    for slot in 0..4 {
+        for value in
+            [0, 3, 4, 5, 255, 256, 257, 258, 65536, 65537, 65538, 1 << 32, 1 << 32 | 1, 1 << 32 | 2, 1 << 63 | 1, 1 << 63 | 2, u64::MAX]
+        {
+            stand.refused_with("no kind", kind(slot), value);
+        }
+    }
+    stand.accepted_with("kind 1 as kind 2", kind(0), 2);
+    stand.accepted_with("kind 2 with eight zeros as kind 1", kind(1), 1);
+    stand.refused_with("kind 2 with a tail as kind 1", kind(2), 1);
+    stand.refused_with("kind 2 of type I2O as kind 1", kind(3), 1);
+    stand.refused_with("kind 1 of type I2O", of_type(0), type_word);
+    stand.accepted_with("kind 2 of type I2O", of_type(1), type_word);
+    stand.accepted_with("kind 2 of type I2O, with a tail", of_type(2), type_word);
+    stand.accepted_with("kind 2 of another type", of_type(3), u64::from_le_bytes(*b"ATA\0\0\0\0\0"));
+    for other in [*b"I2O     ", *b"I2O\0\0\0\0 ", *b"I2O\0\0\0\0\x01", *b"i2o\0\0\0\0\0", [0; 8]] {
+        stand.refused_with("no type", of_type(3), u64::from_le_bytes(other));
+    }
+    for byte in 0..8 {
+        for value in [1 << (8 * byte), 0x80 << (8 * byte), 0xFF << (8 * byte)] {
+            stand.refused_with("kind 1 with a tail", tail(0), value);
+            stand.accepted_with("kind 2 with any tail", tail(1), value);
+            stand.accepted_with("I2O with any tail", tail(3), value);
+        }
+        let one_more = stand.word(tail(2)) ^ 1 << (8 * byte + 7);
+        stand.accepted_with("kind 2 with another tail", tail(2), one_more);
+    }
+    stand.accepted_with("kind 2 without a tail", tail(2), 0);
+    for slot in 4..8 {
+        for value in [1, 2, 3, 256, 65537, 1 << 63, u64::MAX] {
+            stand.refused_with("a blank slot with a kind", kind(slot), value);
+            stand.refused_with("a blank slot with a tail", tail(slot), value);
+        }
+    }
+    // a drive less: its kind has no drive any more
+    let kept = stand.desk.bytes().to_vec();
+    for word in (0..16).filter(|word| *word != KIND) {
+        stand.set_word(drive_word(3, word), 0);
+    }
+    stand.set_word(DRIVE_COUNT, 3);
+    stand.refused_everywhere("three drives, and a kind behind them");
+    stand.set_word(kind(3), 0);
+    assert!(stand.accepted(), "three drives");
+    stand.desk.bytes_mut().copy_from_slice(&kept);
+    // kind and tail are what is shown and written: the tail's bytes in their order
+    stand.set_word(kind(0), 2);
+    stand.set_word(tail(0), 0x8877_6655_4433_2211);
+    assert_eq!(stand.result(2, 0x80, 74).0[64..72], [0x11, 0x22, 0x33, 0x44, 0x55, 0x66, 0x77, 0x88]);
+    stand.set_word(kind(1), 1);
+    let mut now = list;
+    now[0].tail = Some([0x11, 0x22, 0x33, 0x44, 0x55, 0x66, 0x77, 0x88]);
+    now[1].tail = None;
+    let (table, mut out) = (drives::table(&now), [0x3C; LONGEST_TABLE]);
+    assert_eq!(stand.write(&mut out), (DONE, table.len() as u64));
+    assert!(out[..table.len()] == table, "the kinds that the block has");
+    // where things stand
+    assert_eq!([DRIVE_COUNT, POINTER, ARENA_LENGTH, STORE_LENGTH].map(|word| 8 * word), [2496, 2504, 2512, 2520]);
+    assert_eq!([8 * PLACED, 8 * ADDRESSES, 8 * PRESENT, PARAMETERS, 8 * BAD_COUNTS, 8 * BAD_LISTS], [2528, 2592, 2656, 2720, 2832, 2896]);
+    assert_eq!((8 * drive_word(0, 0), 8 * drive_word(1, KIND), service.desk_size()), (1472, 1472 + 128 + 112, 3920));
+    assert_eq!(service.version(), 6);
+}
+
+// rule: postOf turnOf placeOf
+/// But for 48h and the table written, a drive of kind 2 and of type I2O is served as one of kind 1.
+fn h66_served_as_kind_1(service: &dyn Service) {
+    let base = [with_parameters(worn(small_drive(0, 40), &[30]), 0x10), protected(small_drive(40, 20))];
+    let run = |list: &[Drive]| {
+        let mut stand = Stand::open(service, list, 8 * 21_000, 60 * 512);
+        let mut got: Vec<(u32, Registers)> = Vec::new();
+        for dl in [0x80, 0x81, 0x82] {
+            got.push(stand.post(1, Registers { bx: 0x55AA, ..registers(0x41, 0, dl) }));
+            got.push(stand.post(1, registers(0x08, 0, dl)));
+            for ah in [0x44, 0x47, 0x42, 0x43] {
+                for (count, start) in [(0, 0), (2, 3), (4, 28), (20, 5), (1, 40)] {
+                    stand.packet(1, 0x100, count, (0x20, 0), start);
+                    got.push(stand.post(1, Registers { ds: 0x10, si: 0, ..registers(ah, 0, dl) }));
+                    for _ in 0..2 {
+                        let (answer, guest, moved) = stand.turn();
+                        got.push((answer, Registers { ax: guest as u16, bx: moved as u16, ..STALE }));
+                    }
+                    got.push(stand.withdraw(1));
+                    got.push(stand.collect(1));
+                }
+            }
+            for (ah, sector) in [(0x02, 1), (0x03, 2), (0x02, 30), (0x03, 64)] {
+                got.push(stand.post(1, Registers { dx: u16::from(dl), ..by_sector(ah, 3, 0, 0, sector) }));
+                stand.turn();
+                got.push(stand.collect(1));
+            }
+        }
+        got.push((stand.place(1, 0x40), STALE));
+        got.push(stand.post(1, Registers { bx: 0x55AA, ..registers(0x41, 0, 0x80) }));
+        let (mut desk, arena, store) = stand.all();
+        for slot in 0..2 {
+            for word in [TYPE, KIND, TAIL] {
+                desk[8 * drive_word(slot, word)..][..8].fill(0);
+            }
+        }
+        (got, desk, arena, store)
+    };
+    let of_kind_1 = run(&base);
+    assert!(of_kind_1.0.iter().any(|(_, registers)| registers.ah() == 0x10), "a bad block was met");
+    for list in [base.map(|drive| wide(drive, [0; 8])), base.map(|drive| wide(drive, [0xEE; 8])), base.map(|drive| i2o(drive, [0xEE; 8]))] {
+        let other = run(&list);
+        assert_eq!(other.0, of_kind_1.0, "the answers");
+        assert!(other == of_kind_1, "desk, arena and store");
+    }
+}
+
+/// The converters, with a record and a buffer of any lengths.
+struct Converter<'a> {
+    service: &'a dyn Service,
+    record: Lent,
+    out: Lent,
+}
+
+#[derive(Clone, Copy, PartialEq, Debug)]
+enum To {
+    Kind2,
+    Kind1,
+}
+
+impl To {
+    /// The lengths of record and buffer.
+    fn lengths(self) -> (usize, usize) {
+        match self {
+            To::Kind2 => (68, 76),
+            To::Kind1 => (76, 68),
+        }
+    }
+}
+
+impl<'a> Converter<'a> {
+    fn new(service: &'a dyn Service) -> Converter<'a> {
+        Converter { service, record: Lent::with_room(300), out: Lent::with_room(300) }
+    }
+
+    /// What it answers, and what is then in the buffer, which held bytes that differ from place to place.
+    fn run(&mut self, to: To, record: &[u8], room: usize) -> (u32, Vec<u8>) {
+        self.record.set_length(record.len(), Place::END);
+        self.record.bytes_mut().copy_from_slice(record);
+        self.out.set_length(room, Place::END);
+        self.out.bytes_mut().copy_from_slice(&Converter::untouched(room));
+        let answer = match to {
+            To::Kind2 => self.service.convert_up(self.record.bytes(), self.out.bytes_mut()),
+            To::Kind1 => self.service.convert_down(self.record.bytes(), self.out.bytes_mut()),
+        };
+        assert!(self.record.bytes() == record && self.record.margin_intact() && self.out.margin_intact(), "it wrote elsewhere");
+        (answer, self.out.bytes().to_vec())
+    }
+
+    fn untouched(room: usize) -> Vec<u8> {
+        (0..room).map(|i| (7 * i + 0x3C) as u8).collect()
+    }
+
+    fn refused_in(&mut self, what: &str, to: To, record: &[u8], room: usize) {
+        assert_eq!(self.run(to, record, room), (10, Converter::untouched(room)), "{what}, to {to:?}");
+    }
+
+    fn refused(&mut self, what: &str, to: To, record: &[u8]) {
+        self.refused_in(what, to, record, to.lengths().1);
+    }
+
+    /// Converted to the other kind: length word, kind word, and eight zero bytes appended or dropped.
+    fn done(&mut self, what: &str, to: To, record: &[u8]) -> Vec<u8> {
+        let expected = match to {
+            To::Kind2 => [&[76, 0, 2, 0], &record[4..], &[0; 8]].concat(),
+            To::Kind1 => [&[68, 0, 1, 0], &record[4..68]].concat(),
+        };
+        assert_eq!(self.run(to, record, to.lengths().1), (DONE, expected.clone()), "{what}, to {to:?}");
+        expected
+    }
+}
+
+// rule: exports::edd_convert_up exports::edd_convert_down
+/// Each byte of document 01's record, and of its conversion, with every value that it can have: which of them convert is counted by hand.
+fn h67_every_byte_of_a_record(service: &dyn Service) {
+    let mut converter = Converter::new(service);
+    let narrow = paper_drive().record();
+    let long = [&[76, 0, 2, 0], &narrow[4..], &[0; 8]].concat();
+    for (to, record) in [(To::Kind2, &narrow), (To::Kind1, &long)] {
+        let mut converted = 0;
+        for at in 0..record.len() {
+            for byte in 0..=255 {
+                // 2048 blocks, 2 x 16 x 63 of them in the geometry
+                let may_be = match at {
+                    4..=15 => true,                 // physical geometry
+                    16 | 18..=23 => true,           // blocks
+                    17 => byte >= 8,                // 7 x 256 is below 2016
+                    24..=31 => true,                // first
+                    32 => byte < 0x80,              // flags
+                    34 => matches!(byte, 1 | 2),    // C
+                    36 => (1..=16).contains(&byte), // H
+                    38 => (1..=63).contains(&byte), // S
+                    39 => byte <= 1,                // protection
+                    52..=67 => true,                // paths
+                    _ => byte == record[at],        // length, kind, high bytes, names, tail
+                };
+                let mut changed = record.clone();
+                changed[at] = byte;
+                if may_be {
+                    converter.done(&format!("byte {at} is {byte:02x}"), to, &changed);
+                    converted += 1;
+                } else {
+                    converter.refused(&format!("byte {at} is {byte:02x}"), to, &changed);
+                }
+            }
+        }
+        // 43 bytes may be anything; 248, 128, 2, 16, 63 and 2 values; one value of the others
+        let others = if to == To::Kind2 { 19 } else { 27 };
+        assert_eq!(converted, 43 * 256 + 248 + 128 + 2 + 16 + 63 + 2 + others);
+    }
+    // a drive of type I2O converts neither as it is nor with a byte changed
+    let record = i2o(paper_drive(), [0; 8]).record();
+    converter.refused("I2O", To::Kind1, &record);
+    for at in 0..76 {
+        for change in [1, 0x20, 0x80, 0xFF] {
+            let mut changed = record.clone();
+            changed[at] = changed[at].wrapping_add(change);
+            converter.refused(&format!("I2O, byte {at}"), To::Kind1, &changed);
+        }
+    }
+}
+
+// rule: exports::edd_convert_up exports::edd_convert_down
+fn h68_lengths_of_a_conversion(service: &dyn Service) {
+    let mut converter = Converter::new(service);
+    let (narrow, long) = (paper_drive().record(), wide(paper_drive(), [0; 8]).record());
+    converter.done("its kind", To::Kind2, &narrow);
+    converter.done("its kind", To::Kind1, &long);
+    let lengths = [0, 1, 3, 4, 67, 68, 69, 72, 75, 76, 77, 136, 144, 152, 256];
+    for (to, record) in [(To::Kind2, &narrow), (To::Kind1, &long)] {
+        let (length, room) = to.lengths();
+        for other in lengths {
+            let mut bytes = record.to_vec();
+            bytes.resize(other, 0);
+            for out in lengths {
+                if (other, out) != (length, room) {
+                    converter.refused_in(&format!("{other} bytes into {out}"), to, &bytes, out);
+                }
+            }
+            // as long as its buffer is
+            if let (Ok(word), true) = (u8::try_from(other), other >= 4 && other != length) {
+                bytes[0] = word;
+                converter.refused_in(&format!("{other} bytes that say so"), to, &bytes, room);
+            }
+        }
+    }
+    // the other kind's record, in its own length and in this one's
+    converter.refused_in("kind 2", To::Kind2, &long, 76);
+    converter.refused_in("kind 2, swapped", To::Kind2, &long, 68);
+    converter.refused("the first 68 bytes of kind 2", To::Kind2, &long[..68]);
+    converter.refused_in("kind 1", To::Kind1, &narrow, 68);
+    converter.refused_in("kind 1, swapped", To::Kind1, &narrow, 76);
+    converter.refused("kind 1 and eight zeros", To::Kind1, &[&narrow[..], &[0; 8]].concat());
+    // each of the two words by itself, whole
+    for (to, record) in [(To::Kind2, &narrow), (To::Kind1, &long)] {
+        let with = |at: usize, word: u16| {
+            let mut bytes = record.clone();
+            bytes[at..at + 2].copy_from_slice(&word.to_le_bytes());
+            bytes
+        };
+        for length in [0, 4, 20, 67, 69, 75, 77, 144 - record.len() as u16, 0x144, 0x14C, 0x4400, 0x4C00, 65535] {
+            converter.refused(&format!("length word {length}"), to, &with(0, length));
+        }
+        for kind in [0, 3, 4, 5, 3 - u16::from(record[2]), 0x101, 0x102, 0x100, 0x200, 65535] {
+            converter.refused(&format!("kind word {kind}"), to, &with(2, kind));
+        }
+    }
+}
+
+// rule: exports::edd_convert_up exports::edd_convert_down fieldsOk
+/// Up, then down, gives the original bytes; a record that check 5 refuses is 10, one that only checks 6 and 7 would refuse converts.
+fn h69_up_and_down(service: &dyn Service) {
+    let mut converter = Converter::new(service);
+    for (what, drive, number) in field_cases(paper_drive()) {
+        for first in [0, 1, 2048, 1 << 40, u64::MAX] {
+            let drive = Drive { first, ..drive };
+            if number == 0 {
+                let up = converter.done(what, To::Kind2, &drive.record());
+                assert!(converter.done(what, To::Kind1, &up) == drive.record(), "{what}: the original bytes");
+            } else {
+                converter.refused(what, To::Kind2, &drive.record());
+                converter.refused(what, To::Kind1, &wide(drive, [0; 8]).record());
+            }
+        }
+    }
+    // where the drive lies does not matter, nor what it says of itself that no check looks at
+    for (first, blocks) in [(u64::MAX, u64::MAX), (u64::MAX, 2016), (0, u64::MAX), (1 << 63, 1 << 63), (u64::MAX - 2015, 2016)] {
+        let drive = Drive { first, blocks, physical: [u32::MAX; 3], ..paper_drive() };
+        assert_eq!(opened(service, &drives::table(&[drive]), 1 << 50).0, 6, "no store holds it");
+        let up = converter.done("past every store", To::Kind2, &drive.record());
+        assert!(converter.done("past every store", To::Kind1, &up) == drive.record());
+    }
+    let limits = Drive { blocks: 1024 * 255 * 63, cylinders: 1024, heads: 255, sectors: 63, flags: 0x7F, protection: 1, ..paper_drive() };
+    for drive in [limits, Drive { blocks: 1, cylinders: 1, heads: 1, sectors: 1, flags: 0, ..paper_drive() }] {
+        let up = converter.done("at the limits", To::Kind2, &drive.record());
+        assert!(converter.done("at the limits", To::Kind1, &up) == drive.record());
+        let one_less = Drive { blocks: drive.blocks - 1, ..drive };
+        converter.refused("one block less", To::Kind2, &one_less.record());
+        converter.refused("one block less", To::Kind1, &wide(one_less, [0; 8]).record());
+    }
+    let mut chance = Chance::new(66);
+    for _ in 0..300 {
+        let blocks = chance.between(1, 1 << 20);
+        let drive = Drive { tail: None, ..drives::drive(&mut chance, 0, blocks) };
+        let first = chance.any();
+        if drive.interface_type == drives::I2O {
+            converter.refused("I2O in kind 1", To::Kind2, &Drive { first, ..drive }.record());
+            continue;
+        }
+        let record = Drive { first, ..drive }.record();
+        let up = converter.done("any", To::Kind2, &record);
+        assert!(converter.done("any", To::Kind1, &up) == record, "the original bytes");
+    }
+}
+
+// rule: exports::edd_convert_down
+/// Down, a sound record is refused exactly when the last eight bytes are not zero or the type is I2O.
+fn h70_what_has_no_kind_1(service: &dyn Service) {
+    let mut converter = Converter::new(service);
+    let all = i2o_with_all_fields();
+    for interface_type in
+        [*b"ATA\0\0\0\0\0", *b"ATAPI\0\0\0", *b"SCSI\0\0\0\0", *b"USB\0\0\0\0\0", *b"1394\0\0\0\0", *b"FIBRE\0\0\0", drives::I2O]
+    {
+        let drive = Drive { interface_type, ..all };
+        let is_i2o = interface_type == drives::I2O;
+        if is_i2o {
+            converter.refused("I2O", To::Kind1, &wide(drive, [0; 8]).record());
+            converter.refused("I2O in kind 1", To::Kind2, &Drive { tail: None, ..drive }.record());
+        } else {
+            let down = converter.done("eight zeros", To::Kind1, &wide(drive, [0; 8]).record());
+            assert!(down == Drive { tail: None, ..drive }.record());
+        }
+        for at in 0..8 {
+            for bit in 0..8 {
+                let mut tail = [0; 8];
+                tail[at] = 1 << bit;
+                converter.refused(&format!("byte {at} of the tail, bit {bit}"), To::Kind1, &wide(drive, tail).record());
+            }
+        }
+        for tail in [[0xFF; 8], [0x20; 8], *b"I2O\0\0\0\0\0", [1, 0, 0, 0, 0, 0, 0, 0xFF]] {
+            converter.refused("a tail", To::Kind1, &wide(drive, tail).record());
+        }
+    }
+    // but every one of them is a drive
+    assert_eq!(opened(service, &drives::table(&[Drive { blocks: 1_663_065, ..all }]), 1 << 24), ACCEPTED);
+}
+
+// rule: wholeResult returnedSize exports::edd_convert_up
+/// "A kind 1 drive answers 74 as its conversion", and every other size too.
+fn h71_answers_as_its_conversion(service: &dyn Service) {
+    let mut converter = Converter::new(service);
+    let mut chance = Chance::new(74);
+    for _ in 0..40 {
+        let list: Vec<Drive> =
+            drives::drives(&mut chance, 60).into_iter().map(|drive| Drive { bad: Bad::default(), parameters: None, ..drive }).collect();
+        let of_kind_1 = |drive: &Drive| drive.tail.is_none() && drive.interface_type != drives::I2O;
+        let list: Vec<Drive> = list.into_iter().filter(of_kind_1).collect();
+        let table: Vec<u8> =
+            list.iter().flat_map(|drive| converter.done("a drive", To::Kind2, &drive.record())).chain(drives::END).collect();
+        let mut plain = Stand::open(service, &list, 8 * 1024, 60 * 512);
+        let mut other = Stand::open(service, &[], 8 * 1024, 60 * 512);
+        assert_eq!(other.open_again(&table, 8 * 1024, 60 * 512), ACCEPTED, "a conversion of a good table");
+        for dl in 0x80..0x80 + list.len() as u8 {
+            for asked in [26, 29, 30, 65, 66, 73, 74, 65535] {
+                assert_eq!(plain.result(4, dl, asked), other.result(4, dl, asked), "{dl:02x}, size {asked}");
+            }
+        }
+        // and the table of the converted drives is the converted one
+        let mut out = [0; LONGEST_TABLE];
+        assert_eq!(other.write(&mut out), (DONE, table.len() as u64));
+        assert!(out[..table.len()] == table[..]);
+    }
+}
+
 macro_rules! cases {
     ($($name:ident),* $(,)?) => { &[$((stringify!($name), $name as fn(&dyn Service))),*] };
 }
@@ -3852,6 +4790,25 @@ const CASES: &[(&str, fn(&dyn Service))] = cases![
     h50_readers_of_lists,
     h51_no_other_memory_is_touched,
     h52_blocks_of_64_bits,
+    h53_result_sizes,
+    h54_whole_results,
+    h55_padding,
+    h56_room,
+    h57_placed_tables,
+    h58_flags_of_every_size,
+    h59_the_kind_is_kept,
+    h60_the_longest_table,
+    h61_records_of_both_kinds,
+    h62_fields_of_kind_2,
+    h63_what_settles_kind_2,
+    h64_readers_of_kind_2,
+    h65_kinds_in_the_block,
+    h66_served_as_kind_1,
+    h67_every_byte_of_a_record,
+    h68_lengths_of_a_conversion,
+    h69_up_and_down,
+    h70_what_has_no_kind_1,
+    h71_answers_as_its_conversion,
 ];
 
 /// The case that runs, for the message when the machine stops it.

@@ -1,5 +1,5 @@
 //! Drive tables for the tests: good ones, and the ways to damage them. The records are laid out here again from document 01 and change
-//! requests 2026-01 and 2026-04, so that a fault in the model's writer is not hidden.
+//! requests 2026-01, 2026-04 and 2026-06, so that a fault in the model's writer is not hidden.
 
 use crate::chance::Chance;
 
@@ -35,12 +35,16 @@ pub struct Drive {
     pub interface_type: [u8; 8],
     pub interface_path: [u8; 8],
     pub device_path: [u8; 8],
+    /// Of a drive of kind 2: the other eight bytes of its device path.
+    pub tail: Option<[u8; 8]>,
     pub bad: Bad,
     /// Of its record of kind 4, if it has one.
     pub parameters: Option<[u8; 14]>,
 }
 
 pub const END: [u8; 4] = [4, 0, 0, 0];
+/// The interface type that only a drive of kind 2 may have.
+pub const I2O: [u8; 8] = *b"I2O\0\0\0\0\0";
 
 impl Drive {
     pub fn geometry(&self) -> u64 {
@@ -48,7 +52,7 @@ impl Drive {
     }
 
     pub fn record(&self) -> Vec<u8> {
-        let mut record = vec![0x44, 0, 1, 0];
+        let mut record = if self.tail.is_some() { vec![0x4C, 0, 2, 0] } else { vec![0x44, 0, 1, 0] };
         for number in self.physical {
             record.extend(number.to_le_bytes());
         }
@@ -63,6 +67,7 @@ impl Drive {
         record.extend(self.interface_type);
         record.extend(self.interface_path);
         record.extend(self.device_path);
+        record.extend(self.tail.iter().flatten());
         record
     }
 }
@@ -117,6 +122,7 @@ pub fn paper_drive() -> Drive {
         interface_type: *b"ATA\0\0\0\0\0",
         interface_path: [0, 0x1F, 1, 0, 0, 0, 0, 0],
         device_path: [0; 8],
+        tail: None,
         bad: Bad::default(),
         parameters: None,
     }
@@ -140,8 +146,15 @@ pub fn bad_blocks(chance: &mut Chance, blocks: u64) -> Bad {
     Bad::of(&numbers.into_iter().collect::<Vec<_>>())
 }
 
+/// The tail of a drive of kind 2, with eight zeros or one bit now and then, or that of a drive of kind 1.
+fn tail(chance: &mut Chance) -> Option<[u8; 8]> {
+    let any = chance.any();
+    let bit = 1 << chance.below(64);
+    chance.weighed(&[(5, None), (2, Some(0)), (1, Some(bit)), (2, Some(any))]).map(u64::to_le_bytes)
+}
+
 /// A drive of that many blocks, with a geometry that fits.
-fn drive(chance: &mut Chance, first: u64, blocks: u64) -> Drive {
+pub fn drive(chance: &mut Chance, first: u64, blocks: u64) -> Drive {
     let sectors = chance.between(1, blocks.min(63));
     let heads = chance.between(1, (blocks / sectors).min(255));
     let most = (blocks / sectors / heads).min(1024);
@@ -150,6 +163,8 @@ fn drive(chance: &mut Chance, first: u64, blocks: u64) -> Drive {
     chance.fill(&mut paths);
     let mut parameters = [0; 14];
     chance.fill(&mut parameters);
+    let tail = tail(chance);
+    let i2o = tail.is_some() && chance.percent(35);
     Drive {
         physical: [chance.any() as u32, chance.any() as u32, chance.any() as u32],
         blocks,
@@ -160,9 +175,10 @@ fn drive(chance: &mut Chance, first: u64, blocks: u64) -> Drive {
         sectors: sectors as u8,
         protection: u8::from(chance.percent(20)),
         host_bus: chance.one_of(&BUSES),
-        interface_type: chance.one_of(&TYPES),
+        interface_type: if i2o { I2O } else { chance.one_of(&TYPES) },
         interface_path: paths[..8].try_into().unwrap(),
         device_path: paths[8..].try_into().unwrap(),
+        tail,
         bad: bad_blocks(chance, blocks),
         parameters: chance.percent(40).then_some(parameters),
     }
@@ -199,7 +215,7 @@ fn damaged_drive(chance: &mut Chance, drives: &mut [Drive], store_blocks: u64) {
     }
     let other = drives[chance.below(drives.len() as u64) as usize];
     let d = &mut drives[which];
-    match chance.below(14) {
+    match chance.below(15) {
         0 => d.blocks = chance.one_of(&[0, 1, u64::MAX, d.geometry(), d.geometry() - 1, store_blocks, store_blocks + 1]),
         1 => d.first = chance.one_of(&[0, u64::MAX, u64::MAX - d.blocks, store_blocks, store_blocks.saturating_sub(d.blocks)]),
         2 => d.first = (store_blocks + 1).wrapping_sub(d.blocks),
@@ -209,10 +225,14 @@ fn damaged_drive(chance: &mut Chance, drives: &mut [Drive], store_blocks: u64) {
         6 => d.sectors = chance.one_of(&[0, 1, 63, 64, 255]),
         7 => d.protection = chance.one_of(&[0, 1, 2, 3, 255]),
         8 => d.host_bus = chance.one_of(&[*b"PCI ", *b"pci\0", *b"ISA\0", *b"EISA", [0; 4]]),
-        9 => d.interface_type = chance.one_of(&[*b"ATA     ", *b"SATA\0\0\0\0", *b"FIBRE\0\0\0", *b"I2O\0\0\0\0\0", [0; 8]]),
+        9 => {
+            d.interface_type =
+                chance.one_of(&[*b"ATA     ", *b"SATA\0\0\0\0", *b"FIBRE\0\0\0", I2O, *b"I2O     ", *b"I2O\0\0\0\0\x01", [0; 8]])
+        }
         10 => d.interface_type[chance.below(8) as usize] ^= 1 << chance.below(8),
         11 => d.first = other.first,
-        12 => d.first = (other.first + other.blocks).wrapping_sub(chance.below(2)),
+        12 => (d.tail, d.interface_type) = (tail(chance), chance.one_of(&[I2O, d.interface_type])),
+        13 => d.first = (other.first + other.blocks).wrapping_sub(chance.below(2)),
         _ => d.first = other.first.wrapping_sub(d.blocks).wrapping_add(chance.below(2)),
     }
 }
@@ -260,6 +280,39 @@ fn damaged_list(chance: &mut Chance, drives: &[Drive], records: &mut [Vec<u8>]) 
     *record = bad_record(number, &list);
 }
 
+/// A drive's record for the converters: sound or damaged, of either kind, and of any length.
+pub fn any_record(chance: &mut Chance) -> Vec<u8> {
+    let blocks = chance.between(1, 3000);
+    let mut list = [drive(chance, 0, blocks)];
+    if chance.percent(25) {
+        damaged_drive(chance, &mut list, blocks);
+    }
+    // where the drive lies and how far it goes
+    if chance.percent(40) {
+        list[0].first = chance.any();
+    }
+    if chance.percent(15) {
+        list[0].blocks = chance.one_of(&[u64::MAX, 1 << 32, list[0].geometry()]);
+    }
+    let mut record = list[0].record();
+    let length = record.len();
+    match chance.below(16) {
+        0 => record[chance.below(4) as usize] = chance.one_of(&[0, 1, 2, 3, 4, 0x43, 0x44, 0x45, 0x4B, 0x4C, 0x4D]),
+        1 => record[chance.below(length as u64) as usize] ^= 1 << chance.below(8),
+        2 => record.truncate(chance.below(length as u64 + 1) as usize),
+        3 => record.resize(chance.one_of(&[67, 68, 69, 75, 76, 77, 144, 152]), 0),
+        4 => {
+            // the other kind's length, with its own header or without
+            record.resize(144 - length, 0);
+            if chance.percent(50) {
+                record[..4].copy_from_slice(if length == 76 { &[0x44, 0, 1, 0] } else { &[0x4C, 0, 2, 0] });
+            }
+        }
+        _ => {}
+    }
+    record
+}
+
 /// The bytes of a table, good or not, for a store of that many blocks.
 pub fn any_table(chance: &mut Chance, store_blocks: u64) -> Vec<u8> {
     let mut list = drives(chance, store_blocks.min(1 << 20));
@@ -304,7 +357,17 @@ pub fn any_table(chance: &mut Chance, store_blocks: u64) -> Vec<u8> {
         5 => {
             // the length word or the kind of a record
             let at = chance.one_of(&starts) + chance.below(4) as usize;
-            bytes[at] = chance.one_of(&[0, 1, 2, 3, 4, 5, 6, 0x0D, 0x0E, 0x13, 0x14, 0x15, 0x16, 0x43, 0x44, 0x45, 0x86, 0x8E, 0xFF]);
+            bytes[at] = chance
+                .one_of(&[0, 1, 2, 3, 4, 5, 6, 0x0D, 0x0E, 0x13, 0x14, 0x15, 0x16, 0x43, 0x44, 0x45, 0x4B, 0x4C, 0x4D, 0x86, 0x8E, 0xFF]);
+        }
+        8 if chance.percent(40) => {
+            // a drive's record said to be of the other kind
+            let drives: Vec<usize> = starts.iter().copied().filter(|at| matches!(bytes[at + 2], 1 | 2)).collect();
+            if !drives.is_empty() {
+                let at = chance.one_of(&drives);
+                let other = if bytes[at + 2] == 1 { [0x4C, 0, 2, 0] } else { [0x44, 0, 1, 0] };
+                bytes[at..at + 4].copy_from_slice(&other);
+            }
         }
         6 if chance.percent(20) => bytes.clear(),
         7 if chance.percent(30) => {

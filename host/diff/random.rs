@@ -1,7 +1,7 @@
 //! Random calls, library against model, call by call: the answer, every value behind a pointer, and every byte of desk, reader, arena,
 //! store and buffer must be the same. The calls go to worlds, each with an arena, a store and a desk opened over them. Most calls are good,
 //! so that requests wait, are served in parts, finish, and are collected or withdrawn, with the calls of eight guests interleaved. Between
-//! them tables, good and damaged, arrive in fragments at the world's reader.
+//! them tables, good and damaged, arrive in fragments at the world's reader, and records are converted.
 
 use crate::chance::Chance;
 use crate::demand::Watch;
@@ -32,6 +32,8 @@ pub enum Call {
     ReaderFeed,
     ReaderEnd,
     ReaderWrite,
+    ConvertUp,
+    ConvertDown,
     Window { arena_length: u64, guest: u64 },
     Block { geometry: [u32; 3], address: [u32; 3] },
     Address { geometry: [u32; 3], block: u64 },
@@ -51,7 +53,7 @@ pub struct Outcome {
     pub registers: Registers,
 }
 
-/// The block is the desk's, or for a call at a reader the reader's; the table is a fragment then.
+/// The block is the desk's, or for a call at a reader the reader's; the table is a fragment then, and a record for a converter.
 struct Slices<'a> {
     block: &'a mut [u8],
     arena: &'a mut [u8],
@@ -89,6 +91,8 @@ fn perform(service: &dyn Service, call: &Call, lent: Slices, before: [u64; 3]) -
         Call::ReaderFeed => service.reader_feed(block, table, &mut n[0]),
         Call::ReaderEnd => service.reader_end(block, &mut n[0]),
         Call::ReaderWrite => service.reader_write(block, out, &mut n[0]),
+        Call::ConvertUp => service.convert_up(table, out),
+        Call::ConvertDown => service.convert_down(table, out),
         Call::Window { arena_length, guest } => {
             let [start, length, _] = &mut n;
             service.window(*arena_length, *guest, start, length)
@@ -156,14 +160,29 @@ pub struct Run {
 }
 
 const TABLE_ROOM: usize = 4096;
-const LONGEST_TABLE: usize = 8 * (68 + 134 + 20) + 4;
+const LONGEST_TABLE: usize = 8 * (76 + 134 + 20) + 4;
 /// Where a reader block has its table: behind five words and the bytes held, of the longest record one less.
 const LONGEST_RECORD: usize = 134;
 const READER_TABLE: usize = 40 + LONGEST_RECORD;
 
-/// Words of the desk block that change request 2026-04 put behind the others: how many bad blocks each slot has, and sixteen for each.
-const BAD_COUNTS: usize = 338;
+/// Words of the desk block: sixteen for each drive, of which change request 2026-06 put the last two there, kind and tail; drive count,
+/// pointer and lengths; marks and addresses of placements; marks and bytes of parameters; how many bad blocks each slot has, and sixteen
+/// for each.
+const DRIVES: usize = 184;
+const DRIVE_WORDS: usize = 16;
+const KIND: usize = 14;
+const TAIL: usize = 15;
+const TYPE: usize = 11;
+const COUNT: usize = DRIVES + 8 * DRIVE_WORDS;
+const POINTER: usize = COUNT + 1;
+const LENGTHS: usize = COUNT + 2;
+const PLACED: usize = COUNT + 4;
+const ADDRESSES: usize = PLACED + 8;
+const PRESENT: usize = ADDRESSES + 8;
+const PARAMETERS: usize = PRESENT + 8;
+const BAD_COUNTS: usize = PARAMETERS + 14;
 const BAD_LISTS: usize = BAD_COUNTS + 8;
+const WORDS: usize = BAD_LISTS + 128;
 const SPARE_ROOM: usize = 1 << 17;
 
 impl World {
@@ -334,6 +353,7 @@ impl Run {
         let before = if matches!(call, Call::Block { .. } | Call::Address { .. }) { before.map(|n| n & 0xFFFF_FFFF) } else { before };
         let room = self.room_for_write(&call);
         let mut out = self.chance.bytes(room);
+        let asked = self.asked_size(&call);
 
         let spare = &mut self.spare;
         lay(&mut spare.table, &table, place);
@@ -416,7 +436,7 @@ impl Run {
             return Err(format!("seed {}, call {}: {call:x?}\nlengths: {lengths}\n{what}", self.seed, self.calls));
         }
         self.tally.add(&call, &by_model);
-        self.tally_tables(&call, &by_model, own_desk && own_memory);
+        self.tally_tables(&call, &by_model, own_desk && own_memory, asked);
         if at_reader && own_block && self.world.reading.known && !matches!(call, Call::ReaderOpen { .. }) {
             let followed = self.world.reading.follow(&call, &by_library, &table, &out);
             followed.map_err(|what| format!("seed {}, call {}: {call:x?}\nthe reader: {what}", self.seed, self.calls))?;
@@ -430,8 +450,19 @@ impl Run {
         Ok(by_model)
     }
 
-    /// What is counted of parameter tables and the pointers to them.
-    fn tally_tables(&mut self, call: &Call, done: &Outcome, own: bool) {
+    /// The size that a 48h asks for, as it lies in the guest's window.
+    fn asked_size(&self, call: &Call) -> u16 {
+        let Call::Post { guest, registers } = call else { return 0 };
+        let place = model::parts::linear(registers.ds, registers.si);
+        if *guest >= 8 || place + 2 > self.world.window {
+            return 0;
+        }
+        let at = (guest * self.world.window + place) as usize;
+        u16::from_le_bytes([self.world.model_arena[at], self.world.model_arena[at + 1]])
+    }
+
+    /// What is counted of parameter tables and the pointers to them, and of the results of 48h.
+    fn tally_tables(&mut self, call: &Call, done: &Outcome, own: bool, asked: u16) {
         if done.answer != 0 || !own {
             return;
         }
@@ -446,15 +477,26 @@ impl Run {
                 if result[0] >= 30 {
                     self.tally.shown(result[26..30] != [0xFF; 4]);
                 }
-                let table = self.world.rows().and_then(|desk| desk.drives.numbered(u64::from(registers.dl())).map(|drive| drive.flags));
-                self.tally.flagged(table.map(u16::to_le_bytes) != result[2..4].try_into().ok());
+                let returned = result[0];
+                let shown: Option<[u8; 2]> = result[2..4].try_into().ok();
+                let Some(drive) = self.world.rows().and_then(|desk| desk.drives.numbered(u64::from(registers.dl())).copied()) else {
+                    return;
+                };
+                self.tally.flagged(Some(drive.flags.to_le_bytes()) != shown);
+                self.tally.result(asked, returned, drive.kind, drive.interface_type == drives::I2O);
             }
             _ => {}
         }
     }
 
-    /// Buffers around the length of the world's table, or of what was fed to its reader, for edd_write and edd_reader_write.
+    /// Buffers around the length of the world's table, or of what was fed to its reader, for edd_write and edd_reader_write; for the
+    /// converters mostly that of the other kind's record.
     fn room_for_write(&mut self, call: &Call) -> usize {
+        if let Call::ConvertUp | Call::ConvertDown = call {
+            let (right, swapped) = if matches!(call, Call::ConvertUp) { (76, 68) } else { (68, 76) };
+            let any = self.chance.below(200) as usize;
+            return self.chance.weighed(&[(30, right), (6, swapped), (1, right - 1), (1, right + 1), (1, 0), (1, any)]);
+        }
         let fed = self.world.reading.fed.len();
         let table = if call.at_reader() { fed.clamp(4, TABLE_ROOM - 100) } else { drives::table(&self.world.drives).len() };
         match self.chance.below(6) {
@@ -471,7 +513,7 @@ impl Run {
 
     fn step(&mut self) -> Result<(), String> {
         let hostile = if self.world.calm { 0 } else { 12 };
-        match self.chance.weighed(&[(86, 0), (hostile, 1), (3, 2), (2, 3), (3, 4), (18, 5)]) {
+        match self.chance.weighed(&[(86, 0), (hostile, 1), (3, 2), (2, 3), (3, 4), (18, 5), (4, 6)]) {
             0 => self.at_desk(Slice::Own),
             1 => self.hostile_block(),
             2 => {
@@ -480,7 +522,8 @@ impl Run {
             }
             3 => self.opening(),
             4 => self.without_desk(),
-            _ => self.at_reader(),
+            5 => self.at_reader(),
+            _ => self.conversion(),
         }
     }
 
@@ -703,10 +746,10 @@ impl Run {
     }
 
     fn result_buffer(&mut self, guest: u64, r: &mut Registers) {
-        let from_end = self.chance.one_of(&[0, 1, 2, 25, 26, 29, 30, 65, 66, 67]);
-        let place = if self.chance.percent(50) { self.place(66) } else { self.world.window.saturating_sub(from_end) };
+        let from_end = self.chance.one_of(&[0, 1, 2, 25, 26, 29, 30, 65, 66, 67, 73, 74, 75]);
+        let place = if self.chance.percent(50) { self.place(74) } else { self.world.window.saturating_sub(from_end) };
         (r.ds, r.si) = self.split(place);
-        let size = self.chance.one_of(&[0, 25, 26, 29, 30, 65, 66, 74, 0xFFFF, r.ax]);
+        let size = self.chance.one_of(&[0, 25, 26, 29, 30, 65, 66, 67, 72, 73, 74, 75, 0xFFFF, r.ax]);
         self.world.poke(guest, place, &size.to_le_bytes());
     }
 
@@ -802,8 +845,11 @@ impl Run {
             self.at_desk(Slice::Own)?;
         }
         // table and lengths as they were; rows, pointer and placements may be others
-        let own_table =
-            |b: &[u8]| [184..297, 298..300, 316..474].into_iter().all(|w| b[8 * w.start..8 * w.end] == kept[8 * w.start..8 * w.end]);
+        let own_table = |b: &[u8]| {
+            [DRIVES..POINTER, LENGTHS..PLACED, PRESENT..WORDS]
+                .into_iter()
+                .all(|w| b[8 * w.start..8 * w.end] == kept[8 * w.start..8 * w.end])
+        };
         let accepted = self.world.rows().is_some();
         if accepted && own_table(&self.world.model_desk) && self.chance.percent(30) {
             self.world.watch.forget();
@@ -818,7 +864,7 @@ impl Run {
     fn change_block(&mut self, bytes: &mut [u8]) {
         let guest = self.chance.below(8) as usize;
         let row = 23 * self.waiting_row().unwrap_or(guest);
-        let at = match self.chance.below(19) {
+        let at = match self.chance.below(21) {
             0 => {
                 let at = self.chance.below(DESK_SIZE as u64) as usize;
                 bytes[at] ^= 1 << self.chance.below(8);
@@ -828,10 +874,14 @@ impl Run {
             2..=4 => row + self.chance.below(23) as usize,
             5 => row + self.chance.between(9, 14) as usize,
             6..=8 => return self.change_to_edge(bytes, row),
-            9..=10 => 184 + 14 * self.chance.below(self.world.drives.len().max(1) as u64) as usize + self.chance.below(14) as usize,
-            11 => 296 + self.chance.below(4) as usize,
+            9..=10 => {
+                let slot = self.chance.below(self.world.drives.len().max(1) as u64) as usize;
+                drive_word(slot, self.chance.below(DRIVE_WORDS as u64) as usize)
+            }
+            11 => COUNT + self.chance.below(4) as usize,
             12..=14 => return self.change_tables(bytes, guest),
             15..=16 => return self.change_bad_blocks(bytes),
+            17..=18 => return self.change_kind(bytes),
             _ => self.chance.below(DESK_SIZE as u64 / 8) as usize,
         };
         let old = word_at(bytes, at);
@@ -844,24 +894,50 @@ impl Run {
         set_word_at(bytes, at, value);
     }
 
+    /// Changes the kind of a drive, its tail or its interface type, or makes it a good drive of the other kind.
+    fn change_kind(&mut self, bytes: &mut [u8]) {
+        let slots = if self.chance.percent(80) { self.world.drives.len().max(1) as u64 } else { 8 };
+        let slot = self.chance.below(slots) as usize;
+        let (kind, tail) = (drive_word(slot, KIND), drive_word(slot, TAIL));
+        let old = word_at(bytes, kind);
+        match self.chance.below(7) {
+            0 => set_word_at(bytes, kind, self.chance.one_of(&[0, 3, 4, 257, 258, 65537, 65538, old | 1 << 32, old | 1 << 63, u64::MAX])),
+            1 => set_word_at(bytes, kind, self.chance.one_of(&[1, 2, old ^ 3])),
+            2 => set_word_at(bytes, tail, self.chance.one_of(&[0, 1, 1 << 63, u64::MAX])),
+            3 => bytes[8 * tail + self.chance.below(8) as usize] ^= 1 << self.chance.below(8),
+            4 => set_word_at(bytes, drive_word(slot, TYPE), u64::from_le_bytes(drives::I2O)),
+            5 => {
+                set_word_at(bytes, kind, 1);
+                set_word_at(bytes, tail, 0);
+            }
+            _ => {
+                set_word_at(bytes, kind, 2);
+                set_word_at(bytes, tail, self.chance.any());
+                if self.chance.percent(50) {
+                    set_word_at(bytes, drive_word(slot, TYPE), u64::from_le_bytes(drives::I2O));
+                }
+            }
+        }
+    }
+
     /// Changes what the block says of parameter tables: a guest's mark or address, a slot's mark or bytes.
     fn change_tables(&mut self, bytes: &mut [u8], guest: usize) {
         let slot = self.chance.below(8) as usize;
-        let raw = 8 * 324 + 14 * slot;
+        let raw = 8 * PARAMETERS + 14 * slot;
         match self.chance.below(6) {
-            0 => set_word_at(bytes, 300 + guest, self.chance.one_of(&[0, 1, 1, 2, 256, 1 << 32, u64::MAX])),
-            1 => set_word_at(bytes, 308 + guest, self.address()),
+            0 => set_word_at(bytes, PLACED + guest, self.chance.one_of(&[0, 1, 1, 2, 256, 1 << 32, u64::MAX])),
+            1 => set_word_at(bytes, ADDRESSES + guest, self.address()),
             2 => {
                 let address = self.address();
-                set_word_at(bytes, 300 + guest, 1);
-                set_word_at(bytes, 308 + guest, address);
+                set_word_at(bytes, PLACED + guest, 1);
+                set_word_at(bytes, ADDRESSES + guest, address);
             }
-            3 => set_word_at(bytes, 316 + slot, self.chance.one_of(&[0, 1, 1, 2, 256, 1 << 63])),
+            3 => set_word_at(bytes, PRESENT + slot, self.chance.one_of(&[0, 1, 1, 2, 256, 1 << 63])),
             4 => bytes[raw + self.chance.below(14) as usize] = self.chance.byte(),
             _ => {
                 // a record more or less, which moves what the placements of all guests must have room for
-                let present = word_at(bytes, 316 + slot) == 0;
-                set_word_at(bytes, 316 + slot, u64::from(present));
+                let present = word_at(bytes, PRESENT + slot) == 0;
+                set_word_at(bytes, PRESENT + slot, u64::from(present));
                 bytes[raw..raw + 14].fill(0);
                 if present {
                     self.chance.fill(&mut bytes[raw..raw + 14]);
@@ -1039,7 +1115,7 @@ impl Run {
             1..=3 => 1,
             4..=5 => self.chance.between(1, 5),
             6..=7 => self.chance.between(5, 70),
-            8 => self.chance.one_of(&[3, 4, 13, 14, 19, 20, 67, 68, 69, 88, 133, 134, 135, 202, 222]),
+            8 => self.chance.one_of(&[3, 4, 13, 14, 19, 20, 67, 68, 69, 75, 76, 77, 88, 96, 133, 134, 135, 202, 210, 222, 230]),
             9 => self.chance.between(60, 300),
             _ => coming.len() as u64,
         };
@@ -1119,6 +1195,9 @@ impl Run {
                     67,
                     68,
                     69,
+                    75,
+                    76,
+                    77,
                     133,
                     134,
                     135,
@@ -1137,6 +1216,7 @@ impl Run {
                     72,
                     92,
                     table_length.wrapping_sub(68),
+                    table_length.wrapping_sub(76),
                     table_length.wrapping_add(1),
                     LONGEST_TABLE as u64,
                     LONGEST_TABLE as u64 + 1,
@@ -1170,10 +1250,25 @@ impl Run {
         let (length, kind) = if self.chance.percent(40) {
             (self.chance.one_of(&[6, 14, 14, 22, 30, 126, 134, 134, 134, 142, 13, 15, 133, 0x10E]), 3)
         } else {
-            self.chance.one_of(&[(68, 1), (68, 1), (20, 4), (20, 4), (4, 0), (67, 1), (20, 1), (4, 2), (0x144, 1)])
+            self.chance.one_of(&[
+                (68, 1),
+                (76, 2),
+                (76, 2),
+                (20, 4),
+                (20, 4),
+                (4, 0),
+                (67, 1),
+                (20, 1),
+                (4, 2),
+                (0x144, 1),
+                (68, 2),
+                (76, 1),
+                (77, 2),
+                (0x14C, 2),
+            ])
         };
         record[..4].copy_from_slice(&[length as u8, (length >> 8) as u8, kind, 0]);
-        let held = self.chance.one_of(&[0, 1, 3, 4, 5, 13, 14, 19, 20, 21, 66, 67, 68, 125, 126, 132, 133, 134]);
+        let held = self.chance.one_of(&[0, 1, 3, 4, 5, 13, 14, 19, 20, 21, 66, 67, 68, 74, 75, 76, 125, 126, 132, 133, 134]);
         set_word_at(block, 3, held as u64);
         if self.chance.percent(70) {
             set_word_at(block, 0, 0);
@@ -1190,6 +1285,29 @@ impl Run {
         set_word_at(block, 4, length as u64);
         block[READER_TABLE..].fill(0);
         block[READER_TABLE..READER_TABLE + length].copy_from_slice(&table[..length]);
+    }
+
+    // ---- conversions
+
+    /// A record, sound or damaged, from one kind to the other; then, now and then, what came out of it back again.
+    fn conversion(&mut self) -> Result<(), String> {
+        let mut record = drives::any_record(&mut self.chance);
+        // mostly the converter for the kind that the record says it is of
+        let mut up = self.chance.percent(85) == (record.get(2) == Some(&1));
+        for _ in 0..2 {
+            let call = if up { Call::ConvertUp } else { Call::ConvertDown };
+            let done = self.call(call, Slice::Own, Slice::Own, Slice::Own, record.clone())?;
+            let converted = self.spare.out.bytes().to_vec();
+            if done.answer != 0 || self.chance.percent(50) {
+                break;
+            }
+            (record, up) = (converted, !up);
+            if self.chance.percent(30) {
+                let at = self.chance.below(record.len() as u64) as usize;
+                record[at] ^= 1 << self.chance.below(8);
+            }
+        }
+        Ok(())
     }
 
     // ---- windows and addresses
@@ -1243,6 +1361,7 @@ fn known(known: &model::parts::Drives, slot: usize) -> Drive {
         interface_type: drive.interface_type,
         interface_path: drive.interface_path,
         device_path: drive.device_path,
+        tail: (drive.kind == 2).then_some(drive.tail),
         bad: drives::Bad::of(known.bad[slot].numbers()),
         parameters: known.parameters[slot],
     }
@@ -1251,6 +1370,11 @@ fn known(known: &model::parts::Drives, slot: usize) -> Drive {
 /// Mostly against a page that nobody may touch; else at any address.
 fn place(chance: &mut Chance) -> Place {
     Place { at_end: chance.percent(70), gap: if chance.percent(70) { 0 } else { chance.between(1, 7) as usize } }
+}
+
+/// A word of a drive's slot.
+fn drive_word(slot: usize, word: usize) -> usize {
+    DRIVES + DRIVE_WORDS * slot + word
 }
 
 fn word_at(block: &[u8], word: usize) -> u64 {
@@ -1286,14 +1410,18 @@ fn difference(what: &str, lent: &Lent, model: &[u8]) -> Option<String> {
     if what == "desk" {
         let word = at / 8;
         text += &match word {
-            0..=183 => format!(" (word {word}: guest {}, word {} of its row)", word / 23, word % 23),
-            184..=295 => format!(" (word {word}: drive place {}, word {})", (word - 184) / 14, (word - 184) % 14),
-            300..=307 => format!(" (word {word}: guest {}, mark of placement)", word - 300),
-            308..=315 => format!(" (word {word}: guest {}, address of placement)", word - 308),
-            316..=323 => format!(" (word {word}: drive place {}, mark of parameters)", word - 316),
-            324..=337 => format!(" (drive place {}, byte {} of its parameters)", (at - 8 * 324) / 14, (at - 8 * 324) % 14),
-            338..=345 => format!(" (drive place {}, how many bad blocks)", word - BAD_COUNTS),
-            346..=473 => format!(" (drive place {}, bad block {})", (word - BAD_LISTS) / 16, (word - BAD_LISTS) % 16),
+            0..DRIVES => format!(" (word {word}: guest {}, word {} of its row)", word / 23, word % 23),
+            DRIVES..COUNT => {
+                format!(" (word {word}: drive place {}, word {})", (word - DRIVES) / DRIVE_WORDS, (word - DRIVES) % DRIVE_WORDS)
+            }
+            PLACED..ADDRESSES => format!(" (word {word}: guest {}, mark of placement)", word - PLACED),
+            ADDRESSES..PRESENT => format!(" (word {word}: guest {}, address of placement)", word - ADDRESSES),
+            PRESENT..PARAMETERS => format!(" (word {word}: drive place {}, mark of parameters)", word - PRESENT),
+            PARAMETERS..BAD_COUNTS => {
+                format!(" (drive place {}, byte {} of its parameters)", (at - 8 * PARAMETERS) / 14, (at - 8 * PARAMETERS) % 14)
+            }
+            BAD_COUNTS..BAD_LISTS => format!(" (drive place {}, how many bad blocks)", word - BAD_COUNTS),
+            BAD_LISTS..WORDS => format!(" (drive place {}, bad block {})", (word - BAD_LISTS) / 16, (word - BAD_LISTS) % 16),
             _ => format!(" (word {word})"),
         };
     }

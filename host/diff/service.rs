@@ -21,6 +21,8 @@ pub trait Service {
     fn reader_feed(&self, reader: &mut [u8], bytes: &[u8], place: &mut u64) -> u32;
     fn reader_end(&self, reader: &mut [u8], place: &mut u64) -> u32;
     fn reader_write(&self, reader: &[u8], out: &mut [u8], written: &mut u64) -> u32;
+    fn convert_up(&self, record: &[u8], out: &mut [u8]) -> u32;
+    fn convert_down(&self, record: &[u8], out: &mut [u8]) -> u32;
     fn window(&self, arena_length: u64, guest: u64, start: &mut u64, length: &mut u64) -> u32;
     fn block(&self, geometry: Geometry, address: Address, block: &mut u32) -> u32;
     fn address(&self, geometry: Geometry, block: u64, address: &mut Address) -> u32;
@@ -72,6 +74,12 @@ impl Service for Model {
     }
     fn reader_write(&self, reader: &[u8], out: &mut [u8], written: &mut u64) -> u32 {
         model::reader_write(reader, out, written)
+    }
+    fn convert_up(&self, record: &[u8], out: &mut [u8]) -> u32 {
+        model::convert_up(record, out)
+    }
+    fn convert_down(&self, record: &[u8], out: &mut [u8]) -> u32 {
+        model::convert_down(record, out)
     }
     fn window(&self, arena_length: u64, guest: u64, start: &mut u64, length: &mut u64) -> u32 {
         model::window(arena_length, guest, start, length)
@@ -172,6 +180,8 @@ extern "C" {
     fn edd_reader_feed(reader: *mut u8, reader_len: usize, bytes: *const u8, bytes_len: usize, place: *mut u64) -> u32;
     fn edd_reader_end(reader: *mut u8, reader_len: usize, place: *mut u64) -> u32;
     fn edd_reader_write(reader: *const u8, reader_len: usize, out: *mut u8, out_len: usize, written: *mut u64) -> u32;
+    fn edd_convert_up(record: *const u8, record_len: usize, out: *mut u8, out_len: usize) -> u32;
+    fn edd_convert_down(record: *const u8, record_len: usize, out: *mut u8, out_len: usize) -> u32;
     fn edd_window(arena_length: u64, guest: u64, start: *mut u64, length: *mut u64) -> u32;
     fn edd_block(c: u32, h: u32, s: u32, cylinder: u32, head: u32, sector: u32, block: *mut u32) -> u32;
     fn edd_address(c: u32, h: u32, s: u32, block: u64, cylinder: *mut u32, head: *mut u32, sector: *mut u32) -> u32;
@@ -359,6 +369,14 @@ impl Service for Library {
         places.check();
         *written = places.get(0);
         answer
+    }
+    fn convert_up(&self, record: &[u8], out: &mut [u8]) -> u32 {
+        let (r, o) = (self.pointer(record), self.pointer_mut(out));
+        unsafe { edd_convert_up(r, record.len(), o, out.len()) }
+    }
+    fn convert_down(&self, record: &[u8], out: &mut [u8]) -> u32 {
+        let (r, o) = (self.pointer(record), self.pointer_mut(out));
+        unsafe { edd_convert_down(r, record.len(), o, out.len()) }
     }
     fn window(&self, arena_length: u64, guest: u64, start: &mut u64, length: &mut u64) -> u32 {
         let mut out = Places::new([*start, *length], GUARD);

@@ -30,6 +30,8 @@ pub struct Tally {
     pointers: [u64; 2],
     /// Results of 48h with the flags of the table, and with other ones.
     flags: [u64; 2],
+    /// Results of 48h by the cases of `RESULTS`.
+    results: [u64; 8],
 }
 
 /// AH of an answered post, or this for a request that waits.
@@ -38,7 +40,7 @@ const WAITS: u32 = 256;
 const UNKNOWN: u8 = 0xFF;
 const HANDLED: [u8; 9] = [0x02, 0x03, 0x08, 0x41, 0x42, 0x43, 0x44, 0x47, 0x48];
 
-const EXPECTED_ANSWERS: [(&str, &[u32]); 14] = [
+const EXPECTED_ANSWERS: [(&str, &[u32]); 16] = [
     ("open", &[0, 1, 2, 3, 4, 5, 6, 7, 8, 9, 25]),
     ("write", &[0, 19, 25]),
     ("post", &[0, 20, 21, 24, 25, 256]),
@@ -50,6 +52,8 @@ const EXPECTED_ANSWERS: [(&str, &[u32]); 14] = [
     ("reader_feed", &[0, 1, 2, 3, 4, 5, 6, 7, 8, 9, 25, 256]),
     ("reader_end", &[0, 1, 2, 3, 4, 5, 6, 7, 8, 9, 25]),
     ("reader_write", &[0, 1, 2, 3, 4, 5, 6, 7, 8, 9, 19, 25, 256]),
+    ("convert_up", &[0, 10]),
+    ("convert_down", &[0, 10]),
     ("window", &[0]),
     ("block", &[0, 4]),
     ("address", &[0, 4]),
@@ -73,6 +77,18 @@ const EXPECTED_ENDINGS: [(u8, u8); 8] =
     [(0x02, 0x00), (0x02, 0x10), (0x03, 0x00), (0x03, 0xCC), (0x42, 0x00), (0x42, 0x10), (0x43, 0x00), (0x43, 0xCC)];
 const STOPPED: [&str; 4] = ["before any block", "after a whole part", "at the last block", "with the count word on top of the data"];
 
+/// Results of 48h: what was returned for which drive.
+const RESULTS: [&str; 8] = [
+    "26 bytes",
+    "30 bytes",
+    "66 bytes of kind 1",
+    "66 bytes of kind 2",
+    "30 bytes of an I2O drive asked with 66 to 73",
+    "74 bytes of kind 1",
+    "74 bytes of kind 2",
+    "74 bytes of an I2O drive",
+];
+
 impl Tally {
     pub fn add(&mut self, call: &Call, outcome: &Outcome) {
         let kind = match call {
@@ -87,6 +103,8 @@ impl Tally {
             Call::ReaderFeed => "reader_feed",
             Call::ReaderEnd => "reader_end",
             Call::ReaderWrite => "reader_write",
+            Call::ConvertUp => "convert_up",
+            Call::ConvertDown => "convert_down",
             Call::Window { .. } => "window",
             Call::Block { .. } => "block",
             Call::Address { .. } => "address",
@@ -137,6 +155,21 @@ impl Tally {
         self.flags[usize::from(other)] += 1;
     }
 
+    /// A 48h result: the size asked for, the size returned, and the drive's kind and whether it is of type I2O.
+    pub fn result(&mut self, asked: u16, returned: u8, kind: u16, i2o: bool) {
+        let met = match (returned, kind, i2o) {
+            (26, ..) => 0,
+            (30, _, true) if asked >= 66 => 4,
+            (30, ..) => 1,
+            (66, 1, _) => 2,
+            (66, ..) => 3,
+            (74, 1, _) => 5,
+            (74, _, false) => 6,
+            _ => 7,
+        };
+        self.results[met] += 1;
+    }
+
     pub fn add_watch(&mut self, watch: &Watch) {
         self.finished += watch.finished;
         self.compared += watch.compared;
@@ -184,6 +217,8 @@ impl Tally {
         if self.flags.contains(&0) {
             missing.push("48h results with the table's flags and with bits 4 to 6 cleared".into());
         }
+        let never = RESULTS.iter().zip(self.results).filter(|(_, times)| *times == 0);
+        missing.extend(never.map(|(case, _)| format!("a 48h result of {case}")));
         missing
     }
 
@@ -218,6 +253,8 @@ impl Tally {
         let extensions: Vec<String> = self.extensions.iter().map(|(cx, times)| format!("{cx:04x}h: {times}")).collect();
         println!("41h CX {}; 48h pointers: {} given, {} not", extensions.join(", "), self.pointers[1], self.pointers[0]);
         println!("48h flags: {} as the table has them, {} with bits 4 to 6 cleared", self.flags[0], self.flags[1]);
+        let results: Vec<String> = RESULTS.iter().zip(self.results).map(|(case, times)| format!("{case}: {times}")).collect();
+        println!("48h results {}", results.join(", "));
         let read = |told: bool| -> Vec<String> {
             self.read.iter().filter(|(key, _)| key.0 == told).map(|((_, number), times)| format!("{number}: {times}")).collect()
         };

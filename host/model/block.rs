@@ -1,14 +1,14 @@
 //! The desk as a block of bytes (docs/BLOCK.md), and document 01's rule when a block is accepted ("Calls the host makes"), with the words
-//! and the rule of change request 2026-01 and the lists of 2026-04.
+//! and the rule of change request 2026-01, the lists of 2026-04 and the kinds and tails of 2026-06.
 
 use crate::bad::{BadBlocks, MOST_BAD};
 use crate::parameters::{may_lie, Parameters};
 use crate::parts::{inside, window_length, Desk, Drive, Drives, Registers, Request, Row, BLOCK_SIZE, GUESTS, MOST_DRIVES};
 use crate::steps::Function;
-use crate::table::check_drive;
+use crate::table::{check_drive, DRIVE, WIDE_DRIVE};
 
 const ROW_WORDS: usize = 23;
-const DRIVE_WORDS: usize = 14;
+const DRIVE_WORDS: usize = 16;
 const DRIVES_AT: usize = GUESTS * ROW_WORDS;
 const COUNT_AT: usize = DRIVES_AT + MOST_DRIVES * DRIVE_WORDS;
 const POINTER_AT: usize = COUNT_AT + 1;
@@ -94,9 +94,19 @@ fn read_drives(bytes: &[u8], count: u64, store_blocks: u64, drives: &mut Drives)
     Some(())
 }
 
-/// Every field within its width.
+/// The kind of a drive is 1 or 2.
+fn read_kind(word: u64) -> Option<u16> {
+    [DRIVE.0, WIDE_DRIVE.0].into_iter().find(|kind| u64::from(*kind) == word)
+}
+
+/// Every field within its width. A drive of kind 1 has eight zeros where the other kind has more of the device path.
 fn read_drive(at: &Words<DRIVE_WORDS>) -> Option<Drive> {
+    let (kind, tail) = (read_kind(at[14])?, at[15]);
+    if kind == DRIVE.0 && tail != 0 {
+        return None;
+    }
     Some(Drive {
+        kind,
         physical_cylinders: at[0].try_into().ok()?,
         physical_heads: at[1].try_into().ok()?,
         physical_sectors: at[2].try_into().ok()?,
@@ -111,6 +121,7 @@ fn read_drive(at: &Words<DRIVE_WORDS>) -> Option<Drive> {
         interface_type: at[11].to_le_bytes(),
         interface_path: at[12].to_le_bytes(),
         device_path: at[13].to_le_bytes(),
+        tail: tail.to_le_bytes(),
     })
 }
 
@@ -269,6 +280,8 @@ fn drive_words(drive: &Drive) -> Words<DRIVE_WORDS> {
         u64::from_le_bytes(drive.interface_type),
         u64::from_le_bytes(drive.interface_path),
         u64::from_le_bytes(drive.device_path),
+        u64::from(drive.kind),
+        u64::from_le_bytes(drive.tail),
     ]
 }
 

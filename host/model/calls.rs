@@ -1,8 +1,9 @@
 //! Document 01, "Calls the host makes", with the house numbers of "Numbers given back", the placement of change request 2026-01, the
-//! reader of 2026-03 and the bad blocks of 2026-04. The calls of include/edd_desk.h, with slices and references for its pointers.
+//! reader of 2026-03, the bad blocks of 2026-04 and the converter of 2026-06. The calls of include/edd_desk.h, with slices and references for its pointers.
 
 use crate::addresses::{Address, Geometry};
 use crate::block;
+use crate::convert;
 use crate::fragments::{self, Reader};
 use crate::parameters;
 use crate::parts::{self, Desk, Registers, Request, Row, BLOCK_SIZE, GUESTS};
@@ -22,6 +23,7 @@ const LENGTH_DIFFERS: u32 = 24;
 const NOT_ACCEPTED: u32 = 25;
 const BAD_PLACE: u32 = 26;
 const OUTSIDE: u32 = 4;
+const CONVERSION: u32 = 10;
 
 /// "It moves the next 16 blocks".
 const TURN_BLOCKS: u64 = 16;
@@ -57,7 +59,7 @@ fn number(call: impl FnOnce() -> Result<u32, u32>) -> u32 {
 
 /// The header's EDD_VERSION; a change request that a program can see raises both.
 pub fn version() -> u32 {
-    5
+    6
 }
 
 pub fn desk_size() -> u64 {
@@ -279,6 +281,19 @@ pub fn reader_write(reader: &[u8], out: &mut [u8], written: &mut u64) -> u32 {
 }
 
 // ---- calls without a desk
+
+/// 0, or 10 "with the output buffer unchanged".
+fn converted(done: Option<()>) -> u32 {
+    done.map_or(CONVERSION, |()| DONE)
+}
+
+pub fn convert_up(record: &[u8], out: &mut [u8]) -> u32 {
+    converted(convert::up(record, out))
+}
+
+pub fn convert_down(record: &[u8], out: &mut [u8]) -> u32 {
+    converted(convert::down(record, out))
+}
 
 pub fn window(arena_length: u64, guest: u64, start: &mut u64, length: &mut u64) -> u32 {
     (*start, *length) = parts::window_place(arena_length, guest);

@@ -13,7 +13,7 @@ const END_RECORD: [u8; 4] = [4, 0, 0, 0];
 
 /// "keeps at most one unfinished record": room for the longest, one of sixteen bad blocks.
 const LONGEST_RECORD: usize = bad_blocks_length(MOST_BAD);
-const LONGEST_TABLE: usize = MOST_DRIVES * (68 + LONGEST_RECORD + 20) + END_RECORD.len();
+const LONGEST_TABLE: usize = MOST_DRIVES * (76 + LONGEST_RECORD + 20) + END_RECORD.len();
 
 // where the parts of the block stand
 const COURSE: usize = 0;
@@ -98,6 +98,7 @@ fn held_may_be(held: &[u8]) -> bool {
     let whole = usize::from(word(held, 0));
     let may_be = match word(held, 2) {
         1 => whole == 68,
+        2 => whole == 76,
         3 => (1..=MOST_BAD).any(|n| whole == bad_blocks_length(n)),
         4 => whole == 20,
         _ => false,

@@ -1,4 +1,4 @@
-//! Document 01, "Parts of the desk", and what change requests 2026-01 and 2026-04 add to them.
+//! Document 01, "Parts of the desk", and what change requests 2026-01, 2026-04 and 2026-06 add to them.
 
 use crate::bad::BadBlocks;
 use crate::parameters::Parameters;
@@ -7,6 +7,8 @@ pub const GUESTS: usize = 8;
 pub const MOST_DRIVES: usize = 8;
 pub const FIRST_DRIVE: u64 = 0x80;
 pub const BLOCK_SIZE: u64 = 512;
+/// An interface type, NUL-padded as a record has it.
+pub const I2O: [u8; 8] = *b"I2O\0\0\0\0\0";
 
 /// The registers of INT 13h. Carry is 0 or 1; a post may give any number there and it is not looked at.
 #[derive(Clone, Copy, PartialEq, Eq, Debug, Default)]
@@ -42,6 +44,8 @@ impl Registers {
 /// A drive as its record in the table has it.
 #[derive(Clone, Copy, PartialEq, Eq, Debug, Default)]
 pub struct Drive {
+    /// Of its record: 1, or 2 for one "with a sixteen-byte device path"; 0 in a blank slot.
+    pub kind: u16,
     pub physical_cylinders: u32,
     pub physical_heads: u32,
     pub physical_sectors: u32,
@@ -55,12 +59,19 @@ pub struct Drive {
     pub host_bus: [u8; 4],
     pub interface_type: [u8; 8],
     pub interface_path: [u8; 8],
+    /// The first eight bytes of the device path.
     pub device_path: [u8; 8],
+    /// The other eight, which only a record of kind 2 has; zeros for a drive of kind 1.
+    pub tail: [u8; 8],
 }
 
 impl Drive {
     pub fn is_protected(&self) -> bool {
         self.protection == 1
+    }
+    /// "the I2O interface (kind 2 only)".
+    pub fn is_i2o(&self) -> bool {
+        self.interface_type == I2O
     }
     /// C x H x S
     pub fn geometry_blocks(&self) -> u64 {

@@ -1,5 +1,5 @@
 //! Document 01, "Steps of each function", and the BIOS answers of "Numbers given back". 41h and 48h as change request 2026-01 has them,
-//! and what a bad block is answered with, from 2026-04.
+//! what a bad block is answered with, from 2026-04, and the longer result of 48h, from 2026-06.
 
 use crate::addresses::{address_in, Geometry};
 use crate::parameters::{extensions_of, pointer_to};
@@ -289,15 +289,18 @@ fn check_extensions(drives: &Drives, placement: Option<u64>, given: Registers) -
     }
 }
 
-const RESULT_SIZE: usize = 66;
+const WIDE_RESULT: usize = 74;
 
-/// "Below 26: 01h; 26 to 29 returns 26; 30 to 65 returns 30; from 66, 66."
-fn returned_size(asked: u16) -> Option<usize> {
+/// "Below 26: 01h; 26 to 29 returns 26; 30 to 65 returns 30"; "Sizes of 74 and more shall return 74 ..; 66 to 73 still return 66", but a
+/// drive "of type I2O is answered as if the size were 30".
+fn returned_size(drive: &Drive, asked: u16) -> Option<usize> {
     match asked {
         0..=25 => None,
         26..=29 => Some(26),
         30..=65 => Some(30),
-        _ => Some(RESULT_SIZE),
+        66..=73 if drive.is_i2o() => Some(30),
+        66..=73 => Some(66),
+        _ => Some(WIDE_RESULT),
     }
 }
 
@@ -309,9 +312,9 @@ fn information_flags(drive: &Drive) -> [u8; 2] {
     (drive.flags & !meaningless).to_le_bytes()
 }
 
-/// The whole result buffer, by its places.
-fn result_of(drive: &Drive, pointer: [u8; 4], returned: usize) -> [u8; RESULT_SIZE] {
-    let mut result = [0; RESULT_SIZE];
+/// The whole result buffer, by its places; the bytes from 30 on are those of the size that is returned.
+fn result_of(drive: &Drive, pointer: [u8; 4], returned: usize) -> [u8; WIDE_RESULT] {
+    let mut result = [0; WIDE_RESULT];
     result[0..2].copy_from_slice(&(returned as u16).to_le_bytes());
     result[2..4].copy_from_slice(&information_flags(drive));
     result[4..8].copy_from_slice(&drive.physical_cylinders.to_le_bytes());
@@ -321,13 +324,36 @@ fn result_of(drive: &Drive, pointer: [u8; 4], returned: usize) -> [u8; RESULT_SI
     result[24..26].copy_from_slice(&512u16.to_le_bytes());
     result[26..30].copy_from_slice(&pointer);
     result[30..32].copy_from_slice(&0xBEDDu16.to_le_bytes());
-    result[32] = 0x24;
-    result[36..40].copy_from_slice(&drive.host_bus);
-    result[40..48].copy_from_slice(&drive.interface_type);
     result[48..56].copy_from_slice(&drive.interface_path);
     result[56..64].copy_from_slice(&drive.device_path);
-    result[65] = result[30..65].iter().fold(0u8, |sum, byte| sum.wrapping_sub(*byte));
+    if returned == WIDE_RESULT {
+        // "length byte 2Ch at 32, a zero at 72 and the checksum at 73"
+        result[32] = 0x2C;
+        result[36..40].copy_from_slice(&drive.host_bus.map(padded));
+        result[40..48].copy_from_slice(&drive.interface_type.map(padded));
+        result[64..72].copy_from_slice(&drive.tail);
+        result[73] = checksum(&result[30..73]);
+    } else {
+        result[32] = 0x24;
+        result[36..40].copy_from_slice(&drive.host_bus);
+        result[40..48].copy_from_slice(&drive.interface_type);
+        result[65] = checksum(&result[30..65]);
+    }
     result
+}
+
+/// Document 000: "left justified and padded with the value 20h". No name has a NUL in it, so each NUL is padding.
+fn padded(byte: u8) -> u8 {
+    if byte == 0 {
+        0x20
+    } else {
+        byte
+    }
+}
+
+/// The byte that makes the sum with those before it zero modulo 256.
+fn checksum(bytes: &[u8]) -> u8 {
+    bytes.iter().fold(0u8, |sum, byte| sum.wrapping_sub(*byte))
 }
 
 fn extended_parameters(drives: &Drives, placement: Option<u64>, window: &mut [u8], given: Registers) -> Registers {
@@ -337,7 +363,7 @@ fn extended_parameters(drives: &Drives, placement: Option<u64>, window: &mut [u8
         if !inside(place, 2, length) {
             return None;
         }
-        let returned = returned_size(word(window, place as usize))?;
+        let returned = returned_size(&drives.slot[slot], word(window, place as usize))?;
         inside(place, returned as u64, length).then_some((slot, returned))
     });
     let Some((slot, returned)) = returned else {

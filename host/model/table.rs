@@ -1,12 +1,15 @@
-//! Document 01, "The drive table", with the record of kind 4 that change request 2026-01 adds and that of kind 3 of 2026-04.
+//! Document 01, "The drive table", with the record of kind 4 that change request 2026-01 adds, that of kind 3 of 2026-04
+//! and that of kind 2 of 2026-06.
 
 use crate::bad::{BadBlocks, MOST_BAD};
 use crate::parameters::Parameters;
-use crate::parts::{inside, Drive, Drives, MOST_DRIVES};
+use crate::parts::{inside, Drive, Drives, I2O, MOST_DRIVES};
 
 const HEADER: usize = 4;
 const END: (u16, usize) = (0, 4);
-const DRIVE: (u16, usize) = (1, 68);
+pub const DRIVE: (u16, usize) = (1, 68);
+/// "record kind 2, length 76, a drive with a sixteen-byte device path".
+pub const WIDE_DRIVE: (u16, usize) = (2, 76);
 const PARAMETERS: (u16, usize) = (4, 20);
 /// "record kind 3, length 4 + 2 + 8 times n".
 const BAD_BLOCKS: u16 = 3;
@@ -50,6 +53,7 @@ fn header(left: &[u8]) -> Result<(Record, &[u8]), u32> {
     let (record, may_be) = match word(left, 2) {
         k if k == END.0 => (Record::End, length == END.1),
         k if k == DRIVE.0 => (Record::Drive, length == DRIVE.1),
+        k if k == WIDE_DRIVE.0 => (Record::Drive, length == WIDE_DRIVE.1),
         k if k == PARAMETERS.0 => (Record::Parameters, length == PARAMETERS.1),
         BAD_BLOCKS => (Record::BadBlocks, (1..=MOST_BAD).any(|n| length == bad_blocks_length(n))),
         _ => return Err(3),
@@ -60,9 +64,11 @@ fn header(left: &[u8]) -> Result<(Record, &[u8]), u32> {
     Ok((record, left.get(..length).ok_or(1u32)?))
 }
 
-/// The fields of a drive's record, by their places.
-fn drive_of(record: &[u8]) -> Drive {
+/// The fields of a drive's record of either kind, by their places. Where the eight bytes at 68 are missing they count as zeros: "A kind 1
+/// drive answers 74 as its conversion."
+pub fn drive_of(record: &[u8]) -> Drive {
     Drive {
+        kind: word(record, 2),
         physical_cylinders: dword(record, 4),
         physical_heads: dword(record, 8),
         physical_sectors: dword(record, 12),
@@ -77,16 +83,26 @@ fn drive_of(record: &[u8]) -> Drive {
         interface_type: record[44..52].try_into().unwrap(),
         interface_path: record[52..60].try_into().unwrap(),
         device_path: record[60..68].try_into().unwrap(),
+        tail: record.get(68..76).map_or([0; 8], |tail| tail.try_into().unwrap()),
     }
 }
 
-fn put_header(record: &mut [u8], (kind, length): (u16, usize)) {
+pub fn put_header(record: &mut [u8], (kind, length): (u16, usize)) {
     record[0..2].copy_from_slice(&(length as u16).to_le_bytes());
     record[2..4].copy_from_slice(&kind.to_le_bytes());
 }
 
+/// Kind and length of the record that a drive is written as: those it was read with, whatever its tail holds.
+fn header_of(drive: &Drive) -> (u16, usize) {
+    if drive.kind == WIDE_DRIVE.0 {
+        WIDE_DRIVE
+    } else {
+        DRIVE
+    }
+}
+
 fn record_of(drive: &Drive, record: &mut [u8]) {
-    put_header(record, DRIVE);
+    put_header(record, header_of(drive));
     record[4..8].copy_from_slice(&drive.physical_cylinders.to_le_bytes());
     record[8..12].copy_from_slice(&drive.physical_heads.to_le_bytes());
     record[12..16].copy_from_slice(&drive.physical_sectors.to_le_bytes());
@@ -101,6 +117,9 @@ fn record_of(drive: &Drive, record: &mut [u8]) {
     record[44..52].copy_from_slice(&drive.interface_type);
     record[52..60].copy_from_slice(&drive.interface_path);
     record[60..68].copy_from_slice(&drive.device_path);
+    if drive.kind == WIDE_DRIVE.0 {
+        record[68..76].copy_from_slice(&drive.tail);
+    }
 }
 
 const HOST_BUSES: [[u8; 4]; 2] = [*b"ISA\0", *b"PCI\0"];
@@ -117,7 +136,12 @@ pub fn fields_obey(drive: &Drive) -> bool {
         && drive.geometry_blocks() <= drive.blocks
         && drive.protection <= 1
         && HOST_BUSES.contains(&drive.host_bus)
-        && INTERFACE_TYPES.contains(&drive.interface_type)
+        && type_obeys(drive)
+}
+
+/// I2O is a type of kind 2 only.
+fn type_obeys(drive: &Drive) -> bool {
+    INTERFACE_TYPES.contains(&drive.interface_type) || drive.kind == WIDE_DRIVE.0 && drive.interface_type == I2O
 }
 
 /// 6 "first + blocks above the store", negated, and without a sum that could wrap.
@@ -196,15 +220,17 @@ pub fn read(table: &[u8], store_blocks: u64) -> Result<Drives, Refusal> {
 /// The length of the drives as a table.
 pub fn length(drives: &Drives) -> usize {
     let bad_blocks: usize = drives.bad.iter().filter(|bad| !bad.is_empty()).map(|bad| bad_blocks_length(bad.numbers().len())).sum();
-    DRIVE.1 * drives.count + bad_blocks + PARAMETERS.1 * drives.parameters.iter().flatten().count() + END.1
+    let drive_records: usize = drives.known().iter().map(|drive| header_of(drive).1).sum();
+    drive_records + bad_blocks + PARAMETERS.1 * drives.parameters.iter().flatten().count() + END.1
 }
 
 /// Lays the drives out as a table again; the caller has made sure that there is room.
 pub fn write(drives: &Drives, out: &mut [u8]) {
     let mut place = 0;
     for (slot, drive) in drives.known().iter().enumerate() {
-        record_of(drive, &mut out[place..place + DRIVE.1]);
-        place += DRIVE.1;
+        let length = header_of(drive).1;
+        record_of(drive, &mut out[place..place + length]);
+        place += length;
         let numbers = drives.bad[slot].numbers();
         if !numbers.is_empty() {
             let record = &mut out[place..place + bad_blocks_length(numbers.len())];

@@ -29,6 +29,17 @@ unsafe fn lent_mut<'a>(start: *mut u8, length: usize) -> &'a mut [u8] {
 /// Words of the block, for the faults.
 #[allow(dead_code)]
 mod words {
+    /// A word of a drive's slot, by its number there.
+    pub fn drive(slot: usize, word: usize) -> usize {
+        184 + 16 * slot + word
+    }
+    pub const POINTER: usize = 313;
+    pub const ARENA_LENGTH: usize = 314;
+    pub const STORE_LENGTH: usize = 315;
+    pub const PLACED: usize = 316;
+    pub const PRESENT: usize = 332;
+    pub const PARAMETERS: usize = 340;
+
     pub fn get(desk: &[u8], word: usize) -> u64 {
         u64::from_le_bytes(desk[8 * word..8 * word + 8].try_into().unwrap())
     }
@@ -44,8 +55,8 @@ mod worn {
     use model::parts::{linear, Registers, Request, Row};
 
     /// Words of the block: how many bad blocks each slot has, and sixteen for each.
-    pub const COUNTS: usize = 338;
-    pub const LISTS: usize = 346;
+    pub const COUNTS: usize = 354;
+    pub const LISTS: usize = 362;
 
     /// The list of a slot, of a block that is a desk's.
     pub fn list(desk: &[u8], slot: usize) -> Vec<u64> {
@@ -131,6 +142,62 @@ mod worn {
     }
 }
 
+/// What the faults of kind 2 and of the longer result need to know.
+#[allow(dead_code)]
+mod wide {
+    use super::words;
+    use model::parts::{linear, Registers, I2O};
+
+    // words of a drive's slot
+    pub const TYPE: usize = 11;
+    pub const KIND: usize = 14;
+    pub const TAIL: usize = 15;
+
+    pub const ATA: [u8; 8] = *b"ATA\0\0\0\0\0";
+
+    /// A 48h that a good post would answer: the slot of its drive, where its result lies in the arena, how much room there is from there
+    /// to the window's end, and the size asked for.
+    pub struct Asked {
+        pub slot: usize,
+        pub at: usize,
+        pub room: usize,
+        pub size: u16,
+    }
+
+    pub fn asked(desk: &[u8], arena: &[u8], guest: u64, given: &Registers) -> Option<Asked> {
+        let read = model::block::read(desk)?;
+        let slot = read.drives.slot_of(u64::from(given.dl()))?;
+        let (window, place) = (arena.len() / 8, linear(given.ds, given.si) as usize);
+        if given.ah() != 0x48 || guest >= 8 || place + 2 > window {
+            return None;
+        }
+        let at = guest as usize * window + place;
+        Some(Asked { slot, at, room: window - place, size: u16::from_le_bytes([arena[at], arena[at + 1]]) })
+    }
+
+    pub fn is_i2o(desk: &[u8], slot: usize) -> bool {
+        words::get(desk, words::drive(slot, TYPE)) == u64::from_le_bytes(I2O)
+    }
+
+    /// Makes the sum of a result of 66 or 74 bytes zero again.
+    pub fn seal(result: &mut [u8], size: usize) {
+        result[size - 1] = result[30..size - 1].iter().fold(0u8, |sum, byte| sum.wrapping_sub(*byte));
+    }
+
+    /// The block with the kinds and tails of its drives changed.
+    pub fn with_slots(desk: &[u8], change: impl Fn(usize, &mut u64, &mut u64)) -> Vec<u8> {
+        let mut copy = desk.to_vec();
+        for slot in (0..8).filter(|_| desk.len() == super::DESK_SIZE) {
+            let (kind, tail) = (words::drive(slot, KIND), words::drive(slot, TAIL));
+            let (mut new_kind, mut new_tail) = (words::get(desk, kind), words::get(desk, tail));
+            change(slot, &mut new_kind, &mut new_tail);
+            words::set(&mut copy, kind, new_kind);
+            words::set(&mut copy, tail, new_tail);
+        }
+        copy
+    }
+}
+
 #[no_mangle]
 pub extern "C" fn edd_version() -> u32 {
     model::version()
@@ -172,7 +239,7 @@ pub unsafe extern "C" fn edd_open(
         return model::open(desk, &without, arena_length, store_length, place);
     }
     #[cfg(fault = "flags_masked_at_open")]
-    for at in (0..8).map(|slot| 184 + 14 * slot + 5).filter(|_| answer == 0) {
+    for at in (0..8).map(|slot| words::drive(slot, 5)).filter(|_| answer == 0) {
         let flags = words::get(desk, at);
         words::set(desk, at, if flags & 4 == 0 { flags & !0x70 } else { flags });
     }
@@ -212,14 +279,46 @@ pub unsafe extern "C" fn edd_open(
         let other = [&table[..*place as usize], &table[*place as usize + 6..]].concat();
         return model::open(desk, &other, arena_length, store_length, place);
     }
+    #[cfg(fault = "i2o_in_kind_1_taken")]
+    if answer == 5 && table[*place as usize..].starts_with(&[68, 0, 1, 0]) && table[*place as usize + 44..][..8] == model::parts::I2O {
+        let mut other = table.to_vec();
+        other[*place as usize + 44..][..8].copy_from_slice(&wide::ATA);
+        return model::open(desk, &other, arena_length, store_length, place);
+    }
+    #[cfg(fault = "spaces_in_kind_2_taken")]
+    if answer == 5 && table[*place as usize..].starts_with(&[76, 0, 2, 0]) {
+        // names padded as document 000 has them
+        let mut other = table.to_vec();
+        for byte in other[*place as usize + 40..][..12].iter_mut().filter(|byte| **byte == 0x20) {
+            *byte = 0;
+        }
+        return model::open(desk, &other, arena_length, store_length, place);
+    }
+    #[cfg(fault = "kind_2_not_counted")]
+    if answer == 4 && table[*place as usize + 2] == 2 {
+        let other = [&table[..*place as usize], &table[*place as usize + 76..]].concat();
+        return model::open(desk, &other, arena_length, store_length, place);
+    }
+    #[cfg(fault = "overlap_with_kind_2_taken")]
+    if answer == 7 && table[*place as usize + 2] == 2 {
+        let other = [&table[..*place as usize], &table[*place as usize + 76..]].concat();
+        return model::open(desk, &other, arena_length, store_length, place);
+    }
+    #[cfg(fault = "kind_2_of_length_68_taken")]
+    if answer == 2 && table[*place as usize..].starts_with(&[68, 0, 2, 0]) {
+        let mut other = table.to_vec();
+        other[*place as usize + 2] = 1;
+        return model::open(desk, &other, arena_length, store_length, place);
+    }
     #[cfg(fault = "placements_survive")]
     if answer == 0 && model::block::read(&before).is_some() {
-        desk[8 * 300..8 * 316].copy_from_slice(&before[8 * 300..8 * 316]);
+        let placements = 8 * words::PLACED..8 * words::PRESENT;
+        desk[placements.clone()].copy_from_slice(&before[placements]);
     }
     #[cfg(fault = "lists_survive")]
     if answer == 0 && model::block::read(&before).is_some() && worn::list(desk, 0).is_empty() {
         // the first drive keeps the list that it had, where it still may
-        let (old, blocks) = (worn::list(&before, 0), words::get(desk, 184 + 3));
+        let (old, blocks) = (worn::list(&before, 0), words::get(desk, words::drive(0, 3)));
         if old.iter().all(|number| *number < blocks) {
             worn::set_list(desk, 0, &old);
         }
@@ -238,16 +337,29 @@ pub unsafe extern "C" fn edd_write(desk: *const u8, desk_len: usize, out: *mut u
     let desk = &packet_words_cleared(desk)[..];
     #[cfg(any(fault = "bad_count_by_its_low_byte", fault = "past_list_not_judged"))]
     let desk = &lists_cleared(desk)[..];
+    #[cfg(fault = "kind_by_the_tail")]
+    let desk = &wide::with_slots(desk, |slot, kind, tail| {
+        if (*kind, *tail, wide::is_i2o(desk, slot)) == (2, 0, false) {
+            *kind = 1;
+        }
+    })[..];
+    #[cfg(fault = "tail_of_kind_1_not_judged")]
+    let desk = &wide::with_slots(desk, |_, kind, tail| *tail = if *kind == 1 { 0 } else { *tail })[..];
+    #[cfg(fault = "kind_by_its_low_byte")]
+    let desk = &wide::with_slots(desk, |_, kind, _| *kind &= 0xFF)[..];
+    #[cfg(fault = "tail_of_a_blank_slot_not_judged")]
+    let desk = &wide::with_slots(desk, |_, kind, tail| *tail = if *kind == 0 { 0 } else { *tail })[..];
     let answer = model::write(desk, out, written);
     #[cfg(fault = "list_not_written")]
     if answer == 0 && worn::list(desk, 0).len() == 1 && *written >= 82 {
         // the first drive's list of one number
-        out.copy_within(82..*written as usize, 68);
+        let at = usize::from(out[0]);
+        out.copy_within(at + 14..*written as usize, at);
         *written -= 14;
     }
     #[cfg(fault = "placed_bytes_written")]
-    if answer == 0 && *written >= 92 && out[70] == 4 {
-        out[78] |= 0xA0;
+    if answer == 0 && *written >= 92 && out[usize::from(out[0]) + 2] == 4 {
+        out[usize::from(out[0]) + 10] |= 0xA0;
     }
     #[cfg(fault = "flags_masked_when_written")]
     if answer == 0 && *written >= 72 && out[32] & 4 == 0 {
@@ -315,12 +427,12 @@ pub unsafe extern "C" fn edd_post(
     let (desk, arena, store) = unsafe { (lent_mut(desk, desk_len), lent_mut(arena, arena_len), lent(store, store_len)) };
     let given = Registers { ax: *ax, bx: *bx, cx: *cx, dx: *dx, ds, si, es, carry: *carry };
     #[cfg(fault = "lengths_before_desk")]
-    if desk.len() == DESK_SIZE && words::get(desk, 298) != arena.len() as u64 {
+    if desk.len() == DESK_SIZE && words::get(desk, words::ARENA_LENGTH) != arena.len() as u64 {
         return 24;
     }
     #[cfg(fault = "store_length_unseen")]
     let store = if desk.len() == DESK_SIZE {
-        let length = words::get(desk, 299);
+        let length = words::get(desk, words::STORE_LENGTH);
         if length <= store.len() as u64 {
             &store[..length as usize]
         } else {
@@ -332,6 +444,24 @@ pub unsafe extern "C" fn edd_post(
     let mut out = given;
     #[cfg(any(fault = "verify_before_the_range", fault = "protected_write_fault"))]
     let found = model::parts::window(arena, guest).to_vec();
+    #[cfg(any(
+        fault = "size_73_gives_74",
+        fault = "i2o_gives_66",
+        fault = "i2o_needs_room_for_66",
+        fault = "shorter_where_no_room",
+        fault = "nul_in_the_wide_result",
+        fault = "spaces_in_66_bytes",
+        fault = "unpadded_sum",
+        fault = "wide_length_byte_24h",
+        fault = "tail_not_shown",
+        fault = "tail_before_the_path",
+        fault = "i2o_without_pointer",
+        fault = "channel_cleared",
+        fault = "flags_unmasked_in_74_bytes"
+    ))]
+    if let Some(asked) = wide::asked(desk, arena, guest, &given) {
+        return other_result(desk, arena, store, guest, given, (ax, carry), asked);
+    }
     let answer = model::post(desk, arena, store, guest, &mut out);
     #[cfg(fault = "bad_block_at_the_post")]
     if answer == 256 && given.ax >> 8 == 0x42 {
@@ -402,15 +532,15 @@ pub unsafe extern "C" fn edd_post(
         // as if a drive without a record took room too
         let result = guest as usize * (arena.len() / 8) + model::parts::linear(ds, si) as usize;
         let slot = usize::from(given.dl() - 0x80);
-        let without = (0..slot).filter(|slot| words::get(desk, 316 + slot) == 0).count() as u16;
-        if words::get(desk, 300 + guest as usize) == 1 && words::get(desk, 316 + slot) == 1 && arena[result] >= 30 {
+        let without = (0..slot).filter(|slot| words::get(desk, words::PRESENT + slot) == 0).count() as u16;
+        if words::get(desk, words::PLACED + guest as usize) == 1 && words::get(desk, words::PRESENT + slot) == 1 && arena[result] >= 30 {
             let segment = &mut arena[result + 28..result + 30];
             segment.copy_from_slice(&(u16::from_le_bytes([segment[0], segment[1]]).wrapping_add(without)).to_le_bytes());
         }
     }
     #[cfg(any(fault = "flags_unmasked", fault = "flags_always_masked", fault = "flags_without_bit_3"))]
     if answer == 0 && given.ax >> 8 == 0x48 && out.carry == 0 {
-        let raw = words::get(desk, 184 + 14 * usize::from(given.dl() - 0x80) + 5) as u8;
+        let raw = words::get(desk, words::drive(usize::from(given.dl() - 0x80), 5)) as u8;
         let shown = if cfg!(fault = "flags_unmasked") {
             raw
         } else if cfg!(fault = "flags_always_masked") {
@@ -423,7 +553,7 @@ pub unsafe extern "C" fn edd_post(
         arena[guest as usize * (arena.len() / 8) + model::parts::linear(ds, si) as usize + 2] = shown;
     }
     #[cfg(fault = "extensions_unplaced")]
-    if answer == 0 && given.ax >> 8 == 0x41 && out.carry == 0 && words::get(desk, 316 + usize::from(given.dl() - 0x80)) == 1 {
+    if answer == 0 && given.ax >> 8 == 0x41 && out.carry == 0 && words::get(desk, words::PRESENT + usize::from(given.dl() - 0x80)) == 1 {
         out.cx = 5;
     }
     #[cfg(fault = "static_scratch")]
@@ -448,6 +578,97 @@ pub unsafe extern "C" fn edd_post(
     answer
 }
 
+/// A 48h that goes by another size, or returns other bytes. Its sum is still zero, but for one fault.
+#[allow(dead_code)]
+fn other_result(
+    desk: &mut [u8],
+    arena: &mut [u8],
+    store: &[u8],
+    guest: u64,
+    given: Registers,
+    (ax, carry): (&mut u16, &mut u16),
+    asked: wide::Asked,
+) -> u32 {
+    let wide::Asked { slot, at, room, size } = asked;
+    let (is_i2o, of_type) = (wide::is_i2o(desk, slot), words::drive(slot, wide::TYPE));
+    let flags = words::get(desk, words::drive(slot, 5)) as u8;
+    // no other window is touched
+    let before = model::parts::window(arena, guest).to_vec();
+    let mut ask = |desk: &mut [u8], arena: &mut [u8], size: u16| {
+        let mut out = given;
+        arena[at..at + 2].copy_from_slice(&size.to_le_bytes());
+        let answer = model::post(desk, arena, store, guest, &mut out);
+        if answer != 0 || out.carry == 1 {
+            model::parts::window(arena, guest).copy_from_slice(&before);
+        }
+        if answer == 0 {
+            (*ax, *carry) = (out.ax, out.carry);
+        }
+        (answer, out)
+    };
+    let at_66 = is_i2o && (66..74).contains(&size);
+    if cfg!(fault = "size_73_gives_74") && size == 73 {
+        return ask(desk, arena, 74).0;
+    }
+    if cfg!(fault = "i2o_gives_66") && at_66 {
+        words::set(desk, of_type, u64::from_le_bytes(wide::ATA));
+        let (answer, out) = ask(desk, arena, 66);
+        words::set(desk, of_type, u64::from_le_bytes(model::parts::I2O));
+        if answer == 0 && out.carry == 0 {
+            arena[at + 40..at + 48].copy_from_slice(&model::parts::I2O);
+            wide::seal(&mut arena[at..], 66);
+        }
+        return answer;
+    }
+    if cfg!(fault = "i2o_needs_room_for_66") && at_66 && room < 66 {
+        return ask(desk, arena, 25).0;
+    }
+    let (mut answer, mut out) = ask(desk, arena, size);
+    if cfg!(fault = "shorter_where_no_room") && size >= 74 && answer == 0 && out.carry == 1 {
+        (answer, out) = ask(desk, arena, 66);
+    }
+    if answer != 0 || out.carry == 1 {
+        return answer;
+    }
+    let result = &mut arena[at..];
+    let returned = usize::from(result[0]);
+    if returned == 74 {
+        if cfg!(fault = "nul_in_the_wide_result") {
+            result[36..48].iter_mut().filter(|byte| **byte == 0x20).for_each(|byte| *byte = 0);
+        }
+        if cfg!(fault = "wide_length_byte_24h") {
+            result[32] = 0x24;
+        }
+        if cfg!(fault = "tail_not_shown") {
+            result[64..72].fill(0);
+        }
+        if cfg!(fault = "tail_before_the_path") {
+            result[56..72].rotate_left(8);
+        }
+        if cfg!(fault = "channel_cleared") {
+            result[51] = 0;
+        }
+        if cfg!(fault = "flags_unmasked_in_74_bytes") {
+            result[2] = flags;
+        }
+        wide::seal(result, 74);
+        if cfg!(fault = "unpadded_sum") {
+            let padding = result[36..48].iter().filter(|byte| **byte == 0x20).count();
+            result[73] = result[73].wrapping_add(0x20 * padding as u8);
+        }
+    }
+    if returned == 66 {
+        if cfg!(fault = "spaces_in_66_bytes") {
+            result[36..48].iter_mut().filter(|byte| **byte == 0).for_each(|byte| *byte = 0x20);
+        }
+        wide::seal(result, 66);
+    }
+    if cfg!(fault = "i2o_without_pointer") && at_66 {
+        result[26..30].fill(0xFF);
+    }
+    answer
+}
+
 #[no_mangle]
 pub unsafe extern "C" fn edd_turn(
     desk: *mut u8,
@@ -465,7 +686,7 @@ pub unsafe extern "C" fn edd_turn(
         unsafe { arena.as_ptr().read_volatile() };
     }
     #[cfg(fault = "packet_read_again")]
-    if desk.len() == DESK_SIZE && words::get(desk, 298) == arena.len() as u64 {
+    if desk.len() == DESK_SIZE && words::get(desk, words::ARENA_LENGTH) == arena.len() as u64 {
         for guest in 0..8 {
             let place = (guest * (arena.len() / 8)).saturating_add(words::get(desk, 23 * guest + 13) as usize);
             let packet = arena.get(place..place.saturating_add(16)).filter(|packet| packet[0] >= 16);
@@ -475,7 +696,7 @@ pub unsafe extern "C" fn edd_turn(
         }
     }
     #[cfg(fault = "search_from_zero")]
-    let pointer = if desk.len() == DESK_SIZE { std::mem::replace(&mut desk[8 * 297], 0) } else { 0 };
+    let pointer = if desk.len() == DESK_SIZE { std::mem::replace(&mut desk[8 * words::POINTER], 0) } else { 0 };
     #[cfg(any(fault = "list_of_the_store", fault = "next_part_not_searched"))]
     let lists = lists_moved(desk);
     #[cfg(any(
@@ -511,11 +732,11 @@ pub unsafe extern "C" fn edd_turn(
     }
     #[cfg(fault = "search_from_zero")]
     if desk.len() == DESK_SIZE && answer != 0 {
-        desk[8 * 297] = pointer;
+        desk[8 * words::POINTER] = pointer;
     }
     #[cfg(fault = "pointer_stays")]
     if answer == 0 && *guest == 7 {
-        words::set(desk, 297, 7);
+        words::set(desk, words::POINTER, 7);
     }
     #[cfg(fault = "last_block_lost")]
     if answer == 0 && *moved == 16 {
@@ -686,10 +907,10 @@ pub unsafe extern "C" fn edd_place(
     }
     let answer = model::place(desk, arena, store, guest, address);
     #[cfg(fault = "flags_raw")]
-    if let Some(slot) = (0..8).find(|slot| answer == 0 && words::get(desk, 316 + slot) == 1) {
+    if let Some(slot) = (0..8).find(|slot| answer == 0 && words::get(desk, words::PRESENT + slot) == 1) {
         // of the first table; its sum is still zero
         let at = guest as usize * (arena.len() / 8) + address as usize;
-        let raw = desk[8 * 324 + 14 * slot + 4];
+        let raw = desk[8 * words::PARAMETERS + 14 * slot + 4];
         arena[at + 15] = arena[at + 15].wrapping_add(arena[at + 4] - raw);
         arena[at + 4] = raw;
     }
@@ -752,8 +973,13 @@ pub unsafe extern "C" fn edd_reader_feed(reader: *mut u8, reader_len: usize, byt
         words::set(reader, 1, 0);
     }
     #[cfg(fault = "held_list_refused")]
-    if reader.len() == READER_SIZE && words::get(reader, 3) >= 68 {
+    if reader.len() == READER_SIZE && words::get(reader, 3) >= 76 {
         // room for a drive's record only
+        return 25;
+    }
+    #[cfg(fault = "held_kind_2_refused")]
+    if reader.len() == READER_SIZE && words::get(reader, 3) >= 68 && reader[42] == 2 {
+        // room for a drive of kind 1 only
         return 25;
     }
     #[cfg(fault = "empty_fragment_ends")]
@@ -805,6 +1031,16 @@ pub unsafe extern "C" fn edd_reader_feed(reader: *mut u8, reader_len: usize, byt
         words::set(reader, 3, 0);
         reader[40..174].fill(0);
         return 9;
+    }
+    #[cfg(fault = "kind_2_judged_by_68_bytes")]
+    if answer == 256 && words::get(reader, 0) == 0 && words::get(reader, 3) >= 68 && reader[42] == 2 {
+        // the tail may be anything, so nothing is awaited
+        let (mut copy, missing) = (reader.to_vec(), 76 - words::get(reader, 3) as usize);
+        let early = model::reader_feed(&mut copy, &[0; 8][..missing], place);
+        if early != 256 {
+            reader.copy_from_slice(&copy);
+            return early;
+        }
     }
     #[cfg(fault = "trailing_before_a_byte")]
     if answer == 256 && words::get(reader, 0) == 1 {
@@ -906,6 +1142,82 @@ pub unsafe extern "C" fn edd_reader_write(reader: *const u8, reader_len: usize, 
 }
 
 // ---- calls without a desk
+
+#[no_mangle]
+pub unsafe extern "C" fn edd_convert_up(record: *const u8, record_len: usize, out: *mut u8, out_len: usize) -> u32 {
+    let (record, out) = unsafe { (lent(record, record_len), lent_mut(out, out_len)) };
+    #[cfg(fault = "swapped_sizes_taken")]
+    if (record.len(), out.len()) == (76, 68) {
+        return model::convert_down(record, out);
+    }
+    #[cfg(fault = "longer_buffer_taken")]
+    let out = if out.len() > 76 { &mut out[..76] } else { out };
+    #[cfg(fault = "up_reads_past_the_record")]
+    unsafe {
+        record.as_ptr().add(record.len()).read_volatile();
+    }
+    #[cfg(fault = "up_judges_the_place")]
+    if record.len() == 68 {
+        // as if a drive had to end below 2^64
+        let number = |at: usize| u64::from_le_bytes(record[at..at + 8].try_into().unwrap());
+        if number(16).checked_add(number(24)).is_none() {
+            return 10;
+        }
+    }
+    let answer = model::convert_up(record, out);
+    #[cfg(fault = "up_without_fields")]
+    if answer == 10 && out.len() == 76 && record.len() == 68 && record[..4] == [68, 0, 1, 0] {
+        out.copy_from_slice(&[&[76, 0, 2, 0], &record[4..], &[0; 8]].concat());
+        return 0;
+    }
+    #[cfg(fault = "up_keeps_the_length")]
+    if answer == 0 {
+        out[0] = 68;
+    }
+    #[cfg(fault = "up_keeps_the_kind")]
+    if answer == 0 {
+        out[2] = 1;
+    }
+    #[cfg(fault = "up_leaves_the_tail")]
+    if answer == 0 {
+        out[75] = 0x3C;
+    }
+    #[cfg(fault = "out_written_on_10")]
+    if answer == 10 && out.len() == 76 && record.len() == 68 {
+        out[..68].copy_from_slice(record);
+    }
+    answer
+}
+
+#[no_mangle]
+pub unsafe extern "C" fn edd_convert_down(record: *const u8, record_len: usize, out: *mut u8, out_len: usize) -> u32 {
+    let (record, out) = unsafe { (lent(record, record_len), lent_mut(out, out_len)) };
+    #[cfg(fault = "swapped_sizes_taken")]
+    if (record.len(), out.len()) == (68, 76) {
+        return model::convert_up(record, out);
+    }
+    #[cfg(fault = "longer_buffer_taken")]
+    let out = if out.len() > 68 { &mut out[..68] } else { out };
+    let answer = model::convert_down(record, out);
+    #[cfg(any(fault = "down_ignores_the_tail", fault = "down_by_half_the_tail"))]
+    if answer == 10 && record.len() == 76 {
+        let from = if cfg!(fault = "down_ignores_the_tail") { 68 } else { 72 };
+        return model::convert_down(&[&record[..from], &[0; 8][..76 - from]].concat(), out);
+    }
+    #[cfg(fault = "down_takes_i2o")]
+    if answer == 10 && record.len() == 76 && record[44..52] == model::parts::I2O {
+        let answer = model::convert_down(&[&record[..44], &wide::ATA, &record[52..]].concat(), out);
+        if answer == 0 {
+            out[44..52].copy_from_slice(&model::parts::I2O);
+        }
+        return answer;
+    }
+    #[cfg(fault = "out_written_on_10")]
+    if answer == 10 && out.len() == 68 && record.len() == 76 {
+        out.copy_from_slice(&record[..68]);
+    }
+    answer
+}
 
 #[no_mangle]
 pub extern "C" fn edd_window(arena_length: u64, guest: u64, start: &mut u64, length: &mut u64) -> u32 {

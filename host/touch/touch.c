@@ -2,13 +2,14 @@
  * touch - which bytes of arena and store a call touches, as the processor tells us: before the call everything that it may not touch
  * is made inaccessible, so that a single read elsewhere ends the program.
  *
- *   post, withdraw,  the window of their guest, and no byte of the store
- *   place
+ *   post, withdraw,  the window of their guest, and no byte of the store. Of the window a 48h touches only the bytes that it returns,
+ *   place            or the size word alone where these do not fit; told by pages too, so with the result against a page's end.
  *   turn             the window of the guest that it serves and the store blocks that it moves. A read only reads the blocks, a write
  *                    only reads the window; but where a 43h meets a bad block, the count word of its packet is written. The bad block
  *                    and those behind it are not touched.
  *   reader calls     the reader block, and the fragment or the buffer that they are lent. A fragment is only read, and so is the
  *                    block when the table is written out; a buffer is touched only where the table is written into it.
+ *   conversions      the record, which is only read, and the buffer for the other record, which a refused conversion does not touch.
  *
  * This is tested, not proved: a promise says what memory holds before and after a call, not which bytes are read in between. What
  * edd_desk.h allows under "What may run at the same time" depends on it: a guest that has no request waiting goes on running in its own
@@ -106,7 +107,7 @@ static const struct request requests[] = {
     { 0x03, 128, 0, 128, 1, "03h" },    { 0x42, 1, 511, 1, 1, "42h" },      { 0x42, 127, 9, 127, 1, "42h" },
     { 0x43, 16, 8, 16, 1, "43h" },      { 0x43, 127, 385, 127, 1, "43h" },  { 0x42, 0, 512, 0, 0, "42h" },
     { 0x42, 1, 512, 0, 0, "42h" },      { 0x43, 128, 0, 0, 0, "43h" },      { 0x44, 100, 400, 0, 0, "44h" },
-    { 0x47, 9, 511, 0, 0, "47h" },      { 0x48, 0, 0, 0, 0, "48h" },        { 0x08, 0, 0, 0, 0, "08h" },
+    { 0x47, 9, 511, 0, 0, "47h" },      { 0x48, 66, 0, 0, 0, "48h" },       { 0x08, 0, 0, 0, 0, "08h" },
     { 0x41, 0, 0, 0, 0, "41h" },        { 0x02, 129, 0, 0, 0, "02h" },      { 0x15, 0, 0, 0, 0, "15h" },
     /* before any block, inside a part, at the end of a part and in the third one */
     { 0x42, 20, 208, 0, 1, "42h" },     { 0x43, 20, 208, 0, 1, "43h" },     { 0x02, 20, 208, 0, 1, "02h" },
@@ -114,6 +115,8 @@ static const struct request requests[] = {
     { 0x02, 20, 200, 8, 1, "02h" },     { 0x03, 20, 200, 8, 1, "03h" },     { 0x42, 40, 192, 16, 1, "42h" },
     { 0x43, 40, 192, 16, 1, "43h" },    { 0x42, 127, 216, 40, 1, "42h" },   { 0x43, 127, 216, 40, 1, "43h" },
     { 0x03, 128, 216, 40, 1, "03h" },   { 0x43, 13, 257, 12, 1, "43h" },    { 0x44, 127, 216, 0, 0, "44h" },
+    /* of 48h the count is the size that the guest asks with */
+    { 0x48, 74, 0, 0, 0, "48h" },       { 0x48, 65535, 0, 0, 0, "48h" },    { 0x48, 25, 0, 0, 0, "48h" },
 };
 #define REQUESTS (sizeof requests / sizeof requests[0])
 
@@ -135,7 +138,7 @@ static void post(unsigned guest, const struct request *q)
     uint16_t ax = (uint16_t)(q->function << 8), bx = 0, cx = 0, dx = (uint16_t)(0x80 + guest), carry = 0;
     uint16_t ds = 0, si = PACKET, es = 0;
 
-    put_word(window + PACKET, 2, q->function == 0x48 ? 66 : 16);
+    put_word(window + PACKET, 2, q->function == 0x48 ? q->count : 16);
     put_word(window + PACKET + 2, 2, q->count);
     put_word(window + PACKET + 4, 4, BUFFER);
     put_word(window + PACKET + 8, 8, q->start);
@@ -187,6 +190,41 @@ static void collect(unsigned guest, const struct request *q)
     uint16_t r[8];
     must(edd_collect(desk, sizeof desk, guest, &r[0], &r[1], &r[2], &r[3], &r[4], &r[5], &r[6], &r[7]) == EDD_DONE, "no collect");
     must(r[7] == (q->good < q->count), "carry is not 1 after a bad block, or is");
+}
+
+/* Whether the interface of a guest's drive is I2O. */
+static int is_i2o(unsigned guest)
+{
+    return guest % 2 == 1;
+}
+
+/*
+ * 48h of a guest with that size. Its result ends with a page, the last or another, of which so many bytes are missing; no other page
+ * of the window may be touched.
+ */
+static void result_at_end(unsigned guest, unsigned size, unsigned returned, size_t end, unsigned missing)
+{
+    uint8_t *window = arena + guest * WINDOW, sum = 0;
+    size_t at = end - returned + missing;
+    uint16_t ax = 0x4800, bx = 0, cx = 0, dx = (uint16_t)(0x80 + guest), carry = 7;
+
+    memset(window + end - PAGE, 0xEE, PAGE);
+    put_word(window + at, 2, size);
+    snprintf(doing, sizeof doing, "48h of guest %u with size %u at %zu", guest, size, at);
+    allow(arena, ARENA, PROT_NONE);
+    allow(store, STORE, PROT_NONE);
+    allow(window + end - PAGE, PAGE, PROT_READ | PROT_WRITE);
+    uint32_t answer = edd_post(desk, sizeof desk, arena, ARENA, store, STORE, guest, &ax, &bx, &cx, &dx, (uint16_t)(at / 16),
+                               (uint16_t)(at % 16), 0, &carry);
+    open_all();
+    calls++;
+    must(answer == EDD_DONE && carry == (missing > 0) && ax == (missing ? EDD_AH_BAD_PARAMETER << 8 : 0), "another answer than expected");
+    must(window[at] + (window[at + 1] << 8) == (int)(missing ? size : returned), "another size than expected");
+    for (size_t i = end - PAGE; i < end; i++)
+        must((i >= at && (i < at + 2 || !missing)) || window[i] == 0xEE, "a byte that is not of the result changed");
+    for (size_t i = at + 30; i < end; i++)
+        sum = (uint8_t)(sum + window[i]);
+    must(missing > 0 || sum == 0, "another sum of the device path information than 0");
 }
 
 static void withdraw(unsigned guest)
@@ -266,6 +304,16 @@ static void write_out(uint8_t *reader, size_t length, int at_end, uint32_t expec
     uint8_t *out = in_room(BUFFER_OUT, length, at_end);
     only_rooms("writing a reader's table", PROT_READ, PROT_NONE, expected == EDD_DONE ? PROT_READ | PROT_WRITE : PROT_NONE);
     answered(edd_reader_write(reader, EDD_READER_SIZE, out, length, &written), expected);
+}
+
+/* A record in a room, and the other record to be written in another. */
+static void convert(int up, const uint8_t *record, size_t length, size_t out_length, int at_end, uint32_t expected)
+{
+    uint8_t *in = in_room(FRAGMENT, length, at_end), *out = in_room(BUFFER_OUT, out_length, at_end);
+    memcpy(in, record, length);
+    only_rooms(up ? "converting a record up" : "converting a record down", PROT_NONE, PROT_READ,
+               expected == EDD_DONE ? PROT_READ | PROT_WRITE : PROT_NONE);
+    answered(up ? edd_convert_up(in, length, out, out_length) : edd_convert_down(in, length, out, out_length), expected);
 }
 
 static void open_reader(uint8_t *reader, size_t length, uint32_t expected)
@@ -361,6 +409,21 @@ static void together(const struct request *q)
         withdraw(g);
 }
 
+/* rule: exports::edd_post */
+/* Each size of 48h: as the last bytes of the window and before another page of it, with room for all bytes, and for all but one. */
+static void results(void)
+{
+    static const unsigned sizes[] = { 26, 30, 66, 74 };
+    for (unsigned g = 0; g < EDD_GUESTS; g++) {
+        for (unsigned i = 0; i < sizeof sizes / sizeof sizes[0]; i++) {
+            unsigned returned = is_i2o(g) && sizes[i] == 66 ? 30 : sizes[i];
+            result_at_end(g, sizes[i], returned, WINDOW, 0);
+            result_at_end(g, sizes[i], returned, WINDOW, 1);
+            result_at_end(g, sizes[i], returned, 16 * PAGE, 0);
+        }
+    }
+}
+
 /* Idle and refused calls touch nothing. */
 static void nothing(void)
 {
@@ -382,28 +445,57 @@ static void nothing(void)
          block == EDD_DESK_NOT_ACCEPTED, "another answer than expected");
 }
 
-/* Eight drives with sixteen bad blocks and a record of kind 4 each. */
+/* The longest table: eight drives of kind 2 with sixteen bad blocks and a record of kind 4 each. */
 static void full_table(uint8_t table[EDD_TABLE_SIZE_MAX])
 {
     memset(table, 0, EDD_TABLE_SIZE_MAX);
     for (unsigned i = 0; i < EDD_DRIVES; i++) {
-        uint8_t *at = table + 222 * i;
-        put_word(at + 0, 4, 0x00010044); /* length 68, kind 1 */
+        uint8_t *at = table + 230 * i;
+        put_word(at + 0, 4, 0x0002004c); /* length 76, kind 2 */
         put_word(at + 16, 8, DRIVE_BLOCKS);
         put_word(at + 24, 8, DRIVE_BLOCKS * i);
         put_word(at + 34, 2, CYLINDERS);
         put_word(at + 36, 2, HEADS);
         at[38] = SECTORS;
         memcpy(at + 40, "PCI", 3);
-        memcpy(at + 44, "ATA", 3);
-        put_word(at + 68, 4, 0x00030086); /* length 134, kind 3 */
-        put_word(at + 72, 2, i);
+        memcpy(at + 44, is_i2o(i) ? "I2O" : "ATA", 3);
+        memset(at + 60, (int)i, 16); /* device path; that of the first is zero */
+        put_word(at + 76, 4, 0x00030086); /* length 134, kind 3 */
+        put_word(at + 80, 2, i);
         for (unsigned j = 0; j < EDD_BAD_BLOCKS; j++)
-            put_word(at + 74 + 8 * j, 8, bad_blocks[j]);
-        put_word(at + 202, 4, 0x00040014); /* length 20, kind 4 */
-        put_word(at + 206, 2, i);
+            put_word(at + 82 + 8 * j, 8, bad_blocks[j]);
+        put_word(at + 210, 4, 0x00040014); /* length 20, kind 4 */
+        put_word(at + 214, 2, i);
     }
-    put_word(table + 222 * EDD_DRIVES, 4, 4);
+    put_word(table + 230 * EDD_DRIVES, 4, 4);
+}
+
+/* rule: exports::edd_convert_up exports::edd_convert_down */
+/* The first drive's record both ways, then what is refused: by its path, its interface, a field, its kind, and by the sizes. */
+static void conversions(const uint8_t *table, int at_end)
+{
+    static const size_t sizes[] = { 0, 4, 67, 68, 69, 75, 76, 77 };
+    const unsigned count = sizeof sizes / sizeof sizes[0];
+    uint8_t wide[80] = { 0 }, narrow[80] = { 0 };
+
+    memcpy(wide, table, EDD_RECORD_SIZE_WIDE);
+    memcpy(narrow, table, EDD_RECORD_SIZE);
+    put_word(narrow, 4, 0x00010044); /* length 68, kind 1 */
+    convert(1, narrow, 68, 76, at_end, EDD_DONE);
+    convert(0, wide, 76, 68, at_end, EDD_DONE);
+    for (unsigned i = 0; i < count; i++)
+        for (unsigned j = 0; j < count; j++) {
+            if (sizes[i] != 68 || sizes[j] != 76)
+                convert(1, narrow, sizes[i], sizes[j], at_end, EDD_CONVERSION);
+            if (sizes[i] != 76 || sizes[j] != 68)
+                convert(0, wide, sizes[i], sizes[j], at_end, EDD_CONVERSION);
+        }
+    convert(1, wide, 68, 76, at_end, EDD_CONVERSION);
+    convert(0, narrow, 76, 68, at_end, EDD_CONVERSION);
+    convert(0, table + 230, 76, 68, at_end, EDD_CONVERSION);
+    wide[75] = 1, narrow[39] = 2;
+    convert(1, narrow, 68, 76, at_end, EDD_CONVERSION);
+    convert(0, wide, 76, 68, at_end, EDD_CONVERSION);
 }
 
 static void open_desk(void)
@@ -454,14 +546,18 @@ int main(void)
             together(&requests[i]);
         }
     }
+    results();
     nothing();
     uint8_t table[EDD_TABLE_SIZE_MAX];
     full_table(table);
-    static const size_t pieces[] = { 1, 67, 68, 69, 133, 134, 135, EDD_TABLE_SIZE_MAX };
+    static const size_t pieces[] = { 1, 67, 68, 75, 76, 77, 133, 134, 135, EDD_TABLE_SIZE_MAX };
     for (unsigned i = 0; i < sizeof pieces / sizeof pieces[0]; i++) {
         fragments(table, sizeof table, pieces[i], 0);
         fragments(table, sizeof table, pieces[i], 1);
     }
-    printf("touch: %lu calls, each touched only its guest's window and the blocks that it moved, or its reader and fragment\n", calls);
+    conversions(table, 0);
+    conversions(table, 1);
+    printf("touch: %lu calls, each touched only its guest's window and the blocks that it moved, or its reader and fragment, or its record\n",
+           calls);
     return 0;
 }

@@ -10,7 +10,7 @@ use lib.Seq.{sets}
 use Rattle.words.specs.Words.{le, leBytes}
 use Rattle.chs.specs.Chs.{inLimits, isValid, blockOf}
 use Rattle.drive.specs.declared.Drive.{Drive}
-use Rattle.drive.specs.Drive.{driveOf, recordOf, geometryBytes, sizeBytes, nameBytes, isBlank, blankNumbers, blankNames, same, busOk, interfaceOk, geometryFits, fieldsOk, inStore, overlap, isa, pci, ata, scsi}
+use Rattle.drive.specs.Drive.{driveOf, recordOf, geometryBytes, sizeBytes, nameBytes, isBlank, blankNumbers, blankNames, same, busOk, interfaceOk, geometryFits, fieldsOk, inStore, overlap, isa, pci, ata, scsi, isI2o, kindOk, tailBytes, tailOf, zeroTail}
 use Rattle.attached.specs.Parameters.{parametersRecord}
 use Rattle.attached.specs.Bad.{badCount, badLengthOk, badsIn, heldOf, badRecord, ascends, areBlocks, listOk, zeroPast, badsOk, isBad, good as goodBlocks}
 use Rattle.table.specs.declared.Table.{Table}
@@ -55,6 +55,8 @@ readable = record {
   interface = ata;
   path = 11 ∷ 12 ∷ 13 ∷ 14 ∷ 15 ∷ 16 ∷ 17 ∷ 18 ∷ [];
   device = 21 ∷ 22 ∷ 23 ∷ 24 ∷ 25 ∷ 26 ∷ 27 ∷ 28 ∷ [];
+  kind = 1;
+  tail = replicate 8 0;
 }
 
 -- the second, with a first store block, flags, C and a protection byte
@@ -74,6 +76,8 @@ other first flags c protection = record {
   interface = scsi;
   path = 31 ∷ 32 ∷ 33 ∷ 34 ∷ 35 ∷ 36 ∷ 37 ∷ 38 ∷ [];
   device = 41 ∷ 42 ∷ 43 ∷ 44 ∷ 45 ∷ 46 ∷ 47 ∷ 48 ∷ [];
+  kind = 1;
+  tail = replicate 8 0;
 }
 
 abbrev secondDrive : Drive
@@ -262,12 +266,12 @@ badLists =
     ∷ []
 
 pub table-acceptance : map (map accept) (tables ∷ lists ∷ badTables ∷ badLists ∷ []) ≡ replicate 4 true ∷ replicate 2 true ∷ replicate 11 false ∷ replicate 7 false ∷ []
-unfolding accept rowsOk requestOk placementsOk placeOk parametersTo isDrive isSound soundTo blankTo attachedTo listedTo badsOk listOk ascends areBlocks heldOf zeroPast le refusal overlapsAny overlap inStore fieldsOk geometryFits inLimits busOk interfaceOk isBlank blankNumbers blankNames same
+unfolding accept rowsOk requestOk placementsOk placeOk parametersTo isDrive isSound soundTo blankTo attachedTo listedTo badsOk listOk ascends areBlocks heldOf zeroPast le refusal overlapsAny overlap inStore fieldsOk geometryFits inLimits busOk interfaceOk isBlank blankNumbers blankNames same isI2o zeroTail kindOk
 table-acceptance = refl
 
 -- the desk's own table is sound: said once for all that follows
 sound : isSound (table (places secondDrive zeroDrive) 2) (2207235 / 512) ≡ true
-unfolding isSound soundTo blankTo attachedTo listedTo badsOk listOk ascends areBlocks heldOf zeroPast le refusal overlapsAny overlap inStore fieldsOk geometryFits inLimits busOk interfaceOk isBlank blankNumbers blankNames same
+unfolding isSound soundTo blankTo attachedTo listedTo badsOk listOk ascends areBlocks heldOf zeroPast le refusal overlapsAny overlap inStore fieldsOk geometryFits inLimits busOk interfaceOk isBlank blankNumbers blankNames same isI2o zeroTail kindOk
 sound = refl
 
 -- the row names a drive; its function is one that waits
@@ -385,27 +389,27 @@ fresh b pointer store =
     record { rows = replicate 8 vacantRow; pointer = pointer; table = b; arena = 560005; store = store; placed = replicate 8 false; addresses = replicate 8 0 }
 
 pub opening : openOf tableBytes 560005 2207235 ≡ record { desk = fresh (table (places secondDrive zeroDrive) 2) 0 2207235; answer = Opened }
-unfolding openOf le driveOf readTable readFrom stepAt stepOf endStep recordStep withRecord recordRefusal parametersRefusal badsRefusal badsIn badCount badLengthOk listOk ascends areBlocks heldOf headerAt headerOf refusal overlapsAny overlap inStore fieldsOk geometryFits inLimits busOk interfaceOk same
+unfolding openOf le driveOf readTable readFrom stepAt stepOf endStep recordStep withRecord recordRefusal parametersRefusal badsRefusal badsIn badCount badLengthOk listOk ascends areBlocks heldOf headerAt headerOf refusal overlapsAny overlap inStore fieldsOk geometryFits inLimits busOk interfaceOk same tailOf isI2o zeroTail kindOk
 opening = refl
 
 -- a store of one byte less than its 4310 blocks: refused at the second drive's record, and the desk is of no use. By the second promise too
 pub opening-short : openOf tableBytes 560005 2206719
     ≡ record { desk = fresh emptyTable 8 2206719; answer = OpenRefused 6 110 }
-unfolding openOf le driveOf readTable readFrom stepAt stepOf endStep recordStep withRecord recordRefusal parametersRefusal badsRefusal badsIn badCount badLengthOk listOk ascends areBlocks heldOf headerAt headerOf refusal overlapsAny overlap inStore fieldsOk geometryFits inLimits busOk interfaceOk same
+unfolding openOf le driveOf readTable readFrom stepAt stepOf endStep recordStep withRecord recordRefusal parametersRefusal badsRefusal badsIn badCount badLengthOk listOk ascends areBlocks heldOf headerAt headerOf refusal overlapsAny overlap inStore fieldsOk geometryFits inLimits busOk interfaceOk same tailOf isI2o zeroTail kindOk
 opening-short = refl
 
 pub openings-given : map (openGiven tableBytes) (2207235 ∷ 2206719 ∷ []) ≡ (0 ∷ []) ∷ (6 ∷ 110 ∷ []) ∷ []
-unfolding openGiven le driveOf tableNumbers numbersFrom recordNumbers stepAt stepOf endStep recordStep withRecord recordRefusal parametersRefusal badsRefusal badsIn badCount badLengthOk listOk ascends areBlocks heldOf headerAt headerOf refusal overlapsAny overlap inStore fieldsOk geometryFits inLimits busOk interfaceOk same
+unfolding openGiven le driveOf tableNumbers numbersFrom recordNumbers stepAt stepOf endStep recordStep withRecord recordRefusal parametersRefusal badsRefusal badsIn badCount badLengthOk listOk ascends areBlocks heldOf headerAt headerOf refusal overlapsAny overlap inStore fieldsOk geometryFits inLimits busOk interfaceOk same tailOf isI2o zeroTail kindOk
 openings-given = refl
 
 -- ---- write: the bytes of the opening again, in a buffer that has room; bytes past them stay
 
 pub table-written : map (λ (room : ℕ). writtenNumbers (writtenOf (good 7) room)) (335 ∷ 336 ∷ 338 ∷ []) ≡ (19 ∷ []) ∷ (0 ∷ 336 ∷ []) ∷ (0 ∷ 336 ∷ []) ∷ []
-unfolding writtenOf writtenNumbers writeAnswer tableOf bytesOf recordsOf recordOf badRecord parametersRecord geometryBytes sizeBytes nameBytes leBytes accept rowsOk requestOk placementsOk placeOk parametersTo isDrive heldOf
+unfolding writtenOf writtenNumbers writeAnswer tableOf bytesOf recordsOf recordOf badRecord parametersRecord geometryBytes sizeBytes nameBytes leBytes accept rowsOk requestOk placementsOk placeOk parametersTo isDrive heldOf tailBytes
 table-written = rw sound
 
 pub table-bytes : writtenOut (good 7) (replicate 338 9) ≡ tableBytes ++ (9 ∷ 9 ∷ [])
-unfolding writtenOut writeOut tableOf bytesOf recordsOf recordOf badRecord parametersRecord geometryBytes sizeBytes nameBytes leBytes accept rowsOk requestOk placementsOk placeOk parametersTo isDrive heldOf
+unfolding writtenOut writeOut tableOf bytesOf recordsOf recordOf badRecord parametersRecord geometryBytes sizeBytes nameBytes leBytes accept rowsOk requestOk placementsOk placeOk parametersTo isDrive heldOf tailBytes
 table-bytes = rw sound
 
 -- ---- the calls, for every arena and store of those lengths

@@ -9,12 +9,12 @@ use Rattle.words.specs.Words.{le, leBytes}
 use Rattle.chs.specs.Chs.{inLimits}
 use Rattle.memory.specs.Window.{spanStart, spanLength, windowOf}
 use Rattle.drive.specs.declared.Drive.{Drive}
-use Rattle.drive.specs.Drive.{isBlank, blankNumbers, blankNames, same, busOk, interfaceOk, geometryFits, fieldsOk, inStore, overlap, pci, ata}
+use Rattle.drive.specs.Drive.{isBlank, blankNumbers, blankNames, same, busOk, interfaceOk, geometryFits, fieldsOk, inStore, overlap, pci, ata, isI2o, kindOk, zeroTail}
 use Rattle.attached.specs.Bad.{heldOf, ascends, areBlocks, listOk, zeroPast, badsOk}
 use Rattle.table.specs.declared.Table.{Table}
 use Rattle.table.specs.Table.{zeroDrive, overlapsAny, refusal, soundTo, blankTo, attachedTo, listedTo, isSound, parametersTo}
 use Rattle.layout.specs.ParameterTable.{placedBytes, parameterTable}
-use Rattle.layout.specs.ResultBuffer.{returnedSize, parameterBytes, blockBytes, interfaceBytes, pathBytes, sum, wholeResult, resultBytes, resultAnswer}
+use Rattle.layout.specs.ResultBuffer.{returnedSize, parameterBytes, blockBytes, interfaceBytes, pathBytes, sum, wholeResult, resultBytes, resultAnswer, padded, wideInterfaceBytes, widePathBytes, summedBytes}
 use Rattle.int13.specs.declared.Registers.{Registers}
 use Rattle.int13.specs.Placement.{tablesTo}
 use Rattle.int13.specs.Numbers.{checkGiven, stepsGiven, beginGiven}
@@ -48,6 +48,8 @@ drive first = record {
   interface = ata;
   path = replicate 8 0;
   device = replicate 8 0;
+  kind = 1;
+  tail = replicate 8 0;
 }
 
 -- a table of drives without bad blocks
@@ -63,7 +65,7 @@ table =
 
 -- it is sound: said once for all the calls below
 sound : isSound table (1536 / 512) ≡ true
-unfolding isSound soundTo blankTo attachedTo listedTo badsOk listOk ascends areBlocks heldOf zeroPast le refusal overlapsAny overlap inStore fieldsOk geometryFits inLimits busOk interfaceOk isBlank blankNumbers blankNames same
+unfolding isSound soundTo blankTo attachedTo listedTo badsOk listOk ascends areBlocks heldOf zeroPast le refusal overlapsAny overlap inStore fieldsOk geometryFits inLimits busOk interfaceOk isBlank blankNumbers blankNames same isI2o zeroTail kindOk
 sound = refl
 
 -- their tables: bits 7 and 5 of byte 4 set, revision 11h, the checksum
@@ -279,5 +281,5 @@ pub pointers : map (λ (g : ℕ). map (pointer g) (0x80 ∷ 0x81 ∷ 0x82 ∷ []
     ∷ ((0xFFFF ∷ 0xFFFF ∷ []) ∷ (0xFFFF ∷ 0xFFFF ∷ []) ∷ (0xFFFF ∷ 0xFFFF ∷ []) ∷ [])
     ∷ ((0 ∷ 2 ∷ []) ∷ (0xFFFF ∷ 0xFFFF ∷ []) ∷ (0 ∷ 3 ∷ []) ∷ [])
     ∷ []
-unfolding postOf begin steps result shownOf returnedSize parameterBytes blockBytes interfaceBytes pathBytes sum wholeResult resultBytes resultAnswer le leBytes spanStart spanLength accept rowsOk requestOk placementsOk placeOk parametersTo isDrive
+unfolding postOf begin steps result shownOf returnedSize parameterBytes blockBytes interfaceBytes pathBytes sum wholeResult resultBytes resultAnswer le leBytes spanStart spanLength accept rowsOk requestOk placementsOk placeOk parametersTo isDrive isI2o same padded wideInterfaceBytes widePathBytes summedBytes
 pointers = rw sound

@@ -9,8 +9,8 @@ use Rattle.words.specs.Words.{leBytes}
 use Rattle.chs.specs.Chs.{inLimits, isValid, blockOf}
 use Rattle.memory.specs.Window.{spanStart, spanLength}
 use Rattle.layout.specs.Packet.{readPacket}
-use Rattle.layout.specs.ResultBuffer.{returnedSize, parameterBytes, blockBytes, interfaceBytes, pathBytes, sum, wholeResult, resultBytes, resultAnswer}
-use Rattle.drive.specs.Drive.{driveOf, isBlank, blankNumbers, blankNames, same, busOk, interfaceOk, geometryFits, fieldsOk, inStore, overlap}
+use Rattle.layout.specs.ResultBuffer.{returnedSize, parameterBytes, blockBytes, interfaceBytes, pathBytes, sum, wholeResult, resultBytes, resultAnswer, padded, wideInterfaceBytes, widePathBytes, summedBytes}
+use Rattle.drive.specs.Drive.{driveOf, isBlank, blankNumbers, blankNames, same, busOk, interfaceOk, geometryFits, fieldsOk, inStore, overlap, isI2o, kindOk, tailOf, zeroTail}
 use Rattle.attached.specs.Bad.{heldOf, ascends, areBlocks, listOk, zeroPast, badsOk, isBad, good}
 use Rattle.table.specs.Table.{emptyTable, headerOf, headerAt, overlapsAny, refusal, recordRefusal, withRecord, recordStep, endStep, stepOf, stepAt, readFrom, readTable, recordsOf, bytesOf, tableOf, writeAnswer, writeOut, writtenNumbers, writeNumbers, soundTo, blankTo, attachedTo, listedTo, isSound}
 use Rattle.words.specs.Words.{le}
@@ -49,7 +49,7 @@ arena = replicate 8 7
 
 -- its table is sound: said once for all the calls
 sound : isSound emptyTable (0 / 512) ≡ true
-unfolding isSound soundTo blankTo attachedTo listedTo badsOk listOk ascends areBlocks heldOf zeroPast le isBlank blankNumbers blankNames same
+unfolding isSound soundTo blankTo attachedTo listedTo badsOk listOk ascends areBlocks heldOf zeroPast le isBlank blankNumbers blankNames same zeroTail
 sound = refl
 
 -- the house numbers of post, turn, collect, withdraw and write at a desk, for a guest, an arena, a store and a buffer; then the same by the
@@ -206,7 +206,7 @@ pub post-writes : postNumbers (postVacant lending 3 resultCall (around (26 ∷ 0
     ∷ around (26 ∷ 0 ∷ 2 ∷ 0 ∷ 2 ∷ 0 ∷ 0 ∷ 0 ∷ 16 ∷ 0 ∷ 0 ∷ 0 ∷ 63 ∷ 0 ∷ 0 ∷ 0 ∷ 17 ∷ 0 ∷ 0 ∷ 0 ∷ 0 ∷ 0 ∷ 0 ∷ 0 ∷ 0 ∷ 2 ∷ [])
     ∷ (0 ∷ 0x0055 ∷ 1 ∷ 2 ∷ 0x80 ∷ 0 ∷ 4 ∷ 3 ∷ 0 ∷ [])
     ∷ []
-unfolding postNumbers spanStart spanLength begin steps result isDrive returnedSize parameterBytes blockBytes interfaceBytes pathBytes sum wholeResult resultBytes resultAnswer beginGiven stepsGiven bufferGiven le leBytes inLimits driveOf same busOk interfaceOk geometryFits fieldsOk inStore overlap headerOf headerAt overlapsAny refusal recordRefusal withRecord recordStep endStep stepOf stepAt readFrom readTable
+unfolding postNumbers spanStart spanLength begin steps result isDrive returnedSize parameterBytes blockBytes interfaceBytes pathBytes sum wholeResult resultBytes resultAnswer beginGiven stepsGiven bufferGiven le leBytes inLimits driveOf same busOk interfaceOk geometryFits fieldsOk inStore overlap headerOf headerAt overlapsAny refusal recordRefusal withRecord recordStep endStep stepOf stepAt readFrom readTable tailOf isI2o zeroTail kindOk padded wideInterfaceBytes widePathBytes summedBytes
 post-writes = refl
 
 -- with no window 02h is 09h, 42h and 48h are 01h, and 08h and 41h still succeed
@@ -219,5 +219,5 @@ firstNumber (Waits j) = 0xFFFF
 
 pub no-window : map (λ (ax : ℕ). firstNumber (begin (fed (readTable tableBytes 17 .table) noPlacement) (call ax) [] .outcome)) (0x0201 ∷ 0x4200 ∷ 0x4700 ∷ 0x4800 ∷ 0x0800 ∷ 0x4100 ∷ [])
     ≡ 0x0900 ∷ 0x0100 ∷ 0x0100 ∷ 0x0100 ∷ 0x0000 ∷ 0x3000 ∷ []
-unfolding begin steps sectors packetPlan seekSteps result parameters extensions isDrive blockOf isValid readPacket le leBytes inLimits driveOf same busOk interfaceOk geometryFits fieldsOk inStore overlap headerOf headerAt overlapsAny refusal recordRefusal withRecord recordStep endStep stepOf stepAt readFrom readTable
+unfolding begin steps sectors packetPlan seekSteps result parameters extensions isDrive blockOf isValid readPacket le leBytes inLimits driveOf same busOk interfaceOk geometryFits fieldsOk inStore overlap headerOf headerAt overlapsAny refusal recordRefusal withRecord recordStep endStep stepOf stepAt readFrom readTable tailOf isI2o zeroTail kindOk
 no-window = refl

@@ -1,26 +1,20 @@
 -- Each field of a drive at its offset in the record.
 -- Assumes nothing.
-use mathlib.Core.Path.{_≡_, refl, ap}
-use Rattle.words.specs.Words.{le, leBytes}
+use mathlib.Core.Path.{ap}
+use borrow.Author.Tests.{eq-eqb}
 use Rattle.drive.specs.declared.Drive.{Drive}
-use Rattle.drive.specs.Drive.{driveOf, recordOf, geometryBytes}
+use Rattle.drive.specs.Drive.{driveOf}
 use Rattle.drive.specs.Demand2.{Demand2}
-use Rattle.drive.proofs.DriveLaws.{drive-record, length-record}
-
--- length and kind
-header-words : (d : Drive) → (le 2 (recordOf d) 0 ≡ 68) × (le 2 (recordOf d) 2 ≡ 1)
-unfolding le leBytes recordOf geometryBytes
-header-words d = (refl, refl)
+use Rattle.drive.proofs.DriveLaws.{drive-shortened, length-word-record, length-record, tail-record}
 
 pub demand-2 : Demand2
 unfolding driveOf
 demand-2 d f =
-    let e = drive-record d f in
-    let w = header-words d in
+    let e = drive-shortened d f in
     record {
-      length-word = w .0;
-      whole = length-record d record { bus = f .bus; interface = f .interface; path = f .path; device = f .device };
-      kind = w .1;
+      length-word = length-word-record d;
+      whole = length-record d record { bus = f .bus; interface = f .interface; path = f .path; device = f .device; tail = f .tail };
+      kind = ap (λ (x : Drive). x .kind) e;
       cylinders = ap (λ (x : Drive). x .cylinders) e;
       heads = ap (λ (x : Drive). x .heads) e;
       sectors = ap (λ (x : Drive). x .sectors) e;
@@ -35,4 +29,5 @@ demand-2 d f =
       interface = ap (λ (x : Drive). x .interface) e;
       path = ap (λ (x : Drive). x .path) e;
       device = ap (λ (x : Drive). x .device) e;
+      tail = λ k. tail-record d f (eq-eqb (d .kind) 2 k);
     }

@@ -7,17 +7,17 @@ use mathlib.Core.List.{List}
 use lib.ListN.{length, getD}
 use Rattle.words.specs.Words.{le, part}
 use Rattle.drive.specs.declared.Drive.{Drive}
-use Rattle.drive.specs.Drive.{Fits, recordOf}
+use Rattle.drive.specs.Drive.{Fits, driveLength, recordOf}
 
--- ---- "The drive table", the record of kind 1 by offset
+-- ---- "The drive table", the record of kind 1 by offset, and document 02, 2026-06, that of kind 2
 
 -- what the bytes r say at each offset is what the drive d has
 pub record ByOffset (d : Drive) (r : List ℕ) : Type 0 where
-  -- 0 word: length, 68; and so many bytes there are
-  pub length-word : le 2 r 0 ≡ 68
-  pub whole : length r ≡ 68
-  -- 2 word: kind 1
-  pub kind : le 2 r 2 ≡ 1
+  -- 0 word: length, 68 or 76 by the kind; and so many bytes there are
+  pub length-word : le 2 r 0 ≡ driveLength (d .kind)
+  pub whole : length r ≡ driveLength (d .kind)
+  -- 2 word: the kind
+  pub kind : le 2 r 2 ≡ d .kind
   -- 4, 8, 12 double words: physical cylinders, heads, sectors
   pub cylinders : le 4 r 4 ≡ d .cylinders
   pub heads : le 4 r 8 ≡ d .heads
@@ -36,10 +36,11 @@ pub record ByOffset (d : Drive) (r : List ℕ) : Type 0 where
   pub protection : getD r 39 0 ≡ d .protection
   -- 40, four bytes: host bus
   pub bus : part 4 r 40 ≡ d .bus
-  -- 44, 52, 60, eight bytes each: interface type, interface path, device path
+  -- 44, 52, 60, eight bytes each: interface type, interface path, device path, of which kind 2 has eight bytes more at 68
   pub interface : part 8 r 44 ≡ d .interface
   pub path : part 8 r 52 ≡ d .path
   pub device : part 8 r 60 ≡ d .device
+  pub tail : d .kind ≡ 2 → part 8 r 68 ≡ d .tail
 
 -- each field of a drive at its offset, under the widths only
 abbrev pub Demand2 : Type 0

@@ -1,4 +1,5 @@
--- Document 01, "The drive table": the record of kind 1, 68 bytes, and the rules that one drive obeys.
+-- Document 01, "The drive table": the record of a drive, of kind 1, and the rules that one drive obeys; and document 02, 2026-06: the record of kind 2,
+-- of a drive whose device path has sixteen bytes.
 -- Assumes nothing.
 use Prim.Native.Nat.{ℕ, _+_, _^_, _≤_, _<_}
 use mathlib.Core.Path.{_≡_}
@@ -18,9 +19,21 @@ use Rattle.drive.specs.declared.Drive.{Drive}
 abbrev pub driveKind : ℕ
 driveKind = 1
 
--- and its record is 68 bytes
-abbrev pub driveLength : ℕ
-driveLength = 68
+-- or kind 2, with sixteen bytes of device path (document 02, 2026-06)
+abbrev pub wideKind : ℕ
+wideKind = 2
+
+-- the kinds of a drive
+abbrev pub isDriveKind : ℕ → Bool
+isDriveKind kind = either (eqb kind driveKind) (eqb kind wideKind)
+
+-- the record of kind 1 is 68 bytes, that of kind 2 is 76; it is asked of drives only
+abbrev pub driveLength : ℕ → ℕ
+driveLength kind = pick (eqb kind wideKind) 76 68
+
+-- the last eight bytes of a device path of sixteen, from offset 68 on; a record of kind 1 ends there, and its path goes on with zeros
+unfoldable pub tailOf : List ℕ → List ℕ
+tailOf r = pick (eqb (le 2 r 2) wideKind) (part 8 r 68) (replicate 8 0)
 
 -- the drive that a record's bytes say
 unfoldable pub driveOf : List ℕ → Drive
@@ -39,24 +52,30 @@ driveOf r = record {
   interface = part 8 r 44;
   path = part 8 r 52;
   device = part 8 r 60;
+  kind = le 2 r 2;
+  tail = tailOf r;
 }
 
 -- offsets 0, 2, 4, 8, 12: length, kind, physical geometry
 unfoldable pub geometryBytes : Drive → List ℕ
 geometryBytes d =
-    leBytes 2 driveLength ++ (leBytes 2 driveKind ++ (leBytes 4 (d .cylinders) ++ (leBytes 4 (d .heads) ++ leBytes 4 (d .sectors))))
+    leBytes 2 (driveLength (d .kind)) ++ (leBytes 2 (d .kind) ++ (leBytes 4 (d .cylinders) ++ (leBytes 4 (d .heads) ++ leBytes 4 (d .sectors))))
 
 -- offsets 16, 24, 32, 34, 36: blocks, first store block, flags, C, H
 unfoldable pub sizeBytes : Drive → List ℕ
 sizeBytes d = leBytes 8 (d .blocks) ++ (leBytes 8 (d .first) ++ (leBytes 2 (d .flags) ++ (leBytes 2 (d .c) ++ leBytes 2 (d .h))))
 
--- offsets 38, 39, 40, 44, 52, 60: S, protection, host bus, interface type, interface path, device path
+-- offsets 38, 39, 40, 44, 52, 60: S, protection, host bus, interface type, interface path, device path's first eight bytes
 unfoldable pub nameBytes : Drive → List ℕ
 nameBytes d = d .s ∷ d .protection ∷ (d .bus ++ (d .interface ++ (d .path ++ d .device)))
 
+-- offset 68, in a record of kind 2 only: device path's last eight bytes
+unfoldable pub tailBytes : Drive → List ℕ
+tailBytes d = pick (eqb (d .kind) wideKind) (d .tail) []
+
 -- the record's bytes of a drive
 unfoldable pub recordOf : Drive → List ℕ
-recordOf d = geometryBytes d ++ (sizeBytes d ++ nameBytes d)
+recordOf d = geometryBytes d ++ (sizeBytes d ++ (nameBytes d ++ tailBytes d))
 
 -- what the types of its fields say of a drive: each number fits its word, each array has its length
 pub record Fits (d : Drive) : Type 0 where
@@ -72,6 +91,8 @@ pub record Fits (d : Drive) : Type 0 where
   pub interface : length (d .interface) ≡ 8
   pub path : length (d .path) ≡ 8
   pub device : length (d .device) ≡ 8
+  pub kind : d .kind < 256 ^ 2
+  pub tail : length (d .tail) ≡ 8
 
 -- ---- "The drive table", the rules of the fields (refusal 5)
 
@@ -118,10 +139,29 @@ ieee1394 = 49 ∷ 51 ∷ 57 ∷ 52 ∷ 0 ∷ 0 ∷ 0 ∷ 0 ∷ []
 abbrev pub fibre : List ℕ
 fibre = 70 ∷ 73 ∷ 66 ∷ 82 ∷ 69 ∷ 0 ∷ 0 ∷ 0 ∷ []
 
+-- interface type I2O, of kind 2 only
+abbrev pub i2o : List ℕ
+i2o = 73 ∷ 50 ∷ 79 ∷ 0 ∷ 0 ∷ 0 ∷ 0 ∷ 0 ∷ []
+
 -- the interface type is one of the six
 unfoldable pub interfaceOk : List ℕ → Bool
 interfaceOk b =
     either (same b ata) (either (same b atapi) (either (same b scsi) (either (same b usb) (either (same b ieee1394) (same b fibre)))))
+
+-- the drive's interface type is I2O
+unfoldable pub isI2o : Drive → Bool
+isI2o d = same (d .interface) i2o
+
+-- the last eight bytes of the device path are zero
+unfoldable pub zeroTail : Drive → Bool
+zeroTail d = same (d .tail) (replicate 8 0)
+
+-- what the kind allows (document 02, 2026-06): in kind 1 the six interface types, and a device path of eight bytes, behind which there is nothing;
+-- in kind 2 I2O too, and any device path of sixteen
+unfoldable pub kindOk : Drive → Bool
+kindOk d =
+    pick (eqb (d .kind) wideKind) (either (interfaceOk (d .interface)) (isI2o d))
+    (both (eqb (d .kind) driveKind) (both (interfaceOk (d .interface)) (zeroTail d)))
 
 -- C, H and S of the record
 abbrev pub geometryOf : Drive → Geometry
@@ -131,14 +171,14 @@ geometryOf d = record { c = d .c; h = d .h; s = d .s }
 unfoldable pub geometryFits : Drive → Bool
 geometryFits d = both (inLimits (geometryOf d)) (leb (size (geometryOf d)) (d .blocks))
 
--- every field of the record: blocks at least 1, flag bits 7 to 15 zero, the geometry, protection 0 or 1, the two names
+-- every field of the record: blocks at least 1, flag bits 7 to 15 zero, the geometry, protection 0 or 1, the host bus, and what its kind allows
 unfoldable pub fieldsOk : Drive → Bool
 fieldsOk d =
     both (leb 1 (d .blocks))
     (both (ltb (d .flags) 128)
     (both (geometryFits d)
     (both (leb (d .protection) 1)
-    (both (busOk (d .bus)) (interfaceOk (d .interface))))))
+    (both (busOk (d .bus)) (kindOk d)))))
 
 -- ---- "The drive table", the rules of the store (refusals 6 and 7)
 
@@ -166,13 +206,14 @@ blankNumbers d =
     both (both (eqb (d .cylinders) 0) (both (eqb (d .heads) 0) (eqb (d .sectors) 0)))
     (both (both (eqb (d .blocks) 0) (eqb (d .first) 0))
     (both (both (eqb (d .flags) 0) (both (eqb (d .c) 0) (eqb (d .h) 0)))
-    (both (eqb (d .s) 0) (eqb (d .protection) 0))))
+    (both (eqb (d .s) 0) (both (eqb (d .protection) 0) (eqb (d .kind) 0)))))
 
 -- every byte of the names and paths is zero
 unfoldable pub blankNames : Drive → Bool
 blankNames d =
     both (same (d .bus) (replicate 4 0))
-    (both (same (d .interface) (replicate 8 0)) (both (same (d .path) (replicate 8 0)) (same (d .device) (replicate 8 0))))
+    (both (same (d .interface) (replicate 8 0))
+    (both (same (d .path) (replicate 8 0)) (both (same (d .device) (replicate 8 0)) (zeroTail d))))
 
 -- every field is zero: a slot that holds no drive
 unfoldable pub isBlank : Drive → Bool

@@ -13,7 +13,7 @@ use Rattle.logic.specs.Logic.{both}
 use Rattle.logic.proofs.LogicLaws.{both-true}
 use Rattle.chs.specs.Chs.{inLimits}
 use Rattle.words.specs.Words.{Bytes, le, leBytes}
-use Rattle.drive.specs.Drive.{driveOf, recordOf, geometryBytes, sizeBytes, nameBytes, same, busOk, interfaceOk, geometryFits, fieldsOk, inStore, overlap, blankNumbers, blankNames, isBlank}
+use Rattle.drive.specs.Drive.{driveOf, recordOf, geometryBytes, sizeBytes, nameBytes, same, busOk, interfaceOk, geometryFits, fieldsOk, inStore, overlap, blankNumbers, blankNames, isBlank, isI2o, kindOk, tailBytes, tailOf, zeroTail}
 use Rattle.attached.specs.Bad.{heldOf, ascends, areBlocks, listOk, zeroPast, badsOk}
 use Rattle.table.specs.Table.{headerOf, headerAt, overlapsAny, refusal, parametersRefusal, recordRefusal, withRecord, recordStep, endStep, stepOf, stepAt, readFrom, readTable, answerNumbers, recordsOf, bytesOf, tableOf, nextPlace, writeAnswer, writeOut, writtenNumbers, soundTo, blankTo, attachedTo, listedTo, isSound}
 use Rattle.table.proofs.Vectors.{record₁, end}
@@ -73,21 +73,21 @@ short = fragments sevens 1048575 before refl (omega arith) (each-small before re
 
 -- the end: 0, and what stood behind `place` stays
 pub ended : readerEndCall (arrived sevens 1048576 pieces) 9 .numbers ≡ 0 ∷ 9 ∷ []
-unfolding joined readTable readFrom stepAt stepOf headerAt headerOf recordStep recordRefusal refusal overlapsAny fieldsOk geometryFits inLimits busOk interfaceOk same inStore driveOf withRecord endStep le answerNumbers over
+unfolding joined readTable readFrom stepAt stepOf headerAt headerOf recordStep recordRefusal refusal overlapsAny fieldsOk geometryFits inLimits busOk interfaceOk same inStore driveOf withRecord endStep le answerNumbers over tailOf isI2o zeroTail kindOk
 ended = enough .end 9
 
 -- written: its 72 bytes at the start of 74, of which the last two stay; 71 are too few
 pub written : readerWriteCall (endedBlock sevens 1048576 pieces) (replicate 74 5) 9 ≡ effect (0 ∷ 72 ∷ []) ((record₁ ++ end ++ (5 ∷ 5 ∷ [])) ∷ [])
-unfolding joined readTable readFrom stepAt stepOf headerAt headerOf recordStep recordRefusal refusal overlapsAny fieldsOk geometryFits inLimits busOk interfaceOk same inStore driveOf withRecord endStep le
+unfolding joined readTable readFrom stepAt stepOf headerAt headerOf recordStep recordRefusal refusal overlapsAny fieldsOk geometryFits inLimits busOk interfaceOk same inStore driveOf withRecord endStep le tailOf isI2o zeroTail kindOk
 written = enough .written refl (replicate 74 5) 9
 
 pub too-short : readerWriteCall (endedBlock sevens 1048576 pieces) (replicate 71 5) 9 ≡ effect (19 ∷ 9 ∷ []) (replicate 71 5 ∷ [])
-unfolding joined readTable readFrom stepAt stepOf headerAt headerOf recordStep recordRefusal refusal overlapsAny fieldsOk geometryFits inLimits busOk interfaceOk same inStore driveOf withRecord endStep le
+unfolding joined readTable readFrom stepAt stepOf headerAt headerOf recordStep recordRefusal refusal overlapsAny fieldsOk geometryFits inLimits busOk interfaceOk same inStore driveOf withRecord endStep le tailOf isI2o zeroTail kindOk
 too-short = enough .written refl (replicate 71 5) 9
 
 -- with 2047 blocks the fragment that has the record's last byte settled it: 6 at 0, whatever is fed then
 pub past-store : readerFeedCall (arrived sevens 1048575 before) (drop 1 end) 9 .numbers ≡ 6 ∷ 0 ∷ []
-unfolding joined readTable readFrom stepAt stepOf headerAt headerOf recordStep recordRefusal refusal overlapsAny fieldsOk geometryFits inLimits busOk interfaceOk same inStore driveOf withRecord endStep le fedNumbers over
+unfolding joined readTable readFrom stepAt stepOf headerAt headerOf recordStep recordRefusal refusal overlapsAny fieldsOk geometryFits inLimits busOk interfaceOk same inStore driveOf withRecord endStep le fedNumbers over tailOf isI2o zeroTail kindOk
 past-store = short .fed (drop 1 end) (bytes-small (drop 1 end) small-end) 9
 
 -- ---- each call by itself, at blocks by number
@@ -102,7 +102,7 @@ padded n l = l ++ replicate (n - length l) 0
 
 -- a block: course, refusal, a store of 2048 blocks, how many bytes are held, the length of the table; the bytes held; the table
 abbrev block : ℕ → ℕ → List ℕ → List ℕ → List ℕ
-block course refusal held t = word course ++ word refusal ++ (0 ∷ 8 ∷ replicate 6 0) ++ word (length held) ++ word (length t) ++ padded 134 held ++ padded 1780 t
+block course refusal held t = word course ++ word refusal ++ (0 ∷ 8 ∷ replicate 6 0) ++ word (length held) ++ word (length t) ++ padded 134 held ++ padded 1844 t
 
 -- open, with a store of 2048 blocks and 511 bytes: 0, and the block of a reader that reads
 pub open-call : readerOpenCall sevens 1049087 ≡ effect (0 ∷ []) (block 0 0 [] end ∷ [])
@@ -110,58 +110,58 @@ unfolding leBytes recordsOf bytesOf tableOf image opened laid readerOpenCall
 open-call = refl
 
 -- a block that is a byte short, and one that is a byte longer: 25, and it stays
-pub open-refused : (readerOpenCall (replicate 1953 7) 1049087 ≡ effect (25 ∷ []) (replicate 1953 7 ∷ [])) × (readerOpenCall (replicate 1955 7) 1049087 ≡ effect (25 ∷ []) (replicate 1955 7 ∷ []))
+pub open-refused : (readerOpenCall (replicate 2017 7) 1049087 ≡ effect (25 ∷ []) (replicate 2017 7 ∷ [])) × (readerOpenCall (replicate 1955 7) 1049087 ≡ effect (25 ∷ []) (replicate 1955 7 ∷ []))
 unfolding readerOpenCall
 open-refused = (refl, refl)
 
 -- feed: 256, and what stood behind `place` stays
 pub feed-call : readerFeedCall (block 0 0 (4 ∷ 0 ∷ []) (record₁ ++ end)) (0 ∷ []) 9 ≡ effect (256 ∷ 9 ∷ []) (block 0 0 (4 ∷ 0 ∷ 0 ∷ []) (record₁ ++ end) ∷ [])
-unfolding le leBytes inLimits driveOf same busOk interfaceOk geometryFits fieldsOk inStore overlap headerOf headerAt overlapsAny refusal parametersRefusal recordRefusal withRecord recordStep endStep stepOf stepAt recordOf geometryBytes sizeBytes nameBytes recordsOf bytesOf tableOf image blankNumbers blankNames isBlank soundTo blankTo attachedTo listedTo heldOf ascends areBlocks listOk zeroPast badsOk isSound readFrom readTable readReader restZero courseOk accept accepted nextPlace refusedAt afterStep heldByte byCourse feedByte feedAll answerBy answerOf fedNumbers laid over readerFeedCall
+unfolding le leBytes inLimits driveOf same busOk interfaceOk geometryFits fieldsOk inStore overlap headerOf headerAt overlapsAny refusal parametersRefusal recordRefusal withRecord recordStep endStep stepOf stepAt recordOf geometryBytes sizeBytes nameBytes recordsOf bytesOf tableOf image blankNumbers blankNames isBlank soundTo blankTo attachedTo listedTo heldOf ascends areBlocks listOk zeroPast badsOk isSound readFrom readTable readReader restZero courseOk accept accepted nextPlace refusedAt afterStep heldByte byCourse feedByte feedAll answerBy answerOf fedNumbers laid over readerFeedCall tailOf isI2o zeroTail kindOk tailBytes
 feed-call = refl
 
 -- a wrong length: 2 at 68, which the block keeps; and the bytes behind it, and those of the next call, are ignored
 pub feed-refused : (readerFeedCall (block 0 0 [] (record₁ ++ end)) (67 ∷ 0 ∷ 1 ∷ 0 ∷ 7 ∷ []) 9 ≡ effect (2 ∷ 68 ∷ []) (block 3 2 [] (record₁ ++ end) ∷ []))
     × (readerFeedCall (block 3 2 [] (record₁ ++ end)) (7 ∷ []) 9 ≡ effect (2 ∷ 68 ∷ []) (block 3 2 [] (record₁ ++ end) ∷ []))
-unfolding le leBytes inLimits driveOf same busOk interfaceOk geometryFits fieldsOk inStore overlap headerOf headerAt overlapsAny refusal parametersRefusal recordRefusal withRecord recordStep endStep stepOf stepAt recordOf geometryBytes sizeBytes nameBytes recordsOf bytesOf tableOf image blankNumbers blankNames isBlank soundTo blankTo attachedTo listedTo heldOf ascends areBlocks listOk zeroPast badsOk isSound readFrom readTable readReader restZero courseOk accept accepted nextPlace refusedAt afterStep heldByte byCourse feedByte feedAll answerBy answerOf fedNumbers laid over readerFeedCall
+unfolding le leBytes inLimits driveOf same busOk interfaceOk geometryFits fieldsOk inStore overlap headerOf headerAt overlapsAny refusal parametersRefusal recordRefusal withRecord recordStep endStep stepOf stepAt recordOf geometryBytes sizeBytes nameBytes recordsOf bytesOf tableOf image blankNumbers blankNames isBlank soundTo blankTo attachedTo listedTo heldOf ascends areBlocks listOk zeroPast badsOk isSound readFrom readTable readReader restZero courseOk accept accepted nextPlace refusedAt afterStep heldByte byCourse feedByte feedAll answerBy answerOf fedNumbers laid over readerFeedCall tailOf isI2o zeroTail kindOk tailBytes
 feed-refused = (refl, refl)
 
 -- a block of a reader that breaks a rule, refused with no number, and one that is no image, of course 4: 25, and it stays, as does what stood behind
 -- `place`
 pub feed-no-reader : (readerFeedCall (block 3 0 [] end) end 9 ≡ effect (25 ∷ 9 ∷ []) (block 3 0 [] end ∷ []))
     × (readerFeedCall (block 4 1 [] end) end 9 ≡ effect (25 ∷ 9 ∷ []) (block 4 1 [] end ∷ []))
-unfolding le leBytes inLimits driveOf same busOk interfaceOk geometryFits fieldsOk inStore overlap headerOf headerAt overlapsAny refusal parametersRefusal recordRefusal withRecord recordStep endStep stepOf stepAt recordOf geometryBytes sizeBytes nameBytes recordsOf bytesOf tableOf image blankNumbers blankNames isBlank soundTo blankTo attachedTo listedTo heldOf ascends areBlocks listOk zeroPast badsOk isSound readFrom readTable readReader restZero courseOk accept accepted nextPlace refusedAt afterStep heldByte byCourse feedByte feedAll answerBy answerOf fedNumbers laid over readerFeedCall
+unfolding le leBytes inLimits driveOf same busOk interfaceOk geometryFits fieldsOk inStore overlap headerOf headerAt overlapsAny refusal parametersRefusal recordRefusal withRecord recordStep endStep stepOf stepAt recordOf geometryBytes sizeBytes nameBytes recordsOf bytesOf tableOf image blankNumbers blankNames isBlank soundTo blankTo attachedTo listedTo heldOf ascends areBlocks listOk zeroPast badsOk isSound readFrom readTable readReader restZero courseOk accept accepted nextPlace refusedAt afterStep heldByte byCourse feedByte feedAll answerBy answerOf fedNumbers laid over readerFeedCall tailOf isI2o zeroTail kindOk tailBytes
 feed-no-reader = (refl, refl)
 
 -- end: after the end record 0, and what stood behind `place` stays
 pub end-call : readerEndCall (block 1 0 [] (record₁ ++ end)) 9 ≡ effect (0 ∷ 9 ∷ []) (block 2 0 [] (record₁ ++ end) ∷ [])
-unfolding le leBytes inLimits driveOf same busOk interfaceOk geometryFits fieldsOk inStore overlap headerOf headerAt overlapsAny refusal parametersRefusal recordRefusal withRecord recordStep endStep stepOf stepAt recordOf geometryBytes sizeBytes nameBytes recordsOf bytesOf tableOf image blankNumbers blankNames isBlank soundTo blankTo attachedTo listedTo heldOf ascends areBlocks listOk zeroPast badsOk isSound readFrom readTable readReader restZero courseOk accept accepted nextPlace refusedAt endBy endFeed answerBy answerOf fedNumbers laid over readerEndCall
+unfolding le leBytes inLimits driveOf same busOk interfaceOk geometryFits fieldsOk inStore overlap headerOf headerAt overlapsAny refusal parametersRefusal recordRefusal withRecord recordStep endStep stepOf stepAt recordOf geometryBytes sizeBytes nameBytes recordsOf bytesOf tableOf image blankNumbers blankNames isBlank soundTo blankTo attachedTo listedTo heldOf ascends areBlocks listOk zeroPast badsOk isSound readFrom readTable readReader restZero courseOk accept accepted nextPlace refusedAt endBy endFeed answerBy answerOf fedNumbers laid over readerEndCall tailOf isI2o zeroTail kindOk tailBytes
 end-call = refl
 
 -- before it, with three bytes held: 1 at 68, which the block keeps
 pub end-refused : readerEndCall (block 0 0 (4 ∷ 0 ∷ 0 ∷ []) (record₁ ++ end)) 9 ≡ effect (1 ∷ 68 ∷ []) (block 3 1 [] (record₁ ++ end) ∷ [])
-unfolding le leBytes inLimits driveOf same busOk interfaceOk geometryFits fieldsOk inStore overlap headerOf headerAt overlapsAny refusal parametersRefusal recordRefusal withRecord recordStep endStep stepOf stepAt recordOf geometryBytes sizeBytes nameBytes recordsOf bytesOf tableOf image blankNumbers blankNames isBlank soundTo blankTo attachedTo listedTo heldOf ascends areBlocks listOk zeroPast badsOk isSound readFrom readTable readReader restZero courseOk accept accepted nextPlace refusedAt endBy endFeed answerBy answerOf fedNumbers laid over readerEndCall
+unfolding le leBytes inLimits driveOf same busOk interfaceOk geometryFits fieldsOk inStore overlap headerOf headerAt overlapsAny refusal parametersRefusal recordRefusal withRecord recordStep endStep stepOf stepAt recordOf geometryBytes sizeBytes nameBytes recordsOf bytesOf tableOf image blankNumbers blankNames isBlank soundTo blankTo attachedTo listedTo heldOf ascends areBlocks listOk zeroPast badsOk isSound readFrom readTable readReader restZero courseOk accept accepted nextPlace refusedAt endBy endFeed answerBy answerOf fedNumbers laid over readerEndCall tailOf isI2o zeroTail kindOk tailBytes
 end-refused = refl
 
 -- the same two blocks: 25
 pub end-no-reader : (readerEndCall (block 3 0 [] end) 9 ≡ effect (25 ∷ 9 ∷ []) (block 3 0 [] end ∷ []))
     × (readerEndCall (block 4 1 [] end) 9 ≡ effect (25 ∷ 9 ∷ []) (block 4 1 [] end ∷ []))
-unfolding le leBytes inLimits driveOf same busOk interfaceOk geometryFits fieldsOk inStore overlap headerOf headerAt overlapsAny refusal parametersRefusal recordRefusal withRecord recordStep endStep stepOf stepAt recordOf geometryBytes sizeBytes nameBytes recordsOf bytesOf tableOf image blankNumbers blankNames isBlank soundTo blankTo attachedTo listedTo heldOf ascends areBlocks listOk zeroPast badsOk isSound readFrom readTable readReader restZero courseOk accept accepted nextPlace refusedAt endBy endFeed answerBy answerOf fedNumbers laid over readerEndCall
+unfolding le leBytes inLimits driveOf same busOk interfaceOk geometryFits fieldsOk inStore overlap headerOf headerAt overlapsAny refusal parametersRefusal recordRefusal withRecord recordStep endStep stepOf stepAt recordOf geometryBytes sizeBytes nameBytes recordsOf bytesOf tableOf image blankNumbers blankNames isBlank soundTo blankTo attachedTo listedTo heldOf ascends areBlocks listOk zeroPast badsOk isSound readFrom readTable readReader restZero courseOk accept accepted nextPlace refusedAt endBy endFeed answerBy answerOf fedNumbers laid over readerEndCall tailOf isI2o zeroTail kindOk tailBytes
 end-no-reader = (refl, refl)
 
 -- write: the 72 bytes of an accepted table at the start of 74; 71 are too few: 19
 pub write-call : (readerWriteCall (block 2 0 [] (record₁ ++ end)) (replicate 74 5) 9 ≡ effect (0 ∷ 72 ∷ []) ((record₁ ++ end ++ (5 ∷ 5 ∷ [])) ∷ []))
     × (readerWriteCall (block 2 0 [] (record₁ ++ end)) (replicate 71 5) 9 ≡ effect (19 ∷ 9 ∷ []) (replicate 71 5 ∷ []))
-unfolding le leBytes inLimits driveOf same busOk interfaceOk geometryFits fieldsOk inStore overlap headerOf headerAt overlapsAny refusal parametersRefusal recordRefusal withRecord recordStep endStep stepOf stepAt recordOf geometryBytes sizeBytes nameBytes recordsOf bytesOf tableOf image blankNumbers blankNames isBlank soundTo blankTo attachedTo listedTo heldOf ascends areBlocks listOk zeroPast badsOk isSound readFrom readTable readReader restZero courseOk accept accepted nextPlace refusedAt answerBy answerOf writeAnswer writeOut writtenNumbers over readerWriteEffect readerWriteCall
+unfolding le leBytes inLimits driveOf same busOk interfaceOk geometryFits fieldsOk inStore overlap headerOf headerAt overlapsAny refusal parametersRefusal recordRefusal withRecord recordStep endStep stepOf stepAt recordOf geometryBytes sizeBytes nameBytes recordsOf bytesOf tableOf image blankNumbers blankNames isBlank soundTo blankTo attachedTo listedTo heldOf ascends areBlocks listOk zeroPast badsOk isSound readFrom readTable readReader restZero courseOk accept accepted nextPlace refusedAt answerBy answerOf writeAnswer writeOut writtenNumbers over readerWriteEffect readerWriteCall tailOf isI2o zeroTail kindOk tailBytes
 write-call = (refl, refl)
 
 -- before the end was told, closed or not: 256
 pub write-early : (readerWriteCall (block 0 0 [] (record₁ ++ end)) (replicate 74 5) 9 ≡ effect (256 ∷ 9 ∷ []) (replicate 74 5 ∷ []))
     × (readerWriteCall (block 1 0 [] (record₁ ++ end)) (replicate 74 5) 9 ≡ effect (256 ∷ 9 ∷ []) (replicate 74 5 ∷ []))
-unfolding le leBytes inLimits driveOf same busOk interfaceOk geometryFits fieldsOk inStore overlap headerOf headerAt overlapsAny refusal parametersRefusal recordRefusal withRecord recordStep endStep stepOf stepAt recordOf geometryBytes sizeBytes nameBytes recordsOf bytesOf tableOf image blankNumbers blankNames isBlank soundTo blankTo attachedTo listedTo heldOf ascends areBlocks listOk zeroPast badsOk isSound readFrom readTable readReader restZero courseOk accept accepted nextPlace refusedAt answerBy answerOf writeAnswer writeOut writtenNumbers over readerWriteEffect readerWriteCall
+unfolding le leBytes inLimits driveOf same busOk interfaceOk geometryFits fieldsOk inStore overlap headerOf headerAt overlapsAny refusal parametersRefusal recordRefusal withRecord recordStep endStep stepOf stepAt recordOf geometryBytes sizeBytes nameBytes recordsOf bytesOf tableOf image blankNumbers blankNames isBlank soundTo blankTo attachedTo listedTo heldOf ascends areBlocks listOk zeroPast badsOk isSound readFrom readTable readReader restZero courseOk accept accepted nextPlace refusedAt answerBy answerOf writeAnswer writeOut writtenNumbers over readerWriteEffect readerWriteCall tailOf isI2o zeroTail kindOk tailBytes
 write-early = (refl, refl)
 
 -- refused with 2: 2; of a block that is no reader's: 25
 pub write-refused : (readerWriteCall (block 3 2 [] (record₁ ++ end)) (replicate 74 5) 9 ≡ effect (2 ∷ 9 ∷ []) (replicate 74 5 ∷ []))
     × (readerWriteCall (block 3 0 [] (record₁ ++ end)) (replicate 74 5) 9 ≡ effect (25 ∷ 9 ∷ []) (replicate 74 5 ∷ []))
-unfolding le leBytes inLimits driveOf same busOk interfaceOk geometryFits fieldsOk inStore overlap headerOf headerAt overlapsAny refusal parametersRefusal recordRefusal withRecord recordStep endStep stepOf stepAt recordOf geometryBytes sizeBytes nameBytes recordsOf bytesOf tableOf image blankNumbers blankNames isBlank soundTo blankTo attachedTo listedTo heldOf ascends areBlocks listOk zeroPast badsOk isSound readFrom readTable readReader restZero courseOk accept accepted nextPlace refusedAt answerBy answerOf writeAnswer writeOut writtenNumbers over readerWriteEffect readerWriteCall
+unfolding le leBytes inLimits driveOf same busOk interfaceOk geometryFits fieldsOk inStore overlap headerOf headerAt overlapsAny refusal parametersRefusal recordRefusal withRecord recordStep endStep stepOf stepAt recordOf geometryBytes sizeBytes nameBytes recordsOf bytesOf tableOf image blankNumbers blankNames isBlank soundTo blankTo attachedTo listedTo heldOf ascends areBlocks listOk zeroPast badsOk isSound readFrom readTable readReader restZero courseOk accept accepted nextPlace refusedAt answerBy answerOf writeAnswer writeOut writtenNumbers over readerWriteEffect readerWriteCall tailOf isI2o zeroTail kindOk tailBytes
 write-refused = (refl, refl)

@@ -1,6 +1,6 @@
 -- Document 01, "Forms we want to see": the calls for C over desk block, arena and store slices, of which each call is lent those that it
 -- needs. Each is document 01's call at the desk whose image the block is; those of the reader of fragments (document 02, 2026-03) are over a
--- reader block. What stands behind a pointer afterwards is a value of the answer, or what stood there.
+-- reader block, and the converters (2026-06) over records. What stands behind a pointer afterwards is a value of the answer, or what stood there.
 -- Assumes nothing.
 use Prim.Native.Nat.{ℕ, _/_}
 use mathlib.Core.Bool.{Bool, true, false}
@@ -37,13 +37,15 @@ use Rattle.feed.specs.declared.Feed.{Feed}
 use Rattle.feed.specs.declared.Fed.{Fed}
 use Rattle.feed.specs.declared.Fed.the-variants.{More, Accepted as FedAccepted, Refused as FedRefused}
 use Rattle.feed.specs.Feed.{opened, feedAll, endFeed, answerOf, fedNumbers}
+use Rattle.convert.specs.Convert.{upAnswer, upOut, downAnswer, downOut}
 use Rattle.reader.specs.Reader.{readerSize, readReader, accepted as readerAccepted, laid as readerLaid}
 
 -- ---- the version, ours and in no paper: a block is for the library of its version, since a change request may give it another form
 
--- 1 is the base; each change request that a program can see adds 1: 2 has 2026-01, 3 has 2026-02, 4 has 2026-03, 5 has 2026-04
+-- 1 is the base; each change request that a program can see adds 1: 2 has 2026-01, 3 has 2026-02, 4 has 2026-03, 5 has 2026-04, 6 has
+-- 2026-06
 abbrev pub version : ℕ
-version = 5
+version = 6
 
 -- what a call leaves: the number that it returns and the values behind its pointers, in the order of its parameters; and the bytes of each
 -- slice that was lent for change, in that order
@@ -216,3 +218,13 @@ blockCall g a block = effect (over (blockNumbers (blockOf g a)) (0 ∷ block ∷
 -- 0 and the address of a block, or 4, which is 04h
 unfoldable pub addressCall : Geometry → ℕ → ℕ → ℕ → ℕ → Effect
 addressCall g block cylinder head sector = effect (over (addressNumbers (addressOf g block)) (0 ∷ cylinder ∷ head ∷ sector ∷ [])) []
+
+-- ---- document 02, 2026-06: the converters, over the bytes of a record and a buffer
+
+-- to kind 2
+unfoldable pub upCall : List ℕ → List ℕ → Effect
+upCall bytes out = effect (upAnswer bytes (length out) ∷ []) (upOut bytes out ∷ [])
+
+-- and back
+unfoldable pub downCall : List ℕ → List ℕ → Effect
+downCall bytes out = effect (downAnswer bytes (length out) ∷ []) (downOut bytes out ∷ [])

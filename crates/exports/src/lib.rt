@@ -1,6 +1,7 @@
 // The calls for C, which include/edd_desk.h declares. Each makes sure that its block is that of an acceptable desk, reads the row or the
 // table that it needs, does what the desk's method of the same name does, by the same functions, and writes the words that changed. The calls
-// of the reader of fragments read the whole reader from its block and lay it out again. Nothing is kept between calls.
+// of the reader of fragments read the whole reader from its block and lay it out again. The converters and the
+// calls on numbers are lent no block. Nothing is kept between calls.
 use chs::Address;
 use chs::Geometry;
 use chs::ToAddress;
@@ -32,7 +33,7 @@ ghost use Rattle.table.specs.Table.{writtenNumbers, writeAnswer, writeOut};
 ghost use Rattle.feed.specs.Feed.{answerOf, fedNumbers};
 ghost use Rattle.reader.specs.Reader.{readerSize};
 ghost use Rattle.image.specs.Image.{deskSize, readDesk, deskOf, putStage, putPointer};
-ghost use Rattle.exports.specs.Exports.{version, effect, over, openCall, writeCall, postCall, turnCall, collectCall, withdrawCall, placeCall, readerOpenCall, readerFeedCall, readerEndCall, readerWriteCall, windowCall, blockCall, addressCall};
+ghost use Rattle.exports.specs.Exports.{version, effect, over, openCall, writeCall, postCall, turnCall, collectCall, withdrawCall, placeCall, readerOpenCall, readerFeedCall, readerEndCall, readerWriteCall, windowCall, blockCall, addressCall, upCall, downCall};
 
 // There is nothing to hand out yet.
 const NOTHING_YET: u32 = 256;
@@ -53,7 +54,7 @@ const NOT_WAITING: u32 = desk::NOT_WAITING as u32;
 const BAD_PLACE: u32 = desk::BAD_PLACE as u32;
 
 // The version of the interface and of the block's form: 1 is the base, and each change request that a program can see adds 1.
-const VERSION: u32 = 5;
+const VERSION: u32 = 6;
 
 // Bytes of a block of the store.
 const BLOCK_LENGTH: u64 = memory::BLOCK_LENGTH as u64;
@@ -534,4 +535,18 @@ pub extern "C" fn edd_address(
         }
         ToAddress::Refused(code) => code as u32,
     }
+}
+
+#[no_mangle]
+pub extern "C" fn edd_convert_up(bytes: &[u8], out: &mut [u8]) -> u32
+    ensures { λ r. ⌜ effect (r ∷ []) (now (out .exit) ∷ []) ≡ upCall (now (bytes .entry)) (now (out .entry)) ⌝ }
+{
+    convert::up(bytes, out) as u32
+}
+
+#[no_mangle]
+pub extern "C" fn edd_convert_down(bytes: &[u8], out: &mut [u8]) -> u32
+    ensures { λ r. ⌜ effect (r ∷ []) (now (out .exit) ∷ []) ≡ downCall (now (bytes .entry)) (now (out .entry)) ⌝ }
+{
+    convert::down(bytes, out) as u32
 }

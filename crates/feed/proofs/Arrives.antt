@@ -43,7 +43,7 @@ record IsReading (t : List ℕ) (f : Feed) : Type 0 where
 record IsClosed (t : List ℕ) (f : Feed) : Type 0 where
   whole : readTable t (f .store) ≡ reading TableAccepted (f .table)
   byte : (x : ℕ) (q : List ℕ) → readTable (t ++ (x ∷ q)) (f .store) ≡ reading (TableRefused 8 (nextPlace (f .table) + 4)) (f .table)
-  few : length t ≤ 1780
+  few : length t ≤ 1844
   bare : f .filled ≡ 0
 
 -- refused: so is whatever they begin
@@ -271,7 +271,7 @@ module _ (t : List ℕ) (f : Feed) where
   refused-by Accepted e i n at z = absurd i
   refused-by (Refused m) e i n at z = refused-stays m f e
 
-  few-by : (c : Course) → By c t f → answerBy c (f .table) ≡ More → length t < 1910
+  few-by : (c : Course) → By c t f → answerBy c (f .table) ≡ More → length t < 1974
   unfolding answerBy
   few-by Reading i z = omega (arith, i .all, place-most (f .store) (f .table) (i .so), in-room t f 0 i)
   few-by Closed i z = omega (arith, i .few)
@@ -296,7 +296,7 @@ zeros (suc n) zero = omega arith
 zeros (suc n) (suc i) = zeros n i
 
 -- as many bytes as a table of eight drives and one record more are not cut off
-long : (t : List ℕ) (f : Feed) (c : Course) → By c t f → 1910 ≤ length t → (p : ℕ) → readTable t (f .store) .answer ≡ TableRefused 1 p → ⊥
+long : (t : List ℕ) (f : Feed) (c : Course) → By c t f → 1974 ≤ length t → (p : ℕ) → readTable t (f .store) .answer ≡ TableRefused 1 p → ⊥
 long t f Reading i l p e = omega (arith, l, i .all, place-most (f .store) (f .table) (i .so), in-room t f 0 i)
 long t f Closed i l p e = omega (arith, l, i .few)
 long t f Accepted i l p e = absurd i
@@ -306,7 +306,7 @@ long t f (Refused n) i l p e = i .other (number n (refusedAt n (f .table)) 1 p (
     number n p m q e = cc
 
 -- so 1 is never settled
-cut-unsettled : (t : List ℕ) (f : Feed) (q : List ℕ) → 1910 ≤ length q → Bytes q → Tracks (f .store) t f → (p : ℕ) → Follows t (f .store) 1 p → ⊥
+cut-unsettled : (t : List ℕ) (f : Feed) (q : List ℕ) → 1974 ≤ length q → Bytes q → Tracks (f .store) t f → (p : ℕ) → Follows t (f .store) 1 p → ⊥
 cut-unsettled t f q l h s p z =
     let s′ = tracks-all (f .store) q t f s in
     long (t ++ q) (feedAll f q) (feedAll f q .course) (s′ .by) (omega (arith, l, length-append t q)) p (rw (s′ .kept) (z q h))
@@ -319,7 +319,7 @@ unsettled-by t f c i s n at z = by-course c i (rw (append-nil t) at (z [] (zeros
     by-course Reading i e =
         let cut-off : TableRefused 1 (nextPlace (f .table)) ≡ TableRefused n at = sym (ap (λ (r : TableReading). r .answer) (cut t f i)) ∙ e in
         let one : 1 ≡ n = cc in
-        absurd (cut-unsettled t f (replicate 1910 0) (rw length-replicate (omega arith)) (zeros 1910) s at (rw one z))
+        absurd (cut-unsettled t f (replicate 1974 0) (rw length-replicate (omega arith)) (zeros 1974) s at (rw one z))
     by-course Closed i e = let accepted : TableAccepted ≡ TableRefused n at = sym (ap (λ (r : TableReading). r .answer) (i .whole)) ∙ e in impossible (cc)
     by-course Accepted i e = absurd i
     by-course (Refused m) i e =

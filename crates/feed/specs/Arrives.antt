@@ -64,5 +64,5 @@ pub record Arrives (store : ℕ) (fs : List (List ℕ)) : Type 0 where
   -- of the bytes so far those are held that follow the records of its drives, fewer than the longest record has, and while it reads only
   pub held : feeds (opened store) fs .course ≡ Reading → Holds (feeds (opened store) fs) (joined fs)
   pub bare : (feeds (opened store) fs .course ≡ Reading → ⊥) → feeds (opened store) fs .filled ≡ 0
-  -- so long as nothing is settled there were fewer bytes than the longest table's records and one more have, 1910
+  -- so long as nothing is settled there were fewer bytes than the longest table's records and one more have, 1974
   pub few : answerOf (feeds (opened store) fs) ≡ More → length (joined fs) < longestTable - endLength + longestRecord

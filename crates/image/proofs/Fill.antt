@@ -77,15 +77,15 @@ length-row r = go (r .stage)
     go (Waiting q) = refl
     go (Finished x) = refl
 
-pub length-drive : (d : Drive) → length (driveWords d) ≡ 14
+pub length-drive : (d : Drive) → length (driveWords d) ≡ 16
 length-drive d = refl
 
 -- the words of the sections
 pub length-rows : (rows : List Row) → length rows ≡ 8 → length (rowsWords rows) ≡ 23 * 8
 length-rows rows e = length-each rowWords 23 length-row rows ∙ ap (λ (m : ℕ). 23 * m) e
 
-pub length-slots : (drives : List Drive) → length drives ≡ 8 → length (slotsWords drives) ≡ 14 * 8
-length-slots drives e = length-each driveWords 14 length-drive drives ∙ ap (λ (m : ℕ). 14 * m) e
+pub length-slots : (drives : List Drive) → length drives ≡ 8 → length (slotsWords drives) ≡ 16 * 8
+length-slots drives e = length-each driveWords 16 length-drive drives ∙ ap (λ (m : ℕ). 16 * m) e
 
 -- the sections behind the last words
 pub length-places : (d : Desk) → length (d .placed) ≡ 8 → length (d .addresses) ≡ 8 → length (placesWords d) ≡ 8 * 2

@@ -175,6 +175,8 @@ drive-read s i d h f bs l =
       N 8 11 (d .interface) (omega arith) (omega arith) bs (omega arith) (n .interface) (f .interface) refl,
       N 8 12 (d .path) (omega arith) (omega arith) bs (omega arith) (n .path) (f .path) refl,
       N 8 13 (d .device) (omega arith) (omega arith) bs (omega arith) (n .device) (f .device) refl,
+      F 2 14 (d .kind) (omega arith) (omega arith) refl (n .kind),
+      N 8 15 (d .tail) (omega arith) (omega arith) bs (omega arith) (n .tail) (f .tail) refl,
     )
 
 -- ---- a desk's image
@@ -291,7 +293,7 @@ module _ (d : Desk) (fit : FitsDesk d) where
   slots-read =
       listed-is (λ i. readDrive (image d) (slotAt i)) (d .table .drives) 8 noDrive (fit .table .eight) (λ i l.
       drive-read (image d) (slotAt i) (getD (d .table .drives) i noDrive)
-      (says-each driveWords 14 length-drive noDrive (image d) (slotAt 0) (slotAt i) (d .table .drives) _ i (omega (arith, fit .table .eight)) (omega arith) says-slots)
+      (says-each driveWords 16 length-drive noDrive (image d) (slotAt 0) (slotAt i) (d .table .drives) _ i (omega (arith, fit .table .eight)) (omega arith) says-slots)
       (fit .table .each i l) (bytes-image d) (omega (arith, length-image)))
 
   tail-read : (j v : ℕ) → j < 4 → getD (tailWords d) j 0 ≡ v → v < 256 ^ 8 → le 8 (image d) (tailAt j) ≡ v
@@ -447,6 +449,8 @@ module _ (b : List ℕ) (h : Bytes b) where
               interface = length-part 8 b (i + 88) (omega arith);
               path = length-part 8 b (i + 96) (omega arith);
               device = length-part 8 b (i + 104) (omega arith);
+              kind = le-lt 2 b (i + 112) h;
+              tail = length-part 8 b (i + 120) (omega arith);
             };
         s = h (i + 64);
         protection = h (i + 72);
@@ -454,6 +458,7 @@ module _ (b : List ℕ) (h : Bytes b) where
         interface = bytes-part 8 b (i + 88) h;
         path = bytes-part 8 b (i + 96) h;
         device = bytes-part 8 b (i + 104) h;
+        tail = bytes-part 8 b (i + 120) h;
       }
 
   counts-fit : (i : ℕ) → getD (readCounts b) i 0 < 256

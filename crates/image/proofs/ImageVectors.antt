@@ -1,4 +1,4 @@
--- The desk block by number: a desk in which every field has a value of its own, and its 474 words as docs/BLOCK.md has them.
+-- The desk block by number: a desk in which every field has a value of its own, and its 490 words as docs/BLOCK.md has them.
 -- Assumes nothing.
 use mathlib.Core.Path.{_≡_, refl}
 use mathlib.Core.Bool.{Bool, true, false}
@@ -47,6 +47,8 @@ first = record {
   interface = 0x72 ∷ 0x73 ∷ 0x74 ∷ 0x75 ∷ 0x76 ∷ 0x77 ∷ 0x78 ∷ 0x79 ∷ [];
   path = 0x82 ∷ 0x83 ∷ 0x84 ∷ 0x85 ∷ 0x86 ∷ 0x87 ∷ 0x88 ∷ 0x89 ∷ [];
   device = 0x92 ∷ 0x93 ∷ 0x94 ∷ 0x95 ∷ 0x96 ∷ 0x97 ∷ 0x98 ∷ 0x99 ∷ [];
+  kind = 0x5109;
+  tail = 0xA2 ∷ 0xA3 ∷ 0xA4 ∷ 0xA5 ∷ 0xA6 ∷ 0xA7 ∷ 0xA8 ∷ 0xA9 ∷ [];
 }
 
 abbrev last : Drive
@@ -65,6 +67,8 @@ last = record {
   interface = 0xD2 ∷ 0xD3 ∷ 0xD4 ∷ 0xD5 ∷ 0xD6 ∷ 0xD7 ∷ 0xD8 ∷ 0xD9 ∷ [];
   path = 0xE2 ∷ 0xE3 ∷ 0xE4 ∷ 0xE5 ∷ 0xE6 ∷ 0xE7 ∷ 0xE8 ∷ 0xE9 ∷ [];
   device = 0xF2 ∷ 0xF3 ∷ 0xF4 ∷ 0xF5 ∷ 0xF6 ∷ 0xF7 ∷ 0xF8 ∷ 0xF9 ∷ [];
+  kind = 0xB109;
+  tail = 0x12 ∷ 0x13 ∷ 0x14 ∷ 0x15 ∷ 0x16 ∷ 0x17 ∷ 0x18 ∷ 0x19 ∷ [];
 }
 
 -- waiting, finished and vacant rows with carry set and clear; drives in the first slot and the last; marks of placement and of parameters that
@@ -114,16 +118,17 @@ rowWords =
     ∷ 0x86 ∷ 0x16000001 ∷ 0x16000002 ∷ 0x16000003 ∷ 0x16000004 ∷ 0x16000005 ∷ replicate 8 0)
     ++ (2 ∷ (replicate 14 0 ++ (0x1701 ∷ 0x1702 ∷ 0x1703 ∷ 0x1704 ∷ 0x1705 ∷ 0x1706 ∷ 0x1707 ∷ 1 ∷ [])))))))))
 
--- a slot: physical cylinders, heads, sectors, blocks, first store block; flags, C, H, S, protection; host bus, interface type, the two paths
+-- a slot: physical cylinders, heads, sectors, blocks, first store block; flags, C, H, S, protection; host bus, interface type, the two paths; kind and the device
+-- path's last eight bytes
 abbrev slotWords : List ℕ
 slotWords =
     0x51000001 ∷ 0x51000002 ∷ 0x51000003 ∷ 0x5100000000000004 ∷ 0x5100000000000005
     ∷ 0x5172 ∷ 0x5107 ∷ 0x5108 ∷ 0x51 ∷ 0x52
-    ∷ 0x65646362 ∷ 0x7978777675747372 ∷ 0x8988878685848382 ∷ 0x9998979695949392
-    ∷ (replicate 84 0 ++ (
+    ∷ 0x65646362 ∷ 0x7978777675747372 ∷ 0x8988878685848382 ∷ 0x9998979695949392 ∷ 0x5109 ∷ 0xA9A8A7A6A5A4A3A2
+    ∷ (replicate 96 0 ++ (
     0xB1000001 ∷ 0xB1000002 ∷ 0xB1000003 ∷ 0xB100000000000004 ∷ 0xB100000000000005
     ∷ 0xB106 ∷ 0xB107 ∷ 0xB108 ∷ 0xB1 ∷ 0xB2
-    ∷ 0xC5C4C3C2 ∷ 0xD9D8D7D6D5D4D3D2 ∷ 0xE9E8E7E6E5E4E3E2 ∷ 0xF9F8F7F6F5F4F3F2 ∷ []))
+    ∷ 0xC5C4C3C2 ∷ 0xD9D8D7D6D5D4D3D2 ∷ 0xE9E8E7E6E5E4E3E2 ∷ 0xF9F8F7F6F5F4F3F2 ∷ 0xB109 ∷ 0x1918171615141312 ∷ []))
 
 -- the guests' marks of placement and their addresses
 abbrev placeWords : List ℕ
@@ -144,12 +149,12 @@ abbrev badWords : List ℕ
 badWords = 0xA1 ∷ 0xA2 ∷ 0xA3 ∷ 0xA4 ∷ 0xA5 ∷ 0xA6 ∷ 0xA7 ∷ 0xA8 ∷ listed (λ k. 0x3000000000000000 + k) 0 128
 
 -- number of drives, turn pointer, arena length, store length; then those
-pub block : words 474 (image desk)
+pub block : words 490 (image desk)
     ≡ rowWords ++ (slotWords ++ ((7 ∷ 5 ∷ 0x7172737475767778 ∷ 0x8182838485868788 ∷ []) ++ (placeWords ++ (parameterWords ++ badWords))))
 unfolding image deskWords each leBytes le
 block = refl
 
-pub block-length : length (image desk) ≡ 3792
+pub block-length : length (image desk) ≡ 3920
 unfolding image deskWords each leBytes
 block-length = refl
 
@@ -158,8 +163,8 @@ block-length = refl
 pub places :
     markAt 0 ∷ markAt 7 ∷ addressAt 0 ∷ addressAt 7 ∷ presentAt 0 ∷ presentAt 7 ∷ bytesAt 0 ∷ bytesAt 1 ∷ bytesAt 7
     ∷ badsCountAt 0 ∷ badsCountAt 7 ∷ badsListAt 0 ∷ badsListAt 1 ∷ badsListAt 7 ∷ deskSize ∷ []
-    ≡ 2400 ∷ 2456 ∷ 2464 ∷ 2520 ∷ 2528 ∷ 2584 ∷ 2592 ∷ 2606 ∷ 2690
-    ∷ 2704 ∷ 2760 ∷ 2768 ∷ 2896 ∷ 3664 ∷ 3792 ∷ []
+    ≡ 2528 ∷ 2584 ∷ 2592 ∷ 2648 ∷ 2656 ∷ 2712 ∷ 2720 ∷ 2734 ∷ 2818
+    ∷ 2832 ∷ 2888 ∷ 2896 ∷ 3024 ∷ 3792 ∷ 3920 ∷ []
 places = refl
 
 -- read back: each field from its own words
@@ -168,7 +173,7 @@ unfolding image deskWords each leBytes le readDesk readStage readDrive
 read-back = refl
 
 -- guest 4 placed: its mark and its address, and no other's
-pub placed : words 24 (drop 2400 (putPlacement (image desk) 4 0x2122232425262728))
+pub placed : words 24 (drop 2528 (putPlacement (image desk) 4 0x2122232425262728))
     ≡ 1 ∷ 0 ∷ 0 ∷ 1 ∷ 1 ∷ 1 ∷ 1 ∷ 1
     ∷ 0x2000000000000001 ∷ 0x2000000000000002 ∷ 0x2000000000000003 ∷ 0x2000000000000004
     ∷ 0x2122232425262728 ∷ 0x2000000000000006 ∷ 0x2000000000000007 ∷ 0x2000000000000008

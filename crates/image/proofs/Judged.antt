@@ -17,7 +17,7 @@ use Rattle.logic.proofs.LogicLaws.{both-true, both-intro, both-assoc, both-comm
 use Rattle.words.specs.Words.{Bytes, le, leBytes, part}
 use Rattle.words.proofs.WordsLaws.{le-split, le-lt, le-ext, read-write, write-read, length-leBytes}
 use Rattle.drive.specs.declared.Drive.{Drive}
-use Rattle.drive.specs.Drive.{same, fieldsOk, inStore, overlap, isBlank, blankNumbers, blankNames}
+use Rattle.drive.specs.Drive.{same, fieldsOk, inStore, overlap, isBlank, blankNumbers, blankNames, zeroTail}
 use Rattle.drive.proofs.DriveLaws.{same-refl, same-true}
 use Rattle.attached.specs.Bad.{noBads}
 use Rattle.attached.proofs.BadLaws.{badsOk-noBads}
@@ -219,7 +219,7 @@ module _ (b : List ℕ) (h : Bytes b) where
       )
 
   -- behind a request's registers
-  asked-is : (i : ℕ) → i + slotSize ≤ length b
+  asked-is : (i : ℕ) → i + 8 * 14 ≤ length b
       → matches b (i + 64) (getD b (i + 64) 0 ∷ le 8 b (i + 72) ∷ le 8 b (i + 80) ∷ le 8 b (i + 88) ∷ le 8 b (i + 96) ∷ le 8 b (i + 104) ∷ []) ≡ ltb (le 8 b (i + 64)) 256
   unfolding matches
   asked-is i l =
@@ -233,7 +233,7 @@ module _ (b : List ℕ) (h : Bytes b) where
         both-itself,
       ))
 
-  request-is : (i : ℕ) → i + slotSize ≤ length b → matches b i (requestWords (requestAt b i)) ≡ isRequest b i
+  request-is : (i : ℕ) → i + 8 * 14 ≤ length b → matches b i (requestWords (requestAt b i)) ≡ isRequest b i
   unfolding isRequest
   request-is i l =
       matches-append b (registerNumbers (registersAt b i)) _ i ∙ rw (registers-is i (omega arith), asked-is i l) (both-comm (areRegisters b i) _)
@@ -243,6 +243,8 @@ module _ (b : List ℕ) (h : Bytes b) where
   slot-is i l =
       rw (
         add-zero i,
+        name-whole b h (i + 120) (omega arith),
+        field-is b h 2 (i + 112) (omega arith) (omega arith),
         name-whole b h (i + 104) (omega arith),
         name-whole b h (i + 96) (omega arith),
         name-whole b h (i + 88) (omega arith),
@@ -348,7 +350,7 @@ apart-is d e = go (leb (d .first) (e .first))
 -- ---- a drive of zeros
 
 blank-zero : (d : Drive) → isBlank d ≡ true → d ≡ zeroDrive
-unfolding isBlank blankNumbers blankNames
+unfolding isBlank blankNumbers blankNames zeroTail
 blank-zero d e =
     let p = both-true _ _ e in
     let a = both-true _ _ (p .0) in
@@ -360,9 +362,11 @@ blank-zero d e =
     let g₁ = both-true _ _ (g .0) in
     let g₂ = both-true _ _ (g₁ .1) in
     let g₃ = both-true _ _ (g .1) in
+    let g₄ = both-true _ _ (g₃ .1) in
     let n = both-true _ _ (p .1) in
     let n₁ = both-true _ _ (n .1) in
     let n₂ = both-true _ _ (n₁ .1) in
+    let n₃ = both-true _ _ (n₂ .1) in
     λ i. record {
       cylinders = eqb-true (d .cylinders) 0 (a₁ .0) i;
       heads = eqb-true (d .heads) 0 (a₂ .0) i;
@@ -373,25 +377,27 @@ blank-zero d e =
       c = eqb-true (d .c) 0 (g₂ .0) i;
       h = eqb-true (d .h) 0 (g₂ .1) i;
       s = eqb-true (d .s) 0 (g₃ .0) i;
-      protection = eqb-true (d .protection) 0 (g₃ .1) i;
+      protection = eqb-true (d .protection) 0 (g₄ .0) i;
       bus = same-true (d .bus) (replicate 4 0) (n .0) i;
       interface = same-true (d .interface) (replicate 8 0) (n₁ .0) i;
       path = same-true (d .path) (replicate 8 0) (n₂ .0) i;
-      device = same-true (d .device) (replicate 8 0) (n₂ .1) i;
+      device = same-true (d .device) (replicate 8 0) (n₃ .0) i;
+      kind = eqb-true (d .kind) 0 (g₄ .1) i;
+      tail = same-true (d .tail) (replicate 8 0) (n₃ .1) i;
     }
 
 zero-blank : isBlank zeroDrive ≡ true
-unfolding isBlank blankNumbers blankNames same
+unfolding isBlank blankNumbers blankNames same zeroTail
 zero-blank = refl
 
-zero-words : driveWords zeroDrive ≡ replicate 14 0
+zero-words : driveWords zeroDrive ≡ replicate 16 0
 unfolding le
 zero-words = refl
 
 -- it is what zeros say
 pub zero-fits : FitsDrive zeroDrive
 unfolding readDrive le
-zero-fits = drive-fits (replicate 112 0) (zeros 112) 0 (omega arith)
+zero-fits = drive-fits (replicate 128 0) (zeros 128) 0 (omega arith)
   where
     zeros : (n i : ℕ) → getD (replicate n 0) i 0 < 256
     zeros zero i = omega arith
@@ -407,19 +413,19 @@ module _ (b : List ℕ) (h : Bytes b) where
       sym (getD-take 8 (drop (i + 8 * j) b) m 0 q ∙ getD-drop (i + 8 * j) b m 0) ∙ ap (λ (s : List ℕ). getD s m 0) p
 
   -- a slot past the count
-  zero-slot : (i : ℕ) → i + slotSize ≤ length b → both (isSlot b i) (isBlank (readDrive b i)) ≡ below 14 1 b i
+  zero-slot : (i : ℕ) → i + slotSize ≤ length b → both (isSlot b i) (isBlank (readDrive b i)) ≡ below 16 1 b i
   zero-slot i l = true-iff _ _ to from
     where
-      words-are : readDrive b i ≡ zeroDrive → isSlot b i ≡ below 14 1 b i
-      words-are e = sym (slot-is b h i l) ∙ ap (λ (d : Drive). matches b i (driveWords d)) e ∙ ap (matches b i) zero-words ∙ zeros-is b h 14 i l
+      words-are : readDrive b i ≡ zeroDrive → isSlot b i ≡ below 16 1 b i
+      words-are e = sym (slot-is b h i l) ∙ ap (λ (d : Drive). matches b i (driveWords d)) e ∙ ap (matches b i) zero-words ∙ zeros-is b h 16 i l
 
-      to : both (isSlot b i) (isBlank (readDrive b i)) ≡ true → below 14 1 b i ≡ true
+      to : both (isSlot b i) (isBlank (readDrive b i)) ≡ true → below 16 1 b i ≡ true
       to e = let p = both-true (isSlot b i) (isBlank (readDrive b i)) e in sym (words-are (blank-zero (readDrive b i) (p .1))) ∙ p .0
 
-      from : below 14 1 b i ≡ true → both (isSlot b i) (isBlank (readDrive b i)) ≡ true
+      from : below 16 1 b i ≡ true → both (isSlot b i) (isBlank (readDrive b i)) ≡ true
       from e =
           let z : readDrive b i ≡ zeroDrive =
-          drive-read b i zeroDrive (says-matches i (driveWords zeroDrive) (ap (matches b i) zero-words ∙ zeros-is b h 14 i l ∙ e)) zero-fits h l in
+          drive-read b i zeroDrive (says-matches i (driveWords zeroDrive) (ap (matches b i) zero-words ∙ zeros-is b h 16 i l ∙ e)) zero-fits h l in
           both-intro (isSlot b i) (isBlank (readDrive b i)) (words-are z ∙ e) (ap isBlank z ∙ zero-blank)
 
 -- ---- a table
@@ -501,9 +507,9 @@ module _ (b : List ℕ) (h : Bytes b) (l : length b ≡ deskSize) where
 
   slots-is : matches b (slotAt 0) (slotsWords (readSlots b)) ≡ allBelow 8 (λ i. isSlot b (slotAt i))
   slots-is =
-      matches-each b driveWords 14 length-drive (λ i. readDrive b (slotAt i)) 8 0 (slotAt 0)
-      ∙ all-ext 8 (λ i. matches b (slotAt 0 + 8 * (14 * i)) (driveWords (readDrive b (slotAt (0 + i))))) (λ i. isSlot b (slotAt i)) (λ i q.
-      let z : slotAt 0 + 8 * (14 * i) ≡ slotAt i = omega arith in
+      matches-each b driveWords 16 length-drive (λ i. readDrive b (slotAt i)) 8 0 (slotAt 0)
+      ∙ all-ext 8 (λ i. matches b (slotAt 0 + 8 * (16 * i)) (driveWords (readDrive b (slotAt (0 + i))))) (λ i. isSlot b (slotAt i)) (λ i q.
+      let z : slotAt 0 + 8 * (16 * i) ≡ slotAt i = omega arith in
       rw (z, zero-add) (slot-is b h (slotAt i) (omega arith)))
 
   table-is : (store : ℕ) → count ≤ 8
@@ -517,8 +523,8 @@ module _ (b : List ℕ) (h : Bytes b) (l : length b ≡ deskSize) where
       let Z : ℕ → Bool = λ i. isBlank (readDrive b (slotAt i)) in
       let blanks : blankTo 8 (drives b) count ≡ allBelow 8 (past Z) =
       blank-all 8 (drives b) count ∙ all-ext 8 _ (past Z) (λ i q. ap (λ (d : Drive). either (ltb i count) (isBlank d)) (drive-of b i q)) in
-      let rest : both (allBelow 8 (past P)) (allBelow 8 (past Z)) ≡ allBelow 8 (past (λ i. below 14 1 b (slotAt i))) =
-      all-both 8 (past P) (past Z) ∙ all-ext 8 _ (past (λ i. below 14 1 b (slotAt i))) (λ i q.
+      let rest : both (allBelow 8 (past P)) (allBelow 8 (past Z)) ≡ allBelow 8 (past (λ i. below 16 1 b (slotAt i))) =
+      all-both 8 (past P) (past Z) ∙ all-ext 8 _ (past (λ i. below 16 1 b (slotAt i))) (λ i q.
       either-both (ltb i count) (P i) (Z i) ∙ ap (either (ltb i count)) (zero-slot b h (slotAt i) (omega arith))) in
       rw (slots-is, blanks, sound-is b count store m, all-split 8 count P m, ← rest, ← all-both count P F)
       (arrange (allBelow count P) (allBelow 8 (past P)) (allBelow count F) (drivesApart count b) (allBelow 8 (past Z)))
@@ -802,9 +808,9 @@ judged-is b h = go (eqb (length b) deskSize) (eqb-true (length b) deskSize) ∙ 
 
 module _ (n : ℕ) (b : List ℕ) where
   past : ℕ → Bool
-  past i = either (ltb i n) (below 14 1 b (slotAt i))
+  past i = either (ltb i n) (below 16 1 b (slotAt i))
 
-  past-is : {a : Bool} (i : ℕ) → n ≤ i → a ≡ below 14 1 b (slotAt i) → a ≡ past i
+  past-is : {a : Bool} (i : ℕ) → n ≤ i → a ≡ below 16 1 b (slotAt i) → a ≡ past i
   unfolding past
   past-is i l e = rw (le-ltb i n l) e
 
@@ -812,11 +818,11 @@ module _ (n : ℕ) (b : List ℕ) where
   unfolding restZero past
   rest-none = sym (all-intro n past (λ i l. rw (lt-ltb i n l)))
 
-  pub rest-bad : {a : Bool} (i : ℕ) → n ≤ i → i < 8 → a ≡ below 14 1 b (slotAt i) → a ≡ false → false ≡ restZero 8 n b
+  pub rest-bad : {a : Bool} (i : ℕ) → n ≤ i → i < 8 → a ≡ below 16 1 b (slotAt i) → a ≡ false → false ≡ restZero 8 n b
   unfolding restZero past
   rest-bad i l m e z = all-fails 8 i past m (past-is i l e) z
 
-  pub rest-next : {a : Bool} (i : ℕ) → n ≤ i → true ≡ restZero i n b → a ≡ below 14 1 b (slotAt i) → a ≡ true → true ≡ restZero (i + 1) n b
+  pub rest-next : {a : Bool} (i : ℕ) → n ≤ i → true ≡ restZero i n b → a ≡ below 16 1 b (slotAt i) → a ≡ true → true ≡ restZero (i + 1) n b
   unfolding restZero past
   rest-next i l p e z = all-next i past p (past-is i l e) z
 

@@ -12,7 +12,7 @@ use Rattle.logic.specs.Logic.{pick}
 use Rattle.words.specs.Words.{part}
 use Rattle.memory.proofs.Sets.{length-part}
 use Rattle.drive.specs.declared.Drive.{Drive}
-use Rattle.drive.specs.Drive.{recordOf}
+use Rattle.drive.specs.Drive.{driveLength, recordOf}
 use Rattle.drive.proofs.DriveLaws.{length-record}
 use Rattle.attached.specs.declared.Bads.{Bads}
 use Rattle.attached.specs.Bad.{heldOf, badLength}
@@ -44,7 +44,7 @@ unfolding readDesk
 bads-count-in b i h = bads-count-of b i h
 
 -- the record of a slot's drive
-length-drive : (b : List ℕ) (i : ℕ) → i + 112 ≤ length b → length (recordOf (readDrive b i)) ≡ 68
+length-drive : (b : List ℕ) (i : ℕ) → i + 128 ≤ length b → length (recordOf (readDrive b i)) ≡ driveLength (readDrive b i .kind)
 unfolding readDrive
 length-drive b i l =
     length-record _
@@ -53,19 +53,20 @@ length-drive b i l =
       interface = length-part 8 b (i + 88) (omega arith);
       path = length-part 8 b (i + 96) (omega arith);
       device = length-part 8 b (i + 104) (omega arith);
+      tail = length-part 8 b (i + 120) (omega arith);
     }
 
 -- the records of one slot more: its drive's, and those of its bad blocks and its parameters
-pub length-next : {n more total : ℕ} {present : Bool} (b : List ℕ) (i : ℕ) → length b ≡ deskSize → i < 8 → n ≡ getD b (badsCountAt i) 0 → present ≡ eqb (getD b (presentAt i) 0) 1
-    → more ≡ pick (eqb n 0) 0 (badLength (heldOf n)) + pick present 20 0 → total ≡ length (recordsOf i (readDesk b .table)) → total + (68 + more) ≡ length (recordsOf (i + 1) (readDesk b .table))
-length-next {n} {more} {total} {present} b i l h e f g z =
+pub length-next : {n own more total : ℕ} {present : Bool} (b : List ℕ) (i : ℕ) → length b ≡ deskSize → i < 8 → n ≡ getD b (badsCountAt i) 0 → present ≡ eqb (getD b (presentAt i) 0) 1
+    → more ≡ pick (eqb n 0) 0 (badLength (heldOf n)) + pick present 20 0 → own ≡ driveLength (readDrive b (slotAt i) .kind) → total ≡ length (recordsOf i (readDesk b .table)) → total + (own + more) ≡ length (recordsOf (i + 1) (readDesk b .table))
+length-next {n} {own} {more} {total} {present} b i l h e f g o z =
     let t : Table = readDesk b .table in
     let c : n ≡ getD (t .counts) i 0 = e ∙ sym (bads-count-in b i h) in
     let p : present ≡ hasParameters t i = f ∙ sym (present-of b i h) in
     let s = length-slot t i (length-given b l) (length-lists b l) h in
     let q : more ≡ pick (eqb (getD (t .counts) i 0) 0) 0 (badLength (heldOf (getD (t .counts) i 0))) + pick (hasParameters t i) 20 0 = rw (← c, ← p) g in
-    let d : length (recordOf (getD (t .drives) i noDrive)) ≡ 68 = ap (λ (x : Drive). length (recordOf x)) (slot-of b i h) ∙ length-drive b (slotAt i) (omega arith) in
-    let m : length (slotRecords t i) ≡ 68 + more = s ∙ rw (d, ← q) in
+    let d : length (recordOf (getD (t .drives) i noDrive)) ≡ own = ap (λ (x : Drive). length (recordOf x)) (slot-of b i h) ∙ length-drive b (slotAt i) (omega arith) ∙ sym o in
+    let m : length (slotRecords t i) ≡ own + more = s ∙ rw (d, ← q) in
     omega (arith, length-more i t, m, z)
 
 -- the records of a slot, from its drive, its bad blocks, its mark and the bytes of all

@@ -64,11 +64,11 @@ rowWords r = stageWords (r .stage)
 abbrev pub rowsWords : List Row → List ℕ
 rowsWords rows = each rowWords rows
 
--- 14 words; of a name its bytes in their order
+-- 16 words; of a name its bytes in their order; the last two, the kind and the device path's last eight bytes, are those of document 02, 2026-06
 abbrev pub driveWords : Drive → List ℕ
 driveWords d =
     d .cylinders ∷ d .heads ∷ d .sectors ∷ d .blocks ∷ d .first ∷ d .flags ∷ d .c ∷ d .h ∷ d .s ∷ d .protection
-    ∷ le 4 (d .bus) 0 ∷ le 8 (d .interface) 0 ∷ le 8 (d .path) 0 ∷ le 8 (d .device) 0 ∷ []
+    ∷ le 4 (d .bus) 0 ∷ le 8 (d .interface) 0 ∷ le 8 (d .path) 0 ∷ le 8 (d .device) 0 ∷ d .kind ∷ le 8 (d .tail) 0 ∷ []
 
 -- the section of the slots of the table
 abbrev pub slotsWords : List Drive → List ℕ
@@ -104,7 +104,7 @@ listWords bytes = listed (λ j. le 8 bytes (8 * j)) 0 128
 abbrev pub badsWords : Table → List ℕ
 badsWords b = b .counts ++ listWords (b .bad)
 
--- the sections one after the other; one that is added later goes behind them, so that none of these moves
+-- the sections one after the other; one that is added later goes behind them, as a word that is added to a slot goes to its end
 unfoldable pub deskWords : Desk → List ℕ
 deskWords d =
     rowsWords (d .rows) ++ (slotsWords (d .table .drives) ++ (tailWords d ++ (placesWords d ++ (parametersWords (d .table) ++ badsWords (d .table)))))
@@ -119,9 +119,9 @@ image d = flat (deskWords d)
 abbrev pub rowSize : ℕ
 rowSize = 8 * 23
 
--- a slot of the table, of 14
+-- a slot of the table, of 16
 abbrev pub slotSize : ℕ
-slotSize = 8 * 14
+slotSize = 8 * 16
 
 -- guest g's row: the eight rows come first
 abbrev pub rowAt : ℕ → ℕ
@@ -159,7 +159,7 @@ badsCountAt i = bytesAt 8 + 8 * i
 abbrev pub badsListAt : ℕ → ℕ
 badsListAt i = badsCountAt 8 + 128 * i
 
--- the whole block, 3792 bytes
+-- the whole block, 3920 bytes
 abbrev pub deskSize : ℕ
 deskSize = badsListAt 8
 
@@ -242,6 +242,8 @@ readDrive b i = record {
   interface = part 8 b (i + 88);
   path = part 8 b (i + 96);
   device = part 8 b (i + 104);
+  kind = le 2 b (i + 112);
+  tail = part 8 b (i + 120);
 }
 
 -- the section of the rows, read
@@ -358,6 +360,7 @@ pub record FitsDrive (d : Drive) : Type 0 where
   pub interface : Bytes (d .interface)
   pub path : Bytes (d .path)
   pub device : Bytes (d .device)
+  pub tail : Bytes (d .tail)
 
 -- eight slots, a number of drives, a mark of parameters for each slot, and fourteen bytes for each; a count of bad blocks of one byte for each, and
 -- the bytes of sixteen numbers for each

@@ -31,11 +31,12 @@ areRegisters b i = both (ltb (le 8 b (i + 56)) 2) (below 7 (256 ^ 2) b i)
 unfoldable pub isRequest : List ℕ → ℕ → Bool
 isRequest b i = both (ltb (le 8 b (i + 64)) 256) (areRegisters b i)
 
--- fourteen words are a drive: three of four bytes, two that fill theirs, three of two bytes, two of one, and the names, of which the host
--- bus has four bytes
+-- sixteen words are a drive: three of four bytes, two that fill theirs, three of two bytes, two of one, the names and paths, of which the host bus
+-- has four bytes and the others fill theirs, and among these the kind, of two
 unfoldable pub isSlot : List ℕ → ℕ → Bool
 isSlot b i =
-    both (ltb (le 8 b (i + 80)) (256 ^ 4)) (both (below 2 256 b (i + 64)) (both (below 3 (256 ^ 2) b (i + 40)) (below 3 (256 ^ 4) b i)))
+    both (ltb (le 8 b (i + 112)) (256 ^ 2))
+    (both (ltb (le 8 b (i + 80)) (256 ^ 4)) (both (below 2 256 b (i + 64)) (both (below 3 (256 ^ 2) b (i + 40)) (below 3 (256 ^ 4) b i))))
 
 -- ---- "The drive table", the slots of a block
 
@@ -49,7 +50,7 @@ drivesGood n b store = allBelow n (λ i. driveGood b store (slotAt i))
 
 -- of the first n slots, those past the count are zero
 unfoldable pub restZero : ℕ → ℕ → List ℕ → Bool
-restZero n count b = allBelow n (λ i. either (ltb i count) (below 14 1 b (slotAt i)))
+restZero n count b = allBelow n (λ i. either (ltb i count) (below 16 1 b (slotAt i)))
 
 -- where the drive of a slot begins in the store
 abbrev pub firstIn : List ℕ → ℕ → ℕ

@@ -21,6 +21,7 @@ ghost use lib.Seq.{sets};
 ghost use lib.Dec.{eqb};
 ghost use Rattle.logic.specs.Logic.{pick, both};
 ghost use Rattle.words.specs.Words.{part};
+ghost use Rattle.drive.specs.Drive.{driveLength};
 ghost use Rattle.attached.specs.Parameters.{givenLength};
 ghost use Rattle.attached.specs.Bad.{mostBad, listLength};
 ghost use Rattle.table.specs.Table.{mostDrives, attachedAt, attachedTo, badsAt, listedAt, listedTo, parametersTo, recordsOf, writeAnswer, writeOut};
@@ -39,10 +40,10 @@ const GUESTS: usize = memory::GUESTS;
 
 const MOST_DRIVES: usize = table::MOST_DRIVES;
 
-// Bytes of a row, of 23 words, and of a slot of the table, of 14; where the slots and the last words stand.
+// Bytes of a row, of 23 words, and of a slot of the table, of 16; where the slots and the last words stand.
 const ROW: usize = 8 * 23;
 
-const SLOT: usize = 8 * 14;
+const SLOT: usize = 8 * 16;
 
 const SLOTS: usize = ROW * GUESTS;
 
@@ -155,6 +156,8 @@ fn drive_at(b: &[u8], i: usize) -> Drive
         interface: words::load8(b, i + 88),
         path: words::load8(b, i + 96),
         device: words::load8(b, i + 104),
+        kind: words::get16(b, i + 112),
+        tail: words::load8(b, i + 120),
     }
 }
 
@@ -412,17 +415,25 @@ pub fn shown_of(b: &[u8], guest: usize, n: u8) -> Shown
 
 // ---- the block's table written back, slot by slot: no table is made of it
 
+// How long the record of a slot's drive is, by its kind.
+fn length_in(b: &[u8], i: usize) -> usize
+    requires { ⌜ (length (now b) ≡ deskSize) × (i < mostDrives) ⌝ }
+    ensures { λ r. ⌜ (r ≡ driveLength (readDrive (now (b .entry)) (slotAt i) .kind)) × (r ≤ 76) ⌝ }
+{
+    drive::length_of(words::get16(b, SLOTS + SLOT * i + 112)) as usize
+}
+
 // The length of the records of the first n slots. `write_table` asks for at most eight.
 fn records_length(b: &[u8], n: usize) -> usize
     requires { ⌜ (length (now b) ≡ deskSize) × (n ≤ mostDrives) ⌝ }
-    ensures { λ r. ⌜ (r ≡ length (recordsOf n (readDesk (now (b .entry)) .table))) × (r ≤ 222 * n) ⌝ }
+    ensures { λ r. ⌜ (r ≡ length (recordsOf n (readDesk (now (b .entry)) .table))) × (r ≤ 230 * n) ⌝ }
 {
     let mut total: usize = 0;
     let mut i = 0;
     while i < n {
         let present = mark_at(b, PRESENT + 8 * i);
         let more = table::attached_length(b[BAD_COUNTS + 8 * i], present);
-        total += drive::DRIVE_LENGTH as usize + more;
+        total += length_in(b, i) + more;
         i += 1;
     }
     total
@@ -499,7 +510,8 @@ fn is_slot(b: &[u8], i: usize) -> bool
 {
     let numbers = logic::and(below(b, i + 40, 3, 65536), below(b, i, 3, 4294967296));
     let bytes = logic::and(below(b, i + 64, 2, 256), numbers);
-    logic::and(words::get64(b, i + 80) < 4294967296, bytes)
+    let names = logic::and(words::get64(b, i + 80) < 4294967296, bytes);
+    logic::and(words::get64(b, i + 112) < 65536, names)
 }
 
 fn drive_good(b: &[u8], i: usize, store: u64) -> bool
@@ -530,7 +542,7 @@ fn rest_zero(b: &[u8], n: usize) -> bool
 {
     let mut i = n;
     while i < MOST_DRIVES {
-        if !below(b, SLOTS + SLOT * i, 14, 1) {
+        if !below(b, SLOTS + SLOT * i, 16, 1) {
             return false;
         }
         i += 1;
@@ -924,13 +936,14 @@ fn stage_words(s: Stage) -> [u64; 23]
     }
 }
 
-fn drive_words(d: Drive) -> [u64; 14]
+fn drive_words(d: Drive) -> [u64; 16]
     ensures { λ r. ⌜ r ≡ driveWords d ⌝ }
 {
     let bus = d.bus;
     let interface = d.interface;
     let path = d.path;
     let device = d.device;
+    let tail = d.tail;
     [
         d.cylinders as u64,
         d.heads as u64,
@@ -946,6 +959,8 @@ fn drive_words(d: Drive) -> [u64; 14]
         words::value8(interface),
         words::value8(path),
         words::value8(device),
+        d.kind as u64,
+        words::value8(tail),
     ]
 }
 

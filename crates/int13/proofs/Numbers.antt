@@ -168,7 +168,7 @@ result-numbers known d s r w =
     let asked = le 2 w (16 * r .ds + r .si) in
     through checked (not known) (refused 0x01 r)
     (through checked (ltb (length w) (16 * r .ds + r .si + 2)) (refused 0x01 r)
-    (through (λ (x : ResultAnswer). outcomeNumbers (resultGiven x r)) (both (leb 26 asked) (leb (returnedSize asked) (length (drop (16 * r .ds + r .si) w))))
+    (through (λ (x : ResultAnswer). outcomeNumbers (resultGiven x r)) (both (leb 26 asked) (leb (returnedSize d asked) (length (drop (16 * r .ds + r .si) w))))
     (finished r) (refused 0x01 r)))
 
 steps-numbers : (known : Bool) (count : ℕ) (d : Drive) (l : Bads) (s : Shown) (r : Registers) (w : List ℕ)

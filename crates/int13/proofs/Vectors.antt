@@ -1,5 +1,6 @@
 -- Calls by number: document 01's drive of 2048 blocks and C/H/S 2/16/63, each function's success and refusals, and cases with two
--- faults that show the order of the tests; then three drives that differ in everything, of them two with parameter tables, and all with bad blocks.
+-- faults that show the order of the tests; then three drives that differ in everything, of them two with parameter tables, two of
+-- kind 2, and all with bad blocks.
 -- Assumes nothing.
 use mathlib.Core.Path.{_≡_, refl, ap}
 use mathlib.Core.Bool.{Bool, true, false}
@@ -12,14 +13,14 @@ use Rattle.logic.specs.Logic.{pick}
 use Rattle.words.specs.Words.{le, leBytes, part}
 use Rattle.chs.specs.Chs.{inLimits, isValid, blockOf}
 use Rattle.drive.specs.declared.Drive.{Drive}
-use Rattle.drive.specs.Drive.{driveOf as driveRead, same, busOk, interfaceOk, geometryFits, fieldsOk, inStore, overlap}
+use Rattle.drive.specs.Drive.{driveOf as driveRead, same, busOk, interfaceOk, geometryFits, fieldsOk, inStore, overlap, isI2o, kindOk, zeroTail, tailOf}
 use Rattle.attached.specs.declared.Bads.{Bads}
 use Rattle.attached.specs.Bad.{badCount, badLengthOk, badsIn, heldOf, noBads, badAt, ascends, areBlocks, listOk, isBad, good}
 use Rattle.table.specs.declared.Table.{Table}
 use Rattle.table.specs.Table.{headerOf, headerAt, overlapsAny, refusal, parametersRefusal, badsRefusal, recordRefusal, withRecord, recordStep, endStep, stepOf, stepAt, zeroDrive, emptyTable, readFrom, readTable, parametersTo}
 use Rattle.layout.specs.Packet.{packetAt, readPacket}
 use Rattle.layout.specs.ParameterTable.{placedBytes, parameterTable}
-use Rattle.layout.specs.ResultBuffer.{returnedSize, parameterBytes, blockBytes, interfaceBytes, pathBytes, sum, wholeResult, resultBytes, resultAnswer}
+use Rattle.layout.specs.ResultBuffer.{returnedSize, parameterBytes, blockBytes, interfaceBytes, pathBytes, sum, wholeResult, resultBytes, resultAnswer, padded, wideInterfaceBytes, widePathBytes, summedBytes}
 use Rattle.memory.specs.Blocks.{blocks}
 use Rattle.int13.specs.declared.Registers.{Registers}
 use Rattle.int13.specs.declared.Job.{Job}
@@ -55,6 +56,8 @@ drive first flags protection = record {
   interface = 65 ∷ 84 ∷ 65 ∷ 0 ∷ 0 ∷ 0 ∷ 0 ∷ 0 ∷ [];
   path = 0 ∷ 31 ∷ 1 ∷ 0 ∷ 0 ∷ 0 ∷ 0 ∷ 0 ∷ [];
   device = replicate 8 0;
+  kind = 1;
+  tail = replicate 8 0;
 }
 
 -- so many of eight drives, none with parameters or bad blocks
@@ -108,6 +111,8 @@ largest =
       interface = replicate 8 0;
       path = replicate 8 0;
       device = replicate 8 0;
+      kind = 1;
+      tail = replicate 8 0;
     })
 
 -- the 72 bytes of document 01's table
@@ -116,7 +121,7 @@ bytes = 68 ∷ 0 ∷ 1 ∷ 0 ∷ 2 ∷ 0 ∷ 0 ∷ 0 ∷ 16 ∷ 0 ∷ 0 ∷ 0 �
 
 -- they are read as the drive above
 pub worked-table : readTable bytes 4294967296 .table ≡ plain
-unfolding le leBytes inLimits driveRead same busOk interfaceOk geometryFits fieldsOk inStore overlap headerOf headerAt overlapsAny refusal recordRefusal withRecord recordStep endStep stepOf stepAt readFrom readTable
+unfolding le leBytes inLimits driveRead same busOk interfaceOk geometryFits fieldsOk inStore overlap headerOf headerAt overlapsAny refusal recordRefusal withRecord recordStep endStep stepOf stepAt readFrom readTable isI2o zeroTail kindOk tailOf
 worked-table = refl
 
 -- ---- calls
@@ -565,7 +570,7 @@ pub record Vectors : Type 0 where
       ∷ [])
 
 pub vectors : Vectors
-unfolding le leBytes inLimits isValid blockOf readPacket packetAt returnedSize parameterBytes blockBytes interfaceBytes pathBytes sum wholeResult resultBytes resultAnswer heldOf isBad good isDrive badsOf shownOf verifyOk verified packetTests packetPlan seek sectors parameters extensions result steps begin outcomeNumbers sectorsGiven parametersGiven checkGiven packetTestsGiven packetNumbersAt extendedGiven seekGiven bufferGiven stepsGiven beginGiven
+unfolding le leBytes inLimits isValid blockOf readPacket packetAt returnedSize parameterBytes blockBytes interfaceBytes pathBytes sum wholeResult resultBytes resultAnswer heldOf isBad good isDrive badsOf shownOf verifyOk verified packetTests packetPlan seek sectors parameters extensions result steps begin outcomeNumbers sectorsGiven parametersGiven checkGiven packetTestsGiven packetNumbersAt extendedGiven seekGiven bufferGiven stepsGiven beginGiven isI2o same padded wideInterfaceBytes widePathBytes summedBytes
 vectors =
     record {
       registers-sectors = refl;
@@ -613,6 +618,8 @@ drive80 = record {
   interface = 65 ∷ 84 ∷ 65 ∷ 0 ∷ 0 ∷ 0 ∷ 0 ∷ 0 ∷ [];
   path = 0 ∷ 31 ∷ 1 ∷ 0 ∷ 0 ∷ 0 ∷ 0 ∷ 0 ∷ [];
   device = replicate 8 0;
+  kind = 1;
+  tail = replicate 8 0;
 }
 
 -- 81h: 1800 of 3000 blocks from store block 6000; information flag bits 3 to 6
@@ -632,6 +639,8 @@ drive81 = record {
   interface = 83 ∷ 67 ∷ 83 ∷ 73 ∷ 0 ∷ 0 ∷ 0 ∷ 0 ∷ [];
   path = 1 ∷ 2 ∷ 3 ∷ 4 ∷ 5 ∷ 6 ∷ 7 ∷ 8 ∷ [];
   device = 9 ∷ 10 ∷ 11 ∷ 12 ∷ 13 ∷ 14 ∷ 15 ∷ 16 ∷ [];
+  kind = 1;
+  tail = replicate 8 0;
 }
 
 -- 82h: 40 of 41 blocks from store block 9001, protected; information flag bits 2 and 4 to 6, which all show
@@ -651,6 +660,8 @@ drive82 = record {
   interface = 85 ∷ 83 ∷ 66 ∷ 0 ∷ 0 ∷ 0 ∷ 0 ∷ 0 ∷ [];
   path = 21 ∷ 22 ∷ 23 ∷ 24 ∷ 25 ∷ 26 ∷ 27 ∷ 28 ∷ [];
   device = replicate 8 33;
+  kind = 1;
+  tail = replicate 8 0;
 }
 
 abbrev apart : Table
@@ -774,7 +785,7 @@ pub record Apart : Type 0 where
       ≡ 2 ∷ 37 ∷ 7551 ∷ 1 ∷ 57 ∷ 9041 ∷ 9005 ∷ []
 
 pub apart-vectors : Apart
-unfolding le leBytes inLimits isValid blockOf readPacket packetAt returnedSize parameterBytes blockBytes interfaceBytes pathBytes sum wholeResult resultBytes resultAnswer heldOf isBad good isDrive badsOf shownOf verifyOk verified packetTests packetPlan seek sectors parameters extensions result steps begin outcomeNumbers sectorsGiven parametersGiven checkGiven packetTestsGiven packetNumbersAt extendedGiven seekGiven bufferGiven stepsGiven beginGiven
+unfolding le leBytes inLimits isValid blockOf readPacket packetAt returnedSize parameterBytes blockBytes interfaceBytes pathBytes sum wholeResult resultBytes resultAnswer heldOf isBad good isDrive badsOf shownOf verifyOk verified packetTests packetPlan seek sectors parameters extensions result steps begin outcomeNumbers sectorsGiven parametersGiven checkGiven packetTestsGiven packetNumbersAt extendedGiven seekGiven bufferGiven stepsGiven beginGiven isI2o same padded wideInterfaceBytes widePathBytes summedBytes
 apart-vectors =
     record {
       drive-places = refl;
@@ -894,7 +905,7 @@ pub record Tabled : Type 0 where
       ∷ [])
 
 pub tabled-vectors : Tabled
-unfolding le leBytes placedBytes parameterTable parametersTo tablesTo returnedSize parameterBytes blockBytes interfaceBytes pathBytes sum wholeResult resultBytes resultAnswer isDrive shownOf extensions result steps begin outcomeNumbers checkGiven bufferGiven stepsGiven beginGiven
+unfolding le leBytes placedBytes parameterTable parametersTo tablesTo returnedSize parameterBytes blockBytes interfaceBytes pathBytes sum wholeResult resultBytes resultAnswer isDrive shownOf extensions result steps begin outcomeNumbers checkGiven bufferGiven stepsGiven beginGiven isI2o same padded wideInterfaceBytes widePathBytes summedBytes
 tabled-vectors =
     record {
       tables = refl;
@@ -906,6 +917,115 @@ tabled-vectors =
       support-given = refl;
       pointers = refl;
     }
+
+-- ---- three drives, of which 80h is of kind 1, and 81h and 82h are of kind 2 (document 02, 2026-06)
+
+-- 81h, but of kind 2: its device path goes on with 201 to 208
+abbrev wide81 : Drive
+wide81 = record {
+  cylinders = 301;
+  heads = 9;
+  sectors = 13;
+  blocks = 3000;
+  first = 6000;
+  flags = 0x78;
+  c = 300;
+  h = 3;
+  s = 2;
+  protection = 0;
+  bus = 73 ∷ 83 ∷ 65 ∷ 0 ∷ [];
+  interface = 83 ∷ 67 ∷ 83 ∷ 73 ∷ 0 ∷ 0 ∷ 0 ∷ 0 ∷ [];
+  path = 1 ∷ 2 ∷ 3 ∷ 4 ∷ 5 ∷ 6 ∷ 7 ∷ 8 ∷ [];
+  device = 9 ∷ 10 ∷ 11 ∷ 12 ∷ 13 ∷ 14 ∷ 15 ∷ 16 ∷ [];
+  kind = 2;
+  tail = 201 ∷ 202 ∷ 203 ∷ 204 ∷ 205 ∷ 206 ∷ 207 ∷ 208 ∷ [];
+}
+
+-- 82h, but of kind 2 and of type I2O: its device path is 41 to 48 and 51 to 58
+abbrev wide82 : Drive
+wide82 = record {
+  cylinders = 1031;
+  heads = 10;
+  sectors = 14;
+  blocks = 41;
+  first = 9001;
+  flags = 0x74;
+  c = 2;
+  h = 4;
+  s = 5;
+  protection = 1;
+  bus = 80 ∷ 67 ∷ 73 ∷ 0 ∷ [];
+  interface = 73 ∷ 50 ∷ 79 ∷ 0 ∷ 0 ∷ 0 ∷ 0 ∷ 0 ∷ [];
+  path = 21 ∷ 22 ∷ 23 ∷ 24 ∷ 25 ∷ 26 ∷ 27 ∷ 28 ∷ [];
+  device = 41 ∷ 42 ∷ 43 ∷ 44 ∷ 45 ∷ 46 ∷ 47 ∷ 48 ∷ [];
+  kind = 2;
+  tail = 51 ∷ 52 ∷ 53 ∷ 54 ∷ 55 ∷ 56 ∷ 57 ∷ 58 ∷ [];
+}
+
+-- 80h and 82h have parameters
+abbrev wide : Table
+wide = record {
+  drives = drive80 ∷ wide81 ∷ wide82 ∷ replicate 5 zeroDrive;
+  count = 3;
+  present = tabled .present;
+  parameters = tabled .parameters;
+  counts = apart .counts;
+  bad = apart .bad;
+}
+
+-- 48h of a drive, placed, for a result of n bytes with room for m, which must be l and the bytes behind it as they were
+abbrev wide19 : ℕ → ℕ → ℕ → List ℕ → Case
+wide19 dx n m l = both-ways (by here wide (own 0x4877 5 0x0242 dx) (placed (leBytes 2 n) (m - 2))) (0 ∷ kept19 0x0077 5 0x0242 dx 0) (placed l (m - length l))
+
+-- the same, refused: nothing is written
+abbrev narrow19 : ℕ → ℕ → ℕ → Case
+narrow19 dx n m = both-ways (by here wide (own 0x4877 5 0x0242 dx) (placed (leBytes 2 n) (m - 2))) (0 ∷ kept19 0x0177 5 0x0242 dx 1) (placed (leBytes 2 n) (m - 2))
+
+-- 81h's 66 bytes: names padded with NUL, eight bytes of device path
+abbrev result81 : List ℕ
+result81 = front81 66 ++ (0xFF ∷ 0xFF ∷ 0xFF ∷ 0xFF ∷ 0xDD ∷ 0xBE ∷ 36 ∷ 0 ∷ 0 ∷ 0 ∷ 73 ∷ 83 ∷ 65 ∷ 0 ∷ 83 ∷ 67 ∷ 83 ∷ 73 ∷ 0 ∷ 0 ∷ 0 ∷ 0 ∷ 1 ∷ 2 ∷ 3 ∷ 4 ∷ 5 ∷ 6 ∷ 7 ∷ 8 ∷ 9 ∷ 10 ∷ 11 ∷ 12 ∷ 13 ∷ 14 ∷ 15 ∷ 16 ∷ 0 ∷ 0xAA ∷ [])
+
+-- and its 74
+abbrev wide-result81 : List ℕ
+wide-result81 = front81 74 ++ (0xFF ∷ 0xFF ∷ 0xFF ∷ 0xFF ∷ 0xDD ∷ 0xBE ∷ 44 ∷ 0 ∷ 0 ∷ 0 ∷ 73 ∷ 83 ∷ 65 ∷ 32 ∷ 83 ∷ 67 ∷ 83 ∷ 73 ∷ 32 ∷ 32 ∷ 32 ∷ 32 ∷ 1 ∷ 2 ∷ 3 ∷ 4 ∷ 5 ∷ 6 ∷ 7 ∷ 8 ∷ 9 ∷ 10 ∷ 11 ∷ 12 ∷ 13 ∷ 14 ∷ 15 ∷ 16 ∷ 0xC9 ∷ 0xCA ∷ 0xCB ∷ 0xCC ∷ 0xCD ∷ 0xCE ∷ 0xCF ∷ 0xD0 ∷ 0 ∷ 0x9E ∷ [])
+
+-- 82h's 30: the pointer is that of its table
+abbrev result82 : List ℕ
+result82 = front82 30 ++ (0 ∷ 0 ∷ 0xB5 ∷ 0x07 ∷ [])
+
+pub record Wide : Type 0 where
+  -- 48h
+  --   81h, 66 and 73 bytes: 66
+  --   81h, 74 bytes: names padded with 20h, sixteen bytes of device path
+  --   80h, of kind 1, 74 bytes: the device path goes on with zeros
+  --   81h, 300 bytes: 74
+  --   81h, 74 bytes with room for 73: 01h
+  pub results : Hold
+      ((wide19 0x0181 66 66 result81)
+      ∷ (wide19 0x0181 73 73 result81)
+      ∷ (wide19 0x0181 74 74 wide-result81)
+      ∷ (wide19 0x0180 74 74 (front80 74 ++ (0 ∷ 0 ∷ 0xB4 ∷ 0x07 ∷ 0xDD ∷ 0xBE ∷ 44 ∷ 0 ∷ 0 ∷ 0 ∷ 80 ∷ 67 ∷ 73 ∷ 32 ∷ 65 ∷ 84 ∷ 65 ∷ 32 ∷ 32 ∷ 32 ∷ 32 ∷ 32 ∷ 0 ∷ 31 ∷ 1 ∷ 0 ∷ 0 ∷ 0 ∷ 0 ∷ 0 ∷ 0 ∷ 0 ∷ 0 ∷ 0 ∷ 0 ∷ 0 ∷ 0 ∷ 0 ∷ 0 ∷ 0 ∷ 0 ∷ 0 ∷ 0 ∷ 0 ∷ 0 ∷ 0 ∷ 0 ∷ 0xA7 ∷ [])))
+      ∷ (wide19 0x0181 300 300 wide-result81)
+      ∷ (narrow19 0x0181 74 73)
+      ∷ [])
+  -- 48h of a drive of type I2O
+  --   66 and 73 bytes: 30, and the bytes behind them stay
+  --   66 bytes with room for 30: 30
+  --   66 bytes with room for 29: 01h
+  --   74 bytes: 74
+  --   74 bytes with room for 73: 01h
+  pub results-I2O : Hold
+      ((wide19 0x0182 66 66 result82)
+      ∷ (wide19 0x0182 73 73 result82)
+      ∷ (wide19 0x0182 66 30 result82)
+      ∷ (narrow19 0x0182 66 29)
+      ∷ (wide19 0x0182 74 74 (front82 74 ++ (0 ∷ 0 ∷ 0xB5 ∷ 0x07 ∷ 0xDD ∷ 0xBE ∷ 44 ∷ 0 ∷ 0 ∷ 0 ∷ 80 ∷ 67 ∷ 73 ∷ 32 ∷ 73 ∷ 50 ∷ 79 ∷ 32 ∷ 32 ∷ 32 ∷ 32 ∷ 32 ∷ 21 ∷ 22 ∷ 23 ∷ 24 ∷ 25 ∷ 26 ∷ 27 ∷ 28 ∷ 41 ∷ 42 ∷ 43 ∷ 44 ∷ 45 ∷ 46 ∷ 47 ∷ 48 ∷ 51 ∷ 52 ∷ 53 ∷ 54 ∷ 55 ∷ 56 ∷ 57 ∷ 58 ∷ 0 ∷ 0xF7 ∷ [])))
+      ∷ (narrow19 0x0182 74 73)
+      ∷ [])
+
+pub wide-vectors : Wide
+unfolding le leBytes placedBytes parameterTable parametersTo tablesTo returnedSize parameterBytes blockBytes interfaceBytes pathBytes sum wholeResult resultBytes resultAnswer isDrive shownOf extensions result steps begin outcomeNumbers checkGiven bufferGiven stepsGiven beginGiven isI2o same padded wideInterfaceBytes widePathBytes summedBytes
+wide-vectors = record { results = refl; results-I2O = refl }
 
 -- ---- the three drives with bad blocks, each with its own (document 02, 2026-04)
 
@@ -1098,11 +1218,11 @@ module _ (window store : List ℕ) (lw : length window ≡ 1061) where
       ∷ leaving 0x0002 false window (blocks store 1024 window 37 2)
       ∷ leaving 0x0177 true (placed (packet 16 0 9 3 1) 0) store
       ∷ []
-  unfolding alone moves reported ended le leBytes inLimits isValid blockOf driveRead same busOk interfaceOk geometryFits fieldsOk inStore overlap headerOf headerAt overlapsAny refusal recordRefusal withRecord recordStep endStep stepOf stepAt readFrom readTable readPacket packetAt heldOf isBad good isDrive badsOf shownOf verified packetTests packetPlan sectors steps begin
+  unfolding alone moves reported ended le leBytes inLimits isValid blockOf driveRead same busOk interfaceOk geometryFits fieldsOk inStore overlap headerOf headerAt overlapsAny refusal recordRefusal withRecord recordStep endStep stepOf stepAt readFrom readTable readPacket packetAt heldOf isBad good isDrive badsOf shownOf verified packetTests packetPlan sectors steps begin isI2o zeroTail kindOk tailOf
   served-alone ls = rw (lw, ls)
 
   pub served-short : length store ≡ 2047 → served 0x0202 window store ≡ leaving 0x0100 true window store
-  unfolding alone moves reported ended le leBytes inLimits isValid blockOf driveRead same busOk interfaceOk geometryFits fieldsOk inStore overlap headerOf headerAt overlapsAny refusal recordRefusal withRecord recordStep endStep stepOf stepAt readFrom readTable heldOf isBad good isDrive badsOf shownOf sectors steps begin
+  unfolding alone moves reported ended le leBytes inLimits isValid blockOf driveRead same busOk interfaceOk geometryFits fieldsOk inStore overlap headerOf headerAt overlapsAny refusal recordRefusal withRecord recordStep endStep stepOf stepAt readFrom readTable heldOf isBad good isDrive badsOf shownOf sectors steps begin isI2o zeroTail kindOk tailOf
   served-short ls = rw (lw, ls)
 
 -- 41h, with the table's bytes and the placement; it changes neither window nor store
@@ -1119,7 +1239,7 @@ module _ (window store : List ℕ) where
   -- the drive with a record of parameters, with placement and without it; and without the record
   pub served-placed : length store ≡ 2048 → served41 smallTabled here ∷ served41 smallTabled noPlacement ∷ served41 small here ∷ []
       ≡ leaving41 0x0005 ∷ leaving41 0x0001 ∷ leaving41 0x0001 ∷ []
-  unfolding alone le leBytes inLimits driveRead same busOk interfaceOk geometryFits fieldsOk inStore overlap headerOf headerAt overlapsAny refusal parametersRefusal recordRefusal withRecord recordStep endStep stepOf stepAt readFrom readTable isDrive shownOf extensions steps begin
+  unfolding alone le leBytes inLimits driveRead same busOk interfaceOk geometryFits fieldsOk inStore overlap headerOf headerAt overlapsAny refusal parametersRefusal recordRefusal withRecord recordStep endStep stepOf stepAt readFrom readTable isDrive shownOf extensions steps begin isI2o zeroTail kindOk tailOf
   served-placed ls = rw ls
 
 -- ---- served alone at bad blocks: a drive of 9 blocks from store block 1, with C, H and S 1, 1 and 9, of which 5 and 7 are bad
@@ -1147,13 +1267,13 @@ pub worn-sectors : (window store : List ℕ) → length window ≡ 2085 → leng
     ∷ ending 0xCC02 true window (blocks store 2048 window 37 2)
     ∷ ending 0x0002 false (blocks window 37 store 2048 2) store
     ∷ []
-unfolding alone moves reported ended le leBytes inLimits isValid blockOf driveRead same busOk interfaceOk geometryFits fieldsOk inStore overlap badCount badLengthOk badsIn heldOf ascends areBlocks listOk headerOf headerAt overlapsAny refusal badsRefusal recordRefusal withRecord recordStep endStep stepOf stepAt readFrom readTable isBad good isDrive badsOf shownOf sectors steps begin
+unfolding alone moves reported ended le leBytes inLimits isValid blockOf driveRead same busOk interfaceOk geometryFits fieldsOk inStore overlap badCount badLengthOk badsIn heldOf ascends areBlocks listOk headerOf headerAt overlapsAny refusal badsRefusal recordRefusal withRecord recordStep endStep stepOf stepAt readFrom readTable isBad good isDrive badsOf shownOf sectors steps begin isI2o zeroTail kindOk tailOf
 worn-sectors window store lw ls = rw (lw, ls)
 
 -- 44h of four blocks from 3 moves none, and the count word is 2
 pub worn-reported : (store : List ℕ) → length store ≡ 5120
     → wears 0x4477 (placed (packet 16 4 9 3 3) 0) store ≡ ending 0x1077 true (placed (packet 16 2 9 3 3) 0) store
-unfolding alone le leBytes inLimits driveRead same busOk interfaceOk geometryFits fieldsOk inStore overlap badCount badLengthOk badsIn heldOf ascends areBlocks listOk headerOf headerAt overlapsAny refusal badsRefusal recordRefusal withRecord recordStep endStep stepOf stepAt readFrom readTable readPacket packetAt isBad good isDrive badsOf shownOf verified packetTests packetPlan steps begin
+unfolding alone le leBytes inLimits driveRead same busOk interfaceOk geometryFits fieldsOk inStore overlap badCount badLengthOk badsIn heldOf ascends areBlocks listOk headerOf headerAt overlapsAny refusal badsRefusal recordRefusal withRecord recordStep endStep stepOf stepAt readFrom readTable readPacket packetAt isBad good isDrive badsOf shownOf verified packetTests packetPlan steps begin isI2o zeroTail kindOk tailOf
 worn-reported store ls =
     let m : Memory = record { window = placed (packet 16 4 9 3 3) 0; store = store } in
     ap (λ (n : ℕ). servedBy (fed (readTable smallWorn (n / 512) .table) noPlacement) (own 0x4477 5 4 0x80) m) ls
@@ -1168,7 +1288,7 @@ module _ (rest store : List ℕ) (lr : length rest ≡ 2070) (ls : length store 
       ≡ ending 0x1077 true (sets (blocks (asking 9 3 4 3) 57 store 2048 2) 21 (2 ∷ 0 ∷ [])) store
       ∷ ending 0xCC01 true (asking 9 3 2 3) (blocks store 2048 (asking 9 3 4 3) 57 2)
       ∷ []
-  unfolding alone moves reported ended le leBytes inLimits isValid blockOf driveRead same busOk interfaceOk geometryFits fieldsOk inStore overlap badCount badLengthOk badsIn heldOf ascends areBlocks listOk headerOf headerAt overlapsAny refusal badsRefusal recordRefusal withRecord recordStep endStep stepOf stepAt readFrom readTable readPacket packetAt isBad good isDrive badsOf shownOf verifyOk verified packetTests packetPlan steps begin
+  unfolding alone moves reported ended le leBytes inLimits isValid blockOf driveRead same busOk interfaceOk geometryFits fieldsOk inStore overlap badCount badLengthOk badsIn heldOf ascends areBlocks listOk headerOf headerAt overlapsAny refusal badsRefusal recordRefusal withRecord recordStep endStep stepOf stepAt readFrom readTable readPacket packetAt isBad good isDrive badsOf shownOf verifyOk verified packetTests packetPlan steps begin isI2o zeroTail kindOk tailOf
   worn-packets = rw (lr, ls)
 
   -- 42h to place 9, over its packet: the count word lies on the data. 42h of block 8 succeeds, and the packet stays, or is the data that covers it
@@ -1177,11 +1297,11 @@ module _ (rest store : List ℕ) (lr : length rest ≡ 2070) (ls : length store 
       ∷ ending 0x0077 false (blocks (asking 9 3 1 8) 57 store 4608 1) store
       ∷ ending 0x0077 false (blocks (asking 9 0 1 8) 9 store 4608 1) store
       ∷ []
-  unfolding alone moves reported ended le leBytes inLimits isValid blockOf driveRead same busOk interfaceOk geometryFits fieldsOk inStore overlap badCount badLengthOk badsIn heldOf ascends areBlocks listOk headerOf headerAt overlapsAny refusal badsRefusal recordRefusal withRecord recordStep endStep stepOf stepAt readFrom readTable readPacket packetAt isBad good isDrive badsOf shownOf verifyOk verified packetTests packetPlan steps begin
+  unfolding alone moves reported ended le leBytes inLimits isValid blockOf driveRead same busOk interfaceOk geometryFits fieldsOk inStore overlap badCount badLengthOk badsIn heldOf ascends areBlocks listOk headerOf headerAt overlapsAny refusal badsRefusal recordRefusal withRecord recordStep endStep stepOf stepAt readFrom readTable readPacket packetAt isBad good isDrive badsOf shownOf verifyOk verified packetTests packetPlan steps begin isI2o zeroTail kindOk tailOf
   worn-covered = rw (lr, ls)
 
   -- a bad block first, 5 of two: none moves, and the count word is 0
   pub worn-first : wears 0x4277 (asking 9 3 2 5) store ∷ wears 0x4301 (asking 9 3 2 5) store ∷ []
       ≡ ending 0x1077 true (asking 9 3 0 5) store ∷ ending 0xCC01 true (asking 9 3 0 5) store ∷ []
-  unfolding blocks alone moves reported ended le leBytes inLimits isValid blockOf driveRead same busOk interfaceOk geometryFits fieldsOk inStore overlap badCount badLengthOk badsIn heldOf ascends areBlocks listOk headerOf headerAt overlapsAny refusal badsRefusal recordRefusal withRecord recordStep endStep stepOf stepAt readFrom readTable readPacket packetAt isBad good isDrive badsOf shownOf verifyOk verified packetTests packetPlan steps begin
+  unfolding blocks alone moves reported ended le leBytes inLimits isValid blockOf driveRead same busOk interfaceOk geometryFits fieldsOk inStore overlap badCount badLengthOk badsIn heldOf ascends areBlocks listOk headerOf headerAt overlapsAny refusal badsRefusal recordRefusal withRecord recordStep endStep stepOf stepAt readFrom readTable readPacket packetAt isBad good isDrive badsOf shownOf verifyOk verified packetTests packetPlan steps begin isI2o zeroTail kindOk tailOf
   worn-first = rw (lr, ls)

@@ -122,7 +122,7 @@ unfoldable pub bufferGiven : Bool → Drive → Registers → List ℕ → List 
 bufferGiven known d r w =
     pick (not known) (refusedNumbers 0x01 r)
     (pick (ltb (length w) (16 * r .ds + r .si + 2)) (refusedNumbers 0x01 r)
-    (pick (both (leb 26 (le 2 w (16 * r .ds + r .si))) (leb (returnedSize (le 2 w (16 * r .ds + r .si))) (length (drop (16 * r .ds + r .si) w))))
+    (pick (both (leb 26 (le 2 w (16 * r .ds + r .si))) (leb (returnedSize d (le 2 w (16 * r .ds + r .si))) (length (drop (16 * r .ds + r .si) w))))
     (doneNumbers r) (refusedNumbers 0x01 r)))
 
 -- ---- "Steps of each function", every function by AH

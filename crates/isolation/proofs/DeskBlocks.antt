@@ -282,7 +282,7 @@ held-accepted d e f =
     arrays i s h =
         let l = leb-true (d .table .count) 8 (both-true (leb (d .table .count) 8) _ s .0) in
         let x = f .table .each i (omega arith) in
-        record { bus = x .numbers .bus; interface = x .numbers .interface; path = x .numbers .path; device = x .numbers .device }
+        record { bus = x .numbers .bus; interface = x .numbers .interface; path = x .numbers .path; device = x .numbers .device; tail = x .numbers .tail }
 
     stages : Facts d → (g : ℕ) → stageOk (d .table) (windowSize d) (stageAt d g) ≡ true
     stages k g =

@@ -23,7 +23,7 @@ use Rattle.isolation.proofs.ExamplePlaced.{extends, points, ahead, p₀
 
 bytes-table : Bytes tableBytes
 unfolding le leBytes
-bytes-table = bytes-leBytes 180 (le 180 tableBytes 0)
+bytes-table = bytes-leBytes 188 (le 188 tableBytes 0)
 
 abbrev zeros : List ℕ
 zeros = replicate deskSize 0

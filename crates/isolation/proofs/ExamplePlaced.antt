@@ -15,6 +15,7 @@ use Rattle.words.proofs.WordsLaws.{le-ext}
 use Rattle.chs.specs.Chs.{inLimits, isValid, blockOf}
 use Rattle.attached.specs.Bad.{heldOf, isBad, good}
 use Rattle.layout.specs.declared.Pointer.{Pointer}
+use Rattle.drive.specs.Drive.{isI2o, same}
 use Rattle.layout.specs.ResultBuffer.{returnedSize, resultAnswer, resultOut}
 use Rattle.memory.specs.Window.{windowOf, withWindow}
 use Rattle.memory.proofs.WindowLaws.{length-window, length-with-window, window-with-same, window-with-other}
@@ -69,7 +70,7 @@ unfolding begin steps extensions isDrive shownOf
 check-extends w = refl
 
 check-points : (w : List ℕ) → length w ≡ M → le 2 w 24 ≡ 30 → begin (fed table (placedAt 8928)) points w ≡ record { outcome = Answered (succeed points); window = shown w }
-unfolding begin steps result isDrive shownOf parametersTo resultAnswer returnedSize
+unfolding begin steps result isDrive shownOf parametersTo resultAnswer returnedSize isI2o same
 check-points w l e = rw (e, length-drop 24 w, l)
 
 -- ---- the lines

@@ -16,7 +16,7 @@ use Rattle.words.specs.Words.{le, leBytes, part}
 use Rattle.words.proofs.WordsLaws.{length-leBytes}
 use Rattle.chs.specs.Chs.{inLimits, isValid, blockOf}
 use Rattle.drive.specs.declared.Drive.{Drive}
-use Rattle.drive.specs.Drive.{driveOf, same, busOk, interfaceOk, geometryFits, fieldsOk, inStore, overlap}
+use Rattle.drive.specs.Drive.{driveOf, same, busOk, interfaceOk, geometryFits, fieldsOk, inStore, overlap, isI2o, kindOk, tailOf, zeroTail}
 use Rattle.attached.specs.Bad.{badCount, badLengthOk, badsIn, heldOf, ascends, areBlocks, listOk, isBad, good}
 use Rattle.table.specs.declared.Table.{Table}
 use Rattle.table.specs.Table.{zeroDrive, headerOf, headerAt, overlapsAny, refusal, badsRefusal, recordRefusal, withRecord, recordStep, endStep, stepOf, stepAt, readFrom, readTable}
@@ -88,6 +88,8 @@ worn =
       interface = 83 ∷ 67 ∷ 83 ∷ 73 ∷ 0 ∷ 0 ∷ 0 ∷ 0 ∷ [];
       path = 21 ∷ 22 ∷ 23 ∷ 24 ∷ 25 ∷ 26 ∷ 27 ∷ 28 ∷ [];
       device = 31 ∷ 32 ∷ 33 ∷ 34 ∷ 35 ∷ 36 ∷ 37 ∷ 38 ∷ [];
+      kind = 1;
+      tail = replicate 8 0;
     }
 
 abbrev pub table : Table
@@ -105,7 +107,7 @@ abbrev pub d₀ : Desk
 d₀ = opened table arenaLength storeLength
 
 pub opening : openOf tableBytes arenaLength storeLength ≡ record { desk = d₀; answer = Opened }
-unfolding openOf le leBytes inLimits driveOf same busOk interfaceOk geometryFits fieldsOk inStore overlap badCount badLengthOk badsIn heldOf ascends areBlocks listOk headerOf headerAt overlapsAny refusal badsRefusal recordRefusal withRecord recordStep endStep stepOf stepAt readFrom readTable
+unfolding openOf le leBytes inLimits driveOf same busOk interfaceOk geometryFits fieldsOk inStore overlap badCount badLengthOk badsIn heldOf ascends areBlocks listOk headerOf headerAt overlapsAny refusal badsRefusal recordRefusal withRecord recordStep endStep stepOf stepAt readFrom readTable tailOf isI2o zeroTail kindOk
 opening = refl
 
 pub inv₀ : Inv d₀

@@ -12,10 +12,10 @@ use lib.Dec.{leb, ltb, eqb}
 use borrow.Author.Tests.{leb-true, ltb-true, eqb-true}
 use Rattle.logic.specs.Logic.{pick}
 use Rattle.logic.proofs.LogicLaws.{both-true, pick-cases, impossible}
-use Rattle.words.specs.Words.{Bytes, part}
+use Rattle.words.specs.Words.{Bytes, le, part}
 use Rattle.words.proofs.WordsLaws.{bytes-part}
 use Rattle.drive.specs.declared.Drive.{Drive}
-use Rattle.drive.specs.Drive.{driveOf}
+use Rattle.drive.specs.Drive.{driveOf, tailOf, driveLength}
 use Rattle.drive.proofs.DriveLaws.{fits-drive}
 use Rattle.attached.specs.declared.Bads.{Bads}
 use Rattle.attached.specs.Parameters.{numberIn, parametersIn}
@@ -24,7 +24,7 @@ use Rattle.attached.proofs.BadLaws.{badLengthOk-true, badLengthOk-most, bads-st
 use Rattle.table.specs.declared.Table.{Table}
 use Rattle.table.specs.declared.Stepped.{Stepped}
 use Rattle.table.specs.Table.{noDrive, zeroDrive, emptyTable, more, withParameters, withBads, goOn, readFrom, mostRecords, readTable, drivesOf}
-use Rattle.table.proofs.TableLaws.{stepAt-cases, whole-at, length-whole, lengthOk-bad, refusal-room}
+use Rattle.table.proofs.TableLaws.{stepAt-cases, drive-bytes, whole-at, length-whole, lengthOk-bad, refusal-room}
 use Rattle.memory.specs.Window.{guests}
 use Rattle.memory.specs.Blocks.{blockLength}
 use Rattle.int13.specs.declared.Registers.{Registers}
@@ -57,8 +57,13 @@ use Rattle.isolation.proofs.Keep.{stage-same, stage-other, inv-did}
 
 -- ---- the drives that are read
 
-fits-record : (r : List ℕ) → Bytes r → length r ≡ 68 → FitsDrive (driveOf r)
-unfolding driveOf
+zeros : (n : ℕ) → Bytes (replicate n 0)
+zeros zero i = omega arith
+zeros (suc n) zero = omega arith
+zeros (suc n) (suc i) = zeros n i
+
+fits-record : (r : List ℕ) → Bytes r → length r ≡ driveLength (le 2 r 2) → FitsDrive (driveOf r)
+unfolding driveOf tailOf
 fits-record r b l =
     record {
       numbers = fits-drive r b l;
@@ -68,6 +73,7 @@ fits-record r b l =
       interface = bytes-part 8 r 44 b;
       path = bytes-part 8 r 52 b;
       device = bytes-part 8 r 60 b;
+      tail = pick-cases Bytes (eqb (le 2 r 2) 2) (part 8 r 68) (replicate 8 0) (λ e. bytes-part 8 r 68 b) (λ e. zeros 8);
     }
 
 -- a number below n set among such numbers, and bytes set among bytes
@@ -81,11 +87,6 @@ below-set n (y ∷ l) (suc g) x f h (suc i) = below-set n l g x (λ j. f (suc j)
 bytes-sets : (p l : List ℕ) (g : ℕ) → Bytes l → Bytes p → Bytes (sets l g p)
 bytes-sets [] l g y z = y
 bytes-sets (x ∷ p) l g y z = bytes-sets p (set l g x) (suc g) (below-set 256 l g x y (z zero)) (λ i. z (suc i))
-
-zeros : (n : ℕ) → Bytes (replicate n 0)
-zeros zero i = omega arith
-zeros (suc n) zero = omega arith
-zeros (suc n) (suc i) = zeros n i
 
 fits-zero : FitsDrive zeroDrive
 fits-zero =
@@ -103,6 +104,8 @@ fits-zero =
         interface = refl;
         path = refl;
         device = refl;
+        kind = omega arith;
+        tail = refl;
       };
       s = omega arith;
       protection = omega arith;
@@ -110,6 +113,7 @@ fits-zero =
       interface = zeros 8;
       path = zeros 8;
       device = zeros 8;
+      tail = zeros 8;
     }
 
 -- ---- the table
@@ -196,11 +200,9 @@ fits-from (suc k) t store at b y f =
     stepAt-cases (λ (x : Stepped). FitsTable (goOn (x .step) (x .table) (readFrom k t store) .table)) t at b store
     (λ n p. f)
     (λ h l. f)
-    (λ h z.
-    let w = whole-at t at 1 68 h in
-    let l : length (part 68 t at) ≡ 68 = length-take-le 68 (drop at t) (simp length-drop (omega (arith, w .whole, w .header))) in
-    fits-from k t store (at + 68) (more b (driveOf (part 68 t at))) y
-    (fits-more b (driveOf (part 68 t at)) f (fits-record (part 68 t at) (bytes-part 68 t at y) l) (refusal-room (b .count) (b .drives) (driveOf (part 68 t at)) store z)))
+    (λ n h z.
+    fits-from k t store (at + n) (more b (driveOf (part n t at))) y
+    (fits-more b (driveOf (part n t at)) f (fits-record (part n t at) (bytes-part n t at y) (drive-bytes h .whole)) (refusal-room (b .count) (b .drives) (driveOf (part n t at)) store z)))
     (λ n h z.
     fits-from k t store (at + n) (withBads b (numberIn (part n t at)) (badsIn (part n t at))) y
     (record-bads b (part n t at) n f (bytes-part n t at y) (length-whole t at 3 n h) (lengthOk-bad 3 n (whole-at t at 3 n h .right) refl)))

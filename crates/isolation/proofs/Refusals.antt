@@ -10,7 +10,7 @@ use Rattle.logic.specs.Logic.{both, either}
 use Rattle.logic.proofs.LogicLaws.{pick-cases}
 use Rattle.words.specs.Words.{le, part}
 use Rattle.drive.specs.declared.Drive.{Drive}
-use Rattle.drive.specs.Drive.{driveOf, fieldsOk, inStore}
+use Rattle.drive.specs.Drive.{driveOf, fieldsOk, inStore, isDriveKind}
 use Rattle.attached.specs.declared.Bads.{Bads}
 use Rattle.attached.specs.Parameters.{numberIn}
 use Rattle.attached.specs.Bad.{badsIn, listOk}
@@ -53,7 +53,7 @@ bads-low b i l =
 record-low : (kind : ℕ) (r : List ℕ) (b : Table) (store : ℕ) → recordRefusal kind r b store ≤ 9
 unfolding recordRefusal parametersRefusal
 record-low kind r b store =
-    pick-cases (λ (n : ℕ). n ≤ 9) (eqb kind 1) _ _ (λ e. refusal-low (b .count) (b .drives) (driveOf r) store)
+    pick-cases (λ (n : ℕ). n ≤ 9) (isDriveKind kind) _ _ (λ e. refusal-low (b .count) (b .drives) (driveOf r) store)
     (λ e. pick-cases (λ (n : ℕ). n ≤ 9) (eqb kind 3) _ _ (λ e. bads-low b (numberIn r) (badsIn r))
     (λ e. pick-cases (λ (n : ℕ). n ≤ 9) (both (ltb (numberIn r) 8) (both (eqb (numberIn r + 1) (b .count)) (not (hasParameters b (numberIn r))))) _ _ (λ e. omega arith) (λ e. omega arith)))
 

@@ -13,9 +13,9 @@ use Rattle.logic.proofs.LogicLaws.{impossible}
 use Rattle.words.specs.Words.{le, leBytes}
 use Rattle.chs.specs.Chs.{inLimits, isValid, blockOf, blockNumbers}
 use Rattle.drive.specs.declared.Drive.{Drive}
-use Rattle.drive.specs.Drive.{driveOf, same, pci, ata, busOk, interfaceOk, geometryFits, fieldsOk, inStore, overlap}
+use Rattle.drive.specs.Drive.{driveOf, same, pci, ata, busOk, interfaceOk, geometryFits, fieldsOk, inStore, overlap, isI2o, kindOk, tailOf, zeroTail}
 use Rattle.attached.specs.Bad.{heldOf, isBad, good}
-use Rattle.layout.specs.ResultBuffer.{returnedSize, parameterBytes, blockBytes, interfaceBytes, pathBytes, sum, wholeResult, resultBytes, resultAnswer}
+use Rattle.layout.specs.ResultBuffer.{returnedSize, parameterBytes, blockBytes, interfaceBytes, pathBytes, sum, wholeResult, resultBytes, resultAnswer, padded, wideInterfaceBytes, widePathBytes, summedBytes}
 use Rattle.memory.specs.Window.{guests, windowLength, windowOf}
 use Rattle.table.specs.declared.Table.{Table}
 use Rattle.table.specs.Table.{zeroDrive, headerOf, headerAt, overlapsAny, refusal, recordRefusal, withRecord, recordStep, endStep, stepOf, stepAt, readFrom, readTable}
@@ -73,7 +73,7 @@ parametersOf b = geometryIn (begin (fed b noPlacement) (asking 0x0800) [] .outco
 abbrev pub wide : Table
 wide =
     record {
-      drives = record { cylinders = 0; heads = 0; sectors = 0; blocks = 16450560; first = 0; flags = 0; c = 1024; h = 255; s = 63; protection = 0; bus = pci; interface = ata; path = replicate 8 0; device = replicate 8 0 } ∷ replicate 7 zeroDrive;
+      drives = record { cylinders = 0; heads = 0; sectors = 0; blocks = 16450560; first = 0; flags = 0; c = 1024; h = 255; s = 63; protection = 0; bus = pci; interface = ata; path = replicate 8 0; device = replicate 8 0; kind = 1; tail = replicate 8 0 } ∷ replicate 7 zeroDrive;
       count = 1;
       present = replicate 8 false;
       parameters = replicate 112 0;
@@ -95,7 +95,7 @@ table = readTable tableBytes 4294967296 .table
 
 -- 48h with a buffer at 0001:0008 that says a size
 abbrev pub resultOf : ℕ → Checked
-resultOf asked = begin (fed table noPlacement) (asking 0x4800) (replicate 24 0 ++ (leBytes 2 asked ++ replicate 64 0))
+resultOf asked = begin (fed table noPlacement) (asking 0x4800) (replicate 24 0 ++ (leBytes 2 asked ++ replicate 72 0))
 
 abbrev pub codeIn : Outcome → ℕ
 codeIn (Answered r) = ah r
@@ -161,6 +161,8 @@ drive =
       interface = ata;
       path = 0 ∷ 31 ∷ 1 ∷ 0 ∷ 0 ∷ 0 ∷ 0 ∷ 0 ∷ [];
       device = replicate 8 0;
+      kind = 1;
+      tail = replicate 8 0;
     }
 
 abbrev tableRead : Table
@@ -178,7 +180,7 @@ abbrev d₀ : Desk
 d₀ = opened tableRead arenaLength storeLength
 
 opening : openOf tableBytes arenaLength storeLength ≡ record { desk = d₀; answer = Opened }
-unfolding openOf le leBytes inLimits driveOf same busOk interfaceOk geometryFits fieldsOk inStore overlap headerOf headerAt overlapsAny refusal recordRefusal withRecord recordStep endStep stepOf stepAt readFrom readTable
+unfolding openOf le leBytes inLimits driveOf same busOk interfaceOk geometryFits fieldsOk inStore overlap headerOf headerAt overlapsAny refusal recordRefusal withRecord recordStep endStep stepOf stepAt readFrom readTable tailOf isI2o zeroTail kindOk
 opening = refl
 
 inv₀ : Inv d₀
@@ -388,11 +390,11 @@ module _ (a s : ℕ → List ℕ) (la : (i : ℕ) → length (a i) ≡ arenaLeng
       ∷ (0x04 ∷ [])
       ∷ (0 ∷ 0xFFFF ∷ 0xFE ∷ [])
       ∷ (0 ∷ 0x013F ∷ 0x0F ∷ 0x6F ∷ [])
-      ∷ (0x01 ∷ 25 ∷ 0 ∷ 26 ∷ 0 ∷ 26 ∷ 0 ∷ 30 ∷ 0 ∷ 30 ∷ 0 ∷ 66 ∷ 0 ∷ 66 ∷ [])
+      ∷ (0x01 ∷ 25 ∷ 0 ∷ 26 ∷ 0 ∷ 26 ∷ 0 ∷ 30 ∷ 0 ∷ 30 ∷ 0 ∷ 66 ∷ 0 ∷ 74 ∷ [])
       ∷ (0 ∷ 2 ∷ 16 ∷ 0 ∷ 5 ∷ 16 ∷ 0 ∷ 2 ∷ 16 ∷ 0 ∷ 5 ∷ 16 ∷ 0 ∷ 2 ∷ 8 ∷ 0 ∷ 5 ∷ 8 ∷ [])
       ∷ (0 ∷ 1 ∷ 16 ∷ 0 ∷ 2 ∷ 16 ∷ 0 ∷ 3 ∷ 16 ∷ 0 ∷ 4 ∷ 16 ∷ 0 ∷ 5 ∷ 16 ∷ 0 ∷ 6 ∷ 16 ∷ 0 ∷ 7 ∷ 16 ∷ 0 ∷ 0 ∷ 16 ∷ [])
       ∷ []
-  unfolding blockNumbers blockOf inLimits isValid le leBytes driveOf same busOk interfaceOk geometryFits fieldsOk inStore overlap headerOf headerAt overlapsAny refusal recordRefusal withRecord recordStep endStep stepOf stepAt readFrom readTable isDrive badsOf shownOf parameters result steps begin resultAnswer returnedSize resultBytes wholeResult parameterBytes blockBytes interfaceBytes pathBytes sum
+  unfolding blockNumbers blockOf inLimits isValid le leBytes driveOf same busOk interfaceOk geometryFits fieldsOk inStore overlap headerOf headerAt overlapsAny refusal recordRefusal withRecord recordStep endStep stepOf stepAt readFrom readTable isDrive badsOf shownOf parameters result steps begin resultAnswer returnedSize resultBytes wholeResult parameterBytes blockBytes interfaceBytes pathBytes sum tailOf isI2o zeroTail kindOk padded wideInterfaceBytes widePathBytes summedBytes
   sums =
       ap₂ (λ (x y : List ℕ).
       block 0 0 1

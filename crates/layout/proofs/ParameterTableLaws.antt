@@ -12,7 +12,7 @@ use Rattle.words.specs.Words.{part}
 use Rattle.words.proofs.WordsLaws.{sets-front}
 use Rattle.layout.specs.ResultBuffer.{sum, checksum}
 use Rattle.layout.specs.ParameterTable.{driveFlags, revision, placedBytes, parameterTable, TableBytes, ParameterTables}
-use Rattle.layout.proofs.ResultBufferLaws.{sum-checksum}
+use Rattle.layout.proofs.ResultBufferLaws.{sum-checked}
 
 -- ---- the parts, of fourteen bytes
 
@@ -92,7 +92,7 @@ module _ (p : List ℕ) (l : length p ≡ 14) where
 
   total : sum (parameterTable p) % 256 ≡ 0
   unfolding parameterTable
-  total = sum-checksum (placedBytes p)
+  total = sum-checked (placedBytes p)
 
 pub parameter-tables : ParameterTables
 parameter-tables p l =

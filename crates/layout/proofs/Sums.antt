@@ -1,14 +1,15 @@
 -- The sums of document 01, "Sums to prove together", that speak of the 48h result, the room that it needs, and one packet.
 -- Assumes nothing.
 use mathlib.Core.Path.{_≡_, refl}
+use mathlib.Core.Bool.{true, false}
 use mathlib.Core.List.{List, [], _∷_, map}
 use Prim.Native.Nat.{ℕ}
 use lib.ListN.{getD}
 use Rattle.words.specs.Words.{le, leBytes}
 use Rattle.drive.specs.declared.Drive.{Drive}
-use Rattle.drive.specs.Drive.{driveOf}
+use Rattle.drive.specs.Drive.{driveOf, tailOf, isI2o}
 use Rattle.layout.specs.Packet.{packetAt, readPacket, packetNumbers}
-use Rattle.layout.specs.ResultBuffer.{noPointer, returnedSize, parameterBytes, blockBytes, interfaceBytes, pathBytes, sum, wholeResult, resultBytes, resultAnswer, resultNumbers}
+use Rattle.layout.specs.ResultBuffer.{noPointer, returnedSize, parameterBytes, blockBytes, interfaceBytes, pathBytes, sum, summedBytes, wholeResult, resultBytes, resultAnswer, resultNumbers}
 
 -- the drive's record in the 72-byte table
 abbrev tableRecord : List ℕ
@@ -24,32 +25,39 @@ pub table-result : resultBytes (driveOf tableRecord) noPointer 66
     ∷ 255 ∷ 255 ∷ 255 ∷ 255
     ∷ 221 ∷ 190 ∷ 36 ∷ 0 ∷ 0 ∷ 0 ∷ 80 ∷ 67 ∷ 73 ∷ 0 ∷ 65 ∷ 84 ∷ 65 ∷ 0 ∷ 0 ∷ 0 ∷ 0 ∷ 0 ∷ 0 ∷ 31 ∷ 1 ∷ 0 ∷ 0 ∷ 0 ∷ 0 ∷ 0
     ∷ 0 ∷ 0 ∷ 0 ∷ 0 ∷ 0 ∷ 0 ∷ 0 ∷ 0 ∷ 0 ∷ 111 ∷ []
-unfolding driveOf le leBytes resultBytes wholeResult parameterBytes blockBytes interfaceBytes pathBytes sum
+unfolding driveOf tailOf le leBytes resultBytes wholeResult parameterBytes blockBytes summedBytes interfaceBytes pathBytes sum
 table-result = refl
 
 -- P7: byte 65 of the result is 6Fh
 pub byte65 : getD (resultBytes (driveOf tableRecord) noPointer 66) 65 0 ≡ 111
-unfolding driveOf le leBytes resultBytes wholeResult parameterBytes blockBytes interfaceBytes pathBytes sum
+unfolding driveOf tailOf le leBytes resultBytes wholeResult parameterBytes blockBytes summedBytes interfaceBytes pathBytes sum
 byte65 = refl
 
 abbrev sizes : List ℕ
 sizes = 25 ∷ 26 ∷ 29 ∷ 30 ∷ 65 ∷ 66 ∷ 65535 ∷ []
 
--- P8: the answers to those sizes where the room is enough
-pub sizes-answered : (d : Drive) → map (λ asked. resultNumbers (resultAnswer d asked 66)) sizes
-    ≡ (1 ∷ []) ∷ (0 ∷ 26 ∷ []) ∷ (0 ∷ 26 ∷ []) ∷ (0 ∷ 30 ∷ []) ∷ (0 ∷ 30 ∷ []) ∷ (0 ∷ 66 ∷ []) ∷ (0 ∷ 66 ∷ []) ∷ []
-unfolding resultNumbers resultAnswer returnedSize
-sizes-answered d = refl
-
--- the same sizes in rooms of other lengths: a size that does not fit is refused, and no smaller one is tried
 abbrev no : List ℕ
 no = 1 ∷ []
 
 abbrev size : ℕ → List ℕ
 size n = 0 ∷ n ∷ []
 
-pub rooms-answered : (d : Drive)
-    → map (λ room. map (λ asked. resultNumbers (resultAnswer d asked room)) sizes) (1 ∷ 2 ∷ 25 ∷ 26 ∷ 29 ∷ 30 ∷ 65 ∷ 66 ∷ [])
+-- the answers to them in a room
+abbrev answers : Drive → ℕ → List (List ℕ)
+answers d room = map (λ asked. resultNumbers (resultAnswer d asked room)) sizes
+
+-- P8: the answers to those sizes where the room is enough, with 74 as document 02 has it
+pub sizes-answered : (d : Drive) → isI2o d ≡ false → answers d 74 ≡ no ∷ size 26 ∷ size 26 ∷ size 30 ∷ size 30 ∷ size 66 ∷ size 74 ∷ []
+unfolding resultNumbers resultAnswer returnedSize
+sizes-answered d e = rw e
+
+-- of a drive of type I2O, which 66 bytes cannot name
+pub sizes-answered-I2O : (d : Drive) → isI2o d ≡ true → answers d 74 ≡ no ∷ size 26 ∷ size 26 ∷ size 30 ∷ size 30 ∷ size 30 ∷ size 74 ∷ []
+unfolding resultNumbers resultAnswer returnedSize
+sizes-answered-I2O d e = rw e
+
+-- the same sizes in rooms of other lengths: a size that does not fit is refused, and no smaller one is tried
+pub rooms-answered : (d : Drive) → isI2o d ≡ false → map (answers d) (1 ∷ 2 ∷ 25 ∷ 26 ∷ 29 ∷ 30 ∷ 65 ∷ 66 ∷ 73 ∷ 74 ∷ [])
     ≡ (no ∷ no ∷ no ∷ no ∷ no ∷ no ∷ no ∷ [])
     ∷ (no ∷ no ∷ no ∷ no ∷ no ∷ no ∷ no ∷ [])
     ∷ (no ∷ no ∷ no ∷ no ∷ no ∷ no ∷ no ∷ [])
@@ -57,10 +65,23 @@ pub rooms-answered : (d : Drive)
     ∷ (no ∷ size 26 ∷ size 26 ∷ no ∷ no ∷ no ∷ no ∷ [])
     ∷ (no ∷ size 26 ∷ size 26 ∷ size 30 ∷ size 30 ∷ no ∷ no ∷ [])
     ∷ (no ∷ size 26 ∷ size 26 ∷ size 30 ∷ size 30 ∷ no ∷ no ∷ [])
-    ∷ (no ∷ size 26 ∷ size 26 ∷ size 30 ∷ size 30 ∷ size 66 ∷ size 66 ∷ [])
+    ∷ (no ∷ size 26 ∷ size 26 ∷ size 30 ∷ size 30 ∷ size 66 ∷ no ∷ [])
+    ∷ (no ∷ size 26 ∷ size 26 ∷ size 30 ∷ size 30 ∷ size 66 ∷ no ∷ [])
+    ∷ (no ∷ size 26 ∷ size 26 ∷ size 30 ∷ size 30 ∷ size 66 ∷ size 74 ∷ [])
     ∷ []
 unfolding resultNumbers resultAnswer returnedSize
-rooms-answered d = refl
+rooms-answered d e = rw e
+
+-- and of a drive of type I2O: its answer to 66 needs room for 30 bytes
+pub rooms-answered-I2O : (d : Drive) → isI2o d ≡ true → map (answers d) (29 ∷ 30 ∷ 66 ∷ 73 ∷ 74 ∷ [])
+    ≡ (no ∷ size 26 ∷ size 26 ∷ no ∷ no ∷ no ∷ no ∷ [])
+    ∷ (no ∷ size 26 ∷ size 26 ∷ size 30 ∷ size 30 ∷ size 30 ∷ no ∷ [])
+    ∷ (no ∷ size 26 ∷ size 26 ∷ size 30 ∷ size 30 ∷ size 30 ∷ no ∷ [])
+    ∷ (no ∷ size 26 ∷ size 26 ∷ size 30 ∷ size 30 ∷ size 30 ∷ no ∷ [])
+    ∷ (no ∷ size 26 ∷ size 26 ∷ size 30 ∷ size 30 ∷ size 30 ∷ size 74 ∷ [])
+    ∷ []
+unfolding resultNumbers resultAnswer returnedSize
+rooms-answered-I2O d e = rw e
 
 -- a packet with size 24, count 0100h, buffer FFFFh:FFFFh and start 2048
 abbrev packet : List ℕ

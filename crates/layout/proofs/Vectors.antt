@@ -7,12 +7,13 @@ use Prim.Native.Nat.{ℕ, zero, suc, _+_, _<_}
 use native.Mathlib.Nat.{zero-add}
 use native.Mathlib.Omega.{arith}
 use lib.ListN.{length, getD, replicate}
-use Rattle.words.specs.Words.{le, leBytes}
+use Rattle.words.specs.Words.{le, leBytes, part}
 use Rattle.drive.specs.declared.Drive.{Drive}
+use Rattle.drive.specs.Drive.{isa, pci, ata, atapi, scsi, usb, ieee1394, fibre, i2o, isI2o, same}
 use Rattle.layout.specs.declared.Pointer.{Pointer}
 use Rattle.layout.specs.Packet.{linear, packetAt, readPacket, packetNumbers, packetGiven}
 use Rattle.layout.specs.ParameterTable.{parameterSize, driveFlags, placedBytes, parameterTable}
-use Rattle.layout.specs.ResultBuffer.{noPointer, returnedSize, flagsShown, parameterBytes, blockBytes, interfaceBytes, pathBytes, sum, wholeResult, resultBytes, resultAnswer, resultOut, sizeGiven}
+use Rattle.layout.specs.ResultBuffer.{noPointer, returnedSize, flagsShown, parameterBytes, blockBytes, interfaceBytes, pathBytes, padded, wideInterfaceBytes, widePathBytes, sum, summedBytes, wholeResult, resultBytes, resultAnswer, resultOut, sizeGiven}
 
 -- ---- addresses: 16 times 1234h plus 5678h
 
@@ -40,8 +41,8 @@ packets-given = refl
 -- ---- the result
 
 -- every field another value; the geometry, the first block and the protection do not show
-abbrev flagged : ℕ → Drive
-flagged flags = record {
+abbrev own : ℕ → ℕ → List ℕ → List ℕ → List ℕ → Drive
+own kind flags bus interface tail = record {
   cylinders = 0x44434241;
   heads = 0x48474645;
   sectors = 0x4C4B4A49;
@@ -52,15 +53,34 @@ flagged flags = record {
   h = 0xC4C3;
   s = 0xC5;
   protection = 0xC6;
-  bus = 0x81 ∷ 0x82 ∷ 0x83 ∷ 0x84 ∷ [];
-  interface = 0x91 ∷ 0x92 ∷ 0x93 ∷ 0x94 ∷ 0x95 ∷ 0x96 ∷ 0x97 ∷ 0x98 ∷ [];
+  bus = bus;
+  interface = interface;
   path = 0xA1 ∷ 0xA2 ∷ 0xA3 ∷ 0xA4 ∷ 0xA5 ∷ 0xA6 ∷ 0xA7 ∷ 0xA8 ∷ [];
   device = 0xB1 ∷ 0xB2 ∷ 0xB3 ∷ 0xB4 ∷ 0xB5 ∷ 0xB6 ∷ 0xB7 ∷ 0xB8 ∷ [];
+  kind = kind;
+  tail = tail;
 }
+
+abbrev ownBus : List ℕ
+ownBus = 0x81 ∷ 0x82 ∷ 0x83 ∷ 0x84 ∷ []
+
+abbrev ownInterface : List ℕ
+ownInterface = 0x91 ∷ 0x92 ∷ 0x93 ∷ 0x94 ∷ 0x95 ∷ 0x96 ∷ 0x97 ∷ 0x98 ∷ []
+
+-- of kind 1
+abbrev flagged : ℕ → Drive
+flagged flags = own 1 flags ownBus ownInterface (replicate 8 0)
 
 -- of its flags bits 5 and 6 do not show, since bit 2 is clear
 abbrev drive : Drive
 drive = flagged 0x6261
+
+-- of kind 2, with sixteen bytes of device path
+abbrev ownTail : List ℕ
+ownTail = 0xD1 ∷ 0xD2 ∷ 0xD3 ∷ 0xD4 ∷ 0xD5 ∷ 0xD6 ∷ 0xD7 ∷ 0xD8 ∷ []
+
+abbrev wide : ℕ → Drive
+wide flags = own 2 flags ownBus ownInterface ownTail
 
 abbrev pointer : Pointer
 pointer = record { offset = 0x7271; segment = 0x7473 }
@@ -82,19 +102,20 @@ from30 =
     ∷ 0xA1 ∷ 0xA2 ∷ 0xA3 ∷ 0xA4 ∷ 0xA5 ∷ 0xA6 ∷ 0xA7 ∷ 0xA8
     ∷ 0xB1 ∷ 0xB2 ∷ 0xB3 ∷ 0xB4 ∷ 0xB5 ∷ 0xB6 ∷ 0xB7 ∷ 0xB8 ∷ 0 ∷ 0xCB ∷ []
 
--- a room of 68 bytes for each of the sizes asked: too small, the three results, each with the bytes past it as they were
-pub results : map (λ asked. resultOut drive pointer asked (replicate 68 9)) (25 ∷ 29 ∷ 65 ∷ 0x4242 ∷ [])
+-- a room of 68 bytes for each of the sizes asked: too small, the three results, each with the bytes past it as they were, and one without room
+pub results : map (λ asked. resultOut drive pointer asked (replicate 68 9)) (25 ∷ 29 ∷ 65 ∷ 73 ∷ 0x4242 ∷ [])
     ≡ replicate 68 9
     ∷ (26 ∷ 0 ∷ (from2 ++ replicate 42 9))
     ∷ (30 ∷ 0 ∷ (from2 ++ (from26 ++ replicate 38 9)))
     ∷ (66 ∷ 0 ∷ (from2 ++ (from26 ++ (from30 ++ replicate 2 9))))
+    ∷ replicate 68 9
     ∷ []
-unfolding leBytes returnedSize parameterBytes blockBytes interfaceBytes pathBytes sum wholeResult resultBytes resultAnswer
+unfolding leBytes returnedSize isI2o same parameterBytes blockBytes interfaceBytes pathBytes sum summedBytes wholeResult resultBytes resultAnswer
 results = refl
 
 -- a room of 29 bytes: enough for 26, and where 30 are asked for all of it stays
 pub results-short : map (λ asked. resultOut drive pointer asked (replicate 29 9)) (29 ∷ 30 ∷ []) ≡ (26 ∷ 0 ∷ (from2 ++ replicate 3 9)) ∷ replicate 29 9 ∷ []
-unfolding leBytes returnedSize parameterBytes blockBytes interfaceBytes pathBytes sum wholeResult resultBytes resultAnswer
+unfolding leBytes returnedSize parameterBytes blockBytes interfaceBytes pathBytes sum summedBytes wholeResult resultBytes resultAnswer
 results-short = refl
 
 -- no pointer: FFFFh:FFFFh
@@ -103,12 +124,132 @@ unfolding leBytes
 none = refl
 
 -- the numbers of the answer, by the size asked and the room
-pub sizes-given : map (sizeGiven 65) (29 ∷ 30 ∷ []) ∷ map (λ asked. sizeGiven asked 66) (25 ∷ 26 ∷ 29 ∷ 30 ∷ 65 ∷ 66 ∷ []) ∷ []
+pub sizes-given : map (sizeGiven drive 65) (29 ∷ 30 ∷ []) ∷ map (λ asked. sizeGiven drive asked 66) (25 ∷ 26 ∷ 29 ∷ 30 ∷ 65 ∷ 66 ∷ []) ∷ []
     ≡ ((1 ∷ []) ∷ (0 ∷ 30 ∷ []) ∷ [])
     ∷ ((1 ∷ []) ∷ (0 ∷ 26 ∷ []) ∷ (0 ∷ 26 ∷ []) ∷ (0 ∷ 30 ∷ []) ∷ (0 ∷ 30 ∷ []) ∷ (0 ∷ 66 ∷ []) ∷ [])
     ∷ []
-unfolding sizeGiven returnedSize
+unfolding sizeGiven returnedSize isI2o same
 sizes-given = refl
+
+-- ---- the longer result, "2026-06"
+
+-- the names that 20h pads as document 000 prints them: the two host buses, and the seven interface types
+pub names-padded : map padded (isa ∷ pci ∷ ata ∷ atapi ∷ scsi ∷ usb ∷ ieee1394 ∷ fibre ∷ i2o ∷ [])
+    ≡ (0x49 ∷ 0x53 ∷ 0x41 ∷ 0x20 ∷ [])
+    ∷ (0x50 ∷ 0x43 ∷ 0x49 ∷ 0x20 ∷ [])
+    ∷ (0x41 ∷ 0x54 ∷ 0x41 ∷ 0x20 ∷ 0x20 ∷ 0x20 ∷ 0x20 ∷ 0x20 ∷ [])
+    ∷ (0x41 ∷ 0x54 ∷ 0x41 ∷ 0x50 ∷ 0x49 ∷ 0x20 ∷ 0x20 ∷ 0x20 ∷ [])
+    ∷ (0x53 ∷ 0x43 ∷ 0x53 ∷ 0x49 ∷ 0x20 ∷ 0x20 ∷ 0x20 ∷ 0x20 ∷ [])
+    ∷ (0x55 ∷ 0x53 ∷ 0x42 ∷ 0x20 ∷ 0x20 ∷ 0x20 ∷ 0x20 ∷ 0x20 ∷ [])
+    ∷ (0x31 ∷ 0x33 ∷ 0x39 ∷ 0x34 ∷ 0x20 ∷ 0x20 ∷ 0x20 ∷ 0x20 ∷ [])
+    ∷ (0x46 ∷ 0x49 ∷ 0x42 ∷ 0x52 ∷ 0x45 ∷ 0x20 ∷ 0x20 ∷ 0x20 ∷ [])
+    ∷ (0x49 ∷ 0x32 ∷ 0x4F ∷ 0x20 ∷ 0x20 ∷ 0x20 ∷ 0x20 ∷ 0x20 ∷ [])
+    ∷ []
+unfolding padded
+names-padded = refl
+
+-- of type I2O, on PCI
+abbrev intelligent : Drive
+intelligent = own 2 0x6261 pci i2o ownTail
+
+-- the sizes asked at each edge, of a drive of kind 1, of one of kind 2, and of one of type I2O
+abbrev edges : List ℕ
+edges = 25 ∷ 26 ∷ 29 ∷ 30 ∷ 65 ∷ 66 ∷ 73 ∷ 74 ∷ 75 ∷ 0xFFFF ∷ []
+
+abbrev size : ℕ → List ℕ
+size n = 0 ∷ n ∷ []
+
+abbrev no : List ℕ
+no = 1 ∷ []
+
+pub sizes-of-kinds : map (λ d. map (λ asked. sizeGiven d asked 74) edges) (drive ∷ wide 0x6261 ∷ intelligent ∷ [])
+    ≡ (no ∷ size 26 ∷ size 26 ∷ size 30 ∷ size 30 ∷ size 66 ∷ size 66 ∷ size 74 ∷ size 74 ∷ size 74 ∷ [])
+    ∷ (no ∷ size 26 ∷ size 26 ∷ size 30 ∷ size 30 ∷ size 66 ∷ size 66 ∷ size 74 ∷ size 74 ∷ size 74 ∷ [])
+    ∷ (no ∷ size 26 ∷ size 26 ∷ size 30 ∷ size 30 ∷ size 30 ∷ size 30 ∷ size 74 ∷ size 74 ∷ size 74 ∷ [])
+    ∷ []
+unfolding sizeGiven returnedSize isI2o same
+sizes-of-kinds = refl
+
+-- the rooms at each edge, asked for 66, 73 and 74: 66 bytes of type I2O are 30
+pub rooms-of-kinds : map (λ d. map (λ room. map (λ asked. sizeGiven d asked room) (66 ∷ 73 ∷ 74 ∷ [])) (29 ∷ 30 ∷ 65 ∷ 66 ∷ 73 ∷ [])) (wide 0x6261 ∷ intelligent ∷ [])
+    ≡ ((no ∷ no ∷ no ∷ []) ∷ (no ∷ no ∷ no ∷ []) ∷ (no ∷ no ∷ no ∷ []) ∷ (size 66 ∷ size 66 ∷ no ∷ []) ∷ (size 66 ∷ size 66 ∷ no ∷ []) ∷ [])
+    ∷ ((no ∷ no ∷ no ∷ []) ∷ (size 30 ∷ size 30 ∷ no ∷ []) ∷ (size 30 ∷ size 30 ∷ no ∷ []) ∷ (size 30 ∷ size 30 ∷ no ∷ []) ∷ (size 30 ∷ size 30 ∷ no ∷ []) ∷ [])
+    ∷ []
+unfolding sizeGiven returnedSize isI2o same
+rooms-of-kinds = refl
+
+-- offsets 30 to 73: of kind 2; of kind 1, with eight zeros behind the device path; and of type I2O, whose names are padded
+abbrev wide30 : List ℕ
+wide30 =
+    0xDD ∷ 0xBE ∷ 0x2C ∷ 0 ∷ 0 ∷ 0 ∷ 0x81 ∷ 0x82 ∷ 0x83 ∷ 0x84 ∷ 0x91 ∷ 0x92 ∷ 0x93 ∷ 0x94 ∷ 0x95 ∷ 0x96 ∷ 0x97 ∷ 0x98
+    ∷ 0xA1 ∷ 0xA2 ∷ 0xA3 ∷ 0xA4 ∷ 0xA5 ∷ 0xA6 ∷ 0xA7 ∷ 0xA8
+    ∷ 0xB1 ∷ 0xB2 ∷ 0xB3 ∷ 0xB4 ∷ 0xB5 ∷ 0xB6 ∷ 0xB7 ∷ 0xB8
+    ∷ 0xD1 ∷ 0xD2 ∷ 0xD3 ∷ 0xD4 ∷ 0xD5 ∷ 0xD6 ∷ 0xD7 ∷ 0xD8 ∷ 0 ∷ 0x1F ∷ []
+
+abbrev zeros30 : List ℕ
+zeros30 =
+    0xDD ∷ 0xBE ∷ 0x2C ∷ 0 ∷ 0 ∷ 0 ∷ 0x81 ∷ 0x82 ∷ 0x83 ∷ 0x84 ∷ 0x91 ∷ 0x92 ∷ 0x93 ∷ 0x94 ∷ 0x95 ∷ 0x96 ∷ 0x97 ∷ 0x98
+    ∷ 0xA1 ∷ 0xA2 ∷ 0xA3 ∷ 0xA4 ∷ 0xA5 ∷ 0xA6 ∷ 0xA7 ∷ 0xA8
+    ∷ 0xB1 ∷ 0xB2 ∷ 0xB3 ∷ 0xB4 ∷ 0xB5 ∷ 0xB6 ∷ 0xB7 ∷ 0xB8
+    ∷ 0 ∷ 0 ∷ 0 ∷ 0 ∷ 0 ∷ 0 ∷ 0 ∷ 0 ∷ 0 ∷ 0xC3 ∷ []
+
+abbrev i2o30 : List ℕ
+i2o30 =
+    0xDD ∷ 0xBE ∷ 0x2C ∷ 0 ∷ 0 ∷ 0 ∷ 0x50 ∷ 0x43 ∷ 0x49 ∷ 0x20 ∷ 0x49 ∷ 0x32 ∷ 0x4F ∷ 0x20 ∷ 0x20 ∷ 0x20 ∷ 0x20 ∷ 0x20
+    ∷ 0xA1 ∷ 0xA2 ∷ 0xA3 ∷ 0xA4 ∷ 0xA5 ∷ 0xA6 ∷ 0xA7 ∷ 0xA8
+    ∷ 0xB1 ∷ 0xB2 ∷ 0xB3 ∷ 0xB4 ∷ 0xB5 ∷ 0xB6 ∷ 0xB7 ∷ 0xB8
+    ∷ 0xD1 ∷ 0xD2 ∷ 0xD3 ∷ 0xD4 ∷ 0xD5 ∷ 0xD6 ∷ 0xD7 ∷ 0xD8 ∷ 0 ∷ 0x67 ∷ []
+
+-- a room of 76 bytes for a drive of kind 2: 66 bytes, which are those of the drive of kind 1, and 74; and one of 73, which is too short for 74
+pub wide-results : map (λ asked. resultOut (wide 0x6261) pointer asked (replicate 76 9)) (66 ∷ 73 ∷ 74 ∷ 0xFFFF ∷ [])
+    ≡ (66 ∷ 0 ∷ (from2 ++ (from26 ++ (from30 ++ replicate 10 9))))
+    ∷ (66 ∷ 0 ∷ (from2 ++ (from26 ++ (from30 ++ replicate 10 9))))
+    ∷ (74 ∷ 0 ∷ (from2 ++ (from26 ++ (wide30 ++ replicate 2 9))))
+    ∷ (74 ∷ 0 ∷ (from2 ++ (from26 ++ (wide30 ++ replicate 2 9))))
+    ∷ []
+unfolding leBytes returnedSize isI2o same parameterBytes blockBytes interfaceBytes pathBytes padded wideInterfaceBytes widePathBytes sum summedBytes wholeResult resultBytes resultAnswer
+wide-results = refl
+
+pub wide-short : resultOut (wide 0x6261) pointer 74 (replicate 73 9) ≡ replicate 73 9
+unfolding returnedSize resultAnswer
+wide-short = refl
+
+-- the 74 bytes of the drive of kind 1
+pub narrow-drive : resultOut drive pointer 74 (replicate 75 9) ≡ 74 ∷ 0 ∷ (from2 ++ (from26 ++ (zeros30 ++ (9 ∷ []))))
+unfolding leBytes returnedSize parameterBytes blockBytes padded wideInterfaceBytes widePathBytes sum summedBytes wholeResult resultBytes resultAnswer
+narrow-drive = refl
+
+-- a drive of type I2O: asked for 66 and for 73 it is answered as for 30
+pub i2o-results : map (λ asked. resultOut intelligent pointer asked (replicate 75 9)) (65 ∷ 66 ∷ 73 ∷ 74 ∷ [])
+    ≡ (30 ∷ 0 ∷ (from2 ++ (from26 ++ replicate 45 9)))
+    ∷ (30 ∷ 0 ∷ (from2 ++ (from26 ++ replicate 45 9)))
+    ∷ (30 ∷ 0 ∷ (from2 ++ (from26 ++ replicate 45 9)))
+    ∷ (74 ∷ 0 ∷ (from2 ++ (from26 ++ (i2o30 ++ (9 ∷ [])))))
+    ∷ []
+unfolding leBytes returnedSize isI2o same parameterBytes blockBytes padded wideInterfaceBytes widePathBytes sum summedBytes wholeResult resultBytes resultAnswer
+i2o-results = refl
+
+-- the flags of 74 bytes: bits 4 to 6 do not show, and where bit 2 is set they do
+pub wide-flags : map (λ flags. part 2 (resultOut (wide flags) pointer 74 (replicate 74 9)) 2) (0x6271 ∷ 0x6275 ∷ []) ≡ (0x01 ∷ 0x62 ∷ []) ∷ (0x75 ∷ 0x62 ∷ []) ∷ []
+unfolding leBytes returnedSize parameterBytes blockBytes padded wideInterfaceBytes widePathBytes sum summedBytes wholeResult resultBytes resultAnswer
+wide-flags = refl
+
+-- every NUL of a name is padded, wherever it stands, and no other byte; the paths, which may hold NUL, are not: bytes 36 to 47 and 64 to 73
+abbrev gaps : Drive
+gaps = own 2 0x6261 (0 ∷ 0x01 ∷ 0 ∷ 0x20 ∷ []) (0x02 ∷ 0 ∷ 0 ∷ 0x1F ∷ 0x21 ∷ 0 ∷ 0xFF ∷ 0 ∷ []) (0xD1 ∷ 0 ∷ 0xD3 ∷ 0 ∷ 0 ∷ 0xD6 ∷ 0xD7 ∷ 0 ∷ [])
+
+pub gaps-padded : map (λ at. part 12 (resultOut gaps pointer 74 (replicate 74 9)) at) (36 ∷ 62 ∷ [])
+    ≡ (0x20 ∷ 0x01 ∷ 0x20 ∷ 0x20 ∷ 0x02 ∷ 0x20 ∷ 0x20 ∷ 0x1F ∷ 0x21 ∷ 0x20 ∷ 0xFF ∷ 0x20 ∷ [])
+    ∷ (0xB7 ∷ 0xB8 ∷ 0xD1 ∷ 0 ∷ 0xD3 ∷ 0 ∷ 0 ∷ 0xD6 ∷ 0xD7 ∷ 0 ∷ 0 ∷ 0xFE ∷ [])
+    ∷ []
+unfolding leBytes returnedSize parameterBytes blockBytes padded wideInterfaceBytes widePathBytes sum summedBytes wholeResult resultBytes resultAnswer
+gaps-padded = refl
+
+-- and none of 66 bytes is: bytes 36 to 47
+pub gaps-narrow : part 12 (resultOut gaps pointer 66 (replicate 66 9)) 36
+    ≡ 0 ∷ 0x01 ∷ 0 ∷ 0x20 ∷ 0x02 ∷ 0 ∷ 0 ∷ 0x1F ∷ 0x21 ∷ 0 ∷ 0xFF ∷ 0 ∷ []
+unfolding leBytes returnedSize isI2o same parameterBytes blockBytes interfaceBytes pathBytes sum summedBytes wholeResult resultBytes resultAnswer
+gaps-narrow = refl
 
 -- ---- the information flags, "2026-02"
 

@@ -2,12 +2,13 @@
 // parameter table that it may point at, which the desk writes.
 use drive::Drive;
 ghost use mathlib.Core.Path.{_≡_};
-ghost use Prim.Native.Nat.{_+_, _%_, _≤_};
-ghost use lib.ListN.{length};
+ghost use Prim.Native.Nat.{_+_, _-_, _%_, _≤_, _<_};
+ghost use lib.ListN.{length, set};
 ghost use lib.Seq.{sets};
 ghost use Rattle.layout.specs.Packet.{linear, packetLength, packetAt, readPacket, packetNumbers, packetGiven};
 ghost use Rattle.layout.specs.ParameterTable.{driveFlags, parameterTable};
-ghost use Rattle.layout.specs.ResultBuffer.{pathSize, returnedSize, flagsShown, parameterBytes, blockBytes, interfaceBytes, pathBytes, sum, checksum, wholeResult, resultAnswer, resultOut, resultNumbers, sizeGiven};
+ghost use Rattle.words.specs.Words.{part};
+ghost use Rattle.layout.specs.ResultBuffer.{pathSize, wideSize, returnedSize, flagsShown, parameterBytes, blockBytes, interfaceBytes, pathBytes, paddedByte, padded, wideInterfaceBytes, widePathBytes, sum, checksum, wholeResult, resultAnswer, resultOut, resultNumbers, sizeGiven};
 
 // AH 01h.
 pub const BAD_PARAMETER: u8 = 0x01;
@@ -78,15 +79,22 @@ const POINTER_SIZE: u16 = 30;
 
 const PATH_SIZE: u16 = 66;
 
+const WIDE_SIZE: u16 = 74;
+
 const BLOCK_LENGTH: u16 = memory::BLOCK_LENGTH as u16;
 
 const PATH_KEY: u16 = 0xBEDD;
 
 const PATH_LENGTH: u32 = 0x24;
 
-// The returned size for a size asked of at least 26.
-fn returned_size(asked: u16) -> u16
-    ensures { λ r. ⌜ r ≡ returnedSize asked ⌝ }
+const WIDE_PATH_LENGTH: u32 = 0x2C;
+
+// What the longer result has in a name where the record has NUL.
+const PADDING: u8 = 0x20;
+
+// The returned size for a size asked of at least 26. There are no 66 bytes of a drive of type I2O: it gets 30.
+fn returned_size(d: Drive, asked: u16) -> u16
+    ensures { λ r. ⌜ r ≡ returnedSize d asked ⌝ }
 {
     if asked < POINTER_SIZE {
         return LEAST_SIZE;
@@ -94,7 +102,13 @@ fn returned_size(asked: u16) -> u16
     if asked < PATH_SIZE {
         return POINTER_SIZE;
     }
-    PATH_SIZE
+    if asked < WIDE_SIZE {
+        if drive::is_i2o(d) {
+            return POINTER_SIZE;
+        }
+        return PATH_SIZE;
+    }
+    WIDE_SIZE
 }
 
 // The information flags that 48h shows: without bit 2, removable, bits 4 to 6 mean nothing and are zero.
@@ -108,7 +122,8 @@ fn flags_shown(d: Drive) -> u16
     flags % 16 + flags / 128 * 128
 }
 
-// The four runs of a result are written in a buffer of 66 bytes, which `result_of` makes.
+// The four runs of a result are written in a buffer of 66 bytes, which `narrow_of` makes, or of 74, which `wide_of` makes; each has an interface
+// and paths of its own.
 fn put_geometry(d: Drive, n: u16, out: &mut [u8])
     requires { ⌜ pathSize ≤ length (now out) ⌝ }
     ensures { λ _. ⌜ now (out .exit) ≡ sets (now (out .entry)) 0 (parameterBytes d n) ⌝ }
@@ -154,6 +169,49 @@ fn put_paths(d: Drive, out: &mut [u8])
     words::put_byte(out, 64, 0);
 }
 
+fn padded_byte(x: u8) -> u8
+    ensures { λ r. ⌜ r ≡ paddedByte x ⌝ }
+{
+    if x == 0 { PADDING } else { x }
+}
+
+// A name laid from a place on, with 20h for each NUL.
+fn put_padded(out: &mut [u8], at: usize, name: &[u8])
+    requires { ⌜ at + length (now name) ≤ length (now out) ⌝ }
+    ensures { λ _. ⌜ now (out .exit) ≡ sets (now (out .entry)) at (padded (now (name .entry))) ⌝ }
+{
+    let mut i = 0;
+    while i < name.len() {
+        out[at + i] = padded_byte(name[i]);
+        i += 1;
+    }
+}
+
+fn put_wide_interface(d: Drive, out: &mut [u8])
+    requires { ⌜ wideSize ≤ length (now out) ⌝ }
+    ensures { λ _. ⌜ now (out .exit) ≡ sets (now (out .entry)) 30 (wideInterfaceBytes d) ⌝ }
+{
+    let bus = d.bus;
+    let interface = d.interface;
+    words::store16(out, 30, PATH_KEY);
+    words::store32(out, 32, WIDE_PATH_LENGTH);
+    put_padded(out, 36, &bus);
+    put_padded(out, 40, &interface);
+}
+
+fn put_wide_paths(d: Drive, out: &mut [u8])
+    requires { ⌜ wideSize ≤ length (now out) ⌝ }
+    ensures { λ _. ⌜ now (out .exit) ≡ sets (now (out .entry)) 48 (widePathBytes d) ⌝ }
+{
+    let path = d.path;
+    let device = d.device;
+    let tail = d.tail;
+    words::store8(out, 48, path);
+    words::store8(out, 56, device);
+    words::store8(out, 64, tail);
+    words::put_byte(out, 72, 0);
+}
+
 // The sum of all bytes, modulo 256.
 fn sum_of(s: &[u8]) -> u8
     ensures { λ r. ⌜ r ≡ sum (now (s .entry)) % 256 ⌝ }
@@ -173,8 +231,19 @@ fn checksum_of(s: &[u8]) -> u8
     ((256 - sum_of(s) as u16) % 256) as u8
 }
 
+// The last byte, which makes the sum of those from 30 on zero modulo 256.
+fn put_checksum(out: &mut [u8], last: usize)
+    requires { ⌜ (30 ≤ last) × (last < length (now out)) ⌝ }
+    ensures { λ _. ⌜ now (out .exit) ≡ set (now (out .entry)) last (checksum (part (last - 30) (now (out .entry)) 30)) ⌝ }
+{
+    let from = 30;
+    let byte = checksum_of(&out[from..last]);
+    words::put_byte(out, last, byte);
+}
+
 // All 66 bytes, with the returned size n.
-fn result_of(d: Drive, p: Pointer, n: u16) -> [u8; 66]
+fn narrow_of(d: Drive, p: Pointer, n: u16) -> [u8; 66]
+    requires { ⌜ n ≤ pathSize ⌝ }
     ensures { λ r. ⌜ r ≡ wholeResult d p n ⌝ }
 {
     let mut r = [0u8; 66];
@@ -182,10 +251,20 @@ fn result_of(d: Drive, p: Pointer, n: u16) -> [u8; 66]
     put_blocks(d, p, &mut r);
     put_interface(d, &mut r);
     put_paths(d, &mut r);
-    let from = 30;
-    let end = 65;
-    let byte = checksum_of(&r[from..end]);
-    words::put_byte(&mut r, 65, byte);
+    put_checksum(&mut r, 65);
+    r
+}
+
+// All 74 bytes of the longer result.
+fn wide_of(d: Drive, p: Pointer) -> [u8; 74]
+    ensures { λ r. ⌜ r ≡ wholeResult d p wideSize ⌝ }
+{
+    let mut r = [0u8; 74];
+    put_geometry(d, WIDE_SIZE, &mut r);
+    put_blocks(d, p, &mut r);
+    put_wide_interface(d, &mut r);
+    put_wide_paths(d, &mut r);
+    put_checksum(&mut r, 73);
     r
 }
 
@@ -200,17 +279,22 @@ pub enum ResultAnswer {
 // The result for a drive, a pointer and the size asked; out is the window from DS:SI to its end. Refused with 01h, out unchanged: a size below
 // 26, or too little room for the returned size. Bytes past the returned size stay.
 pub fn write_result(d: Drive, p: Pointer, asked: u16, out: &mut [u8]) -> ResultAnswer
-    ensures { λ r. ⌜ (r ≡ resultAnswer d asked (length (now (out .entry)))) × (now (out .exit) ≡ resultOut d p asked (now (out .entry))) × (resultNumbers r ≡ sizeGiven asked (length (now (out .entry)))) ⌝ }
+    ensures { λ r. ⌜ (r ≡ resultAnswer d asked (length (now (out .entry)))) × (now (out .exit) ≡ resultOut d p asked (now (out .entry))) × (resultNumbers r ≡ sizeGiven d asked (length (now (out .entry)))) ⌝ }
 {
     if asked < LEAST_SIZE {
         return ResultAnswer::Refused(BAD_PARAMETER);
     }
-    let n = returned_size(asked);
+    let n = returned_size(d, asked);
     let size = n as usize;
     if out.len() < size {
         return ResultAnswer::Refused(BAD_PARAMETER);
     }
-    let r = result_of(d, p, n);
+    if n == WIDE_SIZE {
+        let r = wide_of(d, p);
+        words::store(out, 0, &r);
+        return ResultAnswer::Written(n);
+    }
+    let r = narrow_of(d, p, n);
     words::store(out, 0, &r[..size]);
     ResultAnswer::Written(n)
 }

@@ -15,7 +15,7 @@ const OUTPUT: i32 = 1;
 // Bytes of a piece, at most.
 const PIECE: usize = 64;
 
-// So many bytes, 1910, settle every table (`few` of feed's theorem), and each read but the last brings one or more. So the bound is never met, but
+// So many bytes, 1974, settle every table (`few` of feed's theorem), and each read but the last brings one or more. So the bound is never met, but
 // it shows that the reading ends.
 const MOST_READS: usize = table::LONGEST_TABLE - table::END_LENGTH as usize + table::LONGEST_RECORD;
 

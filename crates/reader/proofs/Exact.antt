@@ -73,7 +73,7 @@ course-read Accepted x y e q = rw e
 course-read (Refused n) x y e q = rw (e, q)
 
 module _ (f : Feed) (fit : FitsReader f) (r : Rules f) where
-  room : length (tableOf (f .table)) ≤ 1780
+  room : length (tableOf (f .table)) ≤ 1844
   room = table-most (f .table) (f .store) (fit .table) (r .sound)
 
   number : le 8 (image f) 0 ≡ courseNumber (f .course)
@@ -104,7 +104,7 @@ module _ (f : Feed) (fit : FitsReader f) (r : Rules f) where
   unfolding image leBytes
   table =
       ap (take (length (tableOf (f .table)))) (drop-at (f .held) (tableBytes f) 134 (fit .held))
-      ∙ take-append-seam (tableOf (f .table)) (replicate (1780 - length (tableOf (f .table))) 0)
+      ∙ take-append-seam (tableOf (f .table)) (replicate (1844 - length (tableOf (f .table))) 0)
 
   drives : readTable (part (le 8 (image f) 32) (image f) 174) (le 8 (image f) 16) .table ≡ f .table
   drives = rw (long, table, store, read-written (f .table) (f .store) (fit .table) (r .sound))
@@ -125,7 +125,7 @@ module _ (f : Feed) (fit : FitsReader f) (r : Rules f) where
 -- ---- both ways
 
 -- what is read from bytes fits
-read-fits : (b : List ℕ) → Bytes b → length b ≡ 1954 → FitsReader (readReader b)
+read-fits : (b : List ℕ) → Bytes b → length b ≡ 2018 → FitsReader (readReader b)
 unfolding readReader
 read-fits b h l =
     record {
@@ -138,10 +138,10 @@ read-fits b h l =
 only : (b : List ℕ) → Bytes b → accepted b ≡ true → ImageOf b (readReader b)
 unfolding accepted
 only b h e =
-    let p = both-true (eqb (length b) 1954) (both (accept (readReader b)) (same b (image (readReader b)))) e in
+    let p = both-true (eqb (length b) 2018) (both (accept (readReader b)) (same b (image (readReader b)))) e in
     let q = both-true (accept (readReader b)) (same b (image (readReader b))) (p .1) in
     record {
-      fits = read-fits b h (eqb-true (length b) 1954 (p .0));
+      fits = read-fits b h (eqb-true (length b) 2018 (p .0));
       acceptable = q .0;
       image = sym (same-true b (image (readReader b)) (q .1));
     }

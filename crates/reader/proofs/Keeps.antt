@@ -16,7 +16,7 @@ use Rattle.logic.proofs.LogicLaws.{both-intro, either-left, either-right, impos
 use Rattle.words.specs.Words.{Bytes, le, part}
 use Rattle.words.proofs.WordsLaws.{bytes-part}
 use Rattle.drive.specs.declared.Drive.{Drive}
-use Rattle.drive.specs.Drive.{driveOf, fieldsOk, inStore}
+use Rattle.drive.specs.Drive.{driveOf, fieldsOk, inStore, isDriveKind}
 use Rattle.attached.specs.Bad.{badsIn, listOk}
 use Rattle.table.specs.declared.Table.{Table}
 use Rattle.table.specs.declared.Step.{Step}
@@ -81,8 +81,8 @@ module _ (t : List ℕ) (at : ℕ) (b : Table) (store : ℕ) where
       (λ e. pick-cases (Fine left) (ltb (at + 4) (length t)) _ _
       (λ x. fine-refused left 8 (at + 4) (omega arith) (omega arith) (λ q. absurd (omega arith)))
       (λ x n p q. impossible (cc)))
-      (λ e. pick-cases (Fine left) (eqb kind 1) _ _
-      (λ x. late-fine left (refusal (b .count) (b .drives) d store) at 68 (late-drive (b .count) (overlapsAny (b .count) (b .drives) d) d store))
+      (λ e. pick-cases (Fine left) (isDriveKind kind) _ _
+      (λ x. late-fine left (refusal (b .count) (b .drives) d store) at size (late-drive (b .count) (overlapsAny (b .count) (b .drives) d) d store))
       (λ x. pick-cases (Fine left) (eqb kind 3) _ _
       (λ y. late-fine left (pick free (pick good 0 5) 9) at size
       (pick-cases Late free (pick good 0 5) 9 (λ z. pick-cases Late good 0 5 (λ w. refl) (λ w. refl)) (λ z. refl)))

@@ -24,13 +24,13 @@ use Rattle.reader.specs.Reader.{courseNumber, refusalNumber, headBytes, 
 -- ---- what bytes say
 
 -- the table, by its length word, which there is room for or not
-pub end-inside : {n : ℕ} (s : List ℕ) → n ≡ le 8 s 32 → n ≤ 1780 → (174 ≤ 174 + n) × (174 + n ≤ 1954) × (part (174 + n - 174) s 174 ≡ part (le 8 s 32) s 174)
+pub end-inside : {n : ℕ} (s : List ℕ) → n ≡ le 8 s 32 → n ≤ 1844 → (174 ≤ 174 + n) × (174 + n ≤ 2018) × (part (174 + n - 174) s 174 ≡ part (le 8 s 32) s 174)
 end-inside {n} s e h = (omega arith, omega arith, ap (λ (k : ℕ). part k s 174) (add-sub-cancel-left 174 n ∙ e))
 
-pub end-past : {n : ℕ} (s : List ℕ) → length s ≡ 1954 → n ≡ le 8 s 32 → 1780 < n → (174 ≤ 1954) × (1954 ≤ 1954) × (part 1780 s 174 ≡ part (le 8 s 32) s 174)
+pub end-past : {n : ℕ} (s : List ℕ) → length s ≡ 2018 → n ≡ le 8 s 32 → 1844 < n → (174 ≤ 2018) × (2018 ≤ 2018) × (part 1844 s 174 ≡ part (le 8 s 32) s 174)
 end-past {n} s l e h =
-    let d : length (drop 174 s) ≡ 1780 = length-drop 174 s ∙ omega arith in
-    (omega arith, omega arith, take-all 1780 (drop 174 s) (omega arith) ∙ sym (take-all (le 8 s 32) (drop 174 s) (omega arith)))
+    let d : length (drop 174 s) ≡ 1844 = length-drop 174 s ∙ omega arith in
+    (omega arith, omega arith, take-all 1844 (drop 174 s) (omega arith) ∙ sym (take-all (le 8 s 32) (drop 174 s) (omega arith)))
 
 -- the reader, from what the code read
 pub decode-is : {t : Reading} {store filled : ℕ} {held : List ℕ} {course : Course} (end : ℕ) (b : List ℕ) → store ≡ le 8 b 16 → part (end - 174) b 174 ≡ part (le 8 b 32) b 174
@@ -52,7 +52,7 @@ length-table b =
     let records = recordsOf (length (drivesOf b)) b in
     length-append records endRecord ∙ ap (λ (k : ℕ). length records + k) length-end
 
-pub table-fits : {m : ℕ} (b : Table) → m ≡ nextPlace b → m + 4 ≤ 1780 → (m + 4 ≡ length (tableOf b)) × (length (tableOf b) ≤ 1780)
+pub table-fits : {m : ℕ} (b : Table) → m ≡ nextPlace b → m + 4 ≤ 1844 → (m + 4 ≡ length (tableOf b)) × (length (tableOf b) ≤ 1844)
 table-fits b e h = (omega (arith, length-table b), omega (arith, length-table b))
 
 -- the five words
@@ -80,20 +80,20 @@ drop-zeros (suc n) zero = let e : 0 - suc n ≡ 0 = omega arith in rw e
 drop-zeros (suc n) (suc m) = let e : suc m - suc n ≡ m - n = omega arith in rw e (drop-zeros n m)
 
 -- the table, written over zeros
-pub table-laid : {t o : List ℕ} (s : List ℕ) (f : Feed) → length (tableOf (f .table)) ≤ 1780 → t ≡ writeOut (f .table) (replicate 1780 0) → o ≡ sets s 174 t
+pub table-laid : {t o : List ℕ} (s : List ℕ) (f : Feed) → length (tableOf (f .table)) ≤ 1844 → t ≡ writeOut (f .table) (replicate 1844 0) → o ≡ sets s 174 t
     → o ≡ sets s 174 (tableBytes f)
 unfolding writeOut
 table-laid s f h e w =
     let n = length (tableOf (f .table)) in
-    let r : writeOut (f .table) (zeros 1780) ≡ tableBytes f = rw (length-replicate {A = ℕ} 1780 0, le-ltb 1780 n h, drop-zeros n 1780) in
+    let r : writeOut (f .table) (zeros 1844) ≡ tableBytes f = rw (length-replicate {A = ℕ} 1844 0, le-ltb 1844 n h, drop-zeros n 1844) in
     w ∙ ap (sets s 174) (e ∙ r)
 
-pub length-tableBytes : (f : Feed) → length (tableOf (f .table)) ≤ 1780 → length (tableBytes f) ≡ 1780
+pub length-tableBytes : (f : Feed) → length (tableOf (f .table)) ≤ 1844 → length (tableBytes f) ≡ 1844
 length-tableBytes f h =
     let n = length (tableOf (f .table)) in
-    length-append (tableOf (f .table)) (zeros (1780 - n)) ∙ omega (arith, length-replicate {A = ℕ} (1780 - n) 0)
+    length-append (tableOf (f .table)) (zeros (1844 - n)) ∙ omega (arith, length-replicate {A = ℕ} (1844 - n) 0)
 
-pub length-image : (f : Feed) → length (f .held) ≡ 134 → length (tableOf (f .table)) ≤ 1780 → length (image f) ≡ 1954
+pub length-image : (f : Feed) → length (f .held) ≡ 134 → length (tableOf (f .table)) ≤ 1844 → length (image f) ≡ 2018
 unfolding image
 length-image f l h =
     length-append (headBytes f) (f .held ++ tableBytes f) ∙ omega (arith, length-head f, length-append (f .held) (tableBytes f), l, length-tableBytes f h)
@@ -110,7 +110,7 @@ image-stores s f m =
       m,
     )
 
-pub image-laid : {o₁ o₂ o₃ : List ℕ} (s : List ℕ) (f : Feed) → length s ≡ 1954 → length (f .held) ≡ 134 → length (tableOf (f .table)) ≤ 1780
+pub image-laid : {o₁ o₂ o₃ : List ℕ} (s : List ℕ) (f : Feed) → length s ≡ 2018 → length (f .held) ≡ 134 → length (tableOf (f .table)) ≤ 1844
     → o₁ ≡ sets s 0 (headBytes f) → o₂ ≡ sets o₁ 40 (f .held) → o₃ ≡ sets o₂ 174 (tableBytes f) → o₃ ≡ image f
 image-laid s f l m h e₁ e₂ e₃ =
     let w : sets s 0 (image f) ≡ image f = sets-whole s (image f) (l ∙ sym (length-image f m h)) in

@@ -20,7 +20,7 @@ use Rattle.table.specs.declared.Table.{Table}
 use Rattle.table.specs.declared.Stepped.{Stepped}
 use Rattle.table.specs.Table.{emptyTable, more, withParameters, withBads, mostRecords, readTable, stepAt, tableOf, isSound}
 use Rattle.table.specs.Demand2.{Widths}
-use Rattle.table.proofs.TableLaws.{refusal-room, length-whole, bads-whole, read-keeps, stepAt-cases}
+use Rattle.table.proofs.TableLaws.{refusal-room, length-whole, bads-whole, read-keeps, stepAt-cases, drive-bytes}
 use Rattle.table.proofs.Slots.{badsIn-listed}
 use Rattle.table.proofs.Sound.{each-more, So, so-empty, so-more, so-bads, so-attach, so-good, read-so}
 use Rattle.table.proofs.ReadWrite.{read-written}
@@ -70,8 +70,8 @@ pub read-widths : (t : List ℕ) (store : ℕ) → Bytes t → Widths (readTable
 unfolding readTable
 read-widths t store h =
     let r = read-keeps (λ at. Widths) t store
-    (λ at b w l z. widths-more b (driveOf (part 68 t at)) w (refusal-room (b .count) (b .drives) (driveOf (part 68 t at)) store z)
-    (fits-drive (part 68 t at) (bytes-part 68 t at h) (length-whole t at 1 68 l)))
+    (λ at n b w l z. widths-more b (driveOf (part n t at)) w (refusal-room (b .count) (b .drives) (driveOf (part n t at)) store z)
+    (fits-drive (part n t at) (bytes-part n t at h) (drive-bytes l .whole)))
     (λ at n b w l z. widths-bads b (numberIn (part n t at)) (badsIn (part n t at)) w)
     (λ at b w l z. widths-attach b (numberIn (part 20 t at)) (parametersIn (part 20 t at)) w)
     mostRecords 0 emptyTable widths-empty in
@@ -84,7 +84,7 @@ so-of : (b : Table) (store : ℕ) → Widths b → isSound b store ≡ true → 
 so-of b store w e = rw (read-written b store w e) at (read-so (tableOf b) store)
 
 -- and as long as the block has room for
-pub table-most : (b : Table) (store : ℕ) → Widths b → isSound b store ≡ true → length (tableOf b) ≤ 1780
+pub table-most : (b : Table) (store : ℕ) → Widths b → isSound b store ≡ true → length (tableOf b) ≤ 1844
 table-most b store w e = omega (arith, length-table b, place-most store b (so-of b store w e))
 
 -- ---- one step
@@ -97,11 +97,11 @@ step-keeps t at b store h w e =
     stepAt-cases (λ (r : Stepped). Widths (r .table) × (isSound (r .table) store ≡ true)) t at b store
     (λ n p. (w, e))
     (λ l m. (w, e))
-    (λ l z.
-    let n = length-whole t at 1 68 l in
-    let d = driveOf (part 68 t at) in (
-      widths-more b d w (refusal-room (b .count) (b .drives) d store z) (fits-drive (part 68 t at) (bytes-part 68 t at h) n),
-      so-good store (more b d) (so-more store b d s (arrays-drive (part 68 t at) n) z) .sound,
+    (λ n l z.
+    let whole = drive-bytes l .whole in
+    let d = driveOf (part n t at) in (
+      widths-more b d w (refusal-room (b .count) (b .drives) d store z) (fits-drive (part n t at) (bytes-part n t at h) whole),
+      so-good store (more b d) (so-more store b d s (arrays-drive (part n t at) whole) z) .sound,
     ))
     (λ n l z.
     let w′ = bads-whole t at 3 n l refl in

@@ -58,7 +58,7 @@ heldAt = 8 * 5
 abbrev pub tableAt : ℕ
 tableAt = heldAt + longestRecord
 
--- the whole block, 1954 bytes
+-- the whole block, 2018 bytes
 abbrev pub readerSize : ℕ
 readerSize = tableAt + longestTable
 

@@ -109,10 +109,10 @@ one-more (suc k) t store at b m c h =
     stepAt-cases (λ (r : Stepped). goOn (r .step) (r .table) (readFrom (suc k) t store) ≡ goOn (r .step) (r .table) (readFrom k t store)) t at b store
     (λ n p. refl)
     (λ e q. refl)
-    (λ e z.
-    let d = driveOf (part 68 t at) in
+    (λ n e z.
+    let d = driveOf (part n t at) in
     let r = refusal-room (b .count) (b .drives) d store z in
-    one-more k t store (at + 68) (more b d) m c (omega (arith, h, left-more b d r)))
+    one-more k t store (at + n) (more b d) m c (omega (arith, h, left-more b d r)))
     (λ n e z.
     let i = numberIn (part n t at) in
     let l = badsIn (part n t at) in

@@ -1,4 +1,4 @@
--- The reader needs the first 1910 bytes, eight drives with a record of bad blocks and one of parameters each and one record more, and no byte past
+-- The reader needs the first 1974 bytes, eight drives with a record of bad blocks and one of parameters each and one record more, and no byte past
 -- them.
 -- Assumes nothing.
 use mathlib.Core.Path.{_≡_, refl, sym, ap, _∙_}
@@ -14,6 +14,7 @@ use Rattle.logic.specs.Logic.{pick}
 use Rattle.logic.proofs.LogicLaws.{leb-iff}
 use Rattle.words.specs.Words.{le, part}
 use Rattle.words.proofs.WordsLaws.{le-ext}
+use Rattle.drive.proofs.DriveLaws.{length-most}
 use Rattle.drive.specs.Drive.{driveOf}
 use Rattle.attached.specs.Parameters.{numberIn, parametersIn}
 use Rattle.attached.specs.Bad.{badsIn}
@@ -22,7 +23,7 @@ use Rattle.table.specs.declared.Header.{Header}
 use Rattle.table.specs.declared.Header.the-variants.{Whole, Bad}
 use Rattle.table.specs.declared.Stepped.{Stepped}
 use Rattle.table.specs.Table.{isKind, lengthOk, headerAt, headerOf, more, withParameters, withBads, goOn, endStep, stepOf, stepAt, mostRecords, readFrom, readTable, emptyTable}
-use Rattle.table.proofs.TableLaws.{stepAt-cases, whole-at, lengthOk-most, bads-whole, refusal-room, bads-room, parameters-room}
+use Rattle.table.proofs.TableLaws.{stepAt-cases, whole-at, lengthOk-most, bads-whole, refusal-room, bads-room, parameters-room, drive-bytes}
 use Rattle.table.proofs.Enough.{roomFor, room-most, room-bare, room-listed, room-open, room-shut, listed-whole}
 
 -- a part of the first n + m bytes
@@ -76,7 +77,7 @@ module _ (n : ℕ) (t u : List ℕ) (same : take n t ≡ take n u) where
       by-header (Whole k m) q = rw (after (at + 4) (omega arith), body at m (omega (arith, lengthOk-most k m (whole-at u at k m q .right))))
 
   -- from a place on the reader needs the bytes of the records that there is room for, and of one more
-  reads : (k store at : ℕ) (b : Table) → length (b .present) ≡ 8 → length (b .counts) ≡ 8 → at + (222 * (8 - b .count) + roomFor 20 154 b) + 134 ≤ n
+  reads : (k store at : ℕ) (b : Table) → length (b .present) ≡ 8 → length (b .counts) ≡ 8 → at + (230 * (8 - b .count) + roomFor 20 154 b) + 134 ≤ n
       → readFrom k t store at b ≡ readFrom k u store at b
   unfolding readFrom
   reads zero store at b m c h = refl
@@ -85,10 +86,10 @@ module _ (n : ℕ) (t u : List ℕ) (same : take n t ≡ take n u) where
       (stepAt-cases (λ (s : Stepped). goOn (s .step) (s .table) (readFrom k t store) ≡ goOn (s .step) (s .table) (readFrom k u store)) u at b store
       (λ m p. refl)
       (λ e l. refl)
-      (λ e z.
-      let d = driveOf (part 68 u at) in
+      (λ x e z.
+      let d = driveOf (part x u at) in
       let r = refusal-room (b .count) (b .drives) d store z in
-      reads k store (at + 68) (more b d) m c (omega (arith, h, r, room-most 20 154 (omega arith) (more b d))))
+      reads k store (at + x) (more b d) m c (omega (arith, h, r, drive-bytes e .size, length-most (e .kind), room-most 20 154 (omega arith) (more b d))))
       (λ x e z.
       let i = numberIn (part x u at) in
       let l = badsIn (part x u at) in
@@ -103,11 +104,11 @@ module _ (n : ℕ) (t u : List ℕ) (same : take n t ≡ take n u) where
       reads k store (at + 20) (withParameters b i p) (length-set (b .present) i true ∙ m) c
       (omega (arith, h, room-open 20 154 (omega arith) b i (r .1) (r .2), room-shut 20 154 (omega arith) b i p (r .1) (r .0) m))))
 
--- two inputs with the same first 1910 bytes are read alike
-pub needed : (t u : List ℕ) (store : ℕ) → take 1910 t ≡ take 1910 u → readTable t store ≡ readTable u store
+-- two inputs with the same first 1974 bytes are read alike
+pub needed : (t u : List ℕ) (store : ℕ) → take 1974 t ≡ take 1974 u → readTable t store ≡ readTable u store
 unfolding readTable roomFor
-needed t u store e = reads 1910 t u e mostRecords store 0 emptyTable refl refl (omega arith)
+needed t u store e = reads 1974 t u e mostRecords store 0 emptyTable refl refl (omega arith)
 
--- so a buffer of at least 1910 bytes answers for input of any length
-pub buffer-enough : (n : ℕ) (t : List ℕ) (store : ℕ) → 1910 ≤ n → readTable (take n t) store ≡ readTable t store
-buffer-enough n t store h = needed (take n t) t store (take-take 1910 n t h)
+-- so a buffer of at least 1974 bytes answers for input of any length
+pub buffer-enough : (n : ℕ) (t : List ℕ) (store : ℕ) → 1974 ≤ n → readTable (take n t) store ≡ readTable t store
+buffer-enough n t store h = needed (take n t) t store (take-take 1974 n t h)

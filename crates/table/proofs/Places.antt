@@ -17,8 +17,8 @@ use Rattle.logic.proofs.LogicLaws.{impossible, lt-or-le, pick-cases}
 use Rattle.words.specs.Words.{le, part}
 use Rattle.words.proofs.WordsLaws.{le-ext}
 use Rattle.drive.specs.declared.Drive.{Drive}
-use Rattle.drive.specs.Drive.{driveOf, recordOf, fieldsOk, inStore}
-use Rattle.drive.proofs.DriveLaws.{Arrays, arrays-drive, length-record}
+use Rattle.drive.specs.Drive.{driveOf, recordOf, fieldsOk, inStore, isDriveKind, driveLength}
+use Rattle.drive.proofs.DriveLaws.{Arrays, arrays-drive, length-record, length-least, length-most}
 use Rattle.attached.specs.Parameters.{numberIn, parametersIn, parametersRecord}
 use Rattle.attached.specs.declared.Bads.{Bads}
 use Rattle.attached.specs.Bad.{badLength, badCount, badLengthOk, heldOf, badsIn, badRecord, listOk}
@@ -30,7 +30,7 @@ use Rattle.table.specs.declared.Header.the-variants.{Whole, Bad}
 use Rattle.table.specs.declared.Step.the-variants.{Next, Done, Refused}
 use Rattle.table.specs.declared.Stepped.{Stepped}
 use Rattle.table.specs.Table.{isKind, lengthOk, headerOf, headerAt, noDrive, overlapsAny, refusal, more, hasParameters, parametersRefusal, withParameters, hasBads, badsRefusal, withBads, stepped, recordRefusal, withRecord, recordStep, stepAt, emptyTable, slotRecords, recordsOf, drivesOf, nextPlace}
-use Rattle.table.proofs.TableLaws.{whole-at, headerOf-whole, lengthOk-cases, lengthOk-most, lengthOk-end, refusal-room, bads-room, parameters-room, stepAt-bad, stepAt-end, stepAt-record, endStep-done, endStep-byte, recordStep-next, recordStep-refused, recordsOf-more, recordsOf-ext, slot-bare, length-slot, attached-most, length-drives}
+use Rattle.table.proofs.TableLaws.{whole-at, headerOf-whole, lengthOk-cases, lengthOk-most, lengthOk-end, refusal-room, bads-room, parameters-room, stepAt-bad, stepAt-end, stepAt-record, endStep-done, endStep-byte, recordStep-next, recordStep-refused, recordsOf-more, recordsOf-ext, slot-bare, length-slot, attached-most, length-drives, drive-with, drive-refusal, kind-known}
 use Rattle.table.proofs.Slots.{attached-drive, Listed, badsIn-listed, listed-none}
 use Rattle.table.proofs.Sound.{So, so-more, so-bads, so-attach}
 use Rattle.table.proofs.Enough.{recordsLeft, left-some}
@@ -60,7 +60,7 @@ fresh store b s i l h = (
     by-mark false e = refl
 
 -- a drive more
-place-more : (store : ℕ) (b : Table) (d : Drive) → So store b → Arrays d → refusal (b .count) (b .drives) d store ≡ 0 → nextPlace (more b d) ≡ nextPlace b + 68
+place-more : (store : ℕ) (b : Table) (d : Drive) → So store b → Arrays d → refusal (b .count) (b .drives) d store ≡ 0 → nextPlace (more b d) ≡ nextPlace b + driveLength (d .kind)
 place-more store b d s a z =
     let room : b .count < 8 = refusal-room (b .count) (b .drives) d store z in
     let before : recordsOf (b .count) (more b d) ≡ recordsOf (b .count) b =
@@ -88,17 +88,17 @@ place-attach store b i p s given z =
     subst (λ (n : ℕ). recordsOf n (withParameters b i p) ≡ recordsOf n b ++ parametersRecord i p) (room .1) (attach-records b i p given (s .marks) (s .bytes) (room .0) (room .2)) in
     rw (place-count store (withParameters b i p) (so-attach store b i p s given z), place-count store b s, records, length-append (recordsOf (b .count) b) (parametersRecord i p), length-parametersRecord i p given)
 
--- eight drives with sixteen bad blocks and parameters each are 1776 bytes
-records-most : (store : ℕ) (b : Table) → So store b → (n : ℕ) → n ≤ b .count → length (recordsOf n b) ≤ 222 * n
+-- eight drives with sixteen bad blocks and parameters each are 1840 bytes
+records-most : (store : ℕ) (b : Table) → So store b → (n : ℕ) → n ≤ b .count → length (recordsOf n b) ≤ 230 * n
 unfolding recordsOf
 records-most store b s zero h = omega arith
 records-most store b s (suc n) h =
     let m = records-most store b s n (omega arith) in
     let l = length-slot b n (s .bytes) (s .lists) (omega (arith, s .most)) in
-    let d : length (recordOf (getD (b .drives) n noDrive)) ≡ 68 = length-record (getD (b .drives) n noDrive) (s .arrays n (omega arith)) in
-    rw (length-append (recordsOf n b) (slotRecords b n), l, d) (omega (arith, m, attached-most (getD (b .counts) n 0) (hasParameters b n)))
+    let d = length-record (getD (b .drives) n noDrive) (s .arrays n (omega arith)) in
+    rw (length-append (recordsOf n b) (slotRecords b n), l, d) (omega (arith, m, length-most (getD (b .drives) n noDrive .kind), attached-most (getD (b .counts) n 0) (hasParameters b n)))
 
-pub place-most : (store : ℕ) (b : Table) → So store b → nextPlace b ≤ 1776
+pub place-most : (store : ℕ) (b : Table) → So store b → nextPlace b ≤ 1840
 place-most store b s = omega (arith, place-count store b s, records-most store b s (b .count) (omega arith), s .most)
 
 -- a record that is taken
@@ -107,19 +107,22 @@ pub record Taken (store m : ℕ) (b next : Table) : Type 0 where
   pub place : nextPlace next ≡ nextPlace b + m
   pub some : recordsLeft next < 24
 
-record-taken : (k m : ℕ) (r : List ℕ) (b : Table) (store : ℕ) → So store b → lengthOk k m ≡ true → (k ≡ 0 → ⊥) → length r ≡ m → recordRefusal k r b store ≡ 0
+record-taken : (k m : ℕ) (r : List ℕ) (b : Table) (store : ℕ) → So store b → lengthOk k m ≡ true → (k ≡ 0 → ⊥) → length r ≡ m → le 2 r 2 ≡ k → recordRefusal k r b store ≡ 0
     → Taken store m b (withRecord k r b)
-unfolding recordRefusal withRecord
-record-taken k m r b store s right other l z =
+unfolding recordRefusal withRecord driveOf
+record-taken k m r b store s right other l kind z =
     ⊎-elim (λ x. absurd (other (x .0)))
-    (λ y. ⊎-elim (λ x. subst (λ (n : ℕ). Taken store n b (withRecord k r b)) (sym (x .1)) (rw (x .0) (a-drive (l ∙ x .1) (rw (x .0) at z))))
+    (λ y. ⊎-elim (λ x. rw (drive-with k r b (x .0)) (a-drive (x .1) (sym (drive-refusal k r b store (x .0)) ∙ z)))
     (λ u. ⊎-elim (λ x. rw (x .0) (bads (x .1) (rw (x .0) at z)))
     (λ x. subst (λ (n : ℕ). Taken store n b (withRecord k r b)) (sym (x .1)) (rw (x .0) (parameters (l ∙ x .1) (rw (x .0) at z)))) u) y) (lengthOk-cases k m right)
   where
-    a-drive : length r ≡ 68 → refusal (b .count) (b .drives) (driveOf r) store ≡ 0 → Taken store 68 b (more b (driveOf r))
+    same-place : m ≡ driveLength k → nextPlace b + driveLength (driveOf r .kind) ≡ nextPlace b + m
+    same-place n = ap (λ (j : ℕ). nextPlace b + driveLength j) kind ∙ ap (λ (j : ℕ). nextPlace b + j) (sym n)
+
+    a-drive : m ≡ driveLength k → refusal (b .count) (b .drives) (driveOf r) store ≡ 0 → Taken store m b (more b (driveOf r))
     a-drive n e =
-        let a = arrays-drive r n in
-        record { so = so-more store b (driveOf r) s a e; place = place-more store b (driveOf r) s a e; some = left-some (more b (driveOf r)) (omega arith) }
+        let a = arrays-drive r (l ∙ n ∙ ap driveLength (sym kind)) in
+        record { so = so-more store b (driveOf r) s a e; place = place-more store b (driveOf r) s a e ∙ same-place n; some = left-some (more b (driveOf r)) (omega arith) }
 
     bads : badLengthOk m ≡ true → badsRefusal b (numberIn r) (badsIn r) ≡ 0 → Taken store m b (withBads b (numberIn r) (badsIn r))
     bads n e =
@@ -174,7 +177,7 @@ record-other : (k : ℕ) (r : List ℕ) (b : Table) (store : ℕ) → Other (rec
 unfolding recordRefusal refusal badsRefusal parametersRefusal
 record-other k r b store =
     let i : ℕ = numberIn r in
-    pick-cases Other (eqb k 1) (refusal (b .count) (b .drives) (driveOf r) store) (pick (eqb k 3) (badsRefusal b i (badsIn r)) (parametersRefusal b i))
+    pick-cases Other (isDriveKind k) (refusal (b .count) (b .drives) (driveOf r) store) (pick (eqb k 3) (badsRefusal b i (badsIn r)) (parametersRefusal b i))
     (λ e. by-tests (leb 8 (b .count)) (fieldsOk (driveOf r)) (inStore (driveOf r) store) (overlapsAny (b .count) (b .drives) (driveOf r)))
     (λ e. pick-cases Other (eqb k 3) (badsRefusal b i (badsIn r)) (parametersRefusal b i)
     (λ f. by-list (both (ltb i 8) (both (eqb (i + 1) (b .count)) (not (either (hasBads b i) (hasParameters b i)))))
@@ -203,7 +206,7 @@ record-other k r b store =
 lengthOk-least : (k m : ℕ) → lengthOk k m ≡ true → (4 ≤ m) × (isKind k ≡ true)
 lengthOk-least k m h =
     ⊎-elim (λ x. (omega (arith, x .1), rw (x .0)))
-    (λ y. ⊎-elim (λ x. (omega (arith, x .1), rw (x .0)))
+    (λ y. ⊎-elim (λ x. (omega (arith, x .1, length-least k), kind-known k (x .0)))
     (λ z. ⊎-elim (λ x. (omega (arith, badLengthOk-least m (x .1)), rw (x .0))) (λ x. (omega (arith, x .1), rw (x .0))) z) y) (lengthOk-cases k m h)
 
 -- a header that the bytes settle is that of more bytes
@@ -318,7 +321,7 @@ begun-cases P h x r b store whole s o stay refuse finish next = by-header (heade
     by-refusal : (k m : ℕ) → headerAt r 0 ≡ Whole k m → (k ≡ 0 → ⊥) → length r ≡ m → Dec (recordRefusal k r b store ≡ 0) → P (recordStep k m r b 0 store)
     by-refusal k m e z l (yes y) =
         rw (← recordStep-next k m r b 0 store refl y)
-        (next m (withRecord k r b) l (record-taken k m r b store s (whole-at r 0 k m e .right) z l y)
+        (next m (withRecord k r b) l (record-taken k m r b store s (whole-at r 0 k m e .right) z l (whole-at r 0 k m e .same) y)
         (λ t q at f. rw (← stepAt-record t at k m b store (whole-front k m e t q at f) z, part-front t r q at f m l) (sym (recordStep-next k m r b at store refl y))))
     by-refusal k m e z l (no y) =
         let other = record-other k r b store in

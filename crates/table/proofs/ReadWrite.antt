@@ -11,14 +11,14 @@ use native.Mathlib.Omega.{arith}
 use lib.ListN.{length, take, drop, getD, set, replicate, length-drop, length-set, length-append, getD-replicate, List·getD-append}
 use lib.Seq.{sets, length-sets, take-at, drop-at, drop-drop, getD-drop, getD-take, getD-set-same, getD-set-other, ext-getD}
 use lib.Dec.{eqb}
-use borrow.Author.Tests.{eqb-true, eqb-false}
+use borrow.Author.Tests.{eqb-true, eqb-false, eq-eqb}
 use Rattle.logic.specs.Logic.{pick}
 use Rattle.logic.proofs.LogicLaws.{both-true, lt-or-le, pick-cases}
 use Rattle.words.specs.Words.{le, leBytes, part}
 use Rattle.words.proofs.WordsLaws.{le-ext}
 use Rattle.drive.specs.declared.Drive.{Drive}
-use Rattle.drive.specs.Drive.{driveOf, recordOf, isBlank, blankNumbers, blankNames}
-use Rattle.drive.proofs.DriveLaws.{drive-record, same-true}
+use Rattle.drive.specs.Drive.{driveOf, recordOf, isBlank, blankNumbers, blankNames, zeroTail, isDriveKind, driveLength, fieldsOk}
+use Rattle.drive.proofs.DriveLaws.{drive-record, same-true, drive-kind, tailed-good, length-least}
 use Rattle.drive.proofs.Demand2.{demand-2}
 use Rattle.attached.specs.Parameters.{numberIn, parametersIn, parametersRecord}
 use Rattle.attached.specs.declared.Bads.{Bads}
@@ -32,7 +32,7 @@ use Rattle.table.specs.declared.Answer.the-variants.{Accepted}
 use Rattle.table.specs.declared.Reading.{Reading}
 use Rattle.table.specs.Table.{mostDrives, noDrive, zeroDrive, headerAt, refusal, more, hasParameters, parametersAt, withParameters, badsAt, hasBads, withBads, stepped, stepAt, reading, mostRecords, readFrom, readTable, badsRecord, slotRecords, recordsOf, endRecord, bytesOf, drivesOf, tableOf, attachedAt, listedAt, isSound, isKind, lengthOk}
 use Rattle.table.specs.Demand2.{Widths}
-use Rattle.table.proofs.TableLaws.{headerOf-whole, lengthOk-three, stepAt-end, endStep-done, parameters-taken, bads-none, drive-taken, attach-taken, bads-taken, length-parametersAt, length-listPart, length-drives}
+use Rattle.table.proofs.TableLaws.{headerOf-whole, lengthOk-three, stepAt-end, endStep-done, parameters-taken, bads-none, drive-taken, attach-taken, bads-taken, length-parametersAt, length-listPart, length-drives, DriveAt, lengthOk-one, kind-known, refusal-taken}
 use Rattle.table.proofs.Slots.{byte-of, bytes-same, bytes-other, bads-same, bads-other, bads-empty, listed-none, attached-drive, attached-zero}
 use Rattle.table.proofs.Sound.{Rules, sound-rules, refusal-ext}
 
@@ -195,7 +195,7 @@ module _ (b : Table) (all : length (b .bad) ≡ 1024) where
 
 -- a blank slot is zero
 blank-drive : (d : Drive) → isBlank d ≡ true → d ≡ zeroDrive
-unfolding isBlank blankNumbers blankNames
+unfolding isBlank blankNumbers blankNames zeroTail
 blank-drive d e =
     let p = both-true _ _ e in
     let q = both-true _ _ (p .0) in
@@ -210,6 +210,8 @@ blank-drive d e =
     let names = both-true _ _ (p .1) in
     let names₂ = both-true _ _ (names .1) in
     let names₃ = both-true _ _ (names₂ .1) in
+    let names₄ = both-true _ _ (names₃ .1) in
+    let bytes₂ = both-true _ _ (bytes .1) in
     λ i. record {
       cylinders = eqb-true (d .cylinders) 0 (physical .0) i;
       heads = eqb-true (d .heads) 0 (physical₂ .0) i;
@@ -220,11 +222,13 @@ blank-drive d e =
       c = eqb-true (d .c) 0 (words₂ .0) i;
       h = eqb-true (d .h) 0 (words₂ .1) i;
       s = eqb-true (d .s) 0 (bytes .0) i;
-      protection = eqb-true (d .protection) 0 (bytes .1) i;
+      protection = eqb-true (d .protection) 0 (bytes₂ .0) i;
       bus = same-true (d .bus) (replicate 4 0) (names .0) i;
       interface = same-true (d .interface) (replicate 8 0) (names₂ .0) i;
       path = same-true (d .path) (replicate 8 0) (names₃ .0) i;
-      device = same-true (d .device) (replicate 8 0) (names₃ .1) i;
+      device = same-true (d .device) (replicate 8 0) (names₄ .0) i;
+      kind = eqb-true (d .kind) 0 (bytes₂ .1) i;
+      tail = same-true (d .tail) (replicate 8 0) (names₄ .1) i;
     }
 
 -- all slots of a sound table are the table
@@ -351,11 +355,18 @@ module _ (b : Table) (store : ℕ) (w : Widths b) (r : Rules b store) (t : List 
   drive-read R n rest f k at q e =
       let d : Drive = driveIn b i in
       let o = demand-2 d (w .each i l) in
-      let p : driveOf (part 68 t at) ≡ d = ap driveOf (ap (take 68) e ∙ take-at (recordOf d) rest 68 (o .whole)) ∙ drive-record d (w .each i l) in
-      let h : headerAt t at ≡ Whole 1 68 = written-header t at 1 68 (recordOf d) rest e (o .whole) (o .length-word) (o .kind) refl refl (omega arith) in
+      let m : ℕ = driveLength (d .kind) in
+      let g : fieldsOk d ≡ true = refusal-taken i (b .drives) d store (r .taken i l) .0 in
+      let kind : isDriveKind (d .kind) ≡ true = drive-kind d g in
+      let p : driveOf (part m t at) ≡ d = ap driveOf (ap (take m) e ∙ take-at (recordOf d) rest m (o .whole)) ∙ drive-record d (w .each i l) (tailed-good d g) in
+      let h : DriveAt t at m = record {
+        kind = d .kind;
+        header = written-header t at (d .kind) m (recordOf d) rest e (o .whole) (o .length-word) (o .kind) (kind-known (d .kind) kind) (sym (lengthOk-one (d .kind) m kind) ∙ eq-eqb m m refl) (omega (arith, length-least (d .kind)));
+        drive = kind;
+      } in
       let z : refusal i (filled i (b .drives)) d store ≡ 0
       = refusal-ext i (filled i (b .drives)) (b .drives) d store (λ j h. filled-below i j (b .drives) (omega (arith, slot)) h) ∙ r .taken i l in
-      record-read t store (upTo b i) (withDrive b i) n 68 at k rest R (drive-taken t at (upTo b i) store d h p z) (behind (recordOf d) rest at 68 e (o .whole)) f q
+      record-read t store (upTo b i) (withDrive b i) n m at k rest R (drive-taken t at m (upTo b i) store d h p z) (behind (recordOf d) rest at m e (o .whole)) f q
 
   -- one to its bad blocks, if it has any
   bads-read : (R : Reading) (n : ℕ) (rest : List ℕ) → (getD (b .counts) i 0 ≡ 0 → ⊥)

@@ -15,7 +15,7 @@ use Rattle.logic.specs.Logic.{pick, both}
 use Rattle.logic.proofs.LogicLaws.{both-true, lt-or-le, some-ext}
 use Rattle.words.specs.Words.{part}
 use Rattle.drive.specs.declared.Drive.{Drive}
-use Rattle.drive.specs.Drive.{driveOf, overlap}
+use Rattle.drive.specs.Drive.{driveOf, overlap, isDriveKind}
 use Rattle.attached.specs.Parameters.{numberIn, parametersIn}
 use Rattle.attached.specs.declared.Bads.{Bads}
 use Rattle.attached.specs.Bad.{badsIn, listOk}
@@ -24,7 +24,7 @@ use Rattle.table.specs.declared.Header.the-variants.{Whole, Bad}
 use Rattle.table.specs.declared.Answer.{Answer}
 use Rattle.table.specs.declared.Answer.the-variants.{Refused as AnswerRefused}
 use Rattle.table.specs.Table.{noDrive, emptyTable, headerAt, overlapsAny, refusal, more, hasParameters, parametersRefusal, badsRefusal, reading, readFrom, mostRecords, readTable, Reads, endAnswer, overlapRuns, overlapsRun, refusalAmong}
-use Rattle.table.proofs.TableLaws.{whole-at, length-whole, lengthOk-end, drive-whole, room, stepAt-bad, stepAt-end, endStep-byte, endStep-done, drive-next, drive-refused, parameters-whole, parameters-none, parameters-nine, parameters-next, parameters-refused, bads-nine, bads-named, bads-next, bads-refused, stepAt-drive, stepAt-bads, stepAt-parameters, reads-first, reads-next, reads-done, reads-refused}
+use Rattle.table.proofs.TableLaws.{whole-at, length-whole, lengthOk-end, room, stepAt-bad, stepAt-end, endStep-byte, endStep-done, drive-next, drive-refused, parameters-whole, parameters-none, parameters-nine, parameters-next, parameters-refused, bads-nine, bads-named, bads-next, bads-refused, stepAt-drive, stepAt-bads, stepAt-parameters, reads-first, reads-next, reads-done, reads-refused}
 
 -- ---- runs beside drives
 
@@ -106,18 +106,18 @@ module _ {t : List ℕ} {store left at : ℕ} {b : Table} {firsts sizes : List �
         by-byte true q = rw q (reads-refused left t store at b l (endStep-byte t at b (ltb-true (at + 4) (length t) q) ∙ stepAt-end t at k n b store h z) refl (s .reads))
         by-byte false q = rw q (reads-done left t store at b l (endStep-done t at b (ltb-false (at + 4) (length t) q) ∙ stepAt-end t at k n b store h z) refl (s .reads))
 
-    module _ {d : Drive} {m : ℕ} (z : k ≡ 1) (e : d ≡ driveOf (part n t at)) (q : m ≡ refusalAmong (b .count) firsts sizes d store) where
+    module _ {d : Drive} {m : ℕ} (z : isDriveKind k ≡ true) (e : d ≡ driveOf (part n t at)) (q : m ≡ refusalAmong (b .count) firsts sizes d store) where
       among : m ≡ refusal (b .count) (b .drives) d store
       among = q ∙ among-is b firsts sizes d store (s .beside)
 
       pub drive-reads : (m ≡ 0 → ⊥) → Reads t store (reading (AnswerRefused m at) b)
-      drive-reads x = reads-refused left t store at b l (drive-refused (part n t at) at b store e among x ∙ stepAt-drive t at k n b store h z) refl (s .reads)
+      drive-reads x = reads-refused left t store at b l (drive-refused k (part n t at) at b store z e among x ∙ stepAt-drive t at k n b store h z) refl (s .reads)
 
       pub drive-stands : m ≡ 0 → Stands t store (left - 1) (at + n) (more b d) (set firsts (b .count) (d .first)) (set sizes (b .count) (d .blocks))
       drive-stands x =
           let slot : b .count < 8 = slot-left (b .count) firsts sizes d store q x in
           let eight = s .eight in
-          let next = drive-next (part n t at) at b store (drive-whole t at k n h z .0) e among x refl ∙ stepAt-drive t at k n b store h z in
+          let next = drive-next k (part n t at) at b store z e among x refl ∙ stepAt-drive t at k n b store h z in
           record {
             reads = rw (length-whole t at k n h) at (reads-next left t store at b l next refl (s .reads));
             eight = (length-set (b .drives) (b .count) d ∙ eight .0, length-set firsts (b .count) (d .first) ∙ eight .1, length-set sizes (b .count) (d .blocks) ∙ eight .2);
@@ -127,7 +127,7 @@ module _ {t : List ℕ} {store left at : ℕ} {b : Table} {firsts sizes : List �
           }
 
     module _ {i : ℕ} {a : Bool} (e : i ≡ numberIn (part n t at)) (q : a ≡ both (ltb i 8) (both (eqb (i + 1) (b .count)) (not (hasParameters b i)))) where
-      pub attached-reads : (k ≡ 0 → ⊥) → (k ≡ 1 → ⊥) → a ≡ false → Reads t store (reading (AnswerRefused 9 at) b)
+      pub attached-reads : (k ≡ 0 → ⊥) → isDriveKind k ≡ false → a ≡ false → Reads t store (reading (AnswerRefused 9 at) b)
       attached-reads z z′ x = by-kind (ℕ-discrete k 3)
         where
           by-kind : Dec (k ≡ 3) → Reads t store (reading (AnswerRefused 9 at) b)
@@ -165,7 +165,7 @@ module _ {t : List ℕ} {store left at : ℕ} {b : Table} {firsts sizes : List �
               beside = s .beside;
             }
 
-      pub parameters-stands : {y p : List ℕ} → (k ≡ 0 → ⊥) → (k ≡ 1 → ⊥) → (k ≡ 3 → ⊥) → a ≡ true → y ≡ parametersIn (part n t at) → p ≡ sets (b .parameters) (14 * i) y
+      pub parameters-stands : {y p : List ℕ} → (k ≡ 0 → ⊥) → isDriveKind k ≡ false → (k ≡ 3 → ⊥) → a ≡ true → y ≡ parametersIn (part n t at) → p ≡ sets (b .parameters) (14 * i) y
           → Stands t store (left - 1) (at + n)
           (record { drives = b .drives; count = b .count; present = set (b .present) i true; parameters = p; counts = b .counts; bad = b .bad }) firsts sizes
       parameters-stands {y} {p} z z′ z″ x w o =

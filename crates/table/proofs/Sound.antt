@@ -16,7 +16,7 @@ use Rattle.logic.specs.Logic.{both}
 use Rattle.logic.proofs.LogicLaws.{both-true, both-intro, either-left, either-right, lt-or-le, all-at, all-intro, all-ext, some-ext, true≢false}
 use Rattle.words.specs.Words.{part}
 use Rattle.drive.specs.declared.Drive.{Drive}
-use Rattle.drive.specs.Drive.{driveOf, fieldsOk, inStore, overlap, same, isBlank, blankNumbers, blankNames}
+use Rattle.drive.specs.Drive.{driveOf, fieldsOk, inStore, overlap, same, isBlank, blankNumbers, blankNames, zeroTail}
 use Rattle.drive.proofs.DriveLaws.{Arrays, arrays-drive}
 use Rattle.attached.specs.Parameters.{numberIn, parametersIn}
 use Rattle.attached.specs.declared.Bads.{Bads}
@@ -26,7 +26,7 @@ use Rattle.attached.proofs.BadLaws.{badsOk-intro, badsOk-noBads}
 use Rattle.table.specs.declared.Table.{Table}
 use Rattle.table.specs.declared.Answer.the-variants.{Accepted}
 use Rattle.table.specs.Table.{noDrive, zeroDrive, emptyTable, overlapsAny, refusal, more, hasParameters, parametersRefusal, withParameters, badsAt, badsRefusal, withBads, mostRecords, readFrom, readTable, takenAt, soundTo, blankAt, blankTo, attachedAt, attachedTo, listedAt, listedTo, isSound}
-use Rattle.table.proofs.TableLaws.{refusal-room, refusal-taken, parameters-room, bads-room, length-whole, bads-whole, read-keeps}
+use Rattle.table.proofs.TableLaws.{refusal-room, refusal-taken, parameters-room, bads-room, length-whole, bads-whole, read-keeps, drive-bytes}
 use Rattle.table.proofs.Slots.{marked, marked-other, bytes-other, bads-same, bads-other, bads-empty, Listed, badsIn-listed, listed-none, attached-drive, attached-zero, attached-intro}
 
 -- ---- a drive that is taken
@@ -218,7 +218,7 @@ so-attach store b i p s n z =
         (λ e j l. bytes-other (b .parameters) i p k j n x l ∙ attached-zero b k (s .attached k h) (sym m ∙ e) j l)
 
 blank-zero : isBlank zeroDrive ≡ true
-unfolding isBlank blankNumbers blankNames same
+unfolding isBlank blankNumbers blankNames same zeroTail
 blank-zero = refl
 
 pub so-good : (store : ℕ) (b : Table) → So store b → Good b store
@@ -247,7 +247,7 @@ pub read-so : (t : List ℕ) (store : ℕ) → So store (readTable t store .tabl
 unfolding readTable
 read-so t store =
     let r = read-keeps (λ at. So store) t store
-    (λ at b s h z. so-more store b (driveOf (part 68 t at)) s (arrays-drive (part 68 t at) (length-whole t at 1 68 h)) z)
+    (λ at n b s h z. so-more store b (driveOf (part n t at)) s (arrays-drive (part n t at) (drive-bytes h .whole)) z)
     (λ at n b s h z.
     let w = bads-whole t at 3 n h refl in
     so-bads store b (numberIn (part n t at)) (badsIn (part n t at)) s (badsIn-listed (part n t at) (rw (w .0) (w .4))) z)

@@ -5,7 +5,7 @@ use mathlib.Core.Logic.{_⊎_, inl, inr, ⊎-elim}
 use mathlib.Core.Bool.{Bool, true, false, not}
 use mathlib.Core.List.{List, [], _∷_, _++_, append-nil, append-assoc}
 use Prim.Native.Nat.{ℕ, zero, suc, _+_, _-_, _*_, _≤_, _<_, min}
-use native.Mathlib.Nat.{zero-add, add-assoc}
+use native.Mathlib.Nat.{zero-add, add-zero, add-assoc}
 use native.Mathlib.Numerals.{add-one, sub-one}
 use native.Mathlib.Omega.{arith}
 use lib.ListN.{length, getD, drop, length-append, length-take, length-drop}
@@ -13,11 +13,12 @@ use lib.Seq.{sets, length-sets, length-take-le, getD-take, getD-drop}
 use lib.Dec.{ltb, leb, eqb}
 use borrow.Author.Tests.{leb-false, lt-leb, ltb-true, ltb-false, lt-ltb, le-ltb, eq-eqb, ne-eqb, eqb-true, eqb-false}
 use Rattle.logic.specs.Logic.{pick, both, either}
-use Rattle.logic.proofs.LogicLaws.{impossible, both-true, both-assoc, either-true, lt-or-le, pick-cases}
+use Rattle.logic.proofs.LogicLaws.{impossible, true≢false, both-true, both-assoc, either-true, lt-or-le, pick-cases}
 use Rattle.words.specs.Words.{le, leBytes, part}
 use Rattle.words.proofs.WordsLaws.{sets-append, sets-front, length-leBytes, le-ext}
 use Rattle.drive.specs.declared.Drive.{Drive}
-use Rattle.drive.specs.Drive.{driveOf, recordOf, fieldsOk, inStore}
+use Rattle.drive.specs.Drive.{isDriveKind, driveLength, driveOf, recordOf, fieldsOk, inStore}
+use Rattle.drive.proofs.DriveLaws.{length-least, length-most}
 use Rattle.attached.specs.Parameters.{numberIn, parametersIn, parametersRecord}
 use Rattle.attached.specs.declared.Bads.{Bads}
 use Rattle.attached.specs.Bad.{badLength, badLengthOk, badsIn, heldOf, badRecord, listOk}
@@ -82,9 +83,35 @@ pub header-is : {left size kind : ℕ} {k l : Bool} (t : List ℕ) (at : ℕ) �
 unfolding headerAt headerOf
 header-is t at e s q k l = rw (k, l, e, s, q)
 
+-- a word of a part is the word
+pub le-part : (k n : ℕ) (s : List ℕ) (at i : ℕ) → i + k ≤ n → le k (part n s at) i ≡ le k s (at + i)
+le-part k n s at i h = le-ext k (part n s at) s i (at + i) (λ j l.
+    let q : i + j < n = omega arith in
+    rw (getD-take n (drop at s) (i + j) 0 q, getD-drop at s (i + j) 0, ← add-assoc at i j))
+
+-- the kinds of a drive are those up to 2 but the end's
+pub drive-kind : (k : ℕ) → (k ≡ 0 → ⊥) → k ≤ 2 → isDriveKind k ≡ true
+drive-kind zero z l = absurd (z refl)
+drive-kind (suc zero) z l = refl
+drive-kind (suc (suc zero)) z l = refl
+drive-kind (suc (suc (suc k))) z l = absurd (omega arith)
+
+pub other-kind : (k : ℕ) → 2 < k → isDriveKind k ≡ false
+other-kind k l = rw (ne-eqb k 1 (λ e. omega arith), ne-eqb k 2 (λ e. omega arith))
+
+pub kind-cases : (k : ℕ) → isDriveKind k ≡ true → (k ≡ 1) ⊎ (k ≡ 2)
+kind-cases k d = ⊎-elim (λ x. inl (eqb-true k 1 x)) (λ x. inr (eqb-true k 2 x)) (either-true (eqb k 1) (eqb k 2) d)
+
+pub kind-known : (k : ℕ) → isDriveKind k ≡ true → isKind k ≡ true
+kind-known k d = ⊎-elim (λ e. rw e) (λ e. rw e) (kind-cases k d)
+
+-- no other kind is one of them
+pub kind-apart : (k j : ℕ) → isDriveKind k ≡ true → isDriveKind j ≡ false → k ≡ j → ⊥
+kind-apart k j d f e = impossible (cc)
+
 -- the length of a kind that is known
-pub lengthOk-one : (size : ℕ) → eqb size 68 ≡ lengthOk 1 size
-lengthOk-one size = by-test (eqb size 68)
+pub lengthOk-one : (k size : ℕ) → isDriveKind k ≡ true → eqb size (driveLength k) ≡ lengthOk k size
+lengthOk-one k size d = ⊎-elim (λ e. rw e (by-test (eqb size 68))) (λ e. rw e (by-test (eqb size 76))) (kind-cases k d)
   where
     by-test : (x : Bool) → x ≡ either x false
     by-test true = refl
@@ -106,18 +133,21 @@ lengthOk-three size = by-test (badLengthOk size)
 
 -- the kinds with their lengths
 pub lengthOk-cases : (k n : ℕ) → lengthOk k n ≡ true
-    → ((k ≡ 0) × (n ≡ 4)) ⊎ (((k ≡ 1) × (n ≡ 68)) ⊎ (((k ≡ 3) × (badLengthOk n ≡ true)) ⊎ ((k ≡ 4) × (n ≡ 20))))
+    → ((k ≡ 0) × (n ≡ 4)) ⊎ (((isDriveKind k ≡ true) × (n ≡ driveLength k)) ⊎ (((k ≡ 3) × (badLengthOk n ≡ true)) ⊎ ((k ≡ 4) × (n ≡ 20))))
 lengthOk-cases k n h =
     let last : Bool = both (eqb k 4) (eqb n 20) in
     let third : Bool = either (both (eqb k 3) (badLengthOk n)) last in
     ⊎-elim (λ x. inl (of 0 4 x))
-    (λ y. inr (⊎-elim (λ x. inl (of 1 68 x))
+    (λ y. inr (⊎-elim (λ x. inl (drive x))
     (λ z. inr (⊎-elim (λ x. inl (listed x)) (λ x. inr (of 4 20 x)) (either-true (both (eqb k 3) (badLengthOk n)) last z)))
-    (either-true (both (eqb k 1) (eqb n 68)) third y)))
-    (either-true (both (eqb k 0) (eqb n 4)) (either (both (eqb k 1) (eqb n 68)) third) h)
+    (either-true (both (isDriveKind k) (eqb n (driveLength k))) third y)))
+    (either-true (both (eqb k 0) (eqb n 4)) (either (both (isDriveKind k) (eqb n (driveLength k))) third) h)
   where
     of : (kind size : ℕ) → both (eqb k kind) (eqb n size) ≡ true → (k ≡ kind) × (n ≡ size)
     of kind size x = let p = both-true (eqb k kind) (eqb n size) x in (eqb-true k kind (p .0), eqb-true n size (p .1))
+
+    drive : both (isDriveKind k) (eqb n (driveLength k)) ≡ true → (isDriveKind k ≡ true) × (n ≡ driveLength k)
+    drive x = let p = both-true (isDriveKind k) (eqb n (driveLength k)) x in (p .0, eqb-true n (driveLength k) (p .1))
 
     listed : both (eqb k 3) (badLengthOk n) ≡ true → (k ≡ 3) × (badLengthOk n ≡ true)
     listed x = let p = both-true (eqb k 3) (badLengthOk n) x in (eqb-true k 3 (p .0), p .1)
@@ -125,23 +155,54 @@ lengthOk-cases k n h =
 pub lengthOk-end : (k n : ℕ) → lengthOk k n ≡ true → k ≡ 0 → n ≡ 4
 lengthOk-end k n h e = eqb-true n 4 (lengthOk-zero n ∙ rw e at h)
 
-pub lengthOk-drive : (k n : ℕ) → lengthOk k n ≡ true → k ≡ 1 → n ≡ 68
-lengthOk-drive k n h e = eqb-true n 68 (lengthOk-one n ∙ rw e at h)
+pub lengthOk-drive : (k n : ℕ) → lengthOk k n ≡ true → isDriveKind k ≡ true → n ≡ driveLength k
+lengthOk-drive k n h d = eqb-true n (driveLength k) (lengthOk-one k n d ∙ h)
 
 pub lengthOk-bad : (k n : ℕ) → lengthOk k n ≡ true → k ≡ 3 → badLengthOk n ≡ true
 lengthOk-bad k n h e = lengthOk-three n ∙ rw e at h
 
 -- a kind that neither ends the table nor is a drive's or that of bad blocks is that of parameters
-pub lengthOk-parameters : (k n : ℕ) → lengthOk k n ≡ true → (k ≡ 0 → ⊥) → (k ≡ 1 → ⊥) → (k ≡ 3 → ⊥) → (k ≡ 4) × (n ≡ 20)
+pub lengthOk-parameters : (k n : ℕ) → lengthOk k n ≡ true → (k ≡ 0 → ⊥) → isDriveKind k ≡ false → (k ≡ 3 → ⊥) → (k ≡ 4) × (n ≡ 20)
 lengthOk-parameters k n h e f g =
-    ⊎-elim (λ x. absurd (e (x .0))) (λ y. ⊎-elim (λ x. absurd (f (x .0))) (λ z. ⊎-elim (λ x. absurd (g (x .0))) (λ x. x) z) y) (lengthOk-cases k n h)
+    ⊎-elim (λ x. absurd (e (x .0))) (λ y. ⊎-elim (λ x. true≢false (isDriveKind k) (x .0) f) (λ z. ⊎-elim (λ x. absurd (g (x .0))) (λ x. x) z) y) (lengthOk-cases k n h)
 
 -- the bytes of a whole record of a length
 size-whole : (t : List ℕ) (at k n m : ℕ) → headerAt t at ≡ Whole k n → n ≡ m → (length (part n t at) ≡ m) × (at + m ≤ length t)
 size-whole t at k n m h e = let w = whole-at t at k n h in (length-whole t at k n h ∙ e, omega (arith, w .whole, w .header, e))
 
-pub drive-whole : (t : List ℕ) (at k n : ℕ) → headerAt t at ≡ Whole k n → k ≡ 1 → (length (part n t at) ≡ 68) × (at + 68 ≤ length t)
-drive-whole t at k n h e = size-whole t at k n 68 h (lengthOk-drive k n (whole-at t at k n h .right) e)
+-- a whole record of a drive, of either kind
+pub record DriveAt (t : List ℕ) (at n : ℕ) : Type 0 where
+  pub kind : ℕ
+  pub header : headerAt t at ≡ Whole kind n
+  pub drive : isDriveKind kind ≡ true
+
+-- what its bytes have
+pub record DriveBytes (t : List ℕ) (at k n : ℕ) : Type 0 where
+  pub long : length (part n t at) ≡ n
+  pub inside : at + n ≤ length t
+  pub size : n ≡ driveLength k
+  pub word : le 2 (part n t at) 0 ≡ n
+  pub kind : le 2 (part n t at) 2 ≡ k
+  pub whole : length (part n t at) ≡ driveLength (le 2 (part n t at) 2)
+
+pub drive-whole : (t : List ℕ) (at k n : ℕ) → headerAt t at ≡ Whole k n → isDriveKind k ≡ true → DriveBytes t at k n
+drive-whole t at k n h d =
+    let w = whole-at t at k n h in
+    let s : n ≡ driveLength k = lengthOk-drive k n (w .right) d in
+    let l : length (part n t at) ≡ n = length-whole t at k n h in
+    let four : 4 ≤ n = omega (arith, s, length-least k) in
+    let q : le 2 (part n t at) 2 ≡ k = le-part 2 n t at 2 (omega (arith, four)) ∙ w .same in
+    record {
+      long = l;
+      inside = omega (arith, w .whole, w .header);
+      size = s;
+      word = le-part 2 n t at 0 (omega (arith, four)) ∙ rw add-zero (w .long);
+      kind = q;
+      whole = l ∙ s ∙ ap driveLength (sym q);
+    }
+
+pub drive-bytes : {t : List ℕ} {at n : ℕ} (h : DriveAt t at n) → DriveBytes t at (h .kind) n
+drive-bytes {t} {at} {n} h = drive-whole t at (h .kind) n (h .header) (h .drive)
 
 pub bads-whole : (t : List ℕ) (at k n : ℕ) → headerAt t at ≡ Whole k n → k ≡ 3
     → (length (part n t at) ≡ n) × (14 ≤ n) × (n ≤ 134) × (at + n ≤ length t) × (badLengthOk n ≡ true)
@@ -150,28 +211,22 @@ bads-whole t at k n h e =
     let g : badLengthOk n ≡ true = lengthOk-bad k n (w .right) e in
     (length-whole t at k n h, badLengthOk-least n g, badLengthOk-most n g, omega (arith, w .whole, w .header), g)
 
-pub parameters-whole : (t : List ℕ) (at k n : ℕ) → headerAt t at ≡ Whole k n → (k ≡ 0 → ⊥) → (k ≡ 1 → ⊥) → (k ≡ 3 → ⊥)
+pub parameters-whole : (t : List ℕ) (at k n : ℕ) → headerAt t at ≡ Whole k n → (k ≡ 0 → ⊥) → isDriveKind k ≡ false → (k ≡ 3 → ⊥)
     → (length (part n t at) ≡ 20) × (at + 20 ≤ length t)
 parameters-whole t at k n h e f g = size-whole t at k n 20 h (lengthOk-parameters k n (whole-at t at k n h .right) e f g .1)
 
 -- a record that neither ends the table nor is a drive's has a number
-pub attached-least : (t : List ℕ) (at k n : ℕ) → headerAt t at ≡ Whole k n → (k ≡ 0 → ⊥) → (k ≡ 1 → ⊥) → 6 ≤ n
+pub attached-least : (t : List ℕ) (at k n : ℕ) → headerAt t at ≡ Whole k n → (k ≡ 0 → ⊥) → isDriveKind k ≡ false → 6 ≤ n
 attached-least t at k n h e f =
     ⊎-elim (λ x. absurd (e (x .0)))
-    (λ y. ⊎-elim (λ x. absurd (f (x .0))) (λ z. ⊎-elim (λ x. omega (arith, badLengthOk-least n (x .1))) (λ x. omega (arith, x .1)) z) y)
+    (λ y. ⊎-elim (λ x. true≢false (isDriveKind k) (x .0) f) (λ z. ⊎-elim (λ x. omega (arith, badLengthOk-least n (x .1))) (λ x. omega (arith, x .1)) z) y)
     (lengthOk-cases k n (whole-at t at k n h .right))
 
 -- no record is longer than one of sixteen bad blocks
 pub lengthOk-most : (k n : ℕ) → lengthOk k n ≡ true → n ≤ 134
 lengthOk-most k n h =
     ⊎-elim (λ x. omega (arith, x .1))
-    (λ y. ⊎-elim (λ x. omega (arith, x .1)) (λ z. ⊎-elim (λ x. badLengthOk-most n (x .1)) (λ x. omega (arith, x .1)) z) y) (lengthOk-cases k n h)
-
--- a word of a part is the word
-pub le-part : (k n : ℕ) (s : List ℕ) (at i : ℕ) → i + k ≤ n → le k (part n s at) i ≡ le k s (at + i)
-le-part k n s at i h = le-ext k (part n s at) s i (at + i) (λ j l.
-    let q : i + j < n = omega arith in
-    rw (getD-take n (drop at s) (i + j) 0 q, getD-drop at s (i + j) 0, ← add-assoc at i j))
+    (λ y. ⊎-elim (λ x. omega (arith, x .1, length-most k)) (λ z. ⊎-elim (λ x. badLengthOk-most n (x .1)) (λ x. omega (arith, x .1)) z) y) (lengthOk-cases k n h)
 
 -- ---- a drive among those before it
 
@@ -300,16 +355,24 @@ pub recordStep-refused : {n : ℕ} (kind size : ℕ) (r : List ℕ) (b : Table) 
 unfolding recordStep
 recordStep-refused {n} kind size r b at store q z = rw (← q, ne-eqb n 0 z)
 
--- the step over the bytes of a drive's record, from what its parts answered
-pub drive-next : {d : Drive} {n : ℕ} {p : Table} (r : List ℕ) (at : ℕ) (b : Table) (store : ℕ) → length r ≡ 68 → d ≡ driveOf r → n ≡ refusal (b .count) (b .drives) d store → n ≡ 0
-    → p ≡ more b d → stepped (Next (at + length r)) p ≡ recordStep 1 68 r b at store
-unfolding recordRefusal withRecord
-drive-next r at b store l e q z p = rw (l, p, e) (recordStep-next 1 68 r b at store (rw (← e) q) z)
-
-pub drive-refused : {d : Drive} {n : ℕ} (r : List ℕ) (at : ℕ) (b : Table) (store : ℕ) → d ≡ driveOf r → n ≡ refusal (b .count) (b .drives) d store → (n ≡ 0 → ⊥)
-    → stepped (Refused n at) b ≡ recordStep 1 68 r b at store
+-- of a drive's record, of either kind
+pub drive-refusal : (k : ℕ) (r : List ℕ) (b : Table) (store : ℕ) → isDriveKind k ≡ true → recordRefusal k r b store ≡ refusal (b .count) (b .drives) (driveOf r) store
 unfolding recordRefusal
-drive-refused r at b store e q z = recordStep-refused 1 68 r b at store (rw (← e) q) z
+drive-refusal k r b store w = rw w
+
+pub drive-with : (k : ℕ) (r : List ℕ) (b : Table) → isDriveKind k ≡ true → withRecord k r b ≡ more b (driveOf r)
+unfolding withRecord
+drive-with k r b w = rw w
+
+-- the step over the bytes of a drive's record, from what its parts answered
+pub drive-next : {d : Drive} {n : ℕ} {p : Table} (k : ℕ) (r : List ℕ) (at : ℕ) (b : Table) (store : ℕ) → isDriveKind k ≡ true → d ≡ driveOf r → n ≡ refusal (b .count) (b .drives) d store → n ≡ 0
+    → p ≡ more b d → stepped (Next (at + length r)) p ≡ recordStep k (length r) r b at store
+drive-next k r at b store w e q z p =
+    rw (p, e, ← drive-with k r b w) (recordStep-next k (length r) r b at store (rw (← e) q ∙ sym (drive-refusal k r b store w)) z)
+
+pub drive-refused : {d : Drive} {n : ℕ} (k : ℕ) (r : List ℕ) (at : ℕ) (b : Table) (store : ℕ) → isDriveKind k ≡ true → d ≡ driveOf r → n ≡ refusal (b .count) (b .drives) d store → (n ≡ 0 → ⊥)
+    → stepped (Refused n at) b ≡ recordStep k (length r) r b at store
+drive-refused k r at b store w e q z = recordStep-refused k (length r) r b at store (rw (← e) q ∙ sym (drive-refusal k r b store w)) z
 
 -- and of a record of parameters
 pub parameters-next : {i n : ℕ} {y : List ℕ} {p : Table} (r : List ℕ) (at : ℕ) (b : Table) (store : ℕ) → length r ≡ 20 → i ≡ numberIn r → y ≡ parametersIn r → n ≡ parametersRefusal b i → n ≡ 0
@@ -363,36 +426,35 @@ pub stepAt-record : (t : List ℕ) (at k n : ℕ) (b : Table) (store : ℕ) → 
 unfolding stepAt stepOf
 stepAt-record t at k n b store h e = rw (h, ne-eqb k 0 e)
 
-pub stepAt-drive : (t : List ℕ) (at k n : ℕ) (b : Table) (store : ℕ) → headerAt t at ≡ Whole k n → k ≡ 1
-    → recordStep 1 68 (part n t at) b at store ≡ stepAt t at b store
-stepAt-drive t at k n b store h e =
-    let l = lengthOk-drive k n (whole-at t at k n h .right) e in
-    (λ i. recordStep (sym e i) (sym l i) (part n t at) b at store) ∙ stepAt-record t at k n b store h (λ z. omega arith)
+pub stepAt-drive : (t : List ℕ) (at k n : ℕ) (b : Table) (store : ℕ) → headerAt t at ≡ Whole k n → isDriveKind k ≡ true
+    → recordStep k (length (part n t at)) (part n t at) b at store ≡ stepAt t at b store
+stepAt-drive t at k n b store h d =
+    ap (λ (m : ℕ). recordStep k m (part n t at) b at store) (length-whole t at k n h) ∙ stepAt-record t at k n b store h (kind-apart k 0 d refl)
 
 pub stepAt-bads : (t : List ℕ) (at k n : ℕ) (b : Table) (store : ℕ) → headerAt t at ≡ Whole k n → k ≡ 3
     → recordStep 3 n (part n t at) b at store ≡ stepAt t at b store
 stepAt-bads t at k n b store h e =
     (λ i. recordStep (sym e i) n (part n t at) b at store) ∙ stepAt-record t at k n b store h (λ z. omega arith)
 
-pub stepAt-parameters : (t : List ℕ) (at k n : ℕ) (b : Table) (store : ℕ) → headerAt t at ≡ Whole k n → (k ≡ 0 → ⊥) → (k ≡ 1 → ⊥) → (k ≡ 3 → ⊥)
+pub stepAt-parameters : (t : List ℕ) (at k n : ℕ) (b : Table) (store : ℕ) → headerAt t at ≡ Whole k n → (k ≡ 0 → ⊥) → isDriveKind k ≡ false → (k ≡ 3 → ⊥)
     → recordStep 4 20 (part n t at) b at store ≡ stepAt t at b store
 stepAt-parameters t at k n b store h e f g =
     let l = lengthOk-parameters k n (whole-at t at k n h .right) e f g in
     (λ i. recordStep (sym (l .0) i) (sym (l .1) i) (part n t at) b at store) ∙ stepAt-record t at k n b store h e
 
 -- a whole record that is taken, by what it says
-pub drive-taken : (t : List ℕ) (at : ℕ) (b : Table) (store : ℕ) (d : Drive) → headerAt t at ≡ Whole 1 68 → driveOf (part 68 t at) ≡ d → refusal (b .count) (b .drives) d store ≡ 0
-    → stepped (Next (at + 68)) (more b d) ≡ stepAt t at b store
-drive-taken t at b store d h e z =
-    let l = length-whole t at 1 68 h in
-    rw l at (drive-next (part 68 t at) at b store l (sym e) refl z refl) ∙ stepAt-drive t at 1 68 b store h refl
+pub drive-taken : (t : List ℕ) (at n : ℕ) (b : Table) (store : ℕ) (d : Drive) → DriveAt t at n → driveOf (part n t at) ≡ d → refusal (b .count) (b .drives) d store ≡ 0
+    → stepped (Next (at + n)) (more b d) ≡ stepAt t at b store
+drive-taken t at n b store d h e z =
+    let next = drive-next (h .kind) (part n t at) at b store (h .drive) (sym e) refl z refl ∙ stepAt-drive t at (h .kind) n b store (h .header) (h .drive) in
+    ap (λ (m : ℕ). stepped (Next (at + m)) (more b d)) (sym (length-whole t at (h .kind) n (h .header))) ∙ next
 
 pub attach-taken : (t : List ℕ) (at : ℕ) (b : Table) (store i : ℕ) (p : List ℕ) → headerAt t at ≡ Whole 4 20 → numberIn (part 20 t at) ≡ i → parametersIn (part 20 t at) ≡ p
     → parametersRefusal b i ≡ 0 → stepped (Next (at + 20)) (withParameters b i p) ≡ stepAt t at b store
 attach-taken t at b store i p h e q z =
     let l = length-whole t at 4 20 h in
     rw l at (parameters-next (part 20 t at) at b store l (sym e) (sym q) refl z refl)
-    ∙ stepAt-parameters t at 4 20 b store h (λ x. omega arith) (λ x. omega arith) (λ x. omega arith)
+    ∙ stepAt-parameters t at 4 20 b store h (λ x. omega arith) refl (λ x. omega arith)
 
 pub bads-taken : (t : List ℕ) (at n : ℕ) (b : Table) (store i : ℕ) (l : Bads) → headerAt t at ≡ Whole 3 n → numberIn (part n t at) ≡ i → badsIn (part n t at) ≡ l
     → badsRefusal b i l ≡ 0 → stepped (Next (at + n)) (withBads b i l) ≡ stepAt t at b store
@@ -413,7 +475,7 @@ record-cases P kind size r b at store refuse next = by-refusal (eqb (recordRefus
 pub stepAt-cases : (P : Stepped → Type 0) (t : List ℕ) (at : ℕ) (b : Table) (store : ℕ)
     → ((n p : ℕ) → P (stepped (Refused n p) b))
     → (headerAt t at ≡ Whole 0 4 → length t ≤ at + 4 → P (stepped Done b))
-    → (headerAt t at ≡ Whole 1 68 → refusal (b .count) (b .drives) (driveOf (part 68 t at)) store ≡ 0 → P (stepped (Next (at + 68)) (more b (driveOf (part 68 t at)))))
+    → ((n : ℕ) → DriveAt t at n → refusal (b .count) (b .drives) (driveOf (part n t at)) store ≡ 0 → P (stepped (Next (at + n)) (more b (driveOf (part n t at)))))
     → ((n : ℕ) → headerAt t at ≡ Whole 3 n → badsRefusal b (numberIn (part n t at)) (badsIn (part n t at)) ≡ 0
     → P (stepped (Next (at + n)) (withBads b (numberIn (part n t at)) (badsIn (part n t at)))))
     → (headerAt t at ≡ Whole 4 20 → parametersRefusal b (numberIn (part 20 t at)) ≡ 0
@@ -426,25 +488,24 @@ stepAt-cases P t at b store refuse finish next list attach = by-header (headerAt
     by-byte h true e = rw (← endStep-byte t at b (ltb-true (at + 4) (length t) e)) (refuse 8 (at + 4))
     by-byte h false e = let l = ltb-false (at + 4) (length t) e in rw (← endStep-done t at b l) (finish h l)
 
-    by-kind : (k n : ℕ) → headerAt t at ≡ Whole k n → (x y z : Bool) → eqb k 0 ≡ x → eqb k 1 ≡ y → eqb k 3 ≡ z → P (stepAt t at b store)
+    by-kind : (k n : ℕ) → headerAt t at ≡ Whole k n → (x y z : Bool) → eqb k 0 ≡ x → isDriveKind k ≡ y → eqb k 3 ≡ z → P (stepAt t at b store)
     by-kind k n h true y u e f g =
         let z = eqb-true k 0 e in
         let l = lengthOk-end k n (whole-at t at k n h .right) z in
         rw (← stepAt-end t at k n b store h z) (by-byte (rw (z, l) at h) (ltb (at + 4) (length t)) refl)
     by-kind k n h false true u e f g =
-        let z = eqb-true k 1 f in
-        let l = lengthOk-drive k n (whole-at t at k n h .right) z in
-        rw (← stepAt-record t at k n b store h (eqb-false k 0 e), z, l) (record-cases P 1 68 (part 68 t at) b at store (refuse _ at) (next (rw (z, l) at h)))
+        rw (← stepAt-record t at k n b store h (eqb-false k 0 e)) (record-cases P k n (part n t at) b at store (refuse _ at)
+        (λ z. rw (drive-with k (part n t at) b f) (next n record { kind = k; header = h; drive = f } (sym (drive-refusal k (part n t at) b store f) ∙ z))))
     by-kind k n h false false true e f g =
         let z = eqb-true k 3 g in
         rw (← stepAt-record t at k n b store h (eqb-false k 0 e), z) (record-cases P 3 n (part n t at) b at store (refuse _ at) (list n (rw z at h)))
     by-kind k n h false false false e f g =
-        let z = lengthOk-parameters k n (whole-at t at k n h .right) (eqb-false k 0 e) (eqb-false k 1 f) (eqb-false k 3 g) in
+        let z = lengthOk-parameters k n (whole-at t at k n h .right) (eqb-false k 0 e) f (eqb-false k 3 g) in
         rw (← stepAt-record t at k n b store h (eqb-false k 0 e), z .0, z .1) (record-cases P 4 20 (part 20 t at) b at store (refuse _ at) (attach (rw (z .0, z .1) at h)))
 
     by-header : (h : Header) → headerAt t at ≡ h → P (stepAt t at b store)
     by-header (Bad n) h = rw (← stepAt-bad t at n b store h) (refuse n at)
-    by-header (Whole k n) h = by-kind k n h (eqb k 0) (eqb k 1) (eqb k 3) refl refl refl
+    by-header (Whole k n) h = by-kind k n h (eqb k 0) (isDriveKind k) (eqb k 3) refl refl refl
 
 -- ---- a step in numbers
 
@@ -482,7 +543,7 @@ whole-numbers : (t : List ℕ) (at : ℕ) (b : Table) (store kind size : ℕ) �
 unfolding stepNumbers stepOf endStep recordRefusal
 whole-numbers t at b store kind size right =
     ⊎-elim (λ x. rw (x .0) (by-end (ltb (at + 4) (length t))))
-    (λ y. ⊎-elim (λ x. rw (x .0, x .1) (taken-numbers 1 68 (part 68 t at) b at store refl))
+    (λ y. ⊎-elim (λ x. rw (ne-eqb kind 0 (kind-apart kind 0 (x .0) refl), x .0) (taken-numbers kind size (part size t at) b at store (drive-refusal kind (part size t at) b store (x .0))))
     (λ z. ⊎-elim (λ x. rw (x .0) (taken-numbers 3 size (part size t at) b at store
     (ap (λ (i : ℕ). badsRefusal b i (badsIn (part size t at))) (le-part 2 size t at 4 (omega (arith, badLengthOk-least size (x .1)))) ∙ bads-number b (le 2 t (at + 4)) (badsIn (part size t at)))))
     (λ x. rw (x .0, x .1) (taken-numbers 4 20 (part 20 t at) b at store (ap (parametersRefusal b) (le-part 2 20 t at 4 (omega arith)) ∙ parameters-number b (le 2 t (at + 4))))) z) y)
@@ -565,7 +626,7 @@ abbrev pub Kept : (ℕ → Table → Type 0) → List ℕ → Reading → Type 0
 Kept I t r = (at : ℕ) × (I at (r .table) × (r .answer ≡ Accepted → (headerAt t at ≡ Whole 0 4) × (length t ≤ at + 4)))
 
 pub read-keeps : (I : ℕ → Table → Type 0) (t : List ℕ) (store : ℕ)
-    → ((at : ℕ) (b : Table) → I at b → headerAt t at ≡ Whole 1 68 → refusal (b .count) (b .drives) (driveOf (part 68 t at)) store ≡ 0 → I (at + 68) (more b (driveOf (part 68 t at))))
+    → ((at n : ℕ) (b : Table) → I at b → DriveAt t at n → refusal (b .count) (b .drives) (driveOf (part n t at)) store ≡ 0 → I (at + n) (more b (driveOf (part n t at))))
     → ((at n : ℕ) (b : Table) → I at b → headerAt t at ≡ Whole 3 n → badsRefusal b (numberIn (part n t at)) (badsIn (part n t at)) ≡ 0
     → I (at + n) (withBads b (numberIn (part n t at)) (badsIn (part n t at))))
     → ((at : ℕ) (b : Table) → I at b → headerAt t at ≡ Whole 4 20 → parametersRefusal b (numberIn (part 20 t at)) ≡ 0
@@ -577,7 +638,7 @@ read-keeps I t store keep list attach (suc k) at b i =
     stepAt-cases (λ (s : Stepped). Kept I t (goOn (s .step) (s .table) (readFrom k t store))) t at b store
     (λ n p. (at, (i, λ q. impossible (cc))))
     (λ h l. (at, (i, λ q. (h, l))))
-    (λ h z. read-keeps I t store keep list attach k (at + 68) (more b (driveOf (part 68 t at))) (keep at b i h z))
+    (λ n h z. read-keeps I t store keep list attach k (at + n) (more b (driveOf (part n t at))) (keep at n b i h z))
     (λ n h z. read-keeps I t store keep list attach k (at + n) (withBads b (numberIn (part n t at)) (badsIn (part n t at))) (list at n b i h z))
     (λ h z. read-keeps I t store keep list attach k (at + 20) (withParameters b (numberIn (part 20 t at)) (parametersIn (part 20 t at))) (attach at b i h z))
 
@@ -778,7 +839,7 @@ pub length-drives : (b : Table) → length (b .drives) ≡ 8 → length (drivesO
 length-drives b l = rw (length-take (b .count) (b .drives), l)
 
 -- where the next record begins, as the code finds it, and the longest table
-pub next-is : {m : ℕ} (b : Table) (n : ℕ) → length (b .drives) ≡ 8 → n ≡ min (b .count) 8 → m ≡ length (recordsOf n b) → m ≤ 222 * n → (m ≡ nextPlace b) × (m + 4 ≤ 1780)
+pub next-is : {m : ℕ} (b : Table) (n : ℕ) → length (b .drives) ≡ 8 → n ≡ min (b .count) 8 → m ≡ length (recordsOf n b) → m ≤ 230 * n → (m ≡ nextPlace b) × (m + 4 ≤ 1844)
 unfolding nextPlace
 next-is b n eight held all most = (all ∙ ap (λ (k : ℕ). length (recordsOf k b)) (held ∙ sym (length-drives b eight)), omega arith)
 

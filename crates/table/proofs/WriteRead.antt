@@ -22,7 +22,7 @@ use Rattle.table.specs.declared.Table.{Table}
 use Rattle.table.specs.declared.Header.the-variants.{Whole}
 use Rattle.table.specs.declared.Answer.the-variants.{Accepted}
 use Rattle.table.specs.Table.{noDrive, headerAt, more, hasParameters, parametersRefusal, withParameters, badsAt, badsRefusal, withBads, mostRecords, readFrom, readTable, emptyTable, badsRecord, slotRecords, recordsOf, bytesOf, drivesOf, tableOf}
-use Rattle.table.proofs.TableLaws.{whole-at, length-whole, bads-whole, le-part, refusal-room, bads-room, parameters-room, read-keeps, recordsOf-more, recordsOf-ext, badsRecord-some, slot-bads, slot-bare, slot-parameters, length-drives}
+use Rattle.table.proofs.TableLaws.{whole-at, length-whole, bads-whole, le-part, refusal-room, bads-room, parameters-room, read-keeps, recordsOf-more, recordsOf-ext, badsRecord-some, slot-bads, slot-bare, slot-parameters, length-drives, DriveAt, drive-bytes}
 use Rattle.table.proofs.Slots.{marked, marked-other, parameters-same, slot-other, bads-same, bads-slot-other, Listed}
 use Rattle.table.proofs.Enough.{listed-whole}
 
@@ -63,13 +63,10 @@ list-records b i l g counts lists h z e =
 
 module _ (t : List ℕ) (bytes : Bytes t) where
   -- a whole drive record is the record of its drive
-  whole-record : (at : ℕ) → headerAt t at ≡ Whole 1 68 → (recordOf (driveOf (part 68 t at)) ≡ part 68 t at) × (at + 68 ≤ length t)
-  whole-record at h =
-      let w = whole-at t at 1 68 h in
-      let l : at + 68 ≤ length t = omega (arith, w .whole, w .header) in (
-        record-drive (part 68 t at) (bytes-part 68 t at bytes) (length-whole t at 1 68 h) (le-part 2 68 t at 0 (omega arith) ∙ rw add-zero (w .long)) (le-part 2 68 t at 2 (omega arith) ∙ w .same),
-        l,
-      )
+  whole-record : (at n : ℕ) → DriveAt t at n → (recordOf (driveOf (part n t at)) ≡ part n t at) × (at + n ≤ length t)
+  whole-record at n h =
+      let w = drive-bytes h in
+      (record-drive (part n t at) (bytes-part n t at bytes) (w .whole) (w .word ∙ sym (w .long) ∙ w .whole), w .inside)
 
   -- and so is a whole record of parameters
   whole-parameters : (at : ℕ) → headerAt t at ≡ Whole 4 20 → (parametersRecord (numberIn (part 20 t at)) (parametersIn (part 20 t at)) ≡ part 20 t at) × (at + 20 ≤ length t)
@@ -91,18 +88,18 @@ module _ (t : List ℕ) (bytes : Bytes t) where
         q .3,
       )
 
-  next-read : (at : ℕ) (b : Table) → Read t at b → b .count < 8 → headerAt t at ≡ Whole 1 68 → Read t (at + 68) (more b (driveOf (part 68 t at)))
-  next-read at b r room h =
-      let d : Drive = driveOf (part 68 t at) in
-      let w = whole-record at h in
+  next-read : (at n : ℕ) (b : Table) → Read t at b → b .count < 8 → DriveAt t at n → Read t (at + n) (more b (driveOf (part n t at)))
+  next-read at n b r room h =
+      let d : Drive = driveOf (part n t at) in
+      let w = whole-record at n h in
       let i : b .count < length (b .drives) = omega (arith, r .eight) in
       let before : recordsOf (b .count) (more b d) ≡ recordsOf (b .count) b =
       recordsOf-ext (b .count) (more b d) b (λ j l. rw (getD-set-other (b .drives) (b .count) j d noDrive (λ x. omega arith))) in
-      let here : slotRecords (more b d) (b .count) ≡ part 68 t at =
+      let here : slotRecords (more b d) (b .count) ≡ part n t at =
       let f = r .fresh (b .count) (omega arith) room in
       slot-bare (more b d) (b .count) (f .0) (f .1) ∙ ap recordOf (getD-set-same (b .drives) (b .count) d noDrive i) ∙ w .0 in
       record {
-        same = rw (recordsOf-more (b .count) (more b d), before, here, r .same) (sym (take-add at 68 t));
+        same = rw (recordsOf-more (b .count) (more b d), before, here, r .same) (sym (take-add at n t));
         eight = rw length-set (r .eight);
         marks = r .marks;
         bytes = r .bytes;
@@ -187,7 +184,7 @@ write-read-table t store b e =
       fresh = λ i l h. (getD-replicate 8 i 0 0 h, getD-replicate 8 i false false h);
     } in
     let r = read-keeps (Read t) t store
-    (λ at b′ r h z. next-read t b at b′ r (refusal-room (b′ .count) (b′ .drives) (driveOf (part 68 t at)) store z) h)
+    (λ at n b′ r h z. next-read t b at n b′ r (refusal-room (b′ .count) (b′ .drives) (driveOf (part n t at)) store z) h)
     (λ at n b′ r h z. list-read t b at n b′ r h z)
     (λ at b′ r h z. attach-read t b at b′ r h z) mostRecords 0 emptyTable first in
     let end = r .1 .1 e in

@@ -1,4 +1,4 @@
--- Document 01, "The drive table", and document 02, 2026-01 and 2026-04: little-endian records, read record by record in the paper's order of checks, and
+-- Document 01, "The drive table", and document 02, 2026-01, 2026-04 and 2026-06: little-endian records, read record by record in the paper's order of checks, and
 -- written back.
 -- Assumes nothing.
 use Prim.Native.Nat.{ℕ, zero, suc, _+_, _-_, _*_}
@@ -11,7 +11,7 @@ use lib.Seq.{sets}
 use Rattle.logic.specs.Logic.{pick, both, either, allBelow, someBelow}
 use Rattle.words.specs.Words.{le, leBytes, part}
 use Rattle.drive.specs.declared.Drive.{Drive}
-use Rattle.drive.specs.Drive.{driveKind, driveLength, driveOf, recordOf, fieldsOk, inStore, overlap, isBlank}
+use Rattle.drive.specs.Drive.{wideKind, isDriveKind, driveLength, driveOf, recordOf, fieldsOk, inStore, overlap, isBlank}
 use Rattle.attached.specs.Parameters.{parametersKind, parametersLength, givenLength, numberIn, parametersIn, parametersRecord}
 use Rattle.attached.specs.declared.Bads.{Bads}
 use Rattle.attached.specs.Bad.{badKind, mostBad, listLength, badLength, badLengthOk, badsIn, badRecord, listOk, badsOk}
@@ -81,15 +81,15 @@ endKind = 0
 abbrev pub endLength : ℕ
 endLength = 4
 
--- the kinds that there are: 0, 1, 3 and 4
+-- the kinds that there are: 0, 1 and 2, 3 and 4
 abbrev pub isKind : ℕ → Bool
-isKind kind = either (eqb kind endKind) (either (eqb kind driveKind) (either (eqb kind badKind) (eqb kind parametersKind)))
+isKind kind = either (eqb kind endKind) (either (isDriveKind kind) (either (eqb kind badKind) (eqb kind parametersKind)))
 
--- the length for the kind: 4 for kind 0, 68 for kind 1, one to sixteen numbers for kind 3, 20 for kind 4
+-- the length for the kind: 4 for kind 0, 68 for kind 1, 76 for kind 2, one to sixteen numbers for kind 3, 20 for kind 4
 abbrev pub lengthOk : ℕ → ℕ → Bool
 lengthOk kind size =
     either (both (eqb kind endKind) (eqb size endLength))
-    (either (both (eqb kind driveKind) (eqb size driveLength))
+    (either (both (isDriveKind kind) (eqb size (driveLength kind)))
     (either (both (eqb kind badKind) (badLengthOk size)) (both (eqb kind parametersKind) (eqb size parametersLength))))
 
 -- the length word and the kind
@@ -130,7 +130,7 @@ mostDrives = 8
 
 -- the value of a slot that holds no drive
 abbrev pub noDrive : Drive
-noDrive = record { cylinders = 0; heads = 0; sectors = 0; blocks = 0; first = 0; flags = 0; c = 0; h = 0; s = 0; protection = 0; bus = []; interface = []; path = []; device = [] }
+noDrive = record { cylinders = 0; heads = 0; sectors = 0; blocks = 0; first = 0; flags = 0; c = 0; h = 0; s = 0; protection = 0; bus = []; interface = []; path = []; device = []; kind = 0; tail = [] }
 
 -- d overlaps one of the first n
 unfoldable pub overlapsAny : ℕ → List Drive → Drive → Bool
@@ -226,14 +226,14 @@ stepped s b = record { step = s; table = b }
 -- the refusal of a whole record that is not the end record, by its kind and its bytes; or 0 where it is taken
 unfoldable pub recordRefusal : ℕ → List ℕ → Table → ℕ → ℕ
 recordRefusal kind r b store =
-    pick (eqb kind driveKind) (refusal (b .count) (b .drives) (driveOf r) store)
+    pick (isDriveKind kind) (refusal (b .count) (b .drives) (driveOf r) store)
     (pick (eqb kind badKind) (badsRefusal b (numberIn r) (badsIn r))
     (parametersRefusal b (numberIn r)))
 
 -- the drives after it, where it is taken
 unfoldable pub withRecord : ℕ → List ℕ → Table → Table
 withRecord kind r b =
-    pick (eqb kind driveKind) (more b (driveOf r))
+    pick (isDriveKind kind) (more b (driveOf r))
     (pick (eqb kind badKind) (withBads b (numberIn r) (badsIn r))
     (withParameters b (numberIn r) (parametersIn r)))
 
@@ -273,7 +273,7 @@ advanced t c store = cursorAfter (c .at) (stepAt t (c .at) (c .table) store)
 
 -- a slot that no drive was read into
 abbrev pub zeroDrive : Drive
-zeroDrive = record { cylinders = 0; heads = 0; sectors = 0; blocks = 0; first = 0; flags = 0; c = 0; h = 0; s = 0; protection = 0; bus = replicate 4 0; interface = replicate 8 0; path = replicate 8 0; device = replicate 8 0 }
+zeroDrive = record { cylinders = 0; heads = 0; sectors = 0; blocks = 0; first = 0; flags = 0; c = 0; h = 0; s = 0; protection = 0; bus = replicate 4 0; interface = replicate 8 0; path = replicate 8 0; device = replicate 8 0; kind = 0; tail = replicate 8 0 }
 
 -- the table with no drive
 abbrev pub emptyTable : Table
@@ -368,9 +368,9 @@ drivesOf b = take (b .count) (b .drives)
 unfoldable pub nextPlace : Table → ℕ
 nextPlace b = length (recordsOf (length (drivesOf b)) b)
 
--- the longest table: eight drives with sixteen bad blocks and parameters each, and the end record
+-- the longest table: eight drives of kind 2 with sixteen bad blocks and parameters each, and the end record
 abbrev pub longestTable : ℕ
-longestTable = mostDrives * (driveLength + badLength mostBad + parametersLength) + endLength
+longestTable = mostDrives * (driveLength wideKind + badLength mostBad + parametersLength) + endLength
 
 -- the table's bytes: the records of its drives' slots, and the end record
 unfoldable pub tableOf : Table → List ℕ
@@ -410,13 +410,13 @@ takenNumbers n at size = pick (eqb n 0) (0 ∷ 1 ∷ (at + size) ∷ []) (n ∷ 
 abbrev pub namesLast : List ℕ → ℕ → Table → Bool
 namesLast t at b = both (ltb (le 2 t (at + 4)) 8) (eqb (le 2 t (at + 4) + 1) (b .count))
 
--- the numbers of a whole record of a kind: the end record's; a drive's of 68 bytes with its refusal; those of a drive's bad blocks, which are 9 unless
+-- the numbers of a whole record of a kind: the end record's; a drive's, of kind 1 or 2, with its refusal; those of a drive's bad blocks, which are 9 unless
 -- word 4 names the last drive read and that one has neither bad blocks nor parameters yet, then 5 unless they are good; or those of a drive's
 -- parameters, of 20 bytes, which are 9 unless word 4 names the last drive read and that one has none yet
 abbrev pub wholeNumbers : List ℕ → ℕ → Table → ℕ → ℕ → ℕ → List ℕ
 wholeNumbers t at b store kind size =
     pick (eqb kind 0) (pick (ltb (at + 4) (length t)) (8 ∷ (at + 4) ∷ []) (0 ∷ []))
-    (pick (eqb kind 1) (takenNumbers (refusal (b .count) (b .drives) (driveOf (part size t at)) store) at 68)
+    (pick (either (eqb kind 1) (eqb kind 2)) (takenNumbers (refusal (b .count) (b .drives) (driveOf (part size t at)) store) at size)
     (pick (eqb kind 3) (takenNumbers (pick (both (namesLast t at b) (both (eqb (getD (b .counts) (le 2 t (at + 4)) 0) 0) (not (getD (b .present) (le 2 t (at + 4)) false))))
     (pick (listOk (badsIn (part size t at)) (getD (b .drives) (le 2 t (at + 4)) noDrive .blocks)) 0 5) 9) at size)
     (takenNumbers (pick (both (namesLast t at b) (not (getD (b .present) (le 2 t (at + 4)) false))) 0 9) at 20)))

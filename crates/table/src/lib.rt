@@ -7,8 +7,8 @@ ghost use lib.ListN.{length, getD};
 ghost use lib.Dec.{ltb, eqb};
 ghost use mathlib.Core.Bool.{not, true, false};
 ghost use lib.Seq.{sets};
-ghost use Rattle.drive.specs.Drive.{driveKind, recordOf, fieldsOk, inStore};
-ghost use Rattle.words.specs.Words.{part};
+ghost use Rattle.drive.specs.Drive.{isDriveKind, driveLength, recordOf, fieldsOk, inStore};
+ghost use Rattle.words.specs.Words.{le, part};
 ghost use Rattle.logic.specs.Logic.{pick, both, either, allBelow};
 ghost use Rattle.attached.specs.Parameters.{parametersKind};
 ghost use Rattle.attached.specs.Bad.{badKind, listPlace, listLength, badLength, heldOf, listOk};
@@ -55,11 +55,11 @@ const MOST_RECORDS: usize = 25;
 // Drives: 0 to 8.
 pub const MOST_DRIVES: usize = 8;
 
-// The longest table: eight drives with a record of bad blocks and one of parameters each, and the end record.
+// The longest table: eight drives of kind 2 with a record of bad blocks and one of parameters each, and the end record.
 pub const LONGEST_TABLE: usize = MOST_DRIVES * LONGEST_SLOT + END_LENGTH as usize;
 
 // The records of a slot at most: its drive's, that of sixteen bad blocks, and that of its parameters.
-const LONGEST_SLOT: usize = drive::DRIVE_LENGTH as usize
+const LONGEST_SLOT: usize = drive::WIDE_LENGTH as usize
     + attached::LONGEST_BAD
     + attached::PARAMETERS_LENGTH as usize;
 
@@ -130,7 +130,7 @@ fn bytes_left(n: usize, at: usize) -> usize
 fn is_kind(kind: u16) -> bool
     ensures { λ r. ⌜ r ≡ isKind kind ⌝ }
 {
-    if kind == drive::DRIVE_KIND {
+    if drive::is_drive_kind(kind) {
         return true;
     }
     logic::or(kind == END_KIND, is_attached(kind))
@@ -150,8 +150,8 @@ fn is_attached(kind: u16) -> bool
 fn length_ok(kind: u16, size: u16) -> bool
     ensures { λ r. ⌜ r ≡ lengthOk kind size ⌝ }
 {
-    if kind == drive::DRIVE_KIND {
-        return size == drive::DRIVE_LENGTH;
+    if drive::is_drive_kind(kind) {
+        return size == drive::length_of(kind);
     }
     if kind == END_KIND {
         return size == END_LENGTH;
@@ -422,8 +422,8 @@ fn end_step(t: &[u8], at: usize, b: Table) -> Stepped
 
 // The bytes of a drive's record, which begins at a place; `step_at` has seen that they are there and hands on no others.
 fn drive_step(r: &[u8], at: usize, b: Table, store: u64) -> Stepped
-    requires { ⌜ (length (now r) ≡ 68) × (at + 68 < 2 ^ 64) ⌝ }
-    ensures { λ q. ⌜ q ≡ recordStep driveKind 68 (now (r .entry)) b at store ⌝ }
+    requires { ⌜ (length (now r) ≡ driveLength (le 2 (now r) 2)) × (isDriveKind (le 2 (now r) 2) ≡ true) × (at + length (now r) < 2 ^ 64) ⌝ }
+    ensures { λ q. ⌜ q ≡ recordStep (le 2 (now (r .entry)) 2) (length (now (r .entry))) (now (r .entry)) b at store ⌝ }
 {
     let d = drive::decode(r);
     let n = refusal_of(b, d, store);
@@ -493,7 +493,8 @@ fn step_at(t: &[u8], at: usize, b: Table, store: u64) -> Stepped
                 return end_step(t, at, b);
             }
             let next = at + size;
-            if kind == drive::DRIVE_KIND {
+            // of the kinds that are left those up to 2 are drives
+            if kind <= drive::WIDE_KIND {
                 return drive_step(&t[at..next], at, b, store);
             }
             if kind == attached::BAD_KIND {
@@ -586,6 +587,8 @@ fn zero_drive() -> Drive
         interface: [0u8; 8],
         path: [0u8; 8],
         device: [0u8; 8],
+        kind: 0,
+        tail: [0u8; 8],
     }
 }
 
@@ -650,7 +653,8 @@ pub fn read_table(t: &[u8], store: u64) -> Reading
                 if kind == END_KIND {
                     return ended(end_answer(next, t.len()), b);
                 }
-                if kind == drive::DRIVE_KIND {
+                // of the kinds that are left those up to 2 are drives
+                if kind <= drive::WIDE_KIND {
                     let d = drive::decode(&t[at..next]);
                     let n = b.count;
                     let number = refusal_among(d, store, &firsts, &sizes, n);
@@ -733,7 +737,7 @@ pub fn attached_length(n: u8, present: bool) -> usize
 // The length of the records of the first n slots. `write_table` asks for at most eight.
 fn records_length(b: Table, n: usize) -> usize
     requires { ⌜ n ≤ 8 ⌝ }
-    ensures { λ r. ⌜ (r ≡ length (recordsOf n b)) × (r ≤ 222 * n) ⌝ }
+    ensures { λ r. ⌜ (r ≡ length (recordsOf n b)) × (r ≤ 230 * n) ⌝ }
 {
     let mut total: usize = 0;
     let mut i = 0;
@@ -780,8 +784,7 @@ pub fn put_slot(
     requires { ⌜ (length (l .list) ≡ 128) × (length (now bytes) ≡ 112) × (i < 8) × (at + length (slotBytes d l present i (part 14 (now bytes) (14 * i))) ≤ length (now out)) ⌝ }
     ensures { λ r. ⌜ (now (out .exit) ≡ sets (now (out .entry)) at (slotBytes d l present i (part 14 (now (bytes .entry)) (14 * i)))) × (r ≡ at + length (slotBytes d l present i (part 14 (now (bytes .entry)) (14 * i)))) ⌝ }
 {
-    let r = drive::encode(d);
-    words::store(out, at, &r);
+    drive::put_record(d, out, at);
     let behind = put_bads(l, i, out, at + drive::record_length(d));
     if !present {
         return behind;

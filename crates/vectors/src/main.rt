@@ -1,11 +1,13 @@
 // Runs document 01's "run by program" cases and its sums, the ends of the two largest geometries, the sources' worked values that document 01 keeps
-// or document 02 brings back (`sources`), parameter tables that are placed (`placement`), a table that arrives in pieces (`fragments`), and a worn
-// disk (`worn`). A line for each. The functions are called on the paper's 72-byte table and a window of 65,536 bytes; the turns of P9 and P10 are
-// given at desks with a drive of 64 blocks. The check pays for each slice that is lent, and in each statement for every local, a desk or a table
-// most: so a case is a call with numbers that makes its own table and window, and a function that holds a desk or a table does little else.
+// or document 02 brings back (`sources`), parameter tables that are placed (`placement`), a table that arrives in pieces (`fragments`), a worn disk
+// (`worn`), and the result of 74 bytes with the drives of kind 2 (`wide`). A line for each. The functions are called on the paper's 72-byte table and
+// a window of 65,536 bytes; the turns of P9 and P10 are given at desks with a drive of 64 blocks. The check pays for each slice that is lent, and in
+// each statement for every local, a desk or a table most: so a case is a call with numbers that makes its own table and window, and a function that
+// holds a desk or a table does little else.
 mod fragments;
 mod placement;
 mod sources;
+mod wide;
 mod worn;
 
 use chs::Address;
@@ -18,7 +20,7 @@ use int13::Outcome;
 use int13::Placement;
 use int13::Registers;
 ghost use mathlib.Core.Path.{_≡_};
-ghost use Prim.Native.Nat.{_+_, _≤_};
+ghost use Prim.Native.Nat.{_+_, _≤_, _<_};
 ghost use lib.ListN.{length};
 
 const OUTPUT: i32 = 1;
@@ -234,28 +236,43 @@ fn sector_call(al: u8) {
     say_outcome(bare_call(PLAIN, registers(0x0200 + al as u16, 0x0001, FIRST_DRIVE)));
 }
 
+// Where the checksum of a result stands: of 74 bytes at 73, of 66 at 65, and the shorter ones have none.
+fn checksum_place(size: u16) -> usize
+    ensures { λ r. ⌜ r < 74 ⌝ }
+{
+    if size == 74 { 73 } else { 65 }
+}
+
 fn say_result(asked: u16, r: Registers, out: &[u8]) {
-    if out.len() < 66 {
+    if out.len() < 74 {
         return;
     }
     say_case(b"48h size ", asked as u64);
     say_code((r.ax / 256) as u64);
+    let size = words::get16(out, 0);
     say(b" size word ");
-    io::print_decimal(OUTPUT, words::get16(out, 0) as u64);
-    say(b" byte 65");
-    say_byte(out[65]);
+    io::print_decimal(OUTPUT, size as u64);
+    let place = checksum_place(size);
+    say(b" byte ");
+    io::print_decimal(OUTPUT, place as u64);
+    say_byte(out[place]);
     end_line();
 }
 
-// 48h with a result buffer of that size at place 0: the code, the size word and byte 65 afterwards.
-fn result_call(asked: u16) {
+// 48h with a result buffer of that size at place 0: the code, the size word and the byte of the checksum afterwards.
+fn result_of(t: &[u8], asked: u16) {
     let mut window = io::large_buffer();
     words::store16(&mut window, 0, asked);
-    let outcome = begin_at(PLAIN, registers(0x4800, 0, FIRST_DRIVE), &mut window);
+    let outcome = begin(t, registers(0x4800, 0, FIRST_DRIVE), &mut window);
     let Outcome::Answered(r) = outcome else {
         return;
     };
     say_result(asked, r, &window);
+}
+
+fn result_call(asked: u16) {
+    let t = table_of(PLAIN);
+    result_of(&t, asked);
 }
 
 fn say_geometry(drive: u16, outcome: Outcome) {
@@ -380,6 +397,8 @@ fn sizes() {
     result_call(30);
     result_call(65);
     result_call(66);
+    result_call(73);
+    result_call(74);
     result_call(65535);
 }
 
@@ -537,4 +556,5 @@ fn main() {
     placement::tables(&mut arena, &store);
     fragments::cases();
     worn::cases(&mut arena, &mut store);
+    wide::cases();
 }

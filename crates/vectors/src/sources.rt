@@ -167,15 +167,21 @@ pub(crate) fn say_bytes(out: &[u8], from: usize, to: usize) {
     end_line();
 }
 
-// Bytes of a whole result of 48h.
-fn result_case(t: &[u8; 72], from: usize, to: usize) {
+// Bytes of the result of 48h with a buffer of that size.
+pub(crate) fn result_bytes(t: &[u8], asked: u16, from: usize, to: usize) {
     let mut window = io::large_buffer();
-    words::store16(&mut window, 0, 66);
+    words::store16(&mut window, 0, asked);
     begin(t, registers(0x4800, 0, FIRST_DRIVE), &mut window);
-    say(b"48h bytes from ");
+    say(b"bytes from ");
     io::print_decimal(OUTPUT, from as u64);
     say(b":");
     say_bytes(&window, from, to);
+}
+
+// Bytes of a result of 66.
+fn result_case(t: &[u8; 72], from: usize, to: usize) {
+    say(b"48h ");
+    result_bytes(t, 66, from, to);
 }
 
 fn whole_result() {
@@ -184,9 +190,14 @@ fn whole_result() {
 }
 
 // The paper's drive on another host bus and interface.
-fn names_case(bus_and_interface: &[u8; 12]) {
+pub(crate) fn named_table(bus_and_interface: &[u8; 12]) -> [u8; 72] {
     let mut t = table_bytes(2048, 2, 16, 0);
     words::store(&mut t, 40, bus_and_interface);
+    t
+}
+
+fn names_case(bus_and_interface: &[u8; 12]) {
+    let t = named_table(bus_and_interface);
     result_case(&t, 36, 48);
 }
 

@@ -7,7 +7,7 @@ unfolding fieldsOk
 returns c =
     let g = c .before .before .before in
     let n = g .before .before .before .before .before in
-    rw (c .and5 .ensures, c .before .and4 .ensures, c .before .before .and3 .ensures, g .geometry-fits .ensures, g .before .before .before .and2 .ensures, n .and .ensures, n .before .interface-ok .ensures, n .before .before .bus-ok .ensures)
+    rw (c .and5 .ensures, c .before .and4 .ensures, c .before .before .and3 .ensures, g .geometry-fits .ensures, g .before .before .before .and2 .ensures, n .and .ensures, n .before .kind-ok .ensures, n .before .before .bus-ok .ensures)
 
 pub fields-ok-spec : {M : Type 1} → statement M
 fields-ok-spec =

@@ -6,7 +6,7 @@ use Rattle.drive.proofs.put_names.Tie as tie
 
 -- what the types say
 arrays : (c : tie.Start) → Arrays (c .args .d)
-arrays c = record { bus = search needs; interface = search needs; path = search needs; device = search needs }
+arrays c = record { bus = search needs; interface = search needs; path = search needs; device = search needs; tail = search needs }
 
 returns : tie.Need-returns
 returns c =

@@ -5,12 +5,17 @@ use Rattle.image.proofs.is_slot.Tie as tie
 
 returns : tie.Need-returns
 unfolding isSlot
-returns c = rw (c .and3 .ensures, c .before .get64 .ensures, c .before .before .and2 .ensures, c .before .before .before .below3 .ensures, c .before .before .before .before .and .ensures, c .before .before .before .before .before .below2 .ensures, c .before .before .before .before .before .before .below .ensures)
+returns c =
+    let n = c .before .before in
+    rw (c .and4 .ensures, c .before .get642 .ensures, n .and3 .ensures, n .before .get64 .ensures, n .before .before .and2 .ensures, n .before .before .before .below3 .ensures, n .before .before .before .before .and .ensures, n .before .before .before .before .before .below2 .ensures, n .before .before .before .before .before .before .below .ensures)
 
 pub is-slot-spec : {M : Type 1} → statement M
 is-slot-spec =
     tie.close
     (tie.spec
+    (search needs)
+    (search needs)
+    (search needs)
     (search needs)
     (search needs)
     (search needs)

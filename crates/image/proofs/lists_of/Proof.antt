@@ -9,7 +9,7 @@ use Rattle.image.proofs.lists_of.Tie as tie
 returns : tie.Need-returns
 returns c =
     let s = c .before .before .before .before .before in
-    c .before .store .ensures ∙ sets-whole _ _ (sym (length-part 1024 (s .args .b .now) 2768 (omega (arith, s .pre))))
+    c .before .store .ensures ∙ sets-whole _ _ (sym (length-part 1024 (s .args .b .now) 2896 (omega (arith, s .pre))))
 
 pub lists-of-spec : {M : Type 1} → statement M
 lists-of-spec =

@@ -9,7 +9,7 @@ use Rattle.image.proofs.parameters_of.Tie as tie
 returns : tie.Need-returns
 returns c =
     let s = c .before .before .before .before .before in
-    c .before .store .ensures ∙ sets-whole _ _ (sym (length-part 112 (s .args .b .now) 2592 (omega (arith, s .pre))))
+    c .before .store .ensures ∙ sets-whole _ _ (sym (length-part 112 (s .args .b .now) 2720 (omega (arith, s .pre))))
 
 pub parameters-of-spec : {M : Type 1} → statement M
 parameters-of-spec =

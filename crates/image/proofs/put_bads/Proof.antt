@@ -21,8 +21,8 @@ returns c =
     let l : length (a .t2) ≡ 8 = search (needs, length-mapped) in
     let bytes : Bytes (now (a .bad)) = λ i. omega (arith, c .before .before .before .before .before .before .before .before .before .shared-slice-known .given i) in
     let w = listed-is (λ k. getD (a .t2) k 0) (a .t2) 8 0 l (λ k q. refl) in
-    bads-laid (now (a .out)) 2704 (a .t2) (now (a .bad)) l bytes (s .pre .1)
-    (c .before .before .before .before .before .before .put-words .ensures ∙ ap (λ (x : List ℕ). sets (now (a .out)) 2704 (flat x)) w) (c .before .before .store .ensures)
+    bads-laid (now (a .out)) 2832 (a .t2) (now (a .bad)) l bytes (s .pre .1)
+    (c .before .before .before .before .before .before .put-words .ensures ∙ ap (λ (x : List ℕ). sets (now (a .out)) 2832 (flat x)) w) (c .before .before .store .ensures)
 
 pub put-bads-spec : {M : Type 1} → statement M
 put-bads-spec =

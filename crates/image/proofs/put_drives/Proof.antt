@@ -29,7 +29,7 @@ loop-again c =
       search needs,
       ap length e ∙ rw length-sets (h .loop .inv .1),
       e ∙ rw (h .loop .inv .2, c .before .before .before .before .before .drive-words .ensures)
-          (part-more driveWords 14 length-drive (now (a .out)) (slotAt 0) (slotAt (h .loop .k)) (a .t2) (h .loop .k) _ (omega arith) (omega arith)),
+          (part-more driveWords 16 length-drive (now (a .out)) (slotAt 0) (slotAt (h .loop .k)) (a .t2) (h .loop .k) _ (omega arith) (omega arith)),
     )
 
 returns : tie.Need-returns Inv-loop μ-loop

@@ -42,7 +42,7 @@ returns c =
     let l = eight s in
     c .before .before .put-bads .ensures
     ∙ rw (given .put-given .ensures, marks .put-marks2 .ensures, addresses .put-words .ensures, placed .put-marks .ensures)
-    (more-laid (now (s .args .out)) 2400 (s .args .d) (l .0) (l .1) (l .2))
+    (more-laid (now (s .args .out)) 2528 (s .args .d) (l .0) (l .1) (l .2))
 
 pub put-more-spec : {M : Type 1} → statement M
 put-more-spec =

@@ -39,7 +39,7 @@ put-slot-requires c κs =
     let l = length-up i (s .args .n) (readDesk b .table) t in
     let e = ap length (slot-read b i most (drive .drive-in .ensures) (mark .before .bads-in .ensures) (mark .mark-at .ensures)) in
     let numbers = ap (λ (x : Bads). length (x .list)) (mark .before .bads-in .ensures) ∙ length-numbers b i (s .pre .0) most in
-    (numbers, length-part 112 b 2592 (omega (arith, s .pre .0)), most, omega (arith, e, m, l, h .loop .inv .1, h .loop .inv .3, s .pre .2))
+    (numbers, length-part 112 b 2720 (omega (arith, s .pre .0)), most, omega (arith, e, m, l, h .loop .inv .1, h .loop .inv .3, s .pre .2))
 
 loop-again : tie.Need-loop-again Inv-loop μ-loop
 loop-again c =

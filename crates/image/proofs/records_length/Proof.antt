@@ -10,7 +10,7 @@ use Rattle.image.proofs.records_length.Statement.{statement}
 use Rattle.image.proofs.records_length.Tie as tie
 
 abbrev Inv-loop : tie.InvT-loop
-Inv-loop b n total₀ i₀ total i = (i ≤ n) × (total ≡ length (recordsOf i (readDesk b .table))) × (total ≤ 222 * i)
+Inv-loop b n total₀ i₀ total i = (i ≤ n) × (total ≡ length (recordsOf i (readDesk b .table))) × (total ≤ 230 * i)
 
 abbrev μ-loop : tie.MeasureT-loop
 μ-loop b n total₀ i₀ total i = n - i
@@ -19,26 +19,26 @@ loop-holds : tie.Need-loop-holds Inv-loop μ-loop
 unfolding recordsOf
 loop-holds c = (search needs, refl, search needs)
 
--- no sum wraps: eight slots have at most 1776 bytes
+-- no sum wraps: eight slots have at most 1840 bytes
 add-total : tie.Need-add-total Inv-loop μ-loop
-add-total c = omega (arith, c .attached-length .ensures .1)
+add-total c = omega (arith, c .before .attached-length .ensures .1, c .length-in .ensures .1)
 
 add-total-2 : tie.Need-add-total-2 Inv-loop μ-loop
 add-total-2 c =
-    let l = c .before .before .before .before in
-    omega (arith, c .attached-length .ensures .1, l .loop .inv, c .before .before .before .loop-test .taken, l .before .before .pre .1)
+    let l = c .before .before .before .before .before in
+    omega (arith, c .before .attached-length .ensures .1, c .length-in .ensures .1, l .loop .inv, c .before .before .before .before .loop-test .taken, l .before .before .pre .1)
 
 loop-again : tie.Need-loop-again Inv-loop μ-loop
 loop-again c =
-    let m = c .before .before in
+    let m = c .before .before .before in
     let l = m .before .before in
     let s = l .before .before in
     let k = l .loop .i in
     let t : k < s .args .n = m .before .loop-test .taken in
     let most : k < 8 = omega (arith, t, s .pre .1) in (
       omega (arith, t),
-      length-next (s .args .b .now) k (s .pre .0) most refl (m .mark-at .ensures) (c .attached-length .ensures .0) (l .loop .inv .1),
-      omega (arith, c .attached-length .ensures .1, l .loop .inv .2),
+      length-next (s .args .b .now) k (s .pre .0) most refl (m .mark-at .ensures) (c .before .attached-length .ensures .0) (c .length-in .ensures .0) (l .loop .inv .1),
+      omega (arith, c .before .attached-length .ensures .1, c .length-in .ensures .1, l .loop .inv .2),
     )
 
 returns : tie.Need-returns Inv-loop μ-loop

@@ -8,7 +8,7 @@ use Rattle.layout.proofs.put_paths.Tie as tie
 
 -- what the types say
 arrays : (s : tie.Start) → Arrays (s .args .d)
-arrays s = record { bus = search needs; interface = search needs; path = search needs; device = search needs }
+arrays s = record { bus = search needs; interface = search needs; path = search needs; device = search needs; tail = search needs }
 
 returns : tie.Need-returns
 returns c =

@@ -14,10 +14,10 @@ use Rattle.reader.proofs.are_same.Statement.{statement}
 use Rattle.reader.proofs.are_same.Tie as tie
 
 abbrev Inv-loop : tie.InvT-loop
-Inv-loop a b i₀ i = (i ≤ 1954) × (true ≡ allBelow i (λ k. eqb (getD a k 0) (getD b k 0)))
+Inv-loop a b i₀ i = (i ≤ 2018) × (true ≡ allBelow i (λ k. eqb (getD a k 0) (getD b k 0)))
 
 abbrev μ-loop : tie.MeasureT-loop
-μ-loop a b i₀ i = 1954 - i
+μ-loop a b i₀ i = 2018 - i
 
 loop-holds : tie.Need-loop-holds Inv-loop μ-loop
 loop-holds c = (omega arith, refl)
@@ -28,8 +28,8 @@ returns c =
     let s = h .before in
     let a = now (s .args .a) in
     let b = now (s .args .b) in
-    all-fails {a = eqb (getD a (h .loop .i) 0) (getD b (h .loop .i) 0)} 1954 (h .loop .i) (λ k. eqb (getD a k 0) (getD b k 0)) (search needs) refl (ne-eqb _ _ (c .if1 .taken))
-    ∙ sym (same-all 1954 a b (s .pre .0) (s .pre .1))
+    all-fails {a = eqb (getD a (h .loop .i) 0) (getD b (h .loop .i) 0)} 2018 (h .loop .i) (λ k. eqb (getD a k 0) (getD b k 0)) (search needs) refl (ne-eqb _ _ (c .if1 .taken))
+    ∙ sym (same-all 2018 a b (s .pre .0) (s .pre .1))
 
 loop-again : tie.Need-loop-again Inv-loop μ-loop
 loop-again c =
@@ -45,8 +45,8 @@ returns-2 c =
     let s = h .before in
     let a = now (s .args .a) in
     let b = now (s .args .b) in
-    let e : h .loop .i ≡ 1954 = omega arith in
-    h .loop .inv .1 ∙ ap (λ (m : ℕ). allBelow m (λ k. eqb (getD a k 0) (getD b k 0))) e ∙ sym (same-all 1954 a b (s .pre .0) (s .pre .1))
+    let e : h .loop .i ≡ 2018 = omega arith in
+    h .loop .inv .1 ∙ ap (λ (m : ℕ). allBelow m (λ k. eqb (getD a k 0) (getD b k 0))) e ∙ sym (same-all 2018 a b (s .pre .0) (s .pre .1))
 
 pub are-same-spec : {M : Type 1} → statement M
 are-same-spec =

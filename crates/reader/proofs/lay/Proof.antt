@@ -20,7 +20,7 @@ held c = search needs
 abbrev drives : tie.After-next-place → Table
 drives c = c .before .before .before .before .args .f .table
 
-fits : (c : tie.After-next-place) → (c .next-place .result + 4 ≡ length (tableOf (drives c))) × (length (tableOf (drives c)) ≤ 1780)
+fits : (c : tie.After-next-place) → (c .next-place .result + 4 ≡ length (tableOf (drives c))) × (length (tableOf (drives c)) ≤ 1844)
 fits c = table-fits (drives c) (c .next-place .ensures .0) (c .next-place .ensures .1)
 
 put-head-requires : tie.Need-put-head-requires

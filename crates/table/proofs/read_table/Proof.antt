@@ -5,9 +5,11 @@ use mathlib.Core.Path.{_≡_, refl, sym, _∙_}
 use Prim.Native.Nat.{_<_}
 use borrow.Author.Tests.{not-true, not-false}
 use denote.Ref.{now}
+use Rattle.words.specs.Words.{le, part}
+use Rattle.drive.proofs.DriveLaws.{length-least}
 use Rattle.table.specs.declared.Header.the-variants.{Whole}
 use Rattle.table.specs.Table.{headerAt, Reads}
-use Rattle.table.proofs.TableLaws.{whole-at, length-whole, drive-whole, bads-whole, parameters-whole, attached-least, slot-named, reads-end}
+use Rattle.table.proofs.TableLaws.{whole-at, length-whole, drive-kind, other-kind, drive-whole, bads-whole, parameters-whole, attached-least, slot-named, reads-end}
 use Rattle.table.proofs.Runs.{Stands, stands-first, slot-left, header-reads, end-reads, drive-reads, drive-stands, attached-reads, bads-reads, bads-stands, parameters-stands}
 use Rattle.table.proofs.read_table.Statement.{statement}
 use Rattle.table.proofs.read_table.Tie as tie
@@ -45,14 +47,15 @@ part-decode-end c = let w = whole-at _ _ _ _ (header (c .before .before .before)
 
 decode-requires : tie.Need-decode-requires Inv-loop μ-loop
 decode-requires c κs =
-    let d = drive-whole _ _ _ _ (header (c .before .before .before .before)) (c .before .if2 .taken) in
-    rw add-sub-cancel-left (omega (arith, d .0))
+    let z = drive-kind _ (c .before .before .if1 .left) (c .before .if2 .taken) in
+    let d = drive-whole _ _ _ _ (header (c .before .before .before .before)) z in
+    rw (add-sub-cancel-left, d .whole) (length-least (le 2 (part (c .before .before .before .before .h2 .given .0 .1 .0) (now (c .before .before .before .before .before .before .before .before .before .before .before .args .t)) (c .before .before .before .before .before .before .before .before .loop .at)) 2), omega arith)
 
 returns-3 : tie.Need-returns-3 Inv-loop μ-loop
 returns-3 c =
     let k = c .before .before .before .before .before .before .before .before .before .before in
     let f = k .before .before .before in
-    rw (c .ended3 .ensures) (drive-reads (f .before .loop .inv) (f .loop-test .taken) (header k) (c .before .before .before .before .before .before .before .if2 .taken) (rw add-sub-cancel-left at (c .before .before .before .before .before .decode .ensures)) (c .before .before .refusal-among .ensures) (c .before .if3 .taken))
+    rw (c .ended3 .ensures) (drive-reads (f .before .loop .inv) (f .loop-test .taken) (header k) (drive-kind _ (c .before .before .before .before .before .before .before .before .if1 .left) (c .before .before .before .before .before .before .before .if2 .taken)) (rw add-sub-cancel-left at (c .before .before .before .before .before .decode .ensures)) (c .before .before .refusal-among .ensures) (c .before .if3 .taken))
 
 -- the drive that was found has a slot
 slot : (c : tie.Else3 Inv-loop μ-loop) → c .before .before .before .before .before .before .before .before .before .before .before .before .before .loop .b .count < 8
@@ -83,7 +86,7 @@ loop-again : tie.Need-loop-again Inv-loop μ-loop
 loop-again c =
     let k = c .before .before .before .before .before .before .before .before .before in
     let f = k .before .before .before in
-    drive-stands (f .before .loop .inv) (f .loop-test .taken) (header k) (c .before .before .before .before .before .before .if2 .taken) (rw add-sub-cancel-left at (c .before .before .before .before .decode .ensures)) (c .before .refusal-among .ensures) (c .if3 .left)
+    drive-stands (f .before .loop .inv) (f .loop-test .taken) (header k) (drive-kind _ (c .before .before .before .before .before .before .before .if1 .left) (c .before .before .before .before .before .before .if2 .taken)) (rw add-sub-cancel-left at (c .before .before .before .before .decode .ensures)) (c .before .refusal-among .ensures) (c .if3 .left)
 
 part-number-in-end : tie.Need-part-number-in-end Inv-loop μ-loop
 part-number-in-end c = let w = whole-at _ _ _ _ (header (c .before .before .before)) in omega arith
@@ -91,14 +94,14 @@ part-number-in-end c = let w = whole-at _ _ _ _ (header (c .before .before .befo
 number-in-requires : tie.Need-number-in-requires Inv-loop μ-loop
 number-in-requires c κs =
     let k = c .before .before .before .before in
-    rw (add-sub-cancel-left, length-whole _ _ _ _ (header k)) (attached-least _ _ _ _ (header k) (c .before .before .if1 .left) (c .before .if2 .left))
+    rw (add-sub-cancel-left, length-whole _ _ _ _ (header k)) (attached-least _ _ _ _ (header k) (c .before .before .if1 .left) (other-kind _ (c .before .if2 .left)))
 
 returns-4 : tie.Need-returns-4 Inv-loop μ-loop
 returns-4 c =
     let r = c .before .before .before .before in
     let k = r .before .before .before .before .before in
     let f = k .before .before .before in
-    rw (c .ended4 .ensures) (attached-reads (f .before .loop .inv) (f .loop-test .taken) (header k) (rw add-sub-cancel-left at (r .number-in .ensures)) (c .before .before .names-last .ensures) (r .before .before .before .if1 .left) (r .before .before .if2 .left) (not-true _ (c .before .if4 .taken)))
+    rw (c .ended4 .ensures) (attached-reads (f .before .loop .inv) (f .loop-test .taken) (header k) (rw add-sub-cancel-left at (r .number-in .ensures)) (c .before .before .names-last .ensures) (r .before .before .before .if1 .left) (other-kind _ (r .before .before .if2 .left)) (not-true _ (c .before .if4 .taken)))
 
 -- the drive that was named has a slot
 named : (c : tie.Else4 Inv-loop μ-loop) → c .before .before .before .number-in .result < 8
@@ -155,7 +158,7 @@ part-parameters-in-end c = let w = whole-at _ _ _ _ (header (c .before .before .
 parameters-in-requires : tie.Need-parameters-in-requires Inv-loop μ-loop
 parameters-in-requires c κs =
     let k = c .before .before .before .before .before .before .before .before .before .before .before in
-    let d = parameters-whole _ _ _ _ (header k) (c .before .before .before .before .before .before .before .before .before .if1 .left) (c .before .before .before .before .before .before .before .before .if2 .left) (c .before .before .if5 .left) in
+    let d = parameters-whole _ _ _ _ (header k) (c .before .before .before .before .before .before .before .before .before .if1 .left) (other-kind _ (c .before .before .before .before .before .before .before .before .if2 .left)) (c .before .before .if5 .left) in
     rw add-sub-cancel-left (omega (arith, d .0))
 
 with-bytes-requires : tie.Need-with-bytes-requires Inv-loop μ-loop
@@ -173,7 +176,7 @@ loop-again-3 c =
     let g = r .before .before .before in
     let k = g .before .before .before .before .before in
     let f = k .before .before .before in
-    parameters-stands (f .before .loop .inv) (f .loop-test .taken) (header k) (rw add-sub-cancel-left at (g .number-in .ensures)) (r .before .names-last .ensures) (g .before .before .before .if1 .left) (g .before .before .if2 .left) (c .before .before .before .before .if5 .left)
+    parameters-stands (f .before .loop .inv) (f .loop-test .taken) (header k) (rw add-sub-cancel-left at (g .number-in .ensures)) (r .before .names-last .ensures) (g .before .before .before .if1 .left) (other-kind _ (g .before .before .if2 .left)) (c .before .before .before .before .if5 .left)
     (not-false _ (r .if4 .left)) (rw add-sub-cancel-left at (c .before .parameters-in .ensures)) (c .with-bytes .ensures)
 
 returns-6 : tie.Need-returns-6 Inv-loop μ-loop

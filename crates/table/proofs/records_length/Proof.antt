@@ -9,7 +9,7 @@ use Rattle.table.proofs.records_length.Statement.{statement}
 use Rattle.table.proofs.records_length.Tie as tie
 
 abbrev Inv-loop : tie.InvT-loop
-Inv-loop n b total₀ i₀ total i = (i ≤ n) × (total ≡ length (recordsOf i b)) × (total ≤ 222 * i)
+Inv-loop n b total₀ i₀ total i = (i ≤ n) × (total ≡ length (recordsOf i b)) × (total ≤ 230 * i)
 
 abbrev μ-loop : tie.MeasureT-loop
 μ-loop n b total₀ i₀ total i = n - i
@@ -23,12 +23,12 @@ unfolding recordsOf
 loop-holds c = (search needs, refl, search needs)
 
 add-total : tie.Need-add-total Inv-loop μ-loop
-add-total c = omega (arith, c .attached-length .ensures .1, c .before .record-length .ensures .1)
+add-total c = omega (arith, c .attached-length .ensures .1, c .before .record-length .ensures .2)
 
 add-total-2 : tie.Need-add-total-2 Inv-loop μ-loop
 add-total-2 c =
     let h = c .before .before .before .before .before .before in
-    omega (arith, c .attached-length .ensures .1, c .before .record-length .ensures .1, h .loop .inv .2)
+    omega (arith, c .attached-length .ensures .1, c .before .record-length .ensures .2, h .loop .inv .2)
 
 loop-again : tie.Need-loop-again Inv-loop μ-loop
 loop-again c =
@@ -38,7 +38,7 @@ loop-again c =
     let l = length-slot (s .args .t1) (h .loop .i) (bytes s .0) (bytes s .1) (omega arith) in (
       search needs,
       omega (arith, m, l, c .before .record-length .ensures .0, c .attached-length .ensures .0, h .loop .inv .1),
-      omega (arith, c .before .record-length .ensures .1, c .attached-length .ensures .1, h .loop .inv .2),
+      omega (arith, c .before .record-length .ensures .2, c .attached-length .ensures .1, h .loop .inv .2),
     )
 
 returns : tie.Need-returns Inv-loop μ-loop

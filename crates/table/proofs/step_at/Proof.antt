@@ -4,7 +4,7 @@ use native.Mathlib.Omega.{arith}
 use denote.Ref.{now}
 use Rattle.table.specs.declared.Header.the-variants.{Whole}
 use Rattle.table.specs.Table.{headerAt}
-use Rattle.table.proofs.TableLaws.{whole-at, drive-whole, bads-whole, parameters-whole, stepAt-bad, stepAt-end, stepAt-drive, stepAt-bads, stepAt-parameters}
+use Rattle.table.proofs.TableLaws.{whole-at, drive-kind, other-kind, drive-whole, bads-whole, parameters-whole, stepAt-bad, stepAt-end, stepAt-drive, stepAt-bads, stepAt-parameters}
 use borrow.Author.Needs.{needs}
 use Rattle.table.proofs.step_at.Statement.{statement}
 use Rattle.table.proofs.step_at.Tie as tie
@@ -27,12 +27,16 @@ part-drive-step-end c = let w = whole-at _ _ _ _ (header (c .before .before .bef
 
 drive-step-requires : tie.Need-drive-step-requires
 drive-step-requires c κs =
-    let d = drive-whole _ _ _ _ (header (c .before .before .before .before)) (c .before .if2 .taken) in
-    (rw add-sub-cancel-left (d .0), omega (arith, d .1))
+    let h = header (c .before .before .before .before) in
+    let z = drive-kind _ (c .before .before .if1 .left) (c .before .if2 .taken) in
+    let d = drive-whole _ _ _ _ h z in
+    rw add-sub-cancel-left (d .whole, rw (d .kind) z, rw (d .long) (omega (arith, d .inside)))
 
 returns-2 : tie.Need-returns-2
 returns-2 c =
-    rw add-sub-cancel-left at (c .drive-step .ensures) ∙ stepAt-drive _ _ _ _ _ _ (header (c .before .before .before .before .before)) (c .before .before .if2 .taken)
+    let h = header (c .before .before .before .before .before) in
+    let z = drive-kind _ (c .before .before .before .if1 .left) (c .before .before .if2 .taken) in
+    rw (add-sub-cancel-left, drive-whole _ _ _ _ h z .kind) at (c .drive-step .ensures) ∙ stepAt-drive _ _ _ _ _ _ h z
 
 part-bads-step-end : tie.Need-part-bads-step-end
 part-bads-step-end c = let w = whole-at _ _ _ _ (header (c .before .before .before .before)) in omega arith
@@ -54,7 +58,7 @@ part-parameters-step-end c = let w = whole-at _ _ _ _ (header (c .before .before
 
 parameters-step-requires : tie.Need-parameters-step-requires
 parameters-step-requires c κs =
-    let d = parameters-whole _ _ _ _ (header (c .before .before .before .before .before)) (c .before .before .before .if1 .left) (c .before .before .if2 .left) (c .before .if3 .left) in
+    let d = parameters-whole _ _ _ _ (header (c .before .before .before .before .before)) (c .before .before .before .if1 .left) (other-kind _ (c .before .before .if2 .left)) (c .before .if3 .left) in
     (rw add-sub-cancel-left (d .0), omega (arith, d .1))
 
 returns-4 : tie.Need-returns-4
@@ -63,7 +67,7 @@ returns-4 c = stepAt-bad _ _ _ _ _ (sym (c .before .before .before .header-at .e
 returns-5 : tie.Need-returns-5
 returns-5 c =
     rw add-sub-cancel-left at (c .parameters-step .ensures)
-    ∙ stepAt-parameters _ _ _ _ _ _ (header (c .before .before .before .before .before .before)) (c .before .before .before .before .if1 .left) (c .before .before .before .if2 .left) (c .before .before .if3 .left)
+    ∙ stepAt-parameters _ _ _ _ _ _ (header (c .before .before .before .before .before .before)) (c .before .before .before .before .if1 .left) (other-kind _ (c .before .before .before .if2 .left)) (c .before .before .if3 .left)
 
 pub step-at-spec : {M : Type 1} → statement M
 step-at-spec =

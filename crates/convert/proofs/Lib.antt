@@ -1,0 +1,3 @@
+pub mod ConvertLaws
+pub mod Demand2
+pub mod Vectors
