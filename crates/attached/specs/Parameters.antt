@@ -7,25 +7,25 @@ use Rattle.words.specs.Words.{le, le_bytes, part}
 -- ---- "2026-01", the record by its offsets
 
 -- a drive's parameters are kind 4
-abbrev pub parametersKind : ℕ
-parametersKind = 4
+abbrev pub parameters_kind : ℕ
+parameters_kind = 4
 
 -- and their record is 20 bytes
-abbrev pub parametersLength : ℕ
-parametersLength = 20
+abbrev pub parameters_length : ℕ
+parameters_length = 20
 
 -- the bytes of the table that the record gives: 0 to 13 of the sixteen
-abbrev pub givenLength : ℕ
-givenLength = 14
+abbrev pub given_length : ℕ
+given_length = 14
 
 -- offset 4: the number of the drive, counted from 0; of kind 3 too (2026-04)
 abbrev pub number_in : List ℕ → ℕ
 number_in r = le 2 r 4
 
 -- offset 6: the bytes, any
-abbrev pub parametersIn : List ℕ → List ℕ
-parametersIn r = part givenLength r 6
+abbrev pub parameters_in : List ℕ → List ℕ
+parameters_in r = part given_length r 6
 
 -- offsets 0, 2, 4, 6: length, kind, number, bytes
-unfoldable pub parametersRecord : ℕ → List ℕ → List ℕ
-parametersRecord i p = le_bytes 2 parametersLength ++ (le_bytes 2 parametersKind ++ (le_bytes 2 i ++ p))
+unfoldable pub parameters_record : ℕ → List ℕ → List ℕ
+parameters_record i p = le_bytes 2 parameters_length ++ (le_bytes 2 parameters_kind ++ (le_bytes 2 i ++ p))

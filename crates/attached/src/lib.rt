@@ -3,8 +3,8 @@
 ghost use Rattle.std.specs.Prelude.{◌≡◌, true, ◌+◌, ◌*◌, ◌≤◌, ◌<◌, length};
 ghost use Rattle.std.proofs.lemmas.List.Edits.{sets};
 ghost use Rattle.words.specs.Words.{le};
-ghost use Rattle.attached.specs.Parameters.{parametersLength, number_in, parametersIn, parametersRecord};
-ghost use Rattle.attached.specs.Bad.{mostBad, badSize, listPlace, badLength, listLength, badCount, badLengthOk, badsIn, held_of, badRecord, noBads, ascends, areBlocks, listOk, zeroPast, badsOk, good, before};
+ghost use Rattle.attached.specs.Parameters.{parameters_length, number_in, parameters_in, parameters_record};
+ghost use Rattle.attached.specs.Bad.{most_bad, bad_size, list_place, bad_length, list_length, bad_count, bad_length_ok, bads_in, held_of, bad_record, no_bads, ascends, are_blocks, list_ok, zero_past, bads_ok, good, before};
 
 // A drive's parameters are kind 4, and their record is 20 bytes.
 pub const PARAMETERS_KIND: u16 = 4;
@@ -16,7 +16,7 @@ pub const GIVEN_LENGTH: usize = 14;
 
 // The number of the drive that a record of either kind names. The table's reader has found the record whole.
 pub fn number_in(r: &[u8]) -> u16
-    requires { listPlace ≤ length r.now }
+    requires { list_place ≤ length r.now }
     ensures { result ≡ number_in r.now }
 {
     words::get16(r, 4)
@@ -24,8 +24,8 @@ pub fn number_in(r: &[u8]) -> u16
 
 // The bytes that a record gives, likewise.
 pub fn parameters_in(r: &[u8]) -> [u8; 14]
-    requires { parametersLength ≤ length r.now }
-    ensures { result ≡ parametersIn r.now }
+    requires { parameters_length ≤ length r.now }
+    ensures { result ≡ parameters_in r.now }
 {
     let mut p = [0u8; 14];
     let from = 6;
@@ -36,7 +36,7 @@ pub fn parameters_in(r: &[u8]) -> [u8; 14]
 
 // The record of a drive's number and its bytes.
 pub fn encode(number: u16, p: [u8; 14]) -> [u8; 20]
-    ensures { result ≡ parametersRecord number p }
+    ensures { result ≡ parameters_record number p }
 {
     let mut r = [0u8; 20];
     words::store16(&mut r, 0, PARAMETERS_LENGTH);
@@ -66,7 +66,7 @@ const LIST_PLACE: usize = 6;
 pub const LONGEST_BAD: usize = LIST_PLACE + LIST_LENGTH;
 
 // How many bad blocks a drive has, and their numbers, eight bytes each in ascending order; behind them zeros.
-#[derive(Drop)]
+#[derive(Clone, Copy)]
 pub struct Bads {
     pub count: u8,
     pub list: [u8; 128],
@@ -74,7 +74,7 @@ pub struct Bads {
 
 // No list.
 pub fn no_bads() -> Bads
-    ensures { result ≡ noBads }
+    ensures { result ≡ no_bads }
 {
     Bads {
         count: 0,
@@ -84,7 +84,7 @@ pub fn no_bads() -> Bads
 
 // How many numbers a record of that length has.
 fn bad_count(size: usize) -> usize
-    ensures { result ≡ badCount size }
+    ensures { result ≡ bad_count size }
 {
     if size < LIST_PLACE {
         return 0;
@@ -94,7 +94,7 @@ fn bad_count(size: usize) -> usize
 
 // The length of a record of one to sixteen numbers.
 pub fn bad_length_ok(size: u16) -> bool
-    ensures { result ≡ badLengthOk size }
+    ensures { result ≡ bad_length_ok size }
 {
     let whole = size as usize;
     let n = bad_count(whole);
@@ -104,8 +104,8 @@ pub fn bad_length_ok(size: u16) -> bool
 
 // The bad blocks that a record gives. The table's reader has found the record whole and its length good.
 pub fn bads_in(r: &[u8]) -> Bads
-    requires { (listPlace ≤ length r.now) × (length r.now ≤ listPlace + listLength) }
-    ensures { result ≡ badsIn r.now }
+    requires { (list_place ≤ length r.now) × (length r.now ≤ list_place + list_length) }
+    ensures { result ≡ bads_in r.now }
 {
     let mut list = [0u8; 128];
     let from = LIST_PLACE;
@@ -118,7 +118,7 @@ pub fn bads_in(r: &[u8]) -> Bads
 
 // Of a count, how many numbers a list has room for.
 fn held(n: u8) -> usize
-    ensures { (result ≡ held_of n) × (result ≤ mostBad) }
+    ensures { (result ≡ held_of n) × (result ≤ most_bad) }
 {
     let count = n as usize;
     if count < MOST_BAD { count } else { MOST_BAD }
@@ -126,15 +126,15 @@ fn held(n: u8) -> usize
 
 // The length of the record of n numbers.
 pub fn bad_length(n: u8) -> usize
-    ensures { (result ≡ badLength (held_of n)) × (result ≤ listPlace + listLength) }
+    ensures { (result ≡ bad_length (held_of n)) × (result ≤ list_place + list_length) }
 {
     LIST_PLACE + BAD_SIZE * held(n)
 }
 
 // The record of a drive's number and its bad blocks, laid from a place on. `table` has found room for it.
 pub fn put_bads(l: Bads, number: u16, out: &mut [u8], at: usize)
-    requires { at + badLength (held_of l.count) ≤ length out.old }
-    ensures { out.new ≡ sets out.old at (badRecord number l) }
+    requires { at + bad_length (held_of l.count) ≤ length out.old }
+    ensures { out.new ≡ sets out.old at (bad_record number l) }
 {
     let list = l.list;
     let size = BAD_SIZE * held(l.count);
@@ -148,8 +148,8 @@ pub fn put_bads(l: Bads, number: u16, out: &mut [u8], at: usize)
 
 // Number j of a list of sixteen.
 fn bad_at(list: &[u8; 128], j: usize) -> u64
-    requires { j < mostBad }
-    ensures { result ≡ le 8 list.now (badSize * j) }
+    requires { j < most_bad }
+    ensures { result ≡ le 8 list.now (bad_size * j) }
 {
     words::get64(list, BAD_SIZE * j)
 }
@@ -171,7 +171,7 @@ fn ascends(l: Bads) -> bool
 // Of numbers that ascend the last is the greatest: it alone is looked at.
 fn are_blocks(l: Bads, blocks: u64) -> bool
     requires { ascends l ≡ true }
-    ensures { result ≡ areBlocks l blocks }
+    ensures { result ≡ are_blocks l blocks }
 {
     let list = l.list;
     let n = held(l.count);
@@ -183,7 +183,7 @@ fn are_blocks(l: Bads, blocks: u64) -> bool
 
 // Ascending numbers of blocks of a drive that has so many.
 pub fn list_ok(l: Bads, blocks: u64) -> bool
-    ensures { result ≡ listOk l blocks }
+    ensures { result ≡ list_ok l blocks }
 {
     if ascends(l) {
         return are_blocks(l, blocks);
@@ -192,7 +192,7 @@ pub fn list_ok(l: Bads, blocks: u64) -> bool
 }
 
 fn zero_past(l: Bads) -> bool
-    ensures { result ≡ zeroPast l }
+    ensures { result ≡ zero_past l }
 {
     let list = l.list;
     let mut zero = true;
@@ -206,7 +206,7 @@ fn zero_past(l: Bads) -> bool
 
 // What a slot of a table may hold for a drive of so many blocks.
 pub fn bads_ok(l: Bads, blocks: u64) -> bool
-    ensures { result ≡ badsOk l blocks }
+    ensures { result ≡ bads_ok l blocks }
 {
     let few = l.count as usize <= MOST_BAD;
     logic::and(few, logic::and(list_ok(l, blocks), zero_past(l)))

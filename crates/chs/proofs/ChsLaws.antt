@@ -10,7 +10,7 @@ use borrow.Author.Tests.{ltb-true, lt-ltb, le-leb}
 use lib.Arith.{digits_lt}
 use lib.Dec.{ltb}
 use Rattle.logic.specs.Logic.{pick, both}
-use Rattle.logic.proofs.LogicLaws.{both_true, in_range-true, impossible}
+use Rattle.logic.proofs.LogicLaws.{both_true, in_range_true, impossible}
 use Rattle.chs.specs.declared.Geometry.{Geometry}
 use Rattle.chs.specs.declared.Address.{Address}
 use Rattle.chs.specs.declared.ToBlock.{ToBlock}
@@ -18,118 +18,118 @@ use Rattle.chs.specs.declared.ToBlock.TheVariants.{Block, Refused as NoBlock}
 use Rattle.chs.specs.declared.ToAddress.{ToAddress}
 use Rattle.chs.specs.declared.ToAddress.TheVariants.{At, Refused as NoAddress}
 use Rattle.chs.specs.Demand2.{Limits, Valid}
-use Rattle.chs.specs.Chs.{outside, mostCylinders, mostHeads, mostSectors, inLimits, isValid, number, size, split, block_of, address_of, blockNumbers, addressNumbers, blockGiven, addressGiven}
+use Rattle.chs.specs.Chs.{outside, most_cylinders, most_heads, most_sectors, in_limits, is_valid, number, size, split, block_of, address_of, block_numbers, address_numbers, block_given, address_given}
 
--- ---- inLimits and isValid, as facts
+-- ---- in_limits and is_valid, as facts
 
-pub inLimits-true : (g : Geometry) → inLimits g ≡ true → Limits g
-unfolding inLimits
-inLimits-true g e =
+pub in_limits_true : (g : Geometry) → in_limits g ≡ true → Limits g
+unfolding in_limits
+in_limits_true g e =
     let p = both_true _ _ e in
     let q = both_true _ _ p.1 in
-    let c = in_range-true g.c 1 mostCylinders p.0 in
-    let h = in_range-true g.h 1 mostHeads q.0 in
-    let s = in_range-true g.s 1 mostSectors q.1 in
+    let c = in_range_true g.c 1 most_cylinders p.0 in
+    let h = in_range_true g.h 1 most_heads q.0 in
+    let s = in_range_true g.s 1 most_sectors q.1 in
     record { c-low = c.0; c-high = c.1; h-low = h.0; h-high = h.1; s-low = s.0; s-high = s.1 }
 
-pub isValid-true : (g : Geometry) (a : Address) → isValid g a ≡ true → Valid g a
-unfolding isValid
-isValid-true g a e =
+pub is_valid_true : (g : Geometry) (a : Address) → is_valid g a ≡ true → Valid g a
+unfolding is_valid
+is_valid_true g a e =
     let p = both_true _ _ e in
     let q = both_true _ _ p.1 in
-    let s = in_range-true a.sector 1 g.s q.1 in
-    record { cylinder-low = ltb-true _ _ p.0; head-low = ltb-true _ _ q.0; sector-pos = s.0; sector-high = s.1 }
+    let s = in_range_true a.sector 1 g.s q.1 in
+    record { cylinder_low = ltb-true _ _ p.0; head_low = ltb-true _ _ q.0; sector_pos = s.0; sector_high = s.1 }
 
 -- and back
-pub limits-inLimits : (g : Geometry) → Limits g → inLimits g ≡ true
-unfolding inLimits
-limits-inLimits g l =
+pub limits-in_limits : (g : Geometry) → Limits g → in_limits g ≡ true
+unfolding in_limits
+limits-in_limits g l =
     rw (le-leb _ _ l.c-low, le-leb _ _ l.c-high, le-leb _ _ l.h-low, le-leb _ _ l.h-high, le-leb _ _ l.s-low, le-leb _ _ l.s-high)
 
-pub valid-isValid : (g : Geometry) (a : Address) → Valid g a → isValid g a ≡ true
-unfolding isValid
-valid-isValid g a v = rw (lt-ltb _ _ v.cylinder-low, lt-ltb _ _ v.head-low, le-leb _ _ v.sector-pos, le-leb _ _ v.sector-high)
+pub valid_is_valid : (g : Geometry) (a : Address) → Valid g a → is_valid g a ≡ true
+unfolding is_valid
+valid_is_valid g a v = rw (lt-ltb _ _ v.cylinder_low, lt-ltb _ _ v.head_low, le-leb _ _ v.sector_pos, le-leb _ _ v.sector_high)
 
 -- ---- the bounds of the arithmetic
 
-pub tracks-high : (g : Geometry) → inLimits g ≡ true → g.c * g.h ≤ mostCylinders * mostHeads
-tracks-high g l = let limits = inLimits-true g l in mul-le-mul limits.c-high limits.h-high
+pub tracks_high : (g : Geometry) → in_limits g ≡ true → g.c * g.h ≤ most_cylinders * most_heads
+tracks_high g l = let limits = in_limits_true g l in mul-le-mul limits.c-high limits.h-high
 
 -- 1024 x 255 x 63
-pub size-high : (g : Geometry) → inLimits g ≡ true → size g ≤ 16450560
-size-high g l = mul-le-mul {n₂ = mostCylinders * mostHeads} {m₂ = mostSectors} (tracks-high g l) (inLimits-true g l).s-high
+pub size-high : (g : Geometry) → in_limits g ≡ true → size g ≤ 16450560
+size-high g l = mul-le-mul {n₂ = most_cylinders * most_heads} {m₂ = most_sectors} (tracks_high g l) (in_limits_true g l).s-high
 
-pub track-below : (g : Geometry) (a : Address) → Valid g a → a.cylinder * g.h + a.head < g.c * g.h
-track-below g a v = digits_lt v.cylinder-low v.head-low
+pub track_below : (g : Geometry) (a : Address) → Valid g a → a.cylinder * g.h + a.head < g.c * g.h
+track_below g a v = digits_lt v.cylinder_low v.head_low
 
 -- a valid address's block by its digits: the track, and the sector from 0
 pub number_digits : (g : Geometry) (a : Address) → Valid g a → number g a ≡ (a.cylinder * g.h + a.head) * g.s + (a.sector - 1)
-number_digits g a v = omega (arith, v.sector-pos)
+number_digits g a v = omega (arith, v.sector_pos)
 
-pub sector-below : (g : Geometry) (a : Address) → Valid g a → a.sector - 1 < g.s
-sector-below g a v = omega (arith, v.sector-high, v.sector-pos)
+pub sector_below : (g : Geometry) (a : Address) → Valid g a → a.sector - 1 < g.s
+sector_below g a v = omega (arith, v.sector_high, v.sector_pos)
 
 pub number-below : (g : Geometry) (a : Address) → Valid g a → number g a < size g
-number-below g a v = rw (number_digits g a v) (digits_lt (track-below g a v) (sector-below g a v))
+number-below g a v = rw (number_digits g a v) (digits_lt (track_below g a v) (sector_below g a v))
 
 -- ---- the cases of block_of
 
-pub blockOf-limits : (g : Geometry) (a : Address) → inLimits g ≡ false → block_of g a ≡ NoBlock outside
+pub block_of-limits : (g : Geometry) (a : Address) → in_limits g ≡ false → block_of g a ≡ NoBlock outside
 unfolding block_of
-blockOf-limits g a e = rw e
+block_of-limits g a e = rw e
 
-pub blockOf-invalid : (g : Geometry) (a : Address) → inLimits g ≡ true → isValid g a ≡ false → block_of g a ≡ NoBlock outside
+pub block_of_invalid : (g : Geometry) (a : Address) → in_limits g ≡ true → is_valid g a ≡ false → block_of g a ≡ NoBlock outside
 unfolding block_of
-blockOf-invalid g a e f = rw (e, f)
+block_of_invalid g a e f = rw (e, f)
 
-pub blockOf-valid : (g : Geometry) (a : Address) → inLimits g ≡ true → isValid g a ≡ true → block_of g a ≡ Block (number g a)
+pub block_of_valid : (g : Geometry) (a : Address) → in_limits g ≡ true → is_valid g a ≡ true → block_of g a ≡ Block (number g a)
 unfolding block_of
-blockOf-valid g a e f = rw (e, f)
+block_of_valid g a e f = rw (e, f)
 
 -- ---- the cases of address_of
 
-pub addressOf-limits : (g : Geometry) (n : ℕ) → inLimits g ≡ false → address_of g n ≡ NoAddress outside
+pub address_of-limits : (g : Geometry) (n : ℕ) → in_limits g ≡ false → address_of g n ≡ NoAddress outside
 unfolding address_of
-addressOf-limits g n e = rw e
+address_of-limits g n e = rw e
 
-pub addressOf-above : (g : Geometry) (n : ℕ) → inLimits g ≡ true → ltb n (size g) ≡ false → address_of g n ≡ NoAddress outside
+pub address_of_above : (g : Geometry) (n : ℕ) → in_limits g ≡ true → ltb n (size g) ≡ false → address_of g n ≡ NoAddress outside
 unfolding address_of
-addressOf-above g n e f = rw (e, f)
+address_of_above g n e f = rw (e, f)
 
-pub addressOf-below : (g : Geometry) (n : ℕ) → inLimits g ≡ true → ltb n (size g) ≡ true → address_of g n ≡ At (split g n)
+pub address_of-below : (g : Geometry) (n : ℕ) → in_limits g ≡ true → ltb n (size g) ≡ true → address_of g n ≡ At (split g n)
 unfolding address_of
-addressOf-below g n e f = rw (e, f)
+address_of-below g n e f = rw (e, f)
 
 -- ---- the answers by their numbers
 
 -- whoever answers with the definition answers with the paper's numbers
-pub block-answered : {r : ToBlock} (g : Geometry) (a : Address) → r ≡ block_of g a → (r ≡ block_of g a) × (blockNumbers r ≡ blockGiven g a)
-unfolding block_of blockNumbers blockGiven
-block-answered g a e = (e, ap blockNumbers e ∙ by-test (both (inLimits g) (isValid g a)))
+pub block_answered : {r : ToBlock} (g : Geometry) (a : Address) → r ≡ block_of g a → (r ≡ block_of g a) × (block_numbers r ≡ block_given g a)
+unfolding block_of block_numbers block_given
+block_answered g a e = (e, ap block_numbers e ∙ by_test (both (in_limits g) (is_valid g a)))
   where
-    by-test : (t : Bool) → blockNumbers (pick t (Block (number g a)) (NoBlock outside)) ≡ pick t (0 ∷ number g a ∷ []) (0x04 ∷ [])
-    by-test true = refl
-    by-test false = refl
+    by_test : (t : Bool) → block_numbers (pick t (Block (number g a)) (NoBlock outside)) ≡ pick t (0 ∷ number g a ∷ []) (0x04 ∷ [])
+    by_test true = refl
+    by_test false = refl
 
-pub address-answered : {r : ToAddress} (g : Geometry) (n : ℕ) → r ≡ address_of g n → (r ≡ address_of g n) × (addressNumbers r ≡ addressGiven g n)
-unfolding address_of addressNumbers addressGiven
-address-answered g n e = (e, ap addressNumbers e ∙ by-test (both (inLimits g) (ltb n (size g))))
+pub address_answered : {r : ToAddress} (g : Geometry) (n : ℕ) → r ≡ address_of g n → (r ≡ address_of g n) × (address_numbers r ≡ address_given g n)
+unfolding address_of address_numbers address_given
+address_answered g n e = (e, ap address_numbers e ∙ by_test (both (in_limits g) (ltb n (size g))))
   where
-    by-test : (t : Bool) → addressNumbers (pick t (At (split g n)) (NoAddress outside))
+    by_test : (t : Bool) → address_numbers (pick t (At (split g n)) (NoAddress outside))
         ≡ pick t (0 ∷ (n / g.s / g.h) ∷ (n / g.s % g.h) ∷ (n % g.s + 1) ∷ []) (0x04 ∷ [])
-    by-test true = refl
-    by-test false = refl
+    by_test true = refl
+    by_test false = refl
 
 -- no two answers have the same numbers
-pub block_apart : (x y : ToBlock) → blockNumbers x ≡ blockNumbers y → x ≡ y
-unfolding blockNumbers
+pub block_apart : (x y : ToBlock) → block_numbers x ≡ block_numbers y → x ≡ y
+unfolding block_numbers
 block_apart (Block m) (Block n) e = cc
 block_apart (Block m) (NoBlock d) e = impossible (cc)
 block_apart (NoBlock c) (Block n) e = impossible (cc)
 block_apart (NoBlock c) (NoBlock d) e = cc
 
-pub address-apart : (x y : ToAddress) → addressNumbers x ≡ addressNumbers y → x ≡ y
-unfolding addressNumbers
+pub address-apart : (x y : ToAddress) → address_numbers x ≡ address_numbers y → x ≡ y
+unfolding address_numbers
 address-apart (At a) (At b) e =
     let c : a.cylinder ≡ b.cylinder = cc in
     let h : a.head ≡ b.head = cc in

@@ -14,31 +14,31 @@ use Rattle.chs.specs.declared.Geometry.{Geometry}
 use Rattle.chs.specs.declared.Address.{Address}
 use Rattle.chs.specs.declared.ToBlock.TheVariants.{Block, Refused as NoBlock}
 use Rattle.chs.specs.declared.ToAddress.TheVariants.{At, Refused as NoAddress}
-use Rattle.chs.specs.Chs.{outside, unpack, isValid, number, size, split, inLimits, block_of, address_of, pack}
+use Rattle.chs.specs.Chs.{outside, unpack, is_valid, number, size, split, in_limits, block_of, address_of, pack}
 use Rattle.chs.specs.Demand2.{Valid, Demand2}
-use Rattle.chs.proofs.ChsLaws.{inLimits-true, isValid-true, limits-inLimits, valid-isValid, number_digits, sector-below, number-below, blockOf-limits, blockOf-invalid, blockOf-valid, addressOf-limits, addressOf-above, addressOf-below}
+use Rattle.chs.proofs.ChsLaws.{in_limits_true, is_valid_true, limits-in_limits, valid_is_valid, number_digits, sector_below, number-below, block_of-limits, block_of_invalid, block_of_valid, address_of-limits, address_of_above, address_of-below}
 
 -- ---- the arithmetic
 
 pub split-number : (g : Geometry) (a : Address) → Valid g a → split g (number g a) ≡ a
 split-number g a v =
-    let k = sector-below g a v in
+    let k = sector_below g a v in
     let e = number_digits g a v in
     let track = a.cylinder * g.h + a.head in
     let d : number g a / g.s ≡ track = ap (λ (n : ℕ). n / g.s) e ∙ digits_div track k in
     let r : number g a % g.s ≡ a.sector - 1 = ap (λ (n : ℕ). n % g.s) e ∙ digits_mod track k in
-    let y : number g a / g.s / g.h ≡ a.cylinder = ap (λ (n : ℕ). n / g.h) d ∙ digits_div a.cylinder v.head-low in
-    let h : number g a / g.s % g.h ≡ a.head = ap (λ (n : ℕ). n % g.h) d ∙ digits_mod a.cylinder v.head-low in
-    let s : number g a % g.s + 1 ≡ a.sector = omega (arith, r, v.sector-pos) in
+    let y : number g a / g.s / g.h ≡ a.cylinder = ap (λ (n : ℕ). n / g.h) d ∙ digits_div a.cylinder v.head_low in
+    let h : number g a / g.s % g.h ≡ a.head = ap (λ (n : ℕ). n % g.h) d ∙ digits_mod a.cylinder v.head_low in
+    let s : number g a % g.s + 1 ≡ a.sector = omega (arith, r, v.sector_pos) in
     λ i. record { cylinder = y i; head = h i; sector = s i }
 
 pub number-split : (g : Geometry) (n : ℕ) → number g (split g n) ≡ n
 number-split g n = rw (div-add-mod' (n / g.s) g.h) (omega (arith, div-add-mod' n g.s))
 
-pub split-valid : (g : Geometry) (n : ℕ) → inLimits g ≡ true → n < size g → isValid g (split g n) ≡ true
-unfolding isValid
-split-valid g n l h =
-    let limits = inLimits-true g l in
+pub split_valid : (g : Geometry) (n : ℕ) → in_limits g ≡ true → n < size g → is_valid g (split g n) ≡ true
+unfolding is_valid
+split_valid g n l h =
+    let limits = in_limits_true g l in
     let q : n / g.s < g.c * g.h = (div-lt_iff_lt-mul limits.s-low).1 h in
     let y : n / g.s / g.h < g.c = (div-lt_iff_lt-mul limits.h-low).1 q in
     let m : n % g.s < g.s = mod-lt n limits.s-low in
@@ -48,54 +48,54 @@ split-valid g n l h =
 
 -- ---- one to one, by the cases of the two tests
 
-to-address : (g : Geometry) (a : Address) (n : ℕ) (l v : Bool) →
-    inLimits g ≡ l → isValid g a ≡ v → block_of g a ≡ Block n → address_of g n ≡ At a
-to-address g a n true true l v e =
-    let w = isValid-true g a v in
-    let same : number g a ≡ n = cc (blockOf-valid g a l v) in
-    rw (← same) (addressOf-below g (number g a) l (lt-ltb _ _ (number-below g a w)) ∙ ap At (split-number g a w))
-to-address g a n true false l v e = impossible (cc (blockOf-invalid g a l v))
-to-address g a n false v l f e = impossible (cc (blockOf-limits g a l))
+to_address : (g : Geometry) (a : Address) (n : ℕ) (l v : Bool) →
+    in_limits g ≡ l → is_valid g a ≡ v → block_of g a ≡ Block n → address_of g n ≡ At a
+to_address g a n true true l v e =
+    let w = is_valid_true g a v in
+    let same : number g a ≡ n = cc (block_of_valid g a l v) in
+    rw (← same) (address_of-below g (number g a) l (lt-ltb _ _ (number-below g a w)) ∙ ap At (split-number g a w))
+to_address g a n true false l v e = impossible (cc (block_of_invalid g a l v))
+to_address g a n false v l f e = impossible (cc (block_of-limits g a l))
 
 to_block : (g : Geometry) (a : Address) (n : ℕ) (l v : Bool) →
-    inLimits g ≡ l → ltb n (size g) ≡ v → address_of g n ≡ At a → block_of g a ≡ Block n
+    in_limits g ≡ l → ltb n (size g) ≡ v → address_of g n ≡ At a → block_of g a ≡ Block n
 to_block g a n true true l v e =
-    let same : split g n ≡ a = cc (addressOf-below g n l v) in
-    rw (← same) (blockOf-valid g (split g n) l (split-valid g n l (ltb-true _ _ v)) ∙ ap Block (number-split g n))
-to_block g a n true false l v e = impossible (cc (addressOf-above g n l v))
-to_block g a n false v l f e = impossible (cc (addressOf-limits g n l))
+    let same : split g n ≡ a = cc (address_of-below g n l v) in
+    rw (← same) (block_of_valid g (split g n) l (split_valid g n l (ltb-true _ _ v)) ∙ ap Block (number-split g n))
+to_block g a n true false l v e = impossible (cc (address_of_above g n l v))
+to_block g a n false v l f e = impossible (cc (address_of-limits g n l))
 
 -- an address has the block n exactly when the block n has that address
-pub one-to-one : (g : Geometry) (a : Address) (n : ℕ) → (block_of g a ≡ Block n) ↔ (address_of g n ≡ At a)
-one-to-one g a n = (to-address g a n (inLimits g) (isValid g a) refl refl, to_block g a n (inLimits g) (ltb n (size g)) refl refl)
+pub one_to_one : (g : Geometry) (a : Address) (n : ℕ) → (block_of g a ≡ Block n) ↔ (address_of g n ≡ At a)
+one_to_one g a n = (to_address g a n (in_limits g) (is_valid g a) refl refl, to_block g a n (in_limits g) (ltb n (size g)) refl refl)
 
 -- ---- demand 2
 
 -- an address with a block is valid
-block-valid : (g : Geometry) (a : Address) (n : ℕ) (v : Bool) → inLimits g ≡ true → isValid g a ≡ v → block_of g a ≡ Block n → Valid g a
-block-valid g a n true l v e = isValid-true g a v
-block-valid g a n false l v e = impossible (cc (blockOf-invalid g a l v))
+block_valid : (g : Geometry) (a : Address) (n : ℕ) (v : Bool) → in_limits g ≡ true → is_valid g a ≡ v → block_of g a ≡ Block n → Valid g a
+block_valid g a n true l v e = is_valid_true g a v
+block_valid g a n false l v e = impossible (cc (block_of_invalid g a l v))
 
 -- a block with an address is below the size
-address_below : (g : Geometry) (a : Address) (n : ℕ) (v : Bool) → inLimits g ≡ true → ltb n (size g) ≡ v → address_of g n ≡ At a → n < size g
+address_below : (g : Geometry) (a : Address) (n : ℕ) (v : Bool) → in_limits g ≡ true → ltb n (size g) ≡ v → address_of g n ≡ At a → n < size g
 address_below g a n true l v e = ltb-true _ _ v
-address_below g a n false l v e = impossible (cc (addressOf-above g n l v))
+address_below g a n false l v e = impossible (cc (address_of_above g n l v))
 
 pub demand2 : Demand2
 demand2 g limits =
-    let l : inLimits g ≡ true = limits-inLimits g limits in
+    let l : in_limits g ≡ true = limits-in_limits g limits in
     record {
-      has_block = λ a v. (number g a, blockOf-valid g a l (valid-isValid g a v), number-below g a v);
-      has_address = λ n h. (split g n, addressOf-below g n l (lt-ltb _ _ h), isValid-true g (split g n) (split-valid g n l h));
-      same = λ a n. one-to-one g a n;
-      only-valid = λ a n e. block-valid g a n (isValid g a) l refl e;
+      has_block = λ a v. (number g a, block_of_valid g a l (valid_is_valid g a v), number-below g a v);
+      has_address = λ n h. (split g n, address_of-below g n l (lt-ltb _ _ h), is_valid_true g (split g n) (split_valid g n l h));
+      same = λ a n. one_to_one g a n;
+      only_valid = λ a n e. block_valid g a n (is_valid g a) l refl e;
       only_below = λ a n e. address_below g a n (ltb n (size g)) l refl e;
     }
 
 -- a geometry outside the limits refuses both ways, whatever the argument
-pub outside-limits : (g : Geometry) → inLimits g ≡ false →
+pub outside-limits : (g : Geometry) → in_limits g ≡ false →
     ((a : Address) → block_of g a ≡ NoBlock outside) × ((n : ℕ) → address_of g n ≡ NoAddress outside)
-outside-limits g l = (λ a. blockOf-limits g a l, λ n. addressOf-limits g n l)
+outside-limits g l = (λ a. block_of-limits g a l, λ n. address_of-limits g n l)
 
 -- ---- the registers
 
@@ -116,12 +116,12 @@ unpack-pack cylinder sector c s =
     λ i. record { cylinder = ((λ j. f.0 j + 256 * f.1.0 j) ∙ whole) i; sector = (f.1.1 ∙ rest) i }
 
 -- what the cylinder has, its low 8 bits and the two above
-cylinder-fields : (low high : ℕ) → low < 256 → high < 4 → ((low + 256 * high) % 256 ≡ low) × ((low + 256 * high) / 256 % 4 ≡ high)
-cylinder-fields low high l h = (omega arith, omega arith)
+cylinder_fields : (low high : ℕ) → low < 256 → high < 4 → ((low + 256 * high) % 256 ≡ low) × ((low + 256 * high) / 256 % 4 ≡ high)
+cylinder_fields low high l h = (omega arith, omega arith)
 
 pub pack-unpack : (cx : ℕ) → cx < 65536 → pack (unpack cx).cylinder (unpack cx).sector ≡ cx
 pack-unpack cx h =
-    let f = cylinder-fields (cx / 256) (cx % 256 / 64) (omega arith) (omega arith) in
+    let f = cylinder_fields (cx / 256) (cx % 256 / 64) (omega arith) (omega arith) in
     let twice : cx % 64 % 64 ≡ cx % 64 = omega arith in
     let whole : 256 * (cx / 256) + (64 * (cx % 256 / 64) + cx % 64) ≡ cx = omega arith in
     (λ i. 256 * f.0 i + (64 * f.1 i + twice i)) ∙ whole

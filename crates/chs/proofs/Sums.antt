@@ -5,7 +5,7 @@ use mathlib.Core.List.{[], ◌∷◌, map}
 use Prim.Native.Nat.{ℕ}
 use Rattle.chs.specs.declared.Geometry.{Geometry}
 use Rattle.chs.specs.declared.Address.{Address}
-use Rattle.chs.specs.Chs.{isValid, inLimits, block_of, address_of, blockNumbers, addressNumbers, pack}
+use Rattle.chs.specs.Chs.{is_valid, in_limits, block_of, address_of, block_numbers, address_numbers, pack}
 
 abbrev g : Geometry
 g = record { c = 1024; h = 16; s = 63 }
@@ -14,16 +14,16 @@ abbrev at : ℕ → ℕ → ℕ → Address
 at cylinder head sector = record { cylinder = cylinder; head = head; sector = sector }
 
 -- P1 to P5
-pub sums : map (λ a. blockNumbers (block_of g a)) (at 0 0 1 ∷ at 0 1 1 ∷ at 1 0 1 ∷ at 1023 15 63 ∷ at 0 0 0 ∷ [])
+pub sums : map (λ a. block_numbers (block_of g a)) (at 0 0 1 ∷ at 0 1 1 ∷ at 1 0 1 ∷ at 1023 15 63 ∷ at 0 0 0 ∷ [])
     ≡ (0 ∷ 0 ∷ []) ∷ (0 ∷ 63 ∷ []) ∷ (0 ∷ 1008 ∷ []) ∷ (0 ∷ 1032191 ∷ []) ∷ (4 ∷ []) ∷ []
-unfolding blockNumbers block_of inLimits isValid
+unfolding block_numbers block_of in_limits is_valid
 sums = refl
 
 -- the reverse of P1 to P4, the end of the geometry, and the block that 32 bits would take for block 0
-pub reverse : map (λ n. addressNumbers (address_of g n)) (0 ∷ 63 ∷ 1008 ∷ 1032191 ∷ 1032192 ∷ 4294967296 ∷ [])
+pub reverse : map (λ n. address_numbers (address_of g n)) (0 ∷ 63 ∷ 1008 ∷ 1032191 ∷ 1032192 ∷ 4294967296 ∷ [])
     ≡ (0 ∷ 0 ∷ 0 ∷ 1 ∷ []) ∷ (0 ∷ 0 ∷ 1 ∷ 1 ∷ []) ∷ (0 ∷ 1 ∷ 0 ∷ 1 ∷ [])
     ∷ (0 ∷ 1023 ∷ 15 ∷ 63 ∷ []) ∷ (4 ∷ []) ∷ (4 ∷ []) ∷ []
-unfolding addressNumbers address_of inLimits
+unfolding address_numbers address_of in_limits
 reverse = refl
 
 -- CX of P6, FFFFh, and of P7, 013Fh

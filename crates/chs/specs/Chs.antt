@@ -23,14 +23,14 @@ abbrev pub unpack : ℕ → CylinderSector
 unpack cx = record { cylinder = cx / 256 + 256 * (cx % 256 / 64); sector = cx % 64 }
 
 -- head is DH
-abbrev pub addressIn : ℕ → ℕ → Address
-addressIn cx dx = record { cylinder = (unpack cx).cylinder; head = dx / 256; sector = (unpack cx).sector }
+abbrev pub address_in : ℕ → ℕ → Address
+address_in cx dx = record { cylinder = (unpack cx).cylinder; head = dx / 256; sector = (unpack cx).sector }
 
 -- ---- "Steps of each function", 02h and 03h: the address
 
 -- cylinder < C, head < H, sector 1 to S
-unfoldable pub isValid : Geometry → Address → Bool
-isValid g a = both (ltb a.cylinder g.c) (both (ltb a.head g.h) (in_range a.sector 1 g.s))
+unfoldable pub is_valid : Geometry → Address → Bool
+is_valid g a = both (ltb a.cylinder g.c) (both (ltb a.head g.h) (in_range a.sector 1 g.s))
 
 -- (cylinder x H + head) x S + sector - 1
 abbrev pub number : Geometry → Address → ℕ
@@ -49,50 +49,50 @@ split g n = record { cylinder = n / g.s / g.h; head = n / g.s % g.h; sector = n 
 -- ---- "Steps of each function", 02h and 03h: either way round, C, H or S outside the table's limits is 04h ("The drive table")
 
 -- C, 1 to 1024
-abbrev pub mostCylinders : ℕ
-mostCylinders = 1024
+abbrev pub most_cylinders : ℕ
+most_cylinders = 1024
 
 -- H, 1 to 255
-abbrev pub mostHeads : ℕ
-mostHeads = 255
+abbrev pub most_heads : ℕ
+most_heads = 255
 
 -- S, 1 to 63
-abbrev pub mostSectors : ℕ
-mostSectors = 63
+abbrev pub most_sectors : ℕ
+most_sectors = 63
 
 -- each of C, H and S from 1 to its limit
-unfoldable pub inLimits : Geometry → Bool
-inLimits g = both (in_range g.c 1 mostCylinders) (both (in_range g.h 1 mostHeads) (in_range g.s 1 mostSectors))
+unfoldable pub in_limits : Geometry → Bool
+in_limits g = both (in_range g.c 1 most_cylinders) (both (in_range g.h 1 most_heads) (in_range g.s 1 most_sectors))
 
 -- the block of an address; outside the limits or the geometry, 04h
 unfoldable pub block_of : Geometry → Address → ToBlock
-block_of g a = pick (both (inLimits g) (isValid g a)) (Block (number g a)) (NoBlock outside)
+block_of g a = pick (both (in_limits g) (is_valid g a)) (Block (number g a)) (NoBlock outside)
 
 -- for a block below C x H x S, the one valid address that gives it; any other block is 04h
 unfoldable pub address_of : Geometry → ℕ → ToAddress
-address_of g n = pick (both (inLimits g) (ltb n (size g))) (At (split g n)) (NoAddress outside)
+address_of g n = pick (both (in_limits g) (ltb n (size g))) (At (split g n)) (NoAddress outside)
 
 -- ---- "Forms we want to see": the answers as numbers, 0 and the values, or the code
 
 -- of an address: its block
-unfoldable pub blockNumbers : ToBlock → List ℕ
-blockNumbers (Block n) = 0 ∷ n ∷ []
-blockNumbers (NoBlock code) = code ∷ []
+unfoldable pub block_numbers : ToBlock → List ℕ
+block_numbers (Block n) = 0 ∷ n ∷ []
+block_numbers (NoBlock code) = code ∷ []
 
 -- of a block: its cylinder, head and sector
-unfoldable pub addressNumbers : ToAddress → List ℕ
-addressNumbers (At a) = 0 ∷ a.cylinder ∷ a.head ∷ a.sector ∷ []
-addressNumbers (NoAddress code) = code ∷ []
+unfoldable pub address_numbers : ToAddress → List ℕ
+address_numbers (At a) = 0 ∷ a.cylinder ∷ a.head ∷ a.sector ∷ []
+address_numbers (NoAddress code) = code ∷ []
 
 -- the numbers for an address, by the paper's formula
-unfoldable pub blockGiven : Geometry → Address → List ℕ
-blockGiven g a =
-    pick (both (inLimits g) (isValid g a)) (0 ∷ ((a.cylinder * g.h + a.head) * g.s + a.sector - 1) ∷ []) (0x04 ∷ [])
+unfoldable pub block_given : Geometry → Address → List ℕ
+block_given g a =
+    pick (both (in_limits g) (is_valid g a)) (0 ∷ ((a.cylinder * g.h + a.head) * g.s + a.sector - 1) ∷ []) (0x04 ∷ [])
 
 -- the numbers for a block
-unfoldable pub addressGiven : Geometry → ℕ → List ℕ
-addressGiven g n =
-    pick (both (inLimits g) (ltb n (g.c * g.h * g.s))) (0 ∷ (n / g.s / g.h) ∷ (n / g.s % g.h) ∷ (n % g.s + 1) ∷ []) (0x04 ∷ [])
+unfoldable pub address_given : Geometry → ℕ → List ℕ
+address_given g n =
+    pick (both (in_limits g) (ltb n (g.c * g.h * g.s))) (0 ∷ (n / g.s / g.h) ∷ (n / g.s % g.h) ∷ (n % g.s + 1) ∷ []) (0x04 ∷ [])
 
 -- ---- "Steps of each function", 08h: CH and CL hold a cylinder and a sector
 

@@ -20,10 +20,10 @@ pub record Limits (g : Geometry) : Type 0 where
 
 -- a valid address: cylinder < C, head < H, sector 1 to S
 pub record Valid (g : Geometry) (a : Address) : Type 0 where
-  pub cylinder-low : a.cylinder < g.c
-  pub head-low : a.head < g.h
-  pub sector-pos : 1 ≤ a.sector
-  pub sector-high : a.sector ≤ g.s
+  pub cylinder_low : a.cylinder < g.c
+  pub head_low : a.head < g.h
+  pub sector_pos : 1 ≤ a.sector
+  pub sector_high : a.sector ≤ g.s
 
 -- ---- "Steps of each function", 02h and 03h: the address and its reverse, as demand 2
 
@@ -36,7 +36,7 @@ pub record OneToOne (g : Geometry) : Type 0 where
   -- an address has the block n exactly when the block n has that address: so each undoes the other, and no two addresses share a block
   pub same : (a : Address) (n : ℕ) → (block_of g a ≡ Block n) ↔ (address_of g n ≡ At a)
   -- nothing else has one: an address with a block is valid, a block with an address is below C x H x S
-  pub only-valid : (a : Address) (n : ℕ) → block_of g a ≡ Block n → Valid g a
+  pub only_valid : (a : Address) (n : ℕ) → block_of g a ≡ Block n → Valid g a
   pub only_below : (a : Address) (n : ℕ) → address_of g n ≡ At a → n < g.c * g.h * g.s
 
 -- DEMAND 2, of addresses: every geometry in its limits

@@ -1,7 +1,7 @@
 // Addresses by cylinder, head and sector: to block numbers, back, and in the registers CX and DX.
 // Every answer is given for all input: what is outside the geometry or the table's limits is refused by its BIOS code.
 ghost use Rattle.std.specs.Prelude.{◌≡◌, true};
-ghost use Rattle.chs.specs.Chs.{unpack, addressIn, isValid, number, size, split, inLimits, block_of, address_of, blockNumbers, addressNumbers, blockGiven, addressGiven, pack};
+ghost use Rattle.chs.specs.Chs.{unpack, address_in, is_valid, number, size, split, in_limits, block_of, address_of, block_numbers, address_numbers, block_given, address_given, pack};
 
 use logic::{and, in_range};
 
@@ -16,7 +16,7 @@ const MOST_HEADS: u64 = 255;
 const MOST_SECTORS: u64 = 63;
 
 // C, H and S.
-#[derive(Drop)]
+#[derive(Clone, Copy)]
 pub struct Geometry {
     pub c: u32,
     pub h: u32,
@@ -24,7 +24,7 @@ pub struct Geometry {
 }
 
 // Cylinder and head count from 0, sector from 1.
-#[derive(Drop)]
+#[derive(Clone, Copy)]
 pub struct Address {
     pub cylinder: u32,
     pub head: u32,
@@ -32,21 +32,21 @@ pub struct Address {
 }
 
 // What CX says.
-#[derive(Drop)]
+#[derive(Clone, Copy)]
 pub struct CylinderSector {
     pub cylinder: u16,
     pub sector: u16,
 }
 
 // A block number, or the BIOS code of the refusal.
-#[derive(Drop)]
+#[derive(Clone, Copy)]
 pub enum ToBlock {
     Block(u32),
     Refused(u8),
 }
 
 // An address, or the BIOS code of the refusal.
-#[derive(Drop)]
+#[derive(Clone, Copy)]
 pub enum ToAddress {
     At(Address),
     Refused(u8),
@@ -56,7 +56,7 @@ pub enum ToAddress {
 
 // Whether C, H and S are within the table's limits.
 pub fn in_limits(g: Geometry) -> bool
-    ensures { result ≡ inLimits g }
+    ensures { result ≡ in_limits g }
 {
     and(
         in_range(g.c as u64, 1, MOST_CYLINDERS),
@@ -69,7 +69,7 @@ pub fn in_limits(g: Geometry) -> bool
 
 // How many blocks the geometry has. Asks for the limits, without which the product need not fit in 32 bits.
 fn size_of(g: Geometry) -> u32
-    requires { inLimits g ≡ true }
+    requires { in_limits g ≡ true }
     ensures { result ≡ size g }
 {
     g.c * g.h * g.s
@@ -78,7 +78,7 @@ fn size_of(g: Geometry) -> u32
 // ---- from an address to its block
 
 fn is_valid(g: Geometry, a: Address) -> bool
-    ensures { result ≡ isValid g a }
+    ensures { result ≡ is_valid g a }
 {
     and(
         a.cylinder < g.c,
@@ -87,7 +87,7 @@ fn is_valid(g: Geometry, a: Address) -> bool
 }
 
 fn number(g: Geometry, a: Address) -> u32
-    requires { (inLimits g ≡ true) × (isValid g a ≡ true) }
+    requires { (in_limits g ≡ true) × (is_valid g a ≡ true) }
     ensures { result ≡ number g a }
 {
     (a.cylinder * g.h + a.head) * g.s + a.sector - 1
@@ -95,7 +95,7 @@ fn number(g: Geometry, a: Address) -> u32
 
 // The block of an address. Refused: a geometry outside the limits, first, or an address that is not valid in it.
 pub fn block_of(g: Geometry, a: Address) -> ToBlock
-    ensures { (result ≡ block_of g a) × (blockNumbers result ≡ blockGiven g a) }
+    ensures { (result ≡ block_of g a) × (block_numbers result ≡ block_given g a) }
 {
     if !in_limits(g) {
         return ToBlock::Refused(OUTSIDE);
@@ -110,7 +110,7 @@ pub fn block_of(g: Geometry, a: Address) -> ToBlock
 
 // Numbers of 32 bits are divided, and nothing wider (2026-05).
 fn split(g: Geometry, n: u32) -> Address
-    requires { inLimits g ≡ true }
+    requires { in_limits g ≡ true }
     ensures { result ≡ split g n }
 {
     Address {
@@ -123,7 +123,7 @@ fn split(g: Geometry, n: u32) -> Address
 // The one valid address of a block. Refused: a geometry outside the limits, first, or a block at or past its end.
 // The block is compared in 64 bits and divided in 32, so that block 2^32 is refused and not taken for block 0.
 pub fn address_of(g: Geometry, n: u64) -> ToAddress
-    ensures { (result ≡ address_of g n) × (addressNumbers result ≡ addressGiven g n) }
+    ensures { (result ≡ address_of g n) × (address_numbers result ≡ address_given g n) }
 {
     if !in_limits(g) {
         return ToAddress::Refused(OUTSIDE);
@@ -157,7 +157,7 @@ pub fn unpack(cx: u16) -> CylinderSector
 
 // The address that CX and DX say, whether or not it is valid.
 pub fn address_in(cx: u16, dx: u16) -> Address
-    ensures { result ≡ addressIn cx dx }
+    ensures { result ≡ address_in cx dx }
 {
     let said = unpack(cx);
     Address {

@@ -9,15 +9,15 @@ use lib.ListN.{length, replicate}
 use lib.Dec.{eqb}
 use borrow.Author.Tests.{not-true, eq-eqb, eqb-true}
 use Rattle.logic.specs.Logic.{pick, both, either}
-use Rattle.logic.proofs.LogicLaws.{impossible, both_true, both-intro}
+use Rattle.logic.proofs.LogicLaws.{impossible, both_true, both_intro}
 use Rattle.words.specs.Words.{part}
-use Rattle.drive.specs.Drive.{driveLength, driveOf, same, i2o, isI2o, zeroTail}
+use Rattle.drive.specs.Drive.{drive_length, drive_of, same, i2o, is_i2o, zero_tail}
 use Rattle.layout.specs.declared.Pointer.{Pointer}
-use Rattle.layout.specs.ResultBuffer.{resultAnswer, resultOut}
+use Rattle.layout.specs.ResultBuffer.{result_answer, result_out}
 use Rattle.layout.proofs.ResultBufferLaws.{kind-answer, kind-out}
-use Rattle.convert.specs.Convert.{isRecord, soundRecord, upBytes, upOk, upAnswer, upOut, downBytes, downOk, downAnswer, downOut}
+use Rattle.convert.specs.Convert.{is_record, sound_record, up_bytes, up_ok, up_answer, up_out, down_bytes, down_ok, down_answer, down_out}
 use Rattle.convert.specs.Demand2.{Demand2}
-use Rattle.convert.proofs.ConvertLaws.{narrow, down-sound, down-narrow, sound-header, kind-up, sound-up, sound-down, narrow-up, up-down, tail-wide, down-up}
+use Rattle.convert.proofs.ConvertLaws.{narrow, down_sound, down-narrow, sound_header, kind-up, sound_up, sound_down, narrow-up, up-down, tail-wide, down-up}
 
 -- an answer of 0 is one that was not refused
 passed : (t : Bool) → pick {A = ℕ} t 0 10 ≡ 0 → t ≡ true
@@ -30,64 +30,64 @@ refused true true = (λ e. refl, λ e. refl)
 refused true false = (λ e. impossible (cc), λ e. impossible (cc))
 refused false i = (λ e. refl, λ e. refl)
 
-refusals : (r : List ℕ) → soundRecord 2 r ≡ true
-    → (downAnswer r 68 ≡ 10) ↔ (either (not (same (part 8 r 68) (replicate 8 0))) (same (part 8 r 44) i2o) ≡ true)
-unfolding downAnswer downOk driveOf zeroTail isI2o
-refusals r e = rw (e, tail-wide r (sound-header 2 r e)) (refused (same (part 8 r 68) (replicate 8 0)) (same (part 8 r 44) i2o))
+refusals : (r : List ℕ) → sound_record 2 r ≡ true
+    → (down_answer r 68 ≡ 10) ↔ (either (not (same (part 8 r 68) (replicate 8 0))) (same (part 8 r 44) i2o) ≡ true)
+unfolding down_answer down_ok drive_of zero_tail is_i2o
+refusals r e = rw (e, tail-wide r (sound_header 2 r e)) (refused (same (part 8 r 68) (replicate 8 0)) (same (part 8 r 44) i2o))
 
 -- the drive of what went up is of another kind, which does not show
-answers : (r : List ℕ) → soundRecord 1 r ≡ true → (p : Pointer) (asked : ℕ) (window : List ℕ)
-    → (resultAnswer (driveOf r) asked (length window) ≡ resultAnswer (driveOf (upBytes r)) asked (length window))
-    × (resultOut (driveOf r) p asked window ≡ resultOut (driveOf (upBytes r)) p asked window)
+answers : (r : List ℕ) → sound_record 1 r ≡ true → (p : Pointer) (asked : ℕ) (window : List ℕ)
+    → (result_answer (drive_of r) asked (length window) ≡ result_answer (drive_of (up_bytes r)) asked (length window))
+    × (result_out (drive_of r) p asked window ≡ result_out (drive_of (up_bytes r)) p asked window)
 answers r e p asked window =
-    let q = kind-up r (sound-header 1 r e) in
-    (rw q (sym (kind-answer 2 (driveOf r) asked (length window))), rw q (sym (kind-out 2 (driveOf r) p asked window)))
+    let q = kind-up r (sound_header 1 r e) in
+    (rw q (sym (kind-answer 2 (drive_of r) asked (length window))), rw q (sym (kind-out 2 (drive_of r) p asked window)))
 
 -- the length of a sound record
-long : (kind : ℕ) (r : List ℕ) → soundRecord kind r ≡ true → length r ≡ driveLength kind
-unfolding soundRecord isRecord
-long kind r e = eqb-true (length r) (driveLength kind) (both_true _ _ (both_true _ _ e).0).0
+long : (kind : ℕ) (r : List ℕ) → sound_record kind r ≡ true → length r ≡ drive_length kind
+unfolding sound_record is_record
+long kind r e = eqb-true (length r) (drive_length kind) (both_true _ _ (both_true _ _ e).0).0
 
 -- what is left of a buffer by an answer
 leaves : (t : Bool) (x out : List ℕ) → ((pick {A = ℕ} t 0 10 ≡ 0) × (pick t x out ≡ x)) ⊎ ((pick {A = ℕ} t 0 10 ≡ 10) × (pick t x out ≡ out))
 leaves true x out = inl (refl, refl)
 leaves false x out = inr (refl, refl)
 
-pub demand-2 : Demand2
-unfolding upAnswer upOk upOut downAnswer downOk downOut
-demand-2 r b =
+pub demand_2 : Demand2
+unfolding up_answer up_ok up_out down_answer down_ok down_out
+demand_2 r b =
     record {
       up = ups;
       up-down = returned;
       down-up = again;
       down-refused = refusals r;
-      up-passes = λ out. (up-only out, λ p. rw (eq-eqb (length out) 76 p.1, p.2));
-      down-passes = down-only;
-      up-leaves = λ out. leaves (upOk r (length out)) (upBytes r) out;
-      down-leaves = λ out. leaves (downOk r (length out)) (downBytes r) out;
+      up_passes = λ out. (up-only out, λ p. rw (eq-eqb (length out) 76 p.1, p.2));
+      down_passes = down-only;
+      up-leaves = λ out. leaves (up_ok r (length out)) (up_bytes r) out;
+      down-leaves = λ out. leaves (down_ok r (length out)) (down_bytes r) out;
       answers = answers r;
     }
   where
-    up-only : (out : List ℕ) → upAnswer r (length out) ≡ 0 → (length r ≡ 68) × (length out ≡ 76) × (soundRecord 1 r ≡ true)
+    up-only : (out : List ℕ) → up_answer r (length out) ≡ 0 → (length r ≡ 68) × (length out ≡ 76) × (sound_record 1 r ≡ true)
     up-only out e =
-        let p = both_true (eqb (length out) 76) (soundRecord 1 r) (passed (upOk r (length out)) e) in
+        let p = both_true (eqb (length out) 76) (sound_record 1 r) (passed (up_ok r (length out)) e) in
         (long 1 r p.1, eqb-true (length out) 76 p.0, p.1)
 
-    down-only : (out : List ℕ) → downAnswer r (length out) ≡ 0 → (length r ≡ 76) × (length out ≡ 68) × (soundRecord 2 r ≡ true)
+    down-only : (out : List ℕ) → down_answer r (length out) ≡ 0 → (length r ≡ 76) × (length out ≡ 68) × (sound_record 2 r ≡ true)
     down-only out e =
-        let p = both_true (eqb (length out) 68) _ (passed (downOk r (length out)) e) in
-        let s = (both_true (soundRecord 2 r) _ p.1).0 in
+        let p = both_true (eqb (length out) 68) _ (passed (down_ok r (length out)) e) in
+        let s = (both_true (sound_record 2 r) _ p.1).0 in
         (long 2 r s, eqb-true (length out) 68 p.0, s)
 
-    ups : soundRecord 1 r ≡ true → (upAnswer r 76 ≡ 0) × (soundRecord 2 (upBytes r) ≡ true)
-    ups e = (rw e, sound-up r e)
+    ups : sound_record 1 r ≡ true → (up_answer r 76 ≡ 0) × (sound_record 2 (up_bytes r) ≡ true)
+    ups e = (rw e, sound_up r e)
 
-    returned : soundRecord 1 r ≡ true → (downAnswer (upBytes r) 68 ≡ 0) × (downBytes (upBytes r) ≡ r)
-    returned e = (rw (both-intro (soundRecord 2 (upBytes r)) (narrow (driveOf (upBytes r))) (sound-up r e) (narrow-up r e)), up-down r b (sound-header 1 r e))
+    returned : sound_record 1 r ≡ true → (down_answer (up_bytes r) 68 ≡ 0) × (down_bytes (up_bytes r) ≡ r)
+    returned e = (rw (both_intro (sound_record 2 (up_bytes r)) (narrow (drive_of (up_bytes r))) (sound_up r e) (narrow-up r e)), up-down r b (sound_header 1 r e))
 
-    again : downAnswer r 68 ≡ 0 → (soundRecord 1 (downBytes r) ≡ true) × (upBytes (downBytes r) ≡ r)
+    again : down_answer r 68 ≡ 0 → (sound_record 1 (down_bytes r) ≡ true) × (up_bytes (down_bytes r) ≡ r)
     again e =
-        let o : downOk r 68 ≡ true = passed (downOk r 68) e in
-        let s = down-sound r 68 o in
-        let n = both_true (zeroTail (driveOf r)) (not (isI2o (driveOf r))) (down-narrow r 68 o) in
-        (sound-down r s (not-true _ n.1), down-up r b (sound-header 2 r s) n.0)
+        let o : down_ok r 68 ≡ true = passed (down_ok r 68) e in
+        let s = down_sound r 68 o in
+        let n = both_true (zero_tail (drive_of r)) (not (is_i2o (drive_of r))) (down-narrow r 68 o) in
+        (sound_down r s (not-true _ n.1), down-up r b (sound_header 2 r s) n.0)

@@ -7,9 +7,9 @@ use Prim.Native.Nat.{ℕ}
 use lib.ListN.{take, replicate}
 use lib.Seq.{sets}
 use Rattle.words.specs.Words.{le, le_bytes}
-use Rattle.chs.specs.Chs.{inLimits}
-use Rattle.drive.specs.Drive.{driveOf, tailOf, same, i2o, busOk, interfaceOk, isI2o, zeroTail, kindOk, geometryFits, fieldsOk, inStore, overlap}
-use Rattle.convert.specs.Convert.{isRecord, soundRecord, shared, upBytes, upOk, upAnswer, upOut, downBytes, downOk, downAnswer, downOut}
+use Rattle.chs.specs.Chs.{in_limits}
+use Rattle.drive.specs.Drive.{drive_of, tail_of, same, i2o, bus_ok, interface_ok, is_i2o, zero_tail, kind_ok, geometry_fits, fields_ok, in_store, overlap}
+use Rattle.convert.specs.Convert.{is_record, sound_record, shared, up_bytes, up_ok, up_answer, up_out, down_bytes, down_ok, down_answer, down_out}
 
 -- ---- both ways
 
@@ -26,12 +26,12 @@ wide = 76 ∷ 0 ∷ 2 ∷ 0 ∷ 1 ∷ 2 ∷ 3 ∷ 4 ∷ 5 ∷ 6 ∷ 7 ∷ 8 ∷ 
 abbrev blank : ℕ → List ℕ
 blank n = replicate n 255
 
-pub up-own : (upAnswer own 76 ≡ 0) × (upOut own (blank 76) ≡ wide)
-unfolding le le_bytes inLimits driveOf tailOf same busOk interfaceOk isI2o zeroTail kindOk geometryFits fieldsOk isRecord soundRecord shared upBytes upOk upAnswer upOut
+pub up-own : (up_answer own 76 ≡ 0) × (up_out own (blank 76) ≡ wide)
+unfolding le le_bytes in_limits drive_of tail_of same bus_ok interface_ok is_i2o zero_tail kind_ok geometry_fits fields_ok is_record sound_record shared up_bytes up_ok up_answer up_out
 up-own = (refl, refl)
 
-pub down-wide : (downAnswer wide 68 ≡ 0) × (downOut wide (blank 68) ≡ own)
-unfolding le le_bytes inLimits driveOf tailOf same busOk interfaceOk isI2o zeroTail kindOk geometryFits fieldsOk isRecord soundRecord shared downBytes downOk downAnswer downOut
+pub down-wide : (down_answer wide 68 ≡ 0) × (down_out wide (blank 68) ≡ own)
+unfolding le le_bytes in_limits drive_of tail_of same bus_ok interface_ok is_i2o zero_tail kind_ok geometry_fits fields_ok is_record sound_record shared down_bytes down_ok down_answer down_out
 down-wide = (refl, refl)
 
 -- ---- refusals
@@ -41,11 +41,11 @@ abbrev with : ℕ → List ℕ → List ℕ → List ℕ
 with at bytes r = sets r at bytes
 
 -- the answer, and what is then in the buffer
-abbrev upTold : List ℕ × ℕ → ℕ × List ℕ
-upTold (r, room) = (upAnswer r room, upOut r (blank room))
+abbrev up_told : List ℕ × ℕ → ℕ × List ℕ
+up_told (r, room) = (up_answer r room, up_out r (blank room))
 
-abbrev downTold : List ℕ × ℕ → ℕ × List ℕ
-downTold (r, room) = (downAnswer r room, downOut r (blank room))
+abbrev down_told : List ℕ × ℕ → ℕ × List ℕ
+down_told (r, room) = (down_answer r room, down_out r (blank room))
 
 abbrev refused : List ℕ × ℕ → ℕ × List ℕ
 refused (r, room) = (10, blank room)
@@ -77,9 +77,9 @@ refused (r, room) = (10, blank room)
 abbrev ups : List (List ℕ × ℕ)
 ups = (take 67 own, 76) ∷ (own ++ (0 ∷ []), 76) ∷ (own, 75) ∷ (own, 77) ∷ (own, 68) ∷ (wide, 68) ∷ (wide, 76) ∷ (take 67 (with 0 (67 ∷ []) own), 76) ∷ (with 0 (76 ∷ []) own, 76) ∷ (with 0 (67 ∷ []) own, 76) ∷ (with 1 (1 ∷ []) own, 76) ∷ (with 2 (0 ∷ []) own, 76) ∷ (with 2 (2 ∷ []) own, 76) ∷ (with 3 (1 ∷ []) own, 76) ∷ (with 44 i2o own, 76) ∷ (with 44 (83 ∷ 67 ∷ 83 ∷ 73 ∷ 32 ∷ 32 ∷ 32 ∷ 32 ∷ []) own, 76) ∷ (with 16 (replicate 8 0) own, 76) ∷ (with 32 (128 ∷ []) own, 76) ∷ (with 34 (replicate 2 0) own, 76) ∷ (with 16 (le_bytes 8 4999999) own, 76) ∷ (with 39 (2 ∷ []) own, 76) ∷ (with 40 (replicate 4 0) own, 76) ∷ ([], 76) ∷ []
 
-pub ups-refused : map upTold ups ≡ map refused ups
-unfolding le le_bytes inLimits driveOf tailOf same busOk interfaceOk isI2o zeroTail kindOk geometryFits fieldsOk isRecord soundRecord shared upBytes upOk upAnswer upOut
-ups-refused = refl
+pub ups_refused : map up_told ups ≡ map refused ups
+unfolding le le_bytes in_limits drive_of tail_of same bus_ok interface_ok is_i2o zero_tail kind_ok geometry_fits fields_ok is_record sound_record shared up_bytes up_ok up_answer up_out
+ups_refused = refl
 
 -- of what does not go down
 --   75 bytes
@@ -104,9 +104,9 @@ ups-refused = refl
 abbrev downs : List (List ℕ × ℕ)
 downs = (take 75 wide, 68) ∷ (wide ++ (0 ∷ []), 68) ∷ (wide, 67) ∷ (wide, 69) ∷ (wide, 76) ∷ (own, 76) ∷ (own, 68) ∷ (take 75 (with 0 (75 ∷ []) wide), 68) ∷ (with 0 (77 ∷ []) wide ++ (0 ∷ []), 68) ∷ (with 0 (68 ∷ []) wide, 68) ∷ (with 1 (1 ∷ []) wide, 68) ∷ (with 2 (1 ∷ []) wide, 68) ∷ (with 2 (3 ∷ []) wide, 68) ∷ (with 3 (1 ∷ []) wide, 68) ∷ (with 16 (replicate 8 0) wide, 68) ∷ (with 39 (2 ∷ []) wide, 68) ∷ (with 44 (replicate 8 0) wide, 68) ∷ (with 44 (73 ∷ 50 ∷ 79 ∷ 32 ∷ 32 ∷ 32 ∷ 32 ∷ 32 ∷ []) wide, 68) ∷ ([], 68) ∷ []
 
-pub downs-refused : map downTold downs ≡ map refused downs
-unfolding le le_bytes inLimits driveOf tailOf same busOk interfaceOk isI2o zeroTail kindOk geometryFits fieldsOk isRecord soundRecord shared downBytes downOk downAnswer downOut
-downs-refused = refl
+pub downs_refused : map down_told downs ≡ map refused downs
+unfolding le le_bytes in_limits drive_of tail_of same bus_ok interface_ok is_i2o zero_tail kind_ok geometry_fits fields_ok is_record sound_record shared down_bytes down_ok down_answer down_out
+downs_refused = refl
 
 -- and of what is sound, but kind 1 cannot say it
 --   I2O
@@ -116,13 +116,13 @@ downs-refused = refl
 abbrev wides : List (List ℕ × ℕ)
 wides = (with 44 i2o wide, 68) ∷ (with 68 (1 ∷ []) wide, 68) ∷ (with 75 (1 ∷ []) wide, 68) ∷ (with 75 (1 ∷ []) (with 44 i2o wide), 68) ∷ []
 
-pub wides-sound : map (λ (x : List ℕ × ℕ). soundRecord 2 x.0) wides ≡ true ∷ true ∷ true ∷ true ∷ []
-unfolding le le_bytes inLimits driveOf tailOf same busOk interfaceOk isI2o zeroTail kindOk geometryFits fieldsOk isRecord soundRecord shared downBytes downOk downAnswer downOut
-wides-sound = refl
+pub wides_sound : map (λ (x : List ℕ × ℕ). sound_record 2 x.0) wides ≡ true ∷ true ∷ true ∷ true ∷ []
+unfolding le le_bytes in_limits drive_of tail_of same bus_ok interface_ok is_i2o zero_tail kind_ok geometry_fits fields_ok is_record sound_record shared down_bytes down_ok down_answer down_out
+wides_sound = refl
 
-pub wides-refused : map downTold wides ≡ map refused wides
-unfolding le le_bytes inLimits driveOf tailOf same busOk interfaceOk isI2o zeroTail kindOk geometryFits fieldsOk isRecord soundRecord shared downBytes downOk downAnswer downOut
-wides-refused = refl
+pub wides_refused : map down_told wides ≡ map refused wides
+unfolding le le_bytes in_limits drive_of tail_of same bus_ok interface_ok is_i2o zero_tail kind_ok geometry_fits fields_ok is_record sound_record shared down_bytes down_ok down_answer down_out
+wides_refused = refl
 
 -- ---- where its blocks lie is no matter
 
@@ -130,10 +130,10 @@ wides-refused = refl
 abbrev far : List ℕ
 far = with 24 (replicate 8 255) own
 
-pub far-outside : (inStore (driveOf far) 18446744073709551615 ≡ false) × (overlap (driveOf far) (driveOf far) ≡ true)
-unfolding driveOf le inStore overlap
-far-outside = (refl, refl)
+pub far_outside : (in_store (drive_of far) 18446744073709551615 ≡ false) × (overlap (drive_of far) (drive_of far) ≡ true)
+unfolding drive_of le in_store overlap
+far_outside = (refl, refl)
 
-pub far-converted : (upAnswer far 76 ≡ 0) × ((upOut far (blank 76) ≡ with 24 (replicate 8 255) wide) × (downAnswer (upBytes far) 68 ≡ 0))
-unfolding le le_bytes inLimits driveOf tailOf same busOk interfaceOk isI2o zeroTail kindOk geometryFits fieldsOk isRecord soundRecord shared upBytes upOk upAnswer upOut downBytes downOk downAnswer downOut
-far-converted = (refl, (refl, refl))
+pub far_converted : (up_answer far 76 ≡ 0) × ((up_out far (blank 76) ≡ with 24 (replicate 8 255) wide) × (down_answer (up_bytes far) 68 ≡ 0))
+unfolding le le_bytes in_limits drive_of tail_of same bus_ok interface_ok is_i2o zero_tail kind_ok geometry_fits fields_ok is_record sound_record shared up_bytes up_ok up_answer up_out down_bytes down_ok down_answer down_out
+far_converted = (refl, (refl, refl))

@@ -3,7 +3,7 @@
 use Rattle.std.specs.Prelude.{ℕ, Bool, not, List, ◌++◌, length, replicate, eqb}
 use Rattle.logic.specs.Logic.{pick, both}
 use Rattle.words.specs.Words.{le, le_bytes, part}
-use Rattle.drive.specs.Drive.{driveKind, wideKind, driveLength, driveOf, fieldsOk, zeroTail, isI2o}
+use Rattle.drive.specs.Drive.{drive_kind, wide_kind, drive_length, drive_of, fields_ok, zero_tail, is_i2o}
 
 -- ---- "2026-06", the number of a refusal
 
@@ -14,50 +14,50 @@ conversion = 10
 -- ---- "2026-06", "a sound record (length, kind, fields)"
 
 -- so many bytes as its kind has, and the length and the kind in its first two words
-unfoldable pub isRecord : ℕ → List ℕ → Bool
-isRecord kind r = both (eqb (length r) (driveLength kind)) (both (eqb (le 2 r 0) (driveLength kind)) (eqb (le 2 r 2) kind))
+unfoldable pub is_record : ℕ → List ℕ → Bool
+is_record kind r = both (eqb (length r) (drive_length kind)) (both (eqb (le 2 r 0) (drive_length kind)) (eqb (le 2 r 2) kind))
 
 -- and fields that keep their rules (refusal 5); where its blocks lie in a store (refusals 6 and 7) is no matter of the record
-unfoldable pub soundRecord : ℕ → List ℕ → Bool
-soundRecord kind r = both (isRecord kind r) (fieldsOk (driveOf r))
+unfoldable pub sound_record : ℕ → List ℕ → Bool
+sound_record kind r = both (is_record kind r) (fields_ok (drive_of r))
 
 -- what a record of either kind has, behind a length and a kind that say so: its 64 bytes from offset 4 on
 unfoldable pub shared : ℕ → List ℕ → List ℕ
-shared kind r = le_bytes 2 (driveLength kind) ++ (le_bytes 2 kind ++ part 64 r 4)
+shared kind r = le_bytes 2 (drive_length kind) ++ (le_bytes 2 kind ++ part 64 r 4)
 
 -- ---- "2026-06", up: from kind 1 to kind 2
 
 -- "eight zero bytes appended"
-unfoldable pub upBytes : List ℕ → List ℕ
-upBytes r = shared wideKind r ++ replicate 8 0
+unfoldable pub up_bytes : List ℕ → List ℕ
+up_bytes r = shared wide_kind r ++ replicate 8 0
 
 -- a sound record of kind 1, and a buffer of the size of kind 2
-unfoldable pub upOk : List ℕ → ℕ → Bool
-upOk r room = both (eqb room (driveLength wideKind)) (soundRecord driveKind r)
+unfoldable pub up_ok : List ℕ → ℕ → Bool
+up_ok r room = both (eqb room (drive_length wide_kind)) (sound_record drive_kind r)
 
 -- 0, or 10
-unfoldable pub upAnswer : List ℕ → ℕ → ℕ
-upAnswer r room = pick (upOk r room) 0 conversion
+unfoldable pub up_answer : List ℕ → ℕ → ℕ
+up_answer r room = pick (up_ok r room) 0 conversion
 
 -- what is then in the buffer; refused, what was there
-unfoldable pub upOut : List ℕ → List ℕ → List ℕ
-upOut r out = pick (upOk r (length out)) (upBytes r) out
+unfoldable pub up_out : List ℕ → List ℕ → List ℕ
+up_out r out = pick (up_ok r (length out)) (up_bytes r) out
 
 -- ---- "2026-06", down: from kind 2 to kind 1
 
 -- the same bytes without the last eight
-unfoldable pub downBytes : List ℕ → List ℕ
-downBytes r = shared driveKind r
+unfoldable pub down_bytes : List ℕ → List ℕ
+down_bytes r = shared drive_kind r
 
 -- a sound record of kind 2 whose last eight bytes are zero and whose type is not I2O, and a buffer of the size of kind 1
-unfoldable pub downOk : List ℕ → ℕ → Bool
-downOk r room =
-    both (eqb room (driveLength driveKind)) (both (soundRecord wideKind r) (both (zeroTail (driveOf r)) (not (isI2o (driveOf r)))))
+unfoldable pub down_ok : List ℕ → ℕ → Bool
+down_ok r room =
+    both (eqb room (drive_length drive_kind)) (both (sound_record wide_kind r) (both (zero_tail (drive_of r)) (not (is_i2o (drive_of r)))))
 
 -- 0, or 10
-unfoldable pub downAnswer : List ℕ → ℕ → ℕ
-downAnswer r room = pick (downOk r room) 0 conversion
+unfoldable pub down_answer : List ℕ → ℕ → ℕ
+down_answer r room = pick (down_ok r room) 0 conversion
 
 -- what is then in the buffer; refused, what was there
-unfoldable pub downOut : List ℕ → List ℕ → List ℕ
-downOut r out = pick (downOk r (length out)) (downBytes r) out
+unfoldable pub down_out : List ℕ → List ℕ → List ℕ
+down_out r out = pick (down_ok r (length out)) (down_bytes r) out

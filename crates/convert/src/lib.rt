@@ -1,14 +1,14 @@
 // The converter of a drive's record (document 02, 2026-06): from kind 1 to kind 2, whose device path has sixteen bytes, and back.
 ghost use Rattle.std.specs.Prelude.{◌≡◌, ◌≤◌, length};
 ghost use Rattle.std.proofs.lemmas.List.Edits.{sets};
-ghost use Rattle.convert.specs.Convert.{isRecord, shared, upOk, upAnswer, upOut, downOk, downAnswer, downOut};
+ghost use Rattle.convert.specs.Convert.{is_record, shared, up_ok, up_answer, up_out, down_ok, down_answer, down_out};
 
 // The number of a refusal.
 pub const CONVERSION: u8 = 10;
 
 // The bytes are as many as a record of that kind has, and say so.
 fn is_record(r: &[u8], kind: u16) -> bool
-    ensures { result ≡ isRecord kind r.now }
+    ensures { result ≡ is_record kind r.now }
 {
     let size = drive::length_of(kind);
     if r.len() != size as usize {
@@ -33,7 +33,7 @@ fn put_shared(r: &[u8], out: &mut [u8], kind: u16)
 
 // A sound record of kind 1, and room for one of kind 2.
 fn goes_up(r: &[u8], room: usize) -> bool
-    ensures { result ≡ upOk r.now room }
+    ensures { result ≡ up_ok r.now room }
 {
     if room != drive::WIDE_LENGTH as usize {
         return false;
@@ -46,7 +46,7 @@ fn goes_up(r: &[u8], room: usize) -> bool
 
 // 0, or 10 and nothing written.
 pub fn up(r: &[u8], out: &mut [u8]) -> u8
-    ensures { (result ≡ upAnswer r.now (length out.old)) × (out.new ≡ upOut r.now out.old) }
+    ensures { (result ≡ up_answer r.now (length out.old)) × (out.new ≡ up_out r.now out.old) }
 {
     if !goes_up(r, out.len()) {
         return CONVERSION;
@@ -60,7 +60,7 @@ pub fn up(r: &[u8], out: &mut [u8]) -> u8
 
 // A sound record of kind 2 that one of kind 1 can say, and room for that one.
 fn goes_down(r: &[u8], room: usize) -> bool
-    ensures { result ≡ downOk r.now room }
+    ensures { result ≡ down_ok r.now room }
 {
     if room != drive::DRIVE_LENGTH as usize {
         return false;
@@ -77,7 +77,7 @@ fn goes_down(r: &[u8], room: usize) -> bool
 
 // 0, or 10 and nothing written.
 pub fn down(r: &[u8], out: &mut [u8]) -> u8
-    ensures { (result ≡ downAnswer r.now (length out.old)) × (out.new ≡ downOut r.now out.old) }
+    ensures { (result ≡ down_answer r.now (length out.old)) × (out.new ≡ down_out r.now out.old) }
 {
     if !goes_down(r, out.len()) {
         return CONVERSION;

@@ -8,20 +8,20 @@ use Prim.Native.Nat.{ℕ, ◌/◌}
 use lib.ListN.{length, replicate, set, take}
 use lib.Seq.{sets}
 use Rattle.words.specs.Words.{le, le_bytes}
-use Rattle.chs.specs.Chs.{inLimits, isValid, block_of}
+use Rattle.chs.specs.Chs.{in_limits, is_valid, block_of}
 use Rattle.drive.specs.declared.Drive.{Drive}
-use Rattle.drive.specs.Drive.{driveOf, recordOf, geometryBytes, sizeBytes, nameBytes, isBlank, blankNumbers, blank_names, same, busOk, interfaceOk, geometryFits, fieldsOk, inStore, overlap, isa, pci, ata, scsi, isI2o, kindOk, tail_bytes, tailOf, zeroTail}
-use Rattle.attached.specs.Parameters.{parametersRecord}
-use Rattle.attached.specs.Bad.{badCount, badLengthOk, badsIn, held_of, badRecord, ascends, areBlocks, listOk, zeroPast, badsOk, isBad, good as goodBlocks}
+use Rattle.drive.specs.Drive.{drive_of, record_of, geometry_bytes, size_bytes, name_bytes, is_blank, blank_numbers, blank_names, same, bus_ok, interface_ok, geometry_fits, fields_ok, in_store, overlap, isa, pci, ata, scsi, is_i2o, kind_ok, tail_bytes, tail_of, zero_tail}
+use Rattle.attached.specs.Parameters.{parameters_record}
+use Rattle.attached.specs.Bad.{bad_count, bad_length_ok, bads_in, held_of, bad_record, ascends, are_blocks, list_ok, zero_past, bads_ok, is_bad, good as good_blocks}
 use Rattle.table.specs.declared.Table.{Table}
-use Rattle.table.specs.Table.{emptyTable, zeroDrive, headerOf, headerAt, overlapsAny, refusal, recordRefusal, parametersRefusal, badsRefusal, withRecord, recordStep, endStep, step_of, stepAt, readFrom, readTable, recordNumbers, numbersFrom, tableNumbers, recordsOf, bytes_of, table_of, writeAnswer, writeOut, writtenNumbers, soundTo, blankTo, attachedTo, listedTo, isSound, parametersTo}
-use Rattle.memory.specs.Window.{spanLength, windowOf, withWindow}
-use Rattle.memory.proofs.WindowLaws.{length-window, with-window-same}
+use Rattle.table.specs.Table.{empty_table, zero_drive, header_of, header_at, overlaps_any, refusal, record_refusal, parameters_refusal, bads_refusal, with_record, record_step, end_step, step_of, step_at, read_from, read_table, record_numbers, numbers_from, table_numbers, records_of, bytes_of, table_of, write_answer, write_out, written_numbers, sound_to, blank_to, attached_to, listed_to, is_sound, parameters_to}
+use Rattle.memory.specs.Window.{span_length, window_of, with_window}
+use Rattle.memory.proofs.WindowLaws.{length-window, with_window-same}
 use Rattle.memory.specs.Blocks.{blocks}
 use Rattle.int13.specs.declared.Registers.{Registers}
 use Rattle.int13.specs.declared.Job.{Job}
 use Rattle.int13.specs.Answers.{ended}
-use Rattle.int13.specs.Steps.{isDrive, badsOf, sectors, steps, begin}
+use Rattle.int13.specs.Steps.{is_drive, bads_of, sectors, steps, begin}
 use Rattle.int13.specs.Alone.{moves, reported}
 use Rattle.desk.specs.declared.Row.{Row}
 use Rattle.desk.specs.declared.Stage.{Stage}
@@ -32,10 +32,10 @@ use Rattle.desk.specs.declared.PostAnswer.TheVariants.{Waits as PostWaits}
 use Rattle.desk.specs.declared.TurnAnswer.TheVariants.{Served}
 use Rattle.desk.specs.declared.CollectAnswer.TheVariants.{Given as CollectGiven}
 use Rattle.desk.specs.declared.WithdrawAnswer.TheVariants.{Given as WithdrawGiven}
-use Rattle.desk.specs.Parts.{vacantRow}
-use Rattle.desk.specs.Acceptable.{requestOk, rowsOk, placeOk, placementsOk, accept}
-use Rattle.desk.specs.Calls.{done, openOf, written_of, writtenOut, post_of, firstWaiting, movesNow, stageAfter, turn_of, collectOf, withdrawOf}
-use Rattle.desk.specs.Numbers.{openGiven, turnGiven}
+use Rattle.desk.specs.Parts.{vacant_row}
+use Rattle.desk.specs.Acceptable.{request_ok, rows_ok, place_ok, placements_ok, accept}
+use Rattle.desk.specs.Calls.{done, open_of, written_of, written_out, post_of, first_waiting, moves_now, stage_after, turn_of, collect_of, withdraw_of}
+use Rattle.desk.specs.Numbers.{open_given, turn_given}
 
 -- ---- the table: two drives, of 4000 blocks from store block 5 and of 300 from 4010; C x H x S 459 and 280; the second is protected
 
@@ -80,12 +80,12 @@ other first flags c protection = record {
   tail = replicate 8 0;
 }
 
-abbrev secondDrive : Drive
-secondDrive = other 4010 0x48 5 1
+abbrev second_drive : Drive
+second_drive = other 4010 0x48 5 1
 
 -- a table's eight places, with the second drive and what stands after it
 abbrev places : Drive → Drive → List Drive
-places second third = readable ∷ second ∷ third ∷ replicate 5 zeroDrive
+places second third = readable ∷ second ∷ third ∷ replicate 5 zero_drive
 
 -- ---- the rows: windows of 70,000 bytes. The registers agree with nothing in their rows but AH, and carry is set: neither is asked for
 
@@ -112,7 +112,7 @@ rows =
     ∷ waits 0x4207 0x81 172 127 4464 69984 96
     ∷ waits 0x4308 0x80 3967 33 9 21 32
     ∷ row (Finished (registers 0x4809))
-    ∷ vacantRow
+    ∷ vacant_row
     ∷ waits 0x020A 0x81 41 2 68976 0 0
     ∷ waits 0x420B 0x80 5 3 68464 33 0
     ∷ []
@@ -126,16 +126,16 @@ abbrev block : ℕ → ℕ → List ℕ → List ℕ
 block low high behind = low ∷ high ∷ 0 ∷ 0 ∷ 0 ∷ 0 ∷ 0 ∷ 0 ∷ behind
 
 -- the bad blocks of the first drive, 30 and 3970, and sixteen of the second: 40, 43, 267, 284 to 295, and 299, its last block
-abbrev firstBad : List ℕ → List ℕ
-firstBad behind = block 30 0 (block 130 15 behind)
+abbrev first_bad : List ℕ → List ℕ
+first_bad behind = block 30 0 (block 130 15 behind)
 
-abbrev secondBad : List ℕ → List ℕ
-secondBad behind =
+abbrev second_bad : List ℕ → List ℕ
+second_bad behind =
     block 40 0 (block 43 0 (block 11 1 (block 28 1 (block 29 1 (block 30 1 (block 31 1 (block 32 1
     (block 33 1 (block 34 1 (block 35 1 (block 36 1 (block 37 1 (block 38 1 (block 39 1 (block 43 1 behind)))))))))))))))
 
 abbrev bad : List ℕ
-bad = firstBad (replicate 112 0 ++ secondBad (replicate 768 0))
+bad = first_bad (replicate 112 0 ++ second_bad (replicate 768 0))
 
 abbrev table : List Drive → ℕ → Table
 table drives count =
@@ -161,32 +161,32 @@ desk drives count pointer arena store rows =
 
 -- an arena of 8 x 70,000 + 5 bytes, a store of 4311 x 512 + 3
 abbrev good : ℕ → Desk
-good pointer = desk (places secondDrive zeroDrive) 2 pointer 560005 2207235 rows
+good pointer = desk (places second_drive zero_drive) 2 pointer 560005 2207235 rows
 
 -- the same with another row, another second drive, another store length
 abbrev with_row : ℕ → Row → Desk
-with_row g r = desk (places secondDrive zeroDrive) 2 7 560005 2207235 (set rows g r)
+with_row g r = desk (places second_drive zero_drive) 2 7 560005 2207235 (set rows g r)
 
-abbrev withDrive : Drive → Desk
-withDrive d = desk (places d zeroDrive) 2 7 560005 2207235 rows
+abbrev with_drive : Drive → Desk
+with_drive d = desk (places d zero_drive) 2 7 560005 2207235 rows
 
-abbrev withStore : ℕ → Desk
-withStore store = desk (places secondDrive zeroDrive) 2 7 560005 store rows
+abbrev with_store : ℕ → Desk
+with_store store = desk (places second_drive zero_drive) 2 7 560005 store rows
 
 -- the same with other marks and addresses of the guests' placements
-abbrev withPlaces : List Bool → List ℕ → Desk
-withPlaces marks at =
-    record { rows = rows; pointer = 7; table = table (places secondDrive zeroDrive) 2; arena = 560005; store = 2207235; placed = marks; addresses = at }
+abbrev with_places : List Bool → List ℕ → Desk
+with_places marks at =
+    record { rows = rows; pointer = 7; table = table (places second_drive zero_drive) 2; arena = 560005; store = 2207235; placed = marks; addresses = at }
 
 -- and with other marks and bytes of parameters
-abbrev withParts : List Bool → List ℕ → Desk
-withParts present bytes =
+abbrev with_parts : List Bool → List ℕ → Desk
+with_parts present bytes =
     record {
       rows = rows;
       pointer = 7;
       table =
           record {
-            drives = places secondDrive zeroDrive;
+            drives = places second_drive zero_drive;
             count = 2;
             present = present;
             parameters = bytes;
@@ -200,14 +200,14 @@ withParts present bytes =
     }
 
 -- and with other counts and numbers of bad blocks
-abbrev withBad : List ℕ → List ℕ → Desk
-withBad counts bad =
+abbrev with_bad : List ℕ → List ℕ → Desk
+with_bad counts bad =
     record {
       rows = rows;
       pointer = 7;
       table =
           record {
-            drives = places secondDrive zeroDrive;
+            drives = places second_drive zero_drive;
             count = 2;
             present = true ∷ true ∷ replicate 6 false;
             parameters = parameters;
@@ -226,67 +226,67 @@ withBad counts bad =
 abbrev pointers : List Desk
 pointers = map good (0 ∷ 1 ∷ 2 ∷ 3 ∷ 4 ∷ 5 ∷ 6 ∷ 7 ∷ [])
 
-abbrev badPointers : List Desk
-badPointers = map good (8 ∷ 18446744073709551615 ∷ [])
+abbrev bad_pointers : List Desk
+bad_pointers = map good (8 ∷ 18446744073709551615 ∷ [])
 
 -- the table obeys the rules: drives apart (7), inside the store (6), a field of each kind (5), at most 8 (4), unused places zero, parameters of
 -- drives only
 abbrev tables : List Desk
-tables = withDrive (other 4005 0x48 5 1) ∷ withStore 2206720 ∷ withDrive (other 4010 0x7F 5 1) ∷ withDrive (other 4010 0x48 4 1) ∷ []
+tables = with_drive (other 4005 0x48 5 1) ∷ with_store 2206720 ∷ with_drive (other 4010 0x7F 5 1) ∷ with_drive (other 4010 0x48 4 1) ∷ []
 
-abbrev badTables : List Desk
-badTables =
-    withDrive (other 4004 0x48 5 1)
-    ∷ withStore 2206719
-    ∷ withDrive (other 4010 0x80 5 1)
-    ∷ withDrive (other 4010 0x48 6 1)
-    ∷ withDrive (other 4010 0x48 5 2)
-    ∷ desk (places secondDrive zeroDrive) 3 7 560005 2207235 rows
-    ∷ desk (places secondDrive zeroDrive) 9 7 560005 2207235 rows
-    ∷ desk (places secondDrive (other 4310 0x48 5 1)) 2 7 560005 2207235 rows
-    ∷ withParts (true ∷ true ∷ true ∷ replicate 5 false) parameters
-    ∷ withParts (true ∷ false ∷ replicate 6 false) parameters
-    ∷ withParts (true ∷ true ∷ replicate 6 false) (set parameters 111 1)
+abbrev bad_tables : List Desk
+bad_tables =
+    with_drive (other 4004 0x48 5 1)
+    ∷ with_store 2206719
+    ∷ with_drive (other 4010 0x80 5 1)
+    ∷ with_drive (other 4010 0x48 6 1)
+    ∷ with_drive (other 4010 0x48 5 2)
+    ∷ desk (places second_drive zero_drive) 3 7 560005 2207235 rows
+    ∷ desk (places second_drive zero_drive) 9 7 560005 2207235 rows
+    ∷ desk (places second_drive (other 4310 0x48 5 1)) 2 7 560005 2207235 rows
+    ∷ with_parts (true ∷ true ∷ true ∷ replicate 5 false) parameters
+    ∷ with_parts (true ∷ false ∷ replicate 6 false) parameters
+    ∷ with_parts (true ∷ true ∷ replicate 6 false) (set parameters 111 1)
     ∷ []
 
 -- at most sixteen bad blocks, ascending, of the drive, and zeros behind them. Refused are 17 of them, an unsorted list, a repeated number, the number
 -- after the drive's last block, a number behind the last of a list, a count in a slot without a drive, and a byte there
 abbrev lists : List Desk
-lists = withBad (replicate 8 0) (replicate 1024 0) ∷ withBad (2 ∷ 0 ∷ replicate 6 0) (block 0 0 (block 159 15 (replicate 1008 0))) ∷ []
+lists = with_bad (replicate 8 0) (replicate 1024 0) ∷ with_bad (2 ∷ 0 ∷ replicate 6 0) (block 0 0 (block 159 15 (replicate 1008 0))) ∷ []
 
-abbrev badLists : List Desk
-badLists =
-    withBad (2 ∷ 17 ∷ replicate 6 0) bad
-    ∷ withBad (2 ∷ 0 ∷ replicate 6 0) (block 130 15 (block 30 0 (replicate 1008 0)))
-    ∷ withBad (2 ∷ 0 ∷ replicate 6 0) (block 30 0 (block 30 0 (replicate 1008 0)))
-    ∷ withBad (1 ∷ 0 ∷ replicate 6 0) (block 160 15 (replicate 1016 0))
-    ∷ withBad (1 ∷ 16 ∷ replicate 6 0) bad
-    ∷ withBad (0 ∷ 0 ∷ 1 ∷ replicate 5 0) (replicate 1024 0)
-    ∷ withBad (replicate 8 0) (replicate 1023 0 ++ (1 ∷ []))
+abbrev bad_lists : List Desk
+bad_lists =
+    with_bad (2 ∷ 17 ∷ replicate 6 0) bad
+    ∷ with_bad (2 ∷ 0 ∷ replicate 6 0) (block 130 15 (block 30 0 (replicate 1008 0)))
+    ∷ with_bad (2 ∷ 0 ∷ replicate 6 0) (block 30 0 (block 30 0 (replicate 1008 0)))
+    ∷ with_bad (1 ∷ 0 ∷ replicate 6 0) (block 160 15 (replicate 1016 0))
+    ∷ with_bad (1 ∷ 16 ∷ replicate 6 0) bad
+    ∷ with_bad (0 ∷ 0 ∷ 1 ∷ replicate 5 0) (replicate 1024 0)
+    ∷ with_bad (replicate 8 0) (replicate 1023 0 ++ (1 ∷ []))
     ∷ []
 
-pub table-acceptance : map (map accept) (tables ∷ lists ∷ badTables ∷ badLists ∷ []) ≡ replicate 4 true ∷ replicate 2 true ∷ replicate 11 false ∷ replicate 7 false ∷ []
-unfolding accept rowsOk requestOk placementsOk placeOk parametersTo isDrive isSound soundTo blankTo attachedTo listedTo badsOk listOk ascends areBlocks held_of zeroPast le refusal overlapsAny overlap inStore fieldsOk geometryFits inLimits busOk interfaceOk isBlank blankNumbers blank_names same isI2o zeroTail kindOk
-table-acceptance = refl
+pub table_acceptance : map (map accept) (tables ∷ lists ∷ bad_tables ∷ bad_lists ∷ []) ≡ replicate 4 true ∷ replicate 2 true ∷ replicate 11 false ∷ replicate 7 false ∷ []
+unfolding accept rows_ok request_ok placements_ok place_ok parameters_to is_drive is_sound sound_to blank_to attached_to listed_to bads_ok list_ok ascends are_blocks held_of zero_past le refusal overlaps_any overlap in_store fields_ok geometry_fits in_limits bus_ok interface_ok is_blank blank_numbers blank_names same is_i2o zero_tail kind_ok
+table_acceptance = refl
 
 -- the desk's own table is sound: said once for all that follows
-sound : isSound (table (places secondDrive zeroDrive) 2) (2207235 / 512) ≡ true
-unfolding isSound soundTo blankTo attachedTo listedTo badsOk listOk ascends areBlocks held_of zeroPast le refusal overlapsAny overlap inStore fieldsOk geometryFits inLimits busOk interfaceOk isBlank blankNumbers blank_names same isI2o zeroTail kindOk
+sound : is_sound (table (places second_drive zero_drive) 2) (2207235 / 512) ≡ true
+unfolding is_sound sound_to blank_to attached_to listed_to bads_ok list_ok ascends are_blocks held_of zero_past le refusal overlaps_any overlap in_store fields_ok geometry_fits in_limits bus_ok interface_ok is_blank blank_numbers blank_names same is_i2o zero_tail kind_ok
 sound = refl
 
 -- the row names a drive; its function is one that waits
-abbrev badDrives : List Desk
-badDrives = with_row 7 (waits 0x420B 0x82 5 3 68464 33 0) ∷ with_row 7 (waits 0x420B 0x7F 5 3 68464 33 0) ∷ with_row 7 (waits 0x420B 0x00 5 3 68464 33 0) ∷ []
+abbrev bad_drives : List Desk
+bad_drives = with_row 7 (waits 0x420B 0x82 5 3 68464 33 0) ∷ with_row 7 (waits 0x420B 0x7F 5 3 68464 33 0) ∷ with_row 7 (waits 0x420B 0x00 5 3 68464 33 0) ∷ []
 
-abbrev badFunctions : List Desk
-badFunctions = with_row 7 (waits 0x440B 0x80 5 3 68464 33 0) ∷ with_row 7 (waits 0x470B 0x80 5 3 68464 33 0) ∷ with_row 7 (waits 0x000B 0x80 5 3 68464 33 0) ∷ []
+abbrev bad_functions : List Desk
+bad_functions = with_row 7 (waits 0x440B 0x80 5 3 68464 33 0) ∷ with_row 7 (waits 0x470B 0x80 5 3 68464 33 0) ∷ with_row 7 (waits 0x000B 0x80 5 3 68464 33 0) ∷ []
 
 -- a count within its function's limit: 128 for 02h and 03h, 127 for 42h and 43h
 abbrev counts : List Desk
 counts = with_row 0 (waits 0x0305 0x80 330 128 3952 0 112) ∷ with_row 2 (waits 0x4307 0x80 172 127 4464 69984 96) ∷ []
 
-abbrev badCounts : List Desk
-badCounts =
+abbrev bad_counts : List Desk
+bad_counts =
     with_row 0 (waits 0x0205 0x80 330 129 3952 0 112)
     ∷ with_row 0 (waits 0x0305 0x80 330 129 3952 0 112)
     ∷ with_row 2 (waits 0x4207 0x81 172 128 4464 69984 96)
@@ -294,8 +294,8 @@ badCounts =
     ∷ []
 
 -- a range inside the drive, and for 02h and 03h inside the geometry; a start near 2 to the 64 is past both
-abbrev badRanges : List Desk
-badRanges =
+abbrev bad_ranges : List Desk
+bad_ranges =
     with_row 3 (waits 0x4308 0x80 3968 33 9 21 32)
     ∷ with_row 2 (waits 0x4207 0x81 174 127 4464 69984 96)
     ∷ with_row 1 (waits 0x0306 0x80 443 17 7 0 16)
@@ -307,16 +307,16 @@ abbrev ranges : List Desk
 ranges = with_row 2 (waits 0x4207 0x81 173 127 4464 69984 96) ∷ with_row 6 (waits 0x020A 0x81 278 2 68976 0 0) ∷ []
 
 -- a buffer inside the window, to its last byte
-abbrev badBuffers : List Desk
-badBuffers =
+abbrev bad_buffers : List Desk
+bad_buffers =
     with_row 7 (waits 0x420B 0x80 5 3 68465 33 0)
     ∷ with_row 6 (waits 0x020A 0x81 41 2 68977 0 0)
     ∷ with_row 7 (waits 0x420B 0x80 5 3 18446744073709551615 33 0)
     ∷ []
 
 -- any packet inside the window, to its last byte; 02h and 03h have none
-abbrev badPackets : List Desk
-badPackets =
+abbrev bad_packets : List Desk
+bad_packets =
     with_row 2 (waits 0x4207 0x81 172 127 4464 69985 96)
     ∷ with_row 3 (waits 0x4308 0x80 3967 33 9 18446744073709551615 32)
     ∷ with_row 0 (waits 0x0205 0x80 330 128 3952 1 112)
@@ -324,8 +324,8 @@ badPackets =
     ∷ []
 
 -- no write to a protected drive
-abbrev badWrites : List Desk
-badWrites = with_row 2 (waits 0x4307 0x81 172 127 4464 69984 96) ∷ with_row 6 (waits 0x030A 0x81 41 2 68976 0 0) ∷ []
+abbrev bad_writes : List Desk
+bad_writes = with_row 2 (waits 0x4307 0x81 172 127 4464 69984 96) ∷ with_row 6 (waits 0x030A 0x81 41 2 68976 0 0) ∷ []
 
 -- a moved number that is a multiple of 16 below the count; a count of 0 is below nothing. Where bad blocks stand does not matter: guests 2 and 3
 -- have one among those that they have moved, and here one is the next to move, and the one after it
@@ -337,8 +337,8 @@ moveds =
     ∷ with_row 7 (waits 0x420B 0x80 3969 3 68464 33 0)
     ∷ []
 
-abbrev badMoveds : List Desk
-badMoveds =
+abbrev bad_moveds : List Desk
+bad_moveds =
     with_row 2 (waits 0x4207 0x81 172 127 4464 69984 104)
     ∷ with_row 2 (waits 0x4207 0x81 172 127 4464 69984 120)
     ∷ with_row 2 (waits 0x4207 0x81 172 127 4464 69984 97)
@@ -349,67 +349,67 @@ badMoveds =
 
 -- a guest with placement has a good place, for two tables: a multiple of 16 from which they end inside the window; one without has 0
 abbrev placements : List Desk
-placements = withPlaces placed (set addresses 7 69968) ∷ withPlaces (set placed 3 true) addresses ∷ withPlaces (replicate 8 false) (replicate 8 0) ∷ []
+placements = with_places placed (set addresses 7 69968) ∷ with_places (set placed 3 true) addresses ∷ with_places (replicate 8 false) (replicate 8 0) ∷ []
 
-abbrev badPlacements : List Desk
-badPlacements =
-    withPlaces placed (set addresses 7 72)
-    ∷ withPlaces placed (set addresses 0 8)
-    ∷ withPlaces placed (set addresses 7 69984)
-    ∷ withPlaces placed (set addresses 7 18446744073709551600)
-    ∷ withPlaces placed (set addresses 3 16)
-    ∷ withPlaces (set placed 7 false) addresses
+abbrev bad_placements : List Desk
+bad_placements =
+    with_places placed (set addresses 7 72)
+    ∷ with_places placed (set addresses 0 8)
+    ∷ with_places placed (set addresses 7 69984)
+    ∷ with_places placed (set addresses 7 18446744073709551600)
+    ∷ with_places placed (set addresses 3 16)
+    ∷ with_places (set placed 7 false) addresses
     ∷ []
 
 pub acceptance : map (map accept) (pointers ∷ counts ∷ ranges ∷ moveds ∷ placements ∷ [])
-    ∷ map (map accept) (badPointers ∷ badDrives ∷ badFunctions ∷ badCounts ∷ badRanges ∷ badBuffers ∷ badPackets ∷ badWrites ∷ badMoveds ∷ badPlacements ∷ [])
+    ∷ map (map accept) (bad_pointers ∷ bad_drives ∷ bad_functions ∷ bad_counts ∷ bad_ranges ∷ bad_buffers ∷ bad_packets ∷ bad_writes ∷ bad_moveds ∷ bad_placements ∷ [])
     ∷ []
     ≡ map (λ (n : ℕ). replicate n true) (8 ∷ 2 ∷ 2 ∷ 4 ∷ 3 ∷ [])
     ∷ map (λ (n : ℕ). replicate n false) (2 ∷ 3 ∷ 3 ∷ 4 ∷ 5 ∷ 3 ∷ 4 ∷ 2 ∷ 6 ∷ 6 ∷ [])
     ∷ []
-unfolding accept rowsOk requestOk placementsOk placeOk parametersTo isDrive
+unfolding accept rows_ok request_ok placements_ok place_ok parameters_to is_drive
 acceptance = rw sound
 
 -- ---- open: all rows vacant, the pointer 0, the table's drives in order with their parameters, the two lengths each in its place, nothing placed
 
-abbrev tableBytes : List ℕ
-tableBytes =
+abbrev table_bytes : List ℕ
+table_bytes =
     68 ∷ 0 ∷ 1 ∷ 0 ∷ 243 ∷ 3 ∷ 0 ∷ 0 ∷ 244 ∷ 3 ∷ 0 ∷ 0 ∷ 245 ∷ 3 ∷ 0 ∷ 0 ∷ 160 ∷ 15 ∷ 0 ∷ 0 ∷ 0 ∷ 0 ∷ 0 ∷ 0
     ∷ 5 ∷ 0 ∷ 0 ∷ 0 ∷ 0 ∷ 0 ∷ 0 ∷ 0 ∷ 10 ∷ 0 ∷ 17 ∷ 0 ∷ 3 ∷ 0 ∷ 9 ∷ 0 ∷ 80 ∷ 67 ∷ 73 ∷ 0 ∷ 65 ∷ 84 ∷ 65 ∷ 0
     ∷ 0 ∷ 0 ∷ 0 ∷ 0 ∷ 11 ∷ 12 ∷ 13 ∷ 14 ∷ 15 ∷ 16 ∷ 17 ∷ 18 ∷ 21 ∷ 22 ∷ 23 ∷ 24 ∷ 25 ∷ 26 ∷ 27 ∷ 28
-    ∷ 22 ∷ 0 ∷ 3 ∷ 0 ∷ 0 ∷ 0 ∷ firstBad (20 ∷ 0 ∷ 4 ∷ 0 ∷ 0 ∷ 0 ∷ 51 ∷ 52 ∷ 53 ∷ 54 ∷ 55 ∷ 56 ∷ 57 ∷ 58 ∷ 59 ∷ 60 ∷ 61 ∷ 62 ∷ 63 ∷ 64 ∷ 68 ∷ 0 ∷ 1 ∷ 0
+    ∷ 22 ∷ 0 ∷ 3 ∷ 0 ∷ 0 ∷ 0 ∷ first_bad (20 ∷ 0 ∷ 4 ∷ 0 ∷ 0 ∷ 0 ∷ 51 ∷ 52 ∷ 53 ∷ 54 ∷ 55 ∷ 56 ∷ 57 ∷ 58 ∷ 59 ∷ 60 ∷ 61 ∷ 62 ∷ 63 ∷ 64 ∷ 68 ∷ 0 ∷ 1 ∷ 0
     ∷ 219 ∷ 7 ∷ 0 ∷ 0 ∷ 220 ∷ 7 ∷ 0 ∷ 0 ∷ 221 ∷ 7 ∷ 0 ∷ 0 ∷ 44 ∷ 1 ∷ 0 ∷ 0 ∷ 0 ∷ 0 ∷ 0 ∷ 0 ∷ 170 ∷ 15 ∷ 0 ∷ 0
     ∷ 0 ∷ 0 ∷ 0 ∷ 0 ∷ 72 ∷ 0 ∷ 5 ∷ 0 ∷ 7 ∷ 0 ∷ 8 ∷ 1 ∷ 73 ∷ 83 ∷ 65 ∷ 0 ∷ 83 ∷ 67 ∷ 83 ∷ 73 ∷ 0 ∷ 0 ∷ 0 ∷ 0
     ∷ 31 ∷ 32 ∷ 33 ∷ 34 ∷ 35 ∷ 36 ∷ 37 ∷ 38 ∷ 41 ∷ 42 ∷ 43 ∷ 44 ∷ 45 ∷ 46 ∷ 47 ∷ 48
-    ∷ 134 ∷ 0 ∷ 3 ∷ 0 ∷ 1 ∷ 0 ∷ secondBad (20 ∷ 0 ∷ 4 ∷ 0 ∷ 1 ∷ 0 ∷ 71 ∷ 72 ∷ 73 ∷ 74 ∷ 75 ∷ 76 ∷ 77 ∷ 78 ∷ 79 ∷ 80 ∷ 81 ∷ 82 ∷ 83 ∷ 84 ∷ 4 ∷ 0 ∷ 0 ∷ 0 ∷ []))
+    ∷ 134 ∷ 0 ∷ 3 ∷ 0 ∷ 1 ∷ 0 ∷ second_bad (20 ∷ 0 ∷ 4 ∷ 0 ∷ 1 ∷ 0 ∷ 71 ∷ 72 ∷ 73 ∷ 74 ∷ 75 ∷ 76 ∷ 77 ∷ 78 ∷ 79 ∷ 80 ∷ 81 ∷ 82 ∷ 83 ∷ 84 ∷ 4 ∷ 0 ∷ 0 ∷ 0 ∷ []))
 
 -- a desk with vacant rows and nothing placed: its table, its pointer, its store's length
 abbrev fresh : Table → ℕ → ℕ → Desk
 fresh b pointer store =
-    record { rows = replicate 8 vacantRow; pointer = pointer; table = b; arena = 560005; store = store; placed = replicate 8 false; addresses = replicate 8 0 }
+    record { rows = replicate 8 vacant_row; pointer = pointer; table = b; arena = 560005; store = store; placed = replicate 8 false; addresses = replicate 8 0 }
 
-pub opening : openOf tableBytes 560005 2207235 ≡ record { desk = fresh (table (places secondDrive zeroDrive) 2) 0 2207235; answer = Opened }
-unfolding openOf le driveOf readTable readFrom stepAt step_of endStep recordStep withRecord recordRefusal parametersRefusal badsRefusal badsIn badCount badLengthOk listOk ascends areBlocks held_of headerAt headerOf refusal overlapsAny overlap inStore fieldsOk geometryFits inLimits busOk interfaceOk same tailOf isI2o zeroTail kindOk
+pub opening : open_of table_bytes 560005 2207235 ≡ record { desk = fresh (table (places second_drive zero_drive) 2) 0 2207235; answer = Opened }
+unfolding open_of le drive_of read_table read_from step_at step_of end_step record_step with_record record_refusal parameters_refusal bads_refusal bads_in bad_count bad_length_ok list_ok ascends are_blocks held_of header_at header_of refusal overlaps_any overlap in_store fields_ok geometry_fits in_limits bus_ok interface_ok same tail_of is_i2o zero_tail kind_ok
 opening = refl
 
 -- a store of one byte less than its 4310 blocks: refused at the second drive's record, and the desk is of no use. By the second promise too
-pub opening-short : openOf tableBytes 560005 2206719
-    ≡ record { desk = fresh emptyTable 8 2206719; answer = OpenRefused 6 110 }
-unfolding openOf le driveOf readTable readFrom stepAt step_of endStep recordStep withRecord recordRefusal parametersRefusal badsRefusal badsIn badCount badLengthOk listOk ascends areBlocks held_of headerAt headerOf refusal overlapsAny overlap inStore fieldsOk geometryFits inLimits busOk interfaceOk same tailOf isI2o zeroTail kindOk
-opening-short = refl
+pub opening_short : open_of table_bytes 560005 2206719
+    ≡ record { desk = fresh empty_table 8 2206719; answer = OpenRefused 6 110 }
+unfolding open_of le drive_of read_table read_from step_at step_of end_step record_step with_record record_refusal parameters_refusal bads_refusal bads_in bad_count bad_length_ok list_ok ascends are_blocks held_of header_at header_of refusal overlaps_any overlap in_store fields_ok geometry_fits in_limits bus_ok interface_ok same tail_of is_i2o zero_tail kind_ok
+opening_short = refl
 
-pub openings-given : map (openGiven tableBytes) (2207235 ∷ 2206719 ∷ []) ≡ (0 ∷ []) ∷ (6 ∷ 110 ∷ []) ∷ []
-unfolding openGiven le driveOf tableNumbers numbersFrom recordNumbers stepAt step_of endStep recordStep withRecord recordRefusal parametersRefusal badsRefusal badsIn badCount badLengthOk listOk ascends areBlocks held_of headerAt headerOf refusal overlapsAny overlap inStore fieldsOk geometryFits inLimits busOk interfaceOk same tailOf isI2o zeroTail kindOk
+pub openings-given : map (open_given table_bytes) (2207235 ∷ 2206719 ∷ []) ≡ (0 ∷ []) ∷ (6 ∷ 110 ∷ []) ∷ []
+unfolding open_given le drive_of table_numbers numbers_from record_numbers step_at step_of end_step record_step with_record record_refusal parameters_refusal bads_refusal bads_in bad_count bad_length_ok list_ok ascends are_blocks held_of header_at header_of refusal overlaps_any overlap in_store fields_ok geometry_fits in_limits bus_ok interface_ok same tail_of is_i2o zero_tail kind_ok
 openings-given = refl
 
 -- ---- write: the bytes of the opening again, in a buffer that has room; bytes past them stay
 
-pub table-written : map (λ (room : ℕ). writtenNumbers (written_of (good 7) room)) (335 ∷ 336 ∷ 338 ∷ []) ≡ (19 ∷ []) ∷ (0 ∷ 336 ∷ []) ∷ (0 ∷ 336 ∷ []) ∷ []
-unfolding written_of writtenNumbers writeAnswer table_of bytes_of recordsOf recordOf badRecord parametersRecord geometryBytes sizeBytes nameBytes le_bytes accept rowsOk requestOk placementsOk placeOk parametersTo isDrive held_of tail_bytes
+pub table-written : map (λ (room : ℕ). written_numbers (written_of (good 7) room)) (335 ∷ 336 ∷ 338 ∷ []) ≡ (19 ∷ []) ∷ (0 ∷ 336 ∷ []) ∷ (0 ∷ 336 ∷ []) ∷ []
+unfolding written_of written_numbers write_answer table_of bytes_of records_of record_of bad_record parameters_record geometry_bytes size_bytes name_bytes le_bytes accept rows_ok request_ok placements_ok place_ok parameters_to is_drive held_of tail_bytes
 table-written = rw sound
 
-pub table-bytes : writtenOut (good 7) (replicate 338 9) ≡ tableBytes ++ (9 ∷ 9 ∷ [])
-unfolding writtenOut writeOut table_of bytes_of recordsOf recordOf badRecord parametersRecord geometryBytes sizeBytes nameBytes le_bytes accept rowsOk requestOk placementsOk placeOk parametersTo isDrive held_of tail_bytes
+pub table-bytes : written_out (good 7) (replicate 338 9) ≡ table_bytes ++ (9 ∷ 9 ∷ [])
+unfolding written_out write_out table_of bytes_of records_of record_of bad_record parameters_record geometry_bytes size_bytes name_bytes le_bytes accept rows_ok request_ok placements_ok place_ok parameters_to is_drive held_of tail_bytes
 table-bytes = rw sound
 
 -- ---- the calls, for every arena and store of those lengths
@@ -430,29 +430,29 @@ asked = record {
 
 -- the desk after a call: its pointer, and another row
 abbrev after : ℕ → ℕ → Stage → Desk
-after pointer g stage = desk (places secondDrive zeroDrive) 2 pointer 560005 2207235 (set rows g (row stage))
+after pointer g stage = desk (places second_drive zero_drive) 2 pointer 560005 2207235 (set rows g (row stage))
 
 module _ (arena store : List ℕ) (la : length arena ≡ 560005) (ls : length store ≡ 2207235) where
   -- the turn at the pointer, and the number of blocks; the pointer goes to the guest after, from 7 to 0; all moved, the row is finished
   pub turns : map (λ (p : ℕ). (turn_of (good p) arena store).answer) (0 ∷ 1 ∷ 2 ∷ 3 ∷ 4 ∷ 5 ∷ 6 ∷ 7 ∷ [])
       ≡ Served 0 16 ∷ Served 1 1 ∷ Served 2 16 ∷ Served 3 1 ∷ Served 6 2 ∷ Served 6 2 ∷ Served 6 2 ∷ Served 7 3 ∷ []
-  unfolding turn_of firstWaiting movesNow badsOf goodBlocks isBad held_of le accept rowsOk requestOk placementsOk placeOk parametersTo isDrive
+  unfolding turn_of first_waiting moves_now bads_of good_blocks is_bad held_of le accept rows_ok request_ok placements_ok place_ok parameters_to is_drive
   turns = rw (sound, la, ls)
 
   -- the only waiting row is the last that the search comes to; and the turns by the second promise
   abbrev lone : Desk
-  lone = desk (places secondDrive zeroDrive) 2 5 560005 2207235 (set (replicate 8 vacantRow) 4 (waits 0x420B 0x80 5 3 68464 33 0))
+  lone = desk (places second_drive zero_drive) 2 5 560005 2207235 (set (replicate 8 vacant_row) 4 (waits 0x420B 0x80 5 3 68464 33 0))
 
-  pub turn-round : (turn_of lone arena store).answer ≡ Served 4 3
-  unfolding turn_of firstWaiting movesNow badsOf goodBlocks isBad held_of le accept rowsOk requestOk placementsOk placeOk parametersTo isDrive
-  turn-round = rw (sound, la, ls)
+  pub turn_round : (turn_of lone arena store).answer ≡ Served 4 3
+  unfolding turn_of first_waiting moves_now bads_of good_blocks is_bad held_of le accept rows_ok request_ok placements_ok place_ok parameters_to is_drive
+  turn_round = rw (sound, la, ls)
 
-  pub turns-given : map (λ (d : Desk). turnGiven d arena store) (lone ∷ map good (0 ∷ 1 ∷ 4 ∷ 7 ∷ []))
+  pub turns-given : map (λ (d : Desk). turn_given d arena store) (lone ∷ map good (0 ∷ 1 ∷ 4 ∷ 7 ∷ []))
       ≡ (0 ∷ 4 ∷ 3 ∷ []) ∷ (0 ∷ 0 ∷ 16 ∷ []) ∷ (0 ∷ 1 ∷ 1 ∷ []) ∷ (0 ∷ 6 ∷ 2 ∷ []) ∷ (0 ∷ 7 ∷ 3 ∷ []) ∷ []
-  unfolding turnGiven firstWaiting badsOf goodBlocks isBad held_of le accept rowsOk requestOk placementsOk placeOk parametersTo isDrive
+  unfolding turn_given first_waiting bads_of good_blocks is_bad held_of le accept rows_ok request_ok placements_ok place_ok parameters_to is_drive
   turns-given = rw (sound, la, ls)
 
-  pub turn-desks : map (λ (p : ℕ). (turn_of (good p) arena store).desk) (0 ∷ 1 ∷ 2 ∷ 3 ∷ 4 ∷ 7 ∷ [])
+  pub turn_desks : map (λ (p : ℕ). (turn_of (good p) arena store).desk) (0 ∷ 1 ∷ 2 ∷ 3 ∷ 4 ∷ 7 ∷ [])
       ≡ after 1 0 (Finished (success 0x0005))
       ∷ after 2 1 (Finished (success 0x0006))
       ∷ after 3 2 (waits 0x4207 0x81 172 127 4464 69984 112).stage
@@ -460,44 +460,44 @@ module _ (arena store : List ℕ) (la : length arena ≡ 560005) (ls : length st
       ∷ after 7 6 (Finished (success 0x000A))
       ∷ after 0 7 (Finished (success 0x000B))
       ∷ []
-  unfolding turn_of firstWaiting movesNow badsOf goodBlocks isBad held_of le stageAfter ended accept rowsOk requestOk placementsOk placeOk parametersTo isDrive
-  turn-desks = rw (sound, la, ls)
+  unfolding turn_of first_waiting moves_now bads_of good_blocks is_bad held_of le stage_after ended accept rows_ok request_ok placements_ok place_ok parameters_to is_drive
+  turn_desks = rw (sound, la, ls)
 
   -- reads: to buffer + 512 x moved, from 512 x (first + start + moved)
   pub reads : map (λ (p : ℕ). (turn_of (good p) arena store).arena) (0 ∷ 2 ∷ 4 ∷ 7 ∷ [])
-      ≡ withWindow arena 0 70000 (blocks (windowOf arena 0 70000) 61296 store 228864 16)
-      ∷ withWindow arena 2 70000 (blocks (windowOf arena 2 70000) 53616 store 2190336 16)
-      ∷ withWindow arena 6 70000 (blocks (windowOf arena 6 70000) 68976 store 2074112 2)
-      ∷ withWindow arena 7 70000 (blocks (windowOf arena 7 70000) 68464 store 5120 3)
+      ≡ with_window arena 0 70000 (blocks (window_of arena 0 70000) 61296 store 228864 16)
+      ∷ with_window arena 2 70000 (blocks (window_of arena 2 70000) 53616 store 2190336 16)
+      ∷ with_window arena 6 70000 (blocks (window_of arena 6 70000) 68976 store 2074112 2)
+      ∷ with_window arena 7 70000 (blocks (window_of arena 7 70000) 68464 store 5120 3)
       ∷ []
-  unfolding turn_of firstWaiting movesNow badsOf goodBlocks isBad held_of le moves accept rowsOk requestOk placementsOk placeOk parametersTo isDrive
+  unfolding turn_of first_waiting moves_now bads_of good_blocks is_bad held_of le moves accept rows_ok request_ok placements_ok place_ok parameters_to is_drive
   reads = rw (sound, la, ls)
 
   -- writes: to 512 x (first + start + moved), from buffer + 512 x moved
   pub writes : map (λ (p : ℕ). (turn_of (good p) arena store).store) (1 ∷ 3 ∷ 7 ∷ [])
-      ≡ blocks store 237056 (windowOf arena 1 70000) 8199 1
-      ∷ blocks store 2050048 (windowOf arena 3 70000) 16393 1
+      ≡ blocks store 237056 (window_of arena 1 70000) 8199 1
+      ∷ blocks store 2050048 (window_of arena 3 70000) 16393 1
       ∷ store
       ∷ []
-  unfolding turn_of firstWaiting movesNow badsOf goodBlocks isBad held_of le moves accept rowsOk requestOk placementsOk placeOk parametersTo isDrive
+  unfolding turn_of first_waiting moves_now bads_of good_blocks is_bad held_of le moves accept rows_ok request_ok placements_ok place_ok parameters_to is_drive
   writes = rw (sound, la, ls)
 
   -- withdrawals: AH 80h and carry set; 02h and 03h have the blocks moved in AL, 42h and 43h in the word at packet + 2
-  pub withdrawals : map (λ (g : ℕ). (withdrawOf (good 7) g arena store).answer) (0 ∷ 1 ∷ 2 ∷ 3 ∷ [])
+  pub withdrawals : map (λ (g : ℕ). (withdraw_of (good 7) g arena store).answer) (0 ∷ 1 ∷ 2 ∷ 3 ∷ [])
       ≡ map (λ (ax : ℕ). WithdrawGiven (registers ax)) (0x8070 ∷ 0x8010 ∷ 0x8007 ∷ 0x8008 ∷ [])
-  unfolding withdrawOf accept rowsOk requestOk placementsOk placeOk parametersTo isDrive
+  unfolding withdraw_of accept rows_ok request_ok placements_ok place_ok parameters_to is_drive
   withdrawals = rw (sound, la, ls)
 
-  pub withdrawn-desks : map (λ (g : ℕ). (withdrawOf (good 7) g arena store).desk) (1 ∷ 2 ∷ []) ≡ after 7 1 Vacant ∷ after 7 2 Vacant ∷ []
-  unfolding withdrawOf accept rowsOk requestOk placementsOk placeOk parametersTo isDrive
-  withdrawn-desks = rw (sound, la, ls)
+  pub withdrawn_desks : map (λ (g : ℕ). (withdraw_of (good 7) g arena store).desk) (1 ∷ 2 ∷ []) ≡ after 7 1 Vacant ∷ after 7 2 Vacant ∷ []
+  unfolding withdraw_of accept rows_ok request_ok placements_ok place_ok parameters_to is_drive
+  withdrawn_desks = rw (sound, la, ls)
 
-  pub count-words : map (λ (g : ℕ). (withdrawOf (good 7) g arena store).arena) (2 ∷ 3 ∷ [])
-      ≡ withWindow arena 2 70000 (sets (windowOf arena 2 70000) 69986 (96 ∷ 0 ∷ []))
-      ∷ withWindow arena 3 70000 (sets (windowOf arena 3 70000) 23 (32 ∷ 0 ∷ []))
+  pub count_words : map (λ (g : ℕ). (withdraw_of (good 7) g arena store).arena) (2 ∷ 3 ∷ [])
+      ≡ with_window arena 2 70000 (sets (window_of arena 2 70000) 69986 (96 ∷ 0 ∷ []))
+      ∷ with_window arena 3 70000 (sets (window_of arena 3 70000) 23 (32 ∷ 0 ∷ []))
       ∷ []
-  unfolding withdrawOf reported le_bytes accept rowsOk requestOk placementsOk placeOk parametersTo isDrive
-  count-words = rw (sound, la, ls)
+  unfolding withdraw_of reported le_bytes accept rows_ok request_ok placements_ok place_ok parameters_to is_drive
+  count_words = rw (sound, la, ls)
 
   -- ---- turns that reach a bad block (document 02, 2026-04); block 3970 of the first drive is bad, and block 30, and of the second 43
 
@@ -507,7 +507,7 @@ module _ (arena store : List ℕ) (la : length arena ≡ 560005) (ls : length st
 
   -- the desk with that row, at which the next turn serves it
   abbrev worn : ℕ → Row → Desk
-  worn g r = desk (places secondDrive zeroDrive) 2 g 560005 2207235 (set rows g r)
+  worn g r = desk (places second_drive zero_drive) 2 g 560005 2207235 (set rows g r)
 
   -- the bad block is number 17 of them, 15, 16, 0, 19, and the one behind the last; then 18 of 02h and of 03h, 17 of 43h, and 2 on the second drive
   abbrev reached : List Desk
@@ -516,19 +516,19 @@ module _ (arena store : List ℕ) (la : length arena ≡ 560005) (ls : length st
       ++ (worn 0 (waits 0x0214 0x80 12 20 7 0 16) ∷ worn 1 (waits 0x0314 0x80 12 20 7 0 16) ∷ worn 3 (waits 0x4308 0x80 3953 20 9 21 16)
       ∷ worn 2 (waits 0x4207 0x81 41 20 4464 69984 0) ∷ [])
 
-  pub worn-turns : map (λ (d : Desk). (turn_of d arena store).answer) reached
+  pub worn_turns : map (λ (d : Desk). (turn_of d arena store).answer) reached
       ≡ Served 7 16 ∷ Served 7 1 ∷ Served 7 15 ∷ Served 7 16 ∷ Served 7 0 ∷ Served 7 0 ∷ Served 7 3 ∷ Served 7 4 ∷ Served 0 2 ∷ Served 1 2 ∷ Served 3 1 ∷ Served 2 2 ∷ []
-  unfolding turn_of firstWaiting movesNow badsOf goodBlocks isBad held_of le accept rowsOk requestOk placementsOk placeOk parametersTo isDrive
-  worn-turns = rw (sound, la, ls)
+  unfolding turn_of first_waiting moves_now bads_of good_blocks is_bad held_of le accept rows_ok request_ok placements_ok place_ok parameters_to is_drive
+  worn_turns = rw (sound, la, ls)
 
-  pub worn-given : map (λ (d : Desk). turnGiven d arena store) reached
+  pub worn_given : map (λ (d : Desk). turn_given d arena store) reached
       ≡ map (λ (k : ℕ). 0 ∷ 7 ∷ k ∷ []) (16 ∷ 1 ∷ 15 ∷ 16 ∷ 0 ∷ 0 ∷ 3 ∷ 4 ∷ []) ++ ((0 ∷ 0 ∷ 2 ∷ []) ∷ (0 ∷ 1 ∷ 2 ∷ []) ∷ (0 ∷ 3 ∷ 1 ∷ []) ∷ (0 ∷ 2 ∷ 2 ∷ []) ∷ [])
-  unfolding turnGiven firstWaiting badsOf goodBlocks isBad held_of le accept rowsOk requestOk placementsOk placeOk parametersTo isDrive
-  worn-given = rw (sound, la, ls)
+  unfolding turn_given first_waiting bads_of good_blocks is_bad held_of le accept rows_ok request_ok placements_ok place_ok parameters_to is_drive
+  worn_given = rw (sound, la, ls)
 
   -- at it the row is finished with carry set and AH 10h, CCh of a write; AL is as posted, of 02h and 03h the blocks of the whole request; and the
   -- pointer goes on, also where none has moved
-  pub worn-desks : map (λ (d : Desk). (turn_of d arena store).desk) reached
+  pub worn_desks : map (λ (d : Desk). (turn_of d arena store).desk) reached
       ≡ after 0 7 (reading 3953 16).stage
       ∷ after 0 7 (Finished (registers 0x100B))
       ∷ after 0 7 (Finished (registers 0x100B))
@@ -542,57 +542,57 @@ module _ (arena store : List ℕ) (la : length arena ≡ 560005) (ls : length st
       ∷ after 4 3 (Finished (registers 0xCC08))
       ∷ after 3 2 (Finished (registers 0x1007))
       ∷ []
-  unfolding turn_of firstWaiting movesNow badsOf goodBlocks isBad held_of le stageAfter ended accept rowsOk requestOk placementsOk placeOk parametersTo isDrive
-  worn-desks = rw (sound, la, ls)
+  unfolding turn_of first_waiting moves_now bads_of good_blocks is_bad held_of le stage_after ended accept rows_ok request_ok placements_ok place_ok parameters_to is_drive
+  worn_desks = rw (sound, la, ls)
 
   -- the count word gives the blocks of the whole request, and stands on top of the data; a turn that goes on, one that moves all, and 02h write none
-  pub worn-reads : map (λ (d : Desk). (turn_of d arena store).arena) (take 9 reached)
-      ≡ withWindow arena 7 70000 (blocks (windowOf arena 7 70000) 9 store 2026496 16)
-      ∷ withWindow arena 7 70000 (sets (blocks (windowOf arena 7 70000) 8201 store 2034688 1) 23 (17 ∷ 0 ∷ []))
-      ∷ withWindow arena 7 70000 (sets (blocks (windowOf arena 7 70000) 9 store 2027520 15) 23 (15 ∷ 0 ∷ []))
-      ∷ withWindow arena 7 70000 (blocks (windowOf arena 7 70000) 9 store 2027008 16)
-      ∷ withWindow arena 7 70000 (sets (blocks (windowOf arena 7 70000) 8201 store 2035200 0) 23 (16 ∷ 0 ∷ []))
-      ∷ withWindow arena 7 70000 (sets (blocks (windowOf arena 7 70000) 9 store 2035200 0) 23 (0 ∷ 0 ∷ []))
-      ∷ withWindow arena 7 70000 (sets (blocks (windowOf arena 7 70000) 8201 store 2033664 3) 23 (19 ∷ 0 ∷ []))
-      ∷ withWindow arena 7 70000 (blocks (windowOf arena 7 70000) 8201 store 2033152 4)
-      ∷ withWindow arena 0 70000 (blocks (windowOf arena 0 70000) 8199 store 16896 2)
+  pub worn_reads : map (λ (d : Desk). (turn_of d arena store).arena) (take 9 reached)
+      ≡ with_window arena 7 70000 (blocks (window_of arena 7 70000) 9 store 2026496 16)
+      ∷ with_window arena 7 70000 (sets (blocks (window_of arena 7 70000) 8201 store 2034688 1) 23 (17 ∷ 0 ∷ []))
+      ∷ with_window arena 7 70000 (sets (blocks (window_of arena 7 70000) 9 store 2027520 15) 23 (15 ∷ 0 ∷ []))
+      ∷ with_window arena 7 70000 (blocks (window_of arena 7 70000) 9 store 2027008 16)
+      ∷ with_window arena 7 70000 (sets (blocks (window_of arena 7 70000) 8201 store 2035200 0) 23 (16 ∷ 0 ∷ []))
+      ∷ with_window arena 7 70000 (sets (blocks (window_of arena 7 70000) 9 store 2035200 0) 23 (0 ∷ 0 ∷ []))
+      ∷ with_window arena 7 70000 (sets (blocks (window_of arena 7 70000) 8201 store 2033664 3) 23 (19 ∷ 0 ∷ []))
+      ∷ with_window arena 7 70000 (blocks (window_of arena 7 70000) 8201 store 2033152 4)
+      ∷ with_window arena 0 70000 (blocks (window_of arena 0 70000) 8199 store 16896 2)
       ∷ []
-  unfolding turn_of firstWaiting movesNow badsOf goodBlocks isBad held_of le moves reported le_bytes accept rowsOk requestOk placementsOk placeOk parametersTo isDrive
-  worn-reads = rw (sound, la, ls)
+  unfolding turn_of first_waiting moves_now bads_of good_blocks is_bad held_of le moves reported le_bytes accept rows_ok request_ok placements_ok place_ok parameters_to is_drive
+  worn_reads = rw (sound, la, ls)
 
   -- writes: 03h leaves the window, of 43h two bytes of it change, those of the count word
-  pub worn-writes : ((turn_of (worn 1 (waits 0x0314 0x80 12 20 7 0 16)) arena store).store ≡ blocks store 16896 (windowOf arena 1 70000) 8199 2)
+  pub worn_writes : ((turn_of (worn 1 (waits 0x0314 0x80 12 20 7 0 16)) arena store).store ≡ blocks store 16896 (window_of arena 1 70000) 8199 2)
       × ((turn_of (worn 1 (waits 0x0314 0x80 12 20 7 0 16)) arena store).arena ≡ arena)
-      × ((turn_of (worn 3 (waits 0x4308 0x80 3953 20 9 21 16)) arena store).store ≡ blocks store 2034688 (windowOf arena 3 70000) 8201 1)
-      × ((turn_of (worn 3 (waits 0x4308 0x80 3953 20 9 21 16)) arena store).arena ≡ withWindow arena 3 70000 (sets (windowOf arena 3 70000) 23 (17 ∷ 0 ∷ [])))
-  unfolding turn_of firstWaiting movesNow badsOf goodBlocks isBad held_of le moves reported le_bytes accept rowsOk requestOk placementsOk placeOk parametersTo isDrive
-  worn-writes = (rw (sound, la, ls), rw (sound, la, ls) (rw la at (with-window-same arena 1 70000)), rw (sound, la, ls), rw (sound, la, ls))
+      × ((turn_of (worn 3 (waits 0x4308 0x80 3953 20 9 21 16)) arena store).store ≡ blocks store 2034688 (window_of arena 3 70000) 8201 1)
+      × ((turn_of (worn 3 (waits 0x4308 0x80 3953 20 9 21 16)) arena store).arena ≡ with_window arena 3 70000 (sets (window_of arena 3 70000) 23 (17 ∷ 0 ∷ [])))
+  unfolding turn_of first_waiting moves_now bads_of good_blocks is_bad held_of le moves reported le_bytes accept rows_ok request_ok placements_ok place_ok parameters_to is_drive
+  worn_writes = (rw (sound, la, ls), rw (sound, la, ls) (rw la at (with_window-same arena 1 70000)), rw (sound, la, ls), rw (sound, la, ls))
 
   -- 43h from a buffer that covers the packet: the store gets the window's bytes as they were, and the count word comes after them
-  pub worn-covered : ((turn_of (worn 3 (waits 0x4308 0x80 3955 20 9 21 0)) arena store).store ≡ blocks store 2027520 (windowOf arena 3 70000) 9 15)
-      × ((turn_of (worn 3 (waits 0x4308 0x80 3955 20 9 21 0)) arena store).arena ≡ withWindow arena 3 70000 (sets (windowOf arena 3 70000) 23 (15 ∷ 0 ∷ [])))
-  unfolding turn_of firstWaiting movesNow badsOf goodBlocks isBad held_of le moves reported le_bytes accept rowsOk requestOk placementsOk placeOk parametersTo isDrive
-  worn-covered = (rw (sound, la, ls), rw (sound, la, ls))
+  pub worn_covered : ((turn_of (worn 3 (waits 0x4308 0x80 3955 20 9 21 0)) arena store).store ≡ blocks store 2027520 (window_of arena 3 70000) 9 15)
+      × ((turn_of (worn 3 (waits 0x4308 0x80 3955 20 9 21 0)) arena store).arena ≡ with_window arena 3 70000 (sets (window_of arena 3 70000) 23 (15 ∷ 0 ∷ [])))
+  unfolding turn_of first_waiting moves_now bads_of good_blocks is_bad held_of le moves reported le_bytes accept rows_ok request_ok placements_ok place_ok parameters_to is_drive
+  worn_covered = (rw (sound, la, ls), rw (sound, la, ls))
 
   -- a withdrawal before it is reached is as ever: 80h, and the blocks moved
-  pub worn-withdrawn : withdrawOf (worn 7 (reading 3953 16)) 7 arena store
-      ≡ done (after 7 7 Vacant) (WithdrawGiven (registers 0x800B)) (withWindow arena 7 70000 (sets (windowOf arena 7 70000) 23 (16 ∷ 0 ∷ []))) store
-  unfolding withdrawOf reported le_bytes accept rowsOk requestOk placementsOk placeOk parametersTo isDrive
-  worn-withdrawn = rw (sound, la, ls)
+  pub worn_withdrawn : withdraw_of (worn 7 (reading 3953 16)) 7 arena store
+      ≡ done (after 7 7 Vacant) (WithdrawGiven (registers 0x800B)) (with_window arena 7 70000 (sets (window_of arena 7 70000) 23 (16 ∷ 0 ∷ []))) store
+  unfolding withdraw_of reported le_bytes accept rows_ok request_ok placements_ok place_ok parameters_to is_drive
+  worn_withdrawn = rw (sound, la, ls)
 
   -- ---- a post
 
   -- a post of 02h: the block of 3/2/5 in 5/7/8, the buffer at ES:BX, 10010h + 123h; it waits with nothing moved, and carry is dropped
-  window-5 : length (windowOf arena 5 70000) ≡ 70000
-  unfolding spanLength
-  window-5 = length-window arena 5 70000 ∙ rw la
+  window_5 : length (window_of arena 5 70000) ≡ 70000
+  unfolding span_length
+  window_5 = length-window arena 5 70000 ∙ rw la
 
   pub post-waits : ((post_of (good 7) 5 call arena store).answer ≡ PostWaits)
       × ((post_of (good 7) 5 call arena store).desk ≡ after 7 5 (Waiting (record { job = asked; moved = 0 })))
-  unfolding post_of begin steps sectors block_of isValid inLimits accept rowsOk requestOk placementsOk placeOk parametersTo isDrive
-  post-waits = (rw (window-5, sound, la, ls), rw (window-5, sound, la, ls))
+  unfolding post_of begin steps sectors block_of is_valid in_limits accept rows_ok request_ok placements_ok place_ok parameters_to is_drive
+  post-waits = (rw (window_5, sound, la, ls), rw (window_5, sound, la, ls))
 
 -- collect: the finished registers as they stand, and the row is vacant
-pub collected : collectOf (good 7) 4 [] [] ≡ done (after 7 4 Vacant) (CollectGiven (registers 0x4809)) [] []
-unfolding collectOf accept rowsOk requestOk placementsOk placeOk parametersTo isDrive
+pub collected : collect_of (good 7) 4 [] [] ≡ done (after 7 4 Vacant) (CollectGiven (registers 0x4809)) [] []
+unfolding collect_of accept rows_ok request_ok placements_ok place_ok parameters_to is_drive
 collected = rw sound

@@ -8,19 +8,19 @@ use native.Mathlib.Numerals.{sub-one}
 use native.Mathlib.Omega.{arith}
 use Rattle.desk.specs.declared.Row.{Row}
 use Rattle.desk.specs.declared.Next.TheVariants.{Guest, Nobody}
-use Rattle.desk.specs.Parts.{stageIn, isWaiting, next}
-use Rattle.desk.specs.Calls.{firstWaiting}
+use Rattle.desk.specs.Parts.{stage_in, is_waiting, next}
+use Rattle.desk.specs.Calls.{first_waiting}
 
-pub seek-here : (rows : List Row) (left g : ℕ) → 0 < left → isWaiting (stageIn rows g) ≡ true → Guest g ≡ firstWaiting rows left g
-unfolding firstWaiting
-seek-here rows zero g l e = absurd (omega arith)
-seek-here rows (suc k) g l e = rw e
+pub seek_here : (rows : List Row) (left g : ℕ) → 0 < left → is_waiting (stage_in rows g) ≡ true → Guest g ≡ first_waiting rows left g
+unfolding first_waiting
+seek_here rows zero g l e = absurd (omega arith)
+seek_here rows (suc k) g l e = rw e
 
-pub seek-on : (rows : List Row) (left g : ℕ) → 0 < left → isWaiting (stageIn rows g) ≡ false → firstWaiting rows (left - 1) (next g) ≡ firstWaiting rows left g
-unfolding firstWaiting
-seek-on rows zero g l e = absurd (omega arith)
-seek-on rows (suc k) g l e = rw (e, sub-one)
+pub seek_on : (rows : List Row) (left g : ℕ) → 0 < left → is_waiting (stage_in rows g) ≡ false → first_waiting rows (left - 1) (next g) ≡ first_waiting rows left g
+unfolding first_waiting
+seek_on rows zero g l e = absurd (omega arith)
+seek_on rows (suc k) g l e = rw (e, sub-one)
 
-pub seek-none : (rows : List Row) (left g : ℕ) → left ≡ 0 → Nobody ≡ firstWaiting rows left g
-unfolding firstWaiting
+pub seek-none : (rows : List Row) (left g : ℕ) → left ≡ 0 → Nobody ≡ first_waiting rows left g
+unfolding first_waiting
 seek-none rows left g e = rw e

@@ -4,77 +4,77 @@ use Rattle.std.specs.Prelude.{◌≡◌, ℕ, zero, suc, ◌+◌, ◌*◌, ◌/�
 use Rattle.logic.specs.Logic.{pick, both, either, all_below}
 use Rattle.chs.specs.Chs.{size}
 use Rattle.drive.specs.declared.Drive.{Drive}
-use Rattle.drive.specs.Drive.{geometryOf, isProtected}
+use Rattle.drive.specs.Drive.{geometry_of, is_protected}
 use Rattle.table.specs.declared.Table.{Table}
-use Rattle.table.specs.Table.{isSound}
-use Rattle.layout.specs.Packet.{packetLength}
-use Rattle.layout.specs.ParameterTable.{parameterSize}
-use Rattle.memory.specs.Window.{guests, windowLength}
-use Rattle.memory.specs.Blocks.{blockLength}
+use Rattle.table.specs.Table.{is_sound}
+use Rattle.layout.specs.Packet.{packet_length}
+use Rattle.layout.specs.ParameterTable.{parameter_size}
+use Rattle.memory.specs.Window.{guests, window_length}
+use Rattle.memory.specs.Blocks.{block_length}
 use Rattle.int13.specs.declared.Job.{Job}
 use Rattle.int13.specs.declared.Placement.{Placement}
-use Rattle.int13.specs.Answers.{ah, isSectors, isWrite}
-use Rattle.int13.specs.Placement.{tableCount}
-use Rattle.int13.specs.Steps.{isDrive, driveAt, mostBlocks, mostRun}
+use Rattle.int13.specs.Answers.{ah, is_sectors, is_write}
+use Rattle.int13.specs.Placement.{table_count}
+use Rattle.int13.specs.Steps.{is_drive, drive_at, most_blocks, most_run}
 use Rattle.desk.specs.declared.Request.{Request}
 use Rattle.desk.specs.declared.Stage.{Stage}
 use Rattle.desk.specs.declared.Stage.TheVariants.{Vacant, Waiting, Finished}
 use Rattle.desk.specs.declared.Row.{Row}
 use Rattle.desk.specs.declared.Desk.{Desk}
-use Rattle.desk.specs.Parts.{windowSize, storeBlocks, stageIn, placementAt}
+use Rattle.desk.specs.Parts.{window_size, store_blocks, stage_in, placement_at}
 
 -- the blocks that a turn moves at most
-abbrev pub turnBlocks : ℕ
-turnBlocks = 16
+abbrev pub turn_blocks : ℕ
+turn_blocks = 16
 
 -- the functions that wait
-abbrev pub isTransfer : ℕ → Bool
-isTransfer f = either (isSectors f) (either (eqb f 0x42) (eqb f 0x43))
+abbrev pub is_transfer : ℕ → Bool
+is_transfer f = either (is_sectors f) (either (eqb f 0x42) (eqb f 0x43))
 
 -- a count within its function's limit
-abbrev pub countOk : ℕ → ℕ → Bool
-countOk f n = leb n (pick (isSectors f) mostRun mostBlocks)
+abbrev pub count_ok : ℕ → ℕ → Bool
+count_ok f n = leb n (pick (is_sectors f) most_run most_blocks)
 
 -- a block range inside that drive, and the geometry for 02h and 03h
-abbrev pub rangeOk : Drive → ℕ → Job → Bool
-rangeOk d f j = both (leb (j.start + j.count) d.blocks) (pick (isSectors f) (leb (j.start + j.count) (size (geometryOf d))) true)
+abbrev pub range_ok : Drive → ℕ → Job → Bool
+range_ok d f j = both (leb (j.start + j.count) d.blocks) (pick (is_sectors f) (leb (j.start + j.count) (size (geometry_of d))) true)
 
 -- any packet inside the window; 02h and 03h have none, and keep 0 in its place
-abbrev pub packetOk : ℕ → ℕ → ℕ → Bool
-packetOk f place M = pick (isSectors f) (eqb place 0) (leb (place + packetLength) M)
+abbrev pub packet_ok : ℕ → ℕ → ℕ → Bool
+packet_ok f place M = pick (is_sectors f) (eqb place 0) (leb (place + packet_length) M)
 
 -- what is asked of a job on its drive; a write needs one that is not protected
-abbrev pub jobRules : Drive → ℕ → Job → Bool
-jobRules d M j =
-    both (isTransfer (ah j.registers))
-    (both (countOk (ah j.registers) j.count)
-    (both (rangeOk d (ah j.registers) j)
-    (both (leb (j.buffer + blockLength * j.count) M)
-    (both (packetOk (ah j.registers) j.packet M)
-    (not (both (isWrite (ah j.registers)) (isProtected d)))))))
+abbrev pub job_rules : Drive → ℕ → Job → Bool
+job_rules d M j =
+    both (is_transfer (ah j.registers))
+    (both (count_ok (ah j.registers) j.count)
+    (both (range_ok d (ah j.registers) j)
+    (both (leb (j.buffer + block_length * j.count) M)
+    (both (packet_ok (ah j.registers) j.packet M)
+    (not (both (is_write (ah j.registers)) (is_protected d)))))))
 
 -- the same of a job that names its drive by number
-unfoldable pub jobOk : Table → ℕ → Job → Bool
-jobOk b M j = both (isDrive b j.drive) (jobRules (driveAt b j.drive) M j)
+unfoldable pub job_ok : Table → ℕ → Job → Bool
+job_ok b M j = both (is_drive b j.drive) (job_rules (drive_at b j.drive) M j)
 
 -- a moved number that is a multiple of 16 below the count
-abbrev pub movedOk : ℕ → ℕ → Bool
-movedOk moved count = both (eqb (moved % turnBlocks) 0) (ltb moved count)
+abbrev pub moved_ok : ℕ → ℕ → Bool
+moved_ok moved count = both (eqb (moved % turn_blocks) 0) (ltb moved count)
 
 -- all that is asked of a waiting request on its drive, in windows of M bytes
-unfoldable pub requestOk : Drive → ℕ → Request → Bool
-requestOk d M q = both (jobRules d M q.job) (movedOk q.moved q.job.count)
+unfoldable pub request_ok : Drive → ℕ → Request → Bool
+request_ok d M q = both (job_rules d M q.job) (moved_ok q.moved q.job.count)
 
 -- a waiting row has a known drive, and a request as above; the other stages hold nothing to ask about
-abbrev pub stageOk : Table → ℕ → Stage → Bool
-stageOk b M Vacant = true
-stageOk b M (Waiting q) = both (isDrive b q.job.drive) (requestOk (driveAt b q.job.drive) M q)
-stageOk b M (Finished r) = true
+abbrev pub stage_ok : Table → ℕ → Stage → Bool
+stage_ok b M Vacant = true
+stage_ok b M (Waiting q) = both (is_drive b q.job.drive) (request_ok (drive_at b q.job.drive) M q)
+stage_ok b M (Finished r) = true
 
 -- the first n rows
-unfoldable pub rowsOk : ℕ → List Row → Table → ℕ → Bool
-rowsOk zero rows b M = true
-rowsOk (suc n) rows b M = both (stageOk b M (stageIn rows n)) (rowsOk n rows b M)
+unfoldable pub rows_ok : ℕ → List Row → Table → ℕ → Bool
+rows_ok zero rows b M = true
+rows_ok (suc n) rows b M = both (stage_ok b M (stage_in rows n)) (rows_ok n rows b M)
 
 -- ---- document 02, 2026-01: a good place for parameter tables
 
@@ -84,38 +84,38 @@ segments = 0x10000
 
 -- n tables from an address on, in windows of M bytes: a multiple of 16; the tables end inside the window, with none the address does; and the
 -- segment of the last is at most FFFFh, with none there is none to test
-unfoldable pub placeOk : ℕ → ℕ → ℕ → Bool
-placeOk n M address =
-    both (eqb (address % 16) 0) (both (leb (address + parameterSize * n) M) (either (eqb n 0) (leb (address / 16 + n) segments)))
+unfoldable pub place_ok : ℕ → ℕ → ℕ → Bool
+place_ok n M address =
+    both (eqb (address % 16) 0) (both (leb (address + parameter_size * n) M) (either (eqb n 0) (leb (address / 16 + n) segments)))
 
 -- a guest with placement has a good place; one without has 0 for it
-abbrev pub placementOk : ℕ → ℕ → Placement → Bool
-placementOk n M p = pick p.placed (placeOk n M p.address) (eqb p.address 0)
+abbrev pub placement_ok : ℕ → ℕ → Placement → Bool
+placement_ok n M p = pick p.placed (place_ok n M p.address) (eqb p.address 0)
 
 -- the placements of the first k guests, for n tables in windows of M bytes
-unfoldable pub placementsOk : ℕ → ℕ → ℕ → Desk → Bool
-placementsOk k n M d = all_below k (λ g. placementOk n M (placementAt d g))
+unfoldable pub placements_ok : ℕ → ℕ → ℕ → Desk → Bool
+placements_ok k n M d = all_below k (λ g. placement_ok n M (placement_at d g))
 
 -- ---- "It is accepted exactly when it is the image of a desk" of which all this holds
 
 -- a table that obeys the rules, a pointer below 8, every waiting row as above, and good places
 unfoldable pub accept : Desk → Bool
 accept d =
-    both (isSound d.table (storeBlocks d))
+    both (is_sound d.table (store_blocks d))
     (both (ltb d.pointer guests)
-    (both (rowsOk guests d.rows d.table (windowSize d)) (placementsOk guests (tableCount d.table) (windowSize d) d)))
+    (both (rows_ok guests d.rows d.table (window_size d)) (placements_ok guests (table_count d.table) (window_size d) d)))
 
 -- what acceptance says of the blocks of a waiting request: their numbers fit a word, and they are few
 pub record Servable (q : Request) : Type 0 where
   pub start : q.job.start + q.job.count < 2 ^ 64
-  pub count : q.job.count ≤ mostRun
+  pub count : q.job.count ≤ most_run
   pub moved : q.moved < q.job.count
 
 -- what acceptance says of the row that a turn serves, for k blocks of it, its drive's first store block, an arena of a bytes and a store of s
 pub record InRange (first : ℕ) (q : Request) (k g a s : ℕ) : Type 0 where
   pub guest : g < guests
   pub part : q.moved + k ≤ q.job.count
-  pub buffer : q.job.buffer + blockLength * q.job.count ≤ windowLength a
-  pub blocks : blockLength * (first + q.job.start + q.job.count) ≤ s
+  pub buffer : q.job.buffer + block_length * q.job.count ≤ window_length a
+  pub blocks : block_length * (first + q.job.start + q.job.count) ≤ s
   pub arena : a < 2 ^ 64
   pub store : s < 2 ^ 64

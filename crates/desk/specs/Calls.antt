@@ -4,8 +4,8 @@
 use Rattle.std.specs.Prelude.{ℕ, zero, suc, ◌+◌, ◌-◌, ◌/◌, min, ◌≡◌, Bool, true, false, not, List, [], ◌∷◌, length, replicate, leb, ltb, eqb}
 use Rattle.std.proofs.lemmas.List.Edits.{sets}
 use Rattle.logic.specs.Logic.{pick, both}
-use Rattle.memory.specs.Window.{guests, windowOf, withWindow}
-use Rattle.memory.specs.Blocks.{blockLength, blocks}
+use Rattle.memory.specs.Window.{guests, window_of, with_window}
+use Rattle.memory.specs.Blocks.{block_length, blocks}
 use Rattle.attached.specs.declared.Bads.{Bads}
 use Rattle.attached.specs.Bad.{good}
 use Rattle.table.specs.declared.Table.{Table}
@@ -14,15 +14,15 @@ use Rattle.table.specs.declared.Answer.TheVariants.{Accepted, Refused as TableRe
 use Rattle.table.specs.declared.Reading.{Reading}
 use Rattle.table.specs.declared.Written.{Written}
 use Rattle.table.specs.declared.Written.TheVariants.{Bytes, Refused as WriteRefused}
-use Rattle.table.specs.Table.{emptyTable, readTable, writeAnswer, writeOut}
+use Rattle.table.specs.Table.{empty_table, read_table, write_answer, write_out}
 use Rattle.int13.specs.declared.Registers.{Registers}
 use Rattle.int13.specs.declared.Job.{Job}
 use Rattle.int13.specs.declared.Outcome.{Outcome}
 use Rattle.int13.specs.declared.Outcome.TheVariants.{Answered, Waits}
 use Rattle.int13.specs.Answers.{ended, withdraw}
-use Rattle.int13.specs.Placement.{tables_of, tableCount}
-use Rattle.int13.specs.Steps.{Checked, fed, badsOf, begin}
-use Rattle.int13.specs.Alone.{Memory, storeBlock, moves, reported, endedWindow}
+use Rattle.int13.specs.Placement.{tables_of, table_count}
+use Rattle.int13.specs.Steps.{Checked, fed, bads_of, begin}
+use Rattle.int13.specs.Alone.{Memory, store_block, moves, reported, ended_window}
 use Rattle.desk.specs.declared.Request.{Request}
 use Rattle.desk.specs.declared.Stage.{Stage}
 use Rattle.desk.specs.declared.Stage.TheVariants.{Vacant, Waiting, Finished}
@@ -44,54 +44,54 @@ use Rattle.desk.specs.declared.WithdrawAnswer.{WithdrawAnswer}
 use Rattle.desk.specs.declared.WithdrawAnswer.TheVariants.{Given as WithdrawGiven, Refused as WithdrawRefused}
 use Rattle.desk.specs.declared.PlaceAnswer.{PlaceAnswer}
 use Rattle.desk.specs.declared.PlaceAnswer.TheVariants.{Placed, Refused as PlaceRefused}
-use Rattle.desk.specs.Parts.{windowSize, ownWindow, withOwn, vacantRow, stageIn, stageAt, withStage, isWaiting, next, withPointer, placementAt, withPlacement}
-use Rattle.desk.specs.Acceptable.{turnBlocks, placeOk, accept}
+use Rattle.desk.specs.Parts.{window_size, own_window, with_own, vacant_row, stage_in, stage_at, with_stage, is_waiting, next, with_pointer, placement_at, with_placement}
+use Rattle.desk.specs.Acceptable.{turn_blocks, place_ok, accept}
 
 -- ---- "Numbers given back": the house numbers, and the tests that come before the row's in every call
 
 -- house number 25: desk block not acceptable
-abbrev pub notAcceptable : ℕ
-notAcceptable = 25
+abbrev pub not_acceptable : ℕ
+not_acceptable = 25
 
 -- house number 24: arena or store length differs from the opening
-abbrev pub otherLength : ℕ
-otherLength = 24
+abbrev pub other_length : ℕ
+other_length = 24
 
 -- house number 20: guest is 8 or more
-abbrev pub noGuest : ℕ
-noGuest = 20
+abbrev pub no_guest : ℕ
+no_guest = 20
 
 -- house number 21: post to a row that is not vacant; placing for a row that waits
-abbrev pub notVacant : ℕ
-notVacant = 21
+abbrev pub not_vacant : ℕ
+not_vacant = 21
 
 -- house number 22: collect, row not finished
-abbrev pub notFinished : ℕ
-notFinished = 22
+abbrev pub not_finished : ℕ
+not_finished = 22
 
 -- house number 23: withdraw, row not waiting
-abbrev pub notWaiting : ℕ
-notWaiting = 23
+abbrev pub not_waiting : ℕ
+not_waiting = 23
 
 -- house number 26: a bad place for parameter tables (document 02, 2026-01)
-abbrev pub badPlace : ℕ
-badPlace = 26
+abbrev pub bad_place : ℕ
+bad_place = 26
 
 -- 25, then 24, then 20: the first test that fails is the answer. A call that is lent no arena and store, or names no guest, passes that test
-abbrev pub houseTests : {A : Type 0} → Bool → Bool → Bool → (ℕ → A) → A → A
-houseTests acceptable lent guest refused passed =
-    pick (not acceptable) (refused notAcceptable)
-    (pick (not lent) (refused otherLength)
-    (pick (not guest) (refused noGuest)
+abbrev pub house_tests : {A : Type 0} → Bool → Bool → Bool → (ℕ → A) → A → A
+house_tests acceptable lent guest refused passed =
+    pick (not acceptable) (refused not_acceptable)
+    (pick (not lent) (refused other_length)
+    (pick (not guest) (refused no_guest)
     passed))
 
 -- the number that they give, 0 where all pass
-unfoldable pub houseNumber : Bool → Bool → Bool → ℕ
-houseNumber acceptable lent guest = houseTests acceptable lent guest (λ n. n) 0
+unfoldable pub house_number : Bool → Bool → Bool → ℕ
+house_number acceptable lent guest = house_tests acceptable lent guest (λ n. n) 0
 
 -- arena and store have the lengths of the opening
-abbrev pub isLent : Desk → List ℕ → List ℕ → Bool
-isLent d arena store = both (eqb (length arena) d.arena) (eqb (length store) d.store)
+abbrev pub is_lent : Desk → List ℕ → List ℕ → Bool
+is_lent d arena store = both (eqb (length arena) d.arena) (eqb (length store) d.store)
 
 -- what a call leaves: the desk, its answer, and the arena and store that were lent
 pub record Done (A : Type 0) : Type 0 where
@@ -110,7 +110,7 @@ done d x arena store = record { desk = d; answer = x; arena = arena; store = sto
 abbrev pub opened : Table → ℕ → ℕ → Desk
 opened b arena store =
     record {
-      rows = replicate guests vacantRow;
+      rows = replicate guests vacant_row;
       pointer = 0;
       table = b;
       arena = arena;
@@ -121,75 +121,75 @@ opened b arena store =
 
 -- no desk to go on with: its pointer is no guest's, so that every call at it is 25
 abbrev pub closed : ℕ → ℕ → Desk
-closed arena store = withPointer (opened emptyTable arena store) guests
+closed arena store = with_pointer (opened empty_table arena store) guests
 
 -- a table that is accepted gives an opened desk; a refused one gives a desk that is of no use
-abbrev pub openDesk : Answer → Table → ℕ → ℕ → Desk
-openDesk Accepted b arena store = opened b arena store
-openDesk (TableRefused n place) b arena store = closed arena store
+abbrev pub open_desk : Answer → Table → ℕ → ℕ → Desk
+open_desk Accepted b arena store = opened b arena store
+open_desk (TableRefused n place) b arena store = closed arena store
 
 -- opened, or the table's number with the place of the record
-abbrev pub openAnswer : Answer → OpenAnswer
-openAnswer Accepted = Opened
-openAnswer (TableRefused n place) = OpenRefused n place
+abbrev pub open_answer : Answer → OpenAnswer
+open_answer Accepted = Opened
+open_answer (TableRefused n place) = OpenRefused n place
 
 -- open takes table bytes, arena length and store length; the table is read for a store of floor(length / 512) blocks
-unfoldable pub openOf : List ℕ → ℕ → ℕ → Opening
-openOf t arena store =
+unfoldable pub open_of : List ℕ → ℕ → ℕ → Opening
+open_of t arena store =
     record {
-      desk = openDesk (readTable t (store / blockLength)).answer (readTable t (store / blockLength)).table arena store;
-      answer = openAnswer (readTable t (store / blockLength)).answer;
+      desk = open_desk (read_table t (store / block_length)).answer (read_table t (store / block_length)).table arena store;
+      answer = open_answer (read_table t (store / block_length)).answer;
     }
 
 -- ---- write
 
 -- write: 25, then the table's own answer, which is its length or 19
 unfoldable pub written_of : Desk → ℕ → Written
-written_of d room = houseTests (accept d) true true (λ n. WriteRefused n) (writeAnswer d.table room)
+written_of d room = house_tests (accept d) true true (λ n. WriteRefused n) (write_answer d.table room)
 
 -- the buffer after a write; a refusal leaves it as it was
-unfoldable pub writtenOut : Desk → List ℕ → List ℕ
-writtenOut d out = houseTests (accept d) true true (λ n. out) (writeOut d.table out)
+unfoldable pub written_out : Desk → List ℕ → List ℕ
+written_out d out = house_tests (accept d) true true (λ n. out) (write_out d.table out)
 
 -- ---- post
 
 -- by what the steps make of it: answered at once the row stays vacant, else it waits with no block moved
-abbrev pub postChecked : Desk → ℕ → List ℕ → List ℕ → Outcome → List ℕ → Done PostAnswer
-postChecked d g arena store (Answered r) w = record { desk = d; answer = PostAnswered r; arena = withWindow arena g (windowSize d) w; store = store }
-postChecked d g arena store (Waits j) w =
-    record { desk = withStage d g (Waiting (record { job = j; moved = 0 })); answer = PostWaits; arena = withWindow arena g (windowSize d) w; store = store }
+abbrev pub post_checked : Desk → ℕ → List ℕ → List ℕ → Outcome → List ℕ → Done PostAnswer
+post_checked d g arena store (Answered r) w = record { desk = d; answer = PostAnswered r; arena = with_window arena g (window_size d) w; store = store }
+post_checked d g arena store (Waits j) w =
+    record { desk = with_stage d g (Waiting (record { job = j; moved = 0 })); answer = PostWaits; arena = with_window arena g (window_size d) w; store = store }
 
 -- a post to a vacant row goes through the steps, on the table, the guest's placement and its own window
-abbrev pub postVacant : Desk → ℕ → Registers → List ℕ → List ℕ → Done PostAnswer
-postVacant d g r arena store =
-    postChecked d g arena store
-    (begin (fed d.table (placementAt d g)) r (windowOf arena g (windowSize d))).outcome
-    (begin (fed d.table (placementAt d g)) r (windowOf arena g (windowSize d))).window
+abbrev pub post_vacant : Desk → ℕ → Registers → List ℕ → List ℕ → Done PostAnswer
+post_vacant d g r arena store =
+    post_checked d g arena store
+    (begin (fed d.table (placement_at d g)) r (window_of arena g (window_size d))).outcome
+    (begin (fed d.table (placement_at d g)) r (window_of arena g (window_size d))).window
 
 -- 21 for a row that is not vacant, whatever the function
-abbrev pub postRow : Desk → ℕ → Registers → List ℕ → List ℕ → Stage → Done PostAnswer
-postRow d g r arena store Vacant = postVacant d g r arena store
-postRow d g r arena store (Waiting q) = done d (PostRefused notVacant) arena store
-postRow d g r arena store (Finished x) = done d (PostRefused notVacant) arena store
+abbrev pub post_row : Desk → ℕ → Registers → List ℕ → List ℕ → Stage → Done PostAnswer
+post_row d g r arena store Vacant = post_vacant d g r arena store
+post_row d g r arena store (Waiting q) = done d (PostRefused not_vacant) arena store
+post_row d g r arena store (Finished x) = done d (PostRefused not_vacant) arena store
 
 -- post, in the order of the house numbers: 25, 24, 20, then the row
 unfoldable pub post_of : Desk → ℕ → Registers → List ℕ → List ℕ → Done PostAnswer
 post_of d g r arena store =
-    houseTests (accept d) (isLent d arena store) (ltb g guests) (λ n. done d (PostRefused n) arena store)
-    (postRow d g r arena store (stageAt d g))
+    house_tests (accept d) (is_lent d arena store) (ltb g guests) (λ n. done d (PostRefused n) arena store)
+    (post_row d g r arena store (stage_at d g))
 
 -- ---- turn
 
 -- the first waiting row among k, from guest g on
-unfoldable pub firstWaiting : List Row → ℕ → ℕ → Next
-firstWaiting rows zero g = Nobody
-firstWaiting rows (suc k) g = pick (isWaiting (stageIn rows g)) (Guest g) (firstWaiting rows k (next g))
+unfoldable pub first_waiting : List Row → ℕ → ℕ → Next
+first_waiting rows zero g = Nobody
+first_waiting rows (suc k) g = pick (is_waiting (stage_in rows g)) (Guest g) (first_waiting rows k (next g))
 
 -- ---- what a turn does to a request
 
 -- the next 16 blocks, or what remains if fewer
 abbrev pub quota : Request → ℕ
-quota q = min turnBlocks (q.job.count - q.moved)
+quota q = min turn_blocks (q.job.count - q.moved)
 
 -- the request with k more blocks moved
 abbrev pub later : Request → ℕ → Request
@@ -197,147 +197,147 @@ later q k = record { job = q.job; moved = q.moved + k }
 
 -- the blocks that it moves now: all of those, or where it reaches a bad block "the good ones before it" (document 02, 2026-04); l are the bad blocks
 -- of its drive
-unfoldable pub movesNow : Bads → Request → ℕ
-movesNow l q = good l (q.job.start + q.moved) (quota q)
+unfoldable pub moves_now : Bads → Request → ℕ
+moves_now l q = good l (q.job.start + q.moved) (quota q)
 
 -- k moved, it goes on waiting: it met no bad block, and more remain
-abbrev pub goesOn : Request → ℕ → Bool
-goesOn q k = both (leb (quota q) k) (ltb (q.moved + k) q.job.count)
+abbrev pub goes_on : Request → ℕ → Bool
+goes_on q k = both (leb (quota q) k) (ltb (q.moved + k) q.job.count)
 
 -- the stage of the row after k blocks: finished when all are moved, or at a bad block, with the blocks moved in the whole request
-unfoldable pub stageAfter : Request → ℕ → Stage
-stageAfter q k = pick (goesOn q k) (Waiting (later q k)) (Finished (ended q.job.count (q.moved + k) q.job.registers))
+unfoldable pub stage_after : Request → ℕ → Stage
+stage_after q k = pick (goes_on q k) (Waiting (later q k)) (Finished (ended q.job.count (q.moved + k) q.job.registers))
 
 -- the blocks that it moves now, and the stage of the row after it
-abbrev pub serviceOf : Bads → Request → Service
-serviceOf l q = record { moved = movesNow l q; stage = stageAfter q (movesNow l q) }
+abbrev pub service_of : Bads → Request → Service
+service_of l q = record { moved = moves_now l q; stage = stage_after q (moves_now l q) }
 
 -- what it writes in the window after the data: at a bad block the count word, else nothing
 abbrev pub beside : Request → ℕ → List ℕ → List ℕ
-beside q k w = pick (goesOn q k) w (endedWindow q.job (q.moved + k) w)
+beside q k w = pick (goes_on q k) w (ended_window q.job (q.moved + k) w)
 
 -- what a turn works on: the served guest's window and the store
-abbrev pub memoryOf : Desk → ℕ → List ℕ → List ℕ → Memory
-memoryOf d g arena store = record { window = windowOf arena g (windowSize d); store = store }
+abbrev pub memory_of : Desk → ℕ → List ℕ → List ℕ → Memory
+memory_of d g arena store = record { window = window_of arena g (window_size d); store = store }
 
 -- the bad blocks of a request's drive
-abbrev pub badsFor : Desk → Request → Bads
-badsFor d q = badsOf d.table q.job.drive
+abbrev pub bads_for : Desk → Request → Bads
+bads_for d q = bads_of d.table q.job.drive
 
 -- window and store after the turn has moved k blocks
-abbrev pub movedBy : Desk → ℕ → Request → ℕ → List ℕ → List ℕ → Memory
-movedBy d g q k arena store = moves q.job (storeBlock d.table q.job) q.moved k (memoryOf d g arena store)
+abbrev pub moved_by : Desk → ℕ → Request → ℕ → List ℕ → List ℕ → Memory
+moved_by d g q k arena store = moves q.job (store_block d.table q.job) q.moved k (memory_of d g arena store)
 
 -- k blocks between a place of guest g's window and a place of the store: what arena and store hold then
 abbrev pub Copied : Bool → ℕ → ℕ → ℕ → ℕ → List ℕ → List ℕ → List ℕ → List ℕ → Type 0
 Copied write g at place k arena store arena' store' =
-    (arena' ≡ pick write arena (withOwn arena g (blocks (ownWindow arena g) at store place k)))
-    × (store' ≡ pick write (blocks store place (ownWindow arena g) at k) store)
+    (arena' ≡ pick write arena (with_own arena g (blocks (own_window arena g) at store place k)))
+    × (store' ≡ pick write (blocks store place (own_window arena g) at k) store)
 
 -- the next k blocks of a request on a drive whose first store block is `first`: what arena and store hold then
-abbrev pub movedFrom : ℕ → Request → ℕ → ℕ → List ℕ → List ℕ → Memory
-movedFrom first q k g arena store = moves q.job (first + q.job.start) q.moved k (record { window = ownWindow arena g; store = store })
+abbrev pub moved_from : ℕ → Request → ℕ → ℕ → List ℕ → List ℕ → Memory
+moved_from first q k g arena store = moves q.job (first + q.job.start) q.moved k (record { window = own_window arena g; store = store })
 
 -- what a transfer leaves: the guest's window in the arena, and the store, after k blocks have moved
 abbrev pub Transferred : ℕ → Request → ℕ → ℕ → List ℕ → List ℕ → List ℕ → List ℕ → Type 0
 Transferred first q k g arena store arena' store' =
-    (arena' ≡ withOwn arena g (movedFrom first q k g arena store).window) × (store' ≡ (movedFrom first q k g arena store).store)
+    (arena' ≡ with_own arena g (moved_from first q k g arena store).window) × (store' ≡ (moved_from first q k g arena store).store)
 
 -- a turn that moves k blocks for guest g: it answers the guest and their number, and the pointer becomes g plus 1, modulo 8
-abbrev pub serveBy : Desk → ℕ → Request → ℕ → List ℕ → List ℕ → Done TurnAnswer
-serveBy d g q k arena store =
+abbrev pub serve_by : Desk → ℕ → Request → ℕ → List ℕ → List ℕ → Done TurnAnswer
+serve_by d g q k arena store =
     record {
-      desk = withPointer (withStage d g (stageAfter q k)) (next g);
+      desk = with_pointer (with_stage d g (stage_after q k)) (next g);
       answer = Served g k;
-      arena = withWindow arena g (windowSize d) (beside q k (movedBy d g q k arena store).window);
-      store = (movedBy d g q k arena store).store;
+      arena = with_window arena g (window_size d) (beside q k (moved_by d g q k arena store).window);
+      store = (moved_by d g q k arena store).store;
     }
 
 -- a turn that serves guest g
 abbrev pub serve : Desk → ℕ → Request → List ℕ → List ℕ → Done TurnAnswer
-serve d g q arena store = serveBy d g q (movesNow (badsFor d q) q) arena store
+serve d g q arena store = serve_by d g q (moves_now (bads_for d q) q) arena store
 
 -- only a waiting row is served; the search finds no other, so the other two clauses are never met
-abbrev pub serveStage : Desk → ℕ → Stage → List ℕ → List ℕ → Done TurnAnswer
-serveStage d g Vacant arena store = done d Idle arena store
-serveStage d g (Waiting q) arena store = serve d g q arena store
-serveStage d g (Finished r) arena store = done d Idle arena store
+abbrev pub serve_stage : Desk → ℕ → Stage → List ℕ → List ℕ → Done TurnAnswer
+serve_stage d g Vacant arena store = done d Idle arena store
+serve_stage d g (Waiting q) arena store = serve d g q arena store
+serve_stage d g (Finished r) arena store = done d Idle arena store
 
 -- with no row waiting a turn answers idle, and nothing changes
-abbrev pub turnNext : Desk → Next → List ℕ → List ℕ → Done TurnAnswer
-turnNext d Nobody arena store = done d Idle arena store
-turnNext d (Guest g) arena store = serveStage d g (stageAt d g) arena store
+abbrev pub turn_next : Desk → Next → List ℕ → List ℕ → Done TurnAnswer
+turn_next d Nobody arena store = done d Idle arena store
+turn_next d (Guest g) arena store = serve_stage d g (stage_at d g) arena store
 
 -- turn: 25, 24, then the first waiting row at or after the pointer
 unfoldable pub turn_of : Desk → List ℕ → List ℕ → Done TurnAnswer
 turn_of d arena store =
-    houseTests (accept d) (isLent d arena store) true (λ n. done d (TurnRefused n) arena store)
-    (turnNext d (firstWaiting d.rows guests d.pointer) arena store)
+    house_tests (accept d) (is_lent d arena store) true (λ n. done d (TurnRefused n) arena store)
+    (turn_next d (first_waiting d.rows guests d.pointer) arena store)
 
 -- ---- collect
 
 -- a finished row hands out its registers and becomes vacant; any other row is 22
-abbrev pub collectStage : Desk → ℕ → Stage → List ℕ → List ℕ → Done CollectAnswer
-collectStage d g Vacant arena store = done d (CollectRefused notFinished) arena store
-collectStage d g (Waiting q) arena store = done d (CollectRefused notFinished) arena store
-collectStage d g (Finished r) arena store = done (withStage d g Vacant) (CollectGiven r) arena store
+abbrev pub collect_stage : Desk → ℕ → Stage → List ℕ → List ℕ → Done CollectAnswer
+collect_stage d g Vacant arena store = done d (CollectRefused not_finished) arena store
+collect_stage d g (Waiting q) arena store = done d (CollectRefused not_finished) arena store
+collect_stage d g (Finished r) arena store = done (with_stage d g Vacant) (CollectGiven r) arena store
 
 -- it is lent no arena and no store, which stay whatever they are
-unfoldable pub collectOf : Desk → ℕ → List ℕ → List ℕ → Done CollectAnswer
-collectOf d g arena store =
-    houseTests (accept d) true (ltb g guests) (λ n. done d (CollectRefused n) arena store)
-    (collectStage d g (stageAt d g) arena store)
+unfoldable pub collect_of : Desk → ℕ → List ℕ → List ℕ → Done CollectAnswer
+collect_of d g arena store =
+    house_tests (accept d) true (ltb g guests) (λ n. done d (CollectRefused n) arena store)
+    (collect_stage d g (stage_at d g) arena store)
 
 -- ---- withdraw
 
 -- blocks moved are written to the packet's count word; for 02h and 03h they are in AL
-abbrev pub withdrawnWindow : Request → List ℕ → List ℕ
-withdrawnWindow q w = reported q.job q.moved w
+abbrev pub withdrawn_window : Request → List ℕ → List ℕ
+withdrawn_window q w = reported q.job q.moved w
 
 -- a waiting request ends with carry set and AH = 80h, and its row becomes vacant; any other row is 23
-abbrev pub withdrawStage : Desk → ℕ → Stage → List ℕ → List ℕ → Done WithdrawAnswer
-withdrawStage d g Vacant arena store = done d (WithdrawRefused notWaiting) arena store
-withdrawStage d g (Waiting q) arena store =
+abbrev pub withdraw_stage : Desk → ℕ → Stage → List ℕ → List ℕ → Done WithdrawAnswer
+withdraw_stage d g Vacant arena store = done d (WithdrawRefused not_waiting) arena store
+withdraw_stage d g (Waiting q) arena store =
     record {
-      desk = withStage d g Vacant;
+      desk = with_stage d g Vacant;
       answer = WithdrawGiven (withdraw q.moved q.job.registers);
-      arena = withWindow arena g (windowSize d) (withdrawnWindow q (windowOf arena g (windowSize d)));
+      arena = with_window arena g (window_size d) (withdrawn_window q (window_of arena g (window_size d)));
       store = store;
     }
-withdrawStage d g (Finished r) arena store = done d (WithdrawRefused notWaiting) arena store
+withdraw_stage d g (Finished r) arena store = done d (WithdrawRefused not_waiting) arena store
 
 -- withdraw: 25, 24, 20, then the row
-unfoldable pub withdrawOf : Desk → ℕ → List ℕ → List ℕ → Done WithdrawAnswer
-withdrawOf d g arena store =
-    houseTests (accept d) (isLent d arena store) (ltb g guests) (λ n. done d (WithdrawRefused n) arena store)
-    (withdrawStage d g (stageAt d g) arena store)
+unfoldable pub withdraw_of : Desk → ℕ → List ℕ → List ℕ → Done WithdrawAnswer
+withdraw_of d g arena store =
+    house_tests (accept d) (is_lent d arena store) (ltb g guests) (λ n. done d (WithdrawRefused n) arena store)
+    (withdraw_stage d g (stage_at d g) arena store)
 
 -- ---- place (document 02, 2026-01)
 
 -- all tables laid in a window from an address on
-abbrev pub tablesIn : Table → ℕ → List ℕ → List ℕ
-tablesIn b address w = sets w address (tables_of b)
+abbrev pub tables_in : Table → ℕ → List ℕ → List ℕ
+tables_in b address w = sets w address (tables_of b)
 
 -- 26 for a bad place; else all tables stand in the guest's window, in place of any placement before, whose bytes stay
-abbrev pub placeTables : Desk → ℕ → ℕ → List ℕ → List ℕ → Done PlaceAnswer
-placeTables d g address arena store =
-    pick (placeOk (tableCount d.table) (windowSize d) address)
+abbrev pub place_tables : Desk → ℕ → ℕ → List ℕ → List ℕ → Done PlaceAnswer
+place_tables d g address arena store =
+    pick (place_ok (table_count d.table) (window_size d) address)
     (record {
-      desk = withPlacement d g address;
+      desk = with_placement d g address;
       answer = Placed;
-      arena = withWindow arena g (windowSize d) (tablesIn d.table address (windowOf arena g (windowSize d)));
+      arena = with_window arena g (window_size d) (tables_in d.table address (window_of arena g (window_size d)));
       store = store;
     })
-    (done d (PlaceRefused badPlace) arena store)
+    (done d (PlaceRefused bad_place) arena store)
 
 -- "A waiting row refuses placement": 21, before the place is looked at; a finished row does not
-abbrev pub placeStage : Desk → ℕ → ℕ → Stage → List ℕ → List ℕ → Done PlaceAnswer
-placeStage d g address Vacant arena store = placeTables d g address arena store
-placeStage d g address (Waiting q) arena store = done d (PlaceRefused notVacant) arena store
-placeStage d g address (Finished r) arena store = placeTables d g address arena store
+abbrev pub place_stage : Desk → ℕ → ℕ → Stage → List ℕ → List ℕ → Done PlaceAnswer
+place_stage d g address Vacant arena store = place_tables d g address arena store
+place_stage d g address (Waiting q) arena store = done d (PlaceRefused not_vacant) arena store
+place_stage d g address (Finished r) arena store = place_tables d g address arena store
 
 -- place: 25, 24, 20, then the row, then the place
 unfoldable pub place_of : Desk → ℕ → ℕ → List ℕ → List ℕ → Done PlaceAnswer
 place_of d g address arena store =
-    houseTests (accept d) (isLent d arena store) (ltb g guests) (λ n. done d (PlaceRefused n) arena store)
-    (placeStage d g address (stageAt d g) arena store)
+    house_tests (accept d) (is_lent d arena store) (ltb g guests) (λ n. done d (PlaceRefused n) arena store)
+    (place_stage d g address (stage_at d g) arena store)

@@ -3,20 +3,20 @@
 ghost use Rattle.std.specs.Prelude.{◌≡◌, true, false, ℕ, ◌+◌, ◌-◌, ◌*◌, ◌^◌, ◌≤◌, ◌<◌, leb, ltb, eqb, length, List, []};
 ghost use Rattle.logic.specs.Logic.{pick, both};
 ghost use Rattle.chs.specs.Chs.{size};
-ghost use Rattle.drive.specs.Drive.{geometryOf};
-ghost use Rattle.desk.specs.Parts.{ownWindow, withOwn, stageIn, withStage, isWaiting, next, withPointer, placementAt, withPlacement};
-ghost use Rattle.desk.specs.Acceptable.{packetOk, movedOk, jobRules, requestOk, stageOk, rowsOk, placeOk, placementOk, placementsOk, accept, Servable, InRange};
-ghost use Rattle.table.specs.Table.{writtenNumbers};
-ghost use Rattle.layout.specs.Packet.{packetLength};
-ghost use Rattle.memory.specs.Window.{guests, windowLength, spanLength};
-ghost use Rattle.memory.specs.Blocks.{blockLength};
+ghost use Rattle.drive.specs.Drive.{geometry_of};
+ghost use Rattle.desk.specs.Parts.{own_window, with_own, stage_in, with_stage, is_waiting, next, with_pointer, placement_at, with_placement};
+ghost use Rattle.desk.specs.Acceptable.{packet_ok, moved_ok, job_rules, request_ok, stage_ok, rows_ok, place_ok, placement_ok, placements_ok, accept, Servable, InRange};
+ghost use Rattle.table.specs.Table.{written_numbers};
+ghost use Rattle.layout.specs.Packet.{packet_length};
+ghost use Rattle.memory.specs.Window.{guests, window_length, span_length};
+ghost use Rattle.memory.specs.Blocks.{block_length};
 ghost use Rattle.int13.specs.Answers.{ah, withdraw};
-ghost use Rattle.int13.specs.Placement.{tableCount};
-ghost use Rattle.int13.specs.Steps.{mostBlocks, mostRun, fed, begin};
+ghost use Rattle.int13.specs.Placement.{table_count};
+ghost use Rattle.int13.specs.Steps.{most_blocks, most_run, fed, begin};
 ghost use Rattle.int13.specs.Alone.{reported};
 ghost use Rattle.desk.specs.declared.TurnAnswer.TheVariants.{Served};
-ghost use Rattle.desk.specs.Calls.{houseNumber, done, opened, openOf, written_of, writtenOut, postChecked, post_of, firstWaiting, quota, movesNow, goesOn, serviceOf, beside, Copied, Transferred, turn_of, collectOf, withdrawOf, tablesIn, place_of};
-ghost use Rattle.desk.specs.Numbers.{openNumbers, postNumbers, turnNumbers, collectNumbers, withdrawNumbers, placeNumbers, openGiven, writeGiven, postGiven, turnGiven, collectGiven, withdrawGiven, placeGiven};
+ghost use Rattle.desk.specs.Calls.{house_number, done, opened, open_of, written_of, written_out, post_checked, post_of, first_waiting, quota, moves_now, goes_on, service_of, beside, Copied, Transferred, turn_of, collect_of, withdraw_of, tables_in, place_of};
+ghost use Rattle.desk.specs.Numbers.{open_numbers, post_numbers, turn_numbers, collect_numbers, withdraw_numbers, place_numbers, open_given, write_given, post_given, turn_given, collect_given, withdraw_given, place_given};
 
 use attached::Bads;
 use drive::Drive;
@@ -24,28 +24,28 @@ use int13::{Job, Outcome, Placement, Registers};
 use table::{Answer, Table, Written};
 
 // A request with the number of blocks that have moved.
-#[derive(Drop)]
+#[derive(Clone, Copy)]
 pub struct Request {
     pub job: Job,
     pub moved: u64,
 }
 
 // What a guest's row holds: nothing, a request that waits, or the registers of one that has finished.
-#[derive(Drop)]
+#[derive(Clone, Copy)]
 pub enum Stage {
     Vacant,
     Waiting(Request),
     Finished(Registers),
 }
 
-#[derive(Drop)]
+#[derive(Clone, Copy)]
 pub struct Row {
     pub stage: Stage,
 }
 
 // One row for each guest, the turn pointer, the drives, the lengths of arena and store that it was opened with, and for each guest whether its
 // parameter tables are placed in its window, and from which address on.
-#[derive(Drop)]
+#[derive(Clone, Copy)]
 pub struct Desk {
     pub rows: [Row; 8],
     pub pointer: usize,
@@ -57,90 +57,90 @@ pub struct Desk {
 }
 
 // What a turn does to a request: the blocks that it moves, and the stage of the row after it.
-#[derive(Drop)]
+#[derive(Clone, Copy)]
 pub struct Service {
     pub moved: u64,
     pub stage: Stage,
 }
 
 // The answers. Refused holds a house number; an opening's also a table number with its place.
-#[derive(Drop)]
+#[derive(Clone, Copy)]
 pub enum OpenAnswer {
     Opened,
     Refused(u8, usize),
 }
 
-#[derive(Drop)]
+#[derive(Clone, Copy)]
 pub struct Opening {
     pub desk: Desk,
     pub answer: OpenAnswer,
 }
 
-#[derive(Drop)]
+#[derive(Clone, Copy)]
 pub enum PostAnswer {
     Answered(Registers),
     Waits,
     Refused(u8),
 }
 
-#[derive(Drop)]
+#[derive(Clone, Copy)]
 pub struct Posted {
     pub desk: Desk,
     pub answer: PostAnswer,
 }
 
 // The guest served and the number of blocks moved.
-#[derive(Drop)]
+#[derive(Clone, Copy)]
 pub enum TurnAnswer {
     Served(usize, u64),
     Idle,
     Refused(u8),
 }
 
-#[derive(Drop)]
+#[derive(Clone, Copy)]
 pub struct Turned {
     pub desk: Desk,
     pub answer: TurnAnswer,
 }
 
-#[derive(Drop)]
+#[derive(Clone, Copy)]
 pub enum CollectAnswer {
     Given(Registers),
     Refused(u8),
 }
 
-#[derive(Drop)]
+#[derive(Clone, Copy)]
 pub struct Collected {
     pub desk: Desk,
     pub answer: CollectAnswer,
 }
 
-#[derive(Drop)]
+#[derive(Clone, Copy)]
 pub enum WithdrawAnswer {
     Given(Registers),
     Refused(u8),
 }
 
-#[derive(Drop)]
+#[derive(Clone, Copy)]
 pub struct Withdrawn {
     pub desk: Desk,
     pub answer: WithdrawAnswer,
 }
 
-#[derive(Drop)]
+#[derive(Clone, Copy)]
 pub enum PlaceAnswer {
     Placed,
     Refused(u8),
 }
 
-#[derive(Drop)]
+#[derive(Clone, Copy)]
 pub struct Placing {
     pub desk: Desk,
     pub answer: PlaceAnswer,
 }
 
 // The first waiting guest, if there is one.
-#[derive(Drop)]
+#[derive(Clone, Copy)]
 pub enum Next {
     Guest(usize),
     Nobody,
@@ -183,7 +183,7 @@ const GUESTS: usize = memory::GUESTS;
 
 // The first house number that a call comes to, 0 where it passes: the only place that knows their order.
 pub fn house_number(acceptable: bool, lent: bool, guest: bool) -> u8
-    ensures { result ≡ houseNumber acceptable lent guest }
+    ensures { result ≡ house_number acceptable lent guest }
 {
     if !acceptable {
         return NOT_ACCEPTABLE;
@@ -200,7 +200,7 @@ pub fn house_number(acceptable: bool, lent: bool, guest: bool) -> u8
 // ---- acceptable desks
 
 fn count_ok(sectors: bool, n: u64) -> bool
-    ensures { result ≡ leb n (pick sectors mostRun mostBlocks) }
+    ensures { result ≡ leb n (pick sectors most_run most_blocks) }
 {
     if sectors {
         return n <= MOST_RUN;
@@ -209,7 +209,7 @@ fn count_ok(sectors: bool, n: u64) -> bool
 }
 
 fn packet_ok(sectors: bool, place: u64, m: u64) -> bool
-    ensures { result ≡ pick sectors (eqb place 0) (leb (place + packetLength) m) }
+    ensures { result ≡ pick sectors (eqb place 0) (leb (place + packet_length) m) }
 {
     if sectors {
         return place == 0;
@@ -218,7 +218,7 @@ fn packet_ok(sectors: bool, place: u64, m: u64) -> bool
 }
 
 fn range_ok(d: Drive, sectors: bool, start: u64, count: u64) -> bool
-    ensures { result ≡ both (leb (start + count) d.blocks) (pick sectors (leb (start + count) (size (geometryOf d))) true) }
+    ensures { result ≡ both (leb (start + count) d.blocks) (pick sectors (leb (start + count) (size (geometry_of d))) true) }
 {
     let inside = logic::ends_by(start, count, d.blocks);
     if sectors {
@@ -231,14 +231,14 @@ fn range_ok(d: Drive, sectors: bool, start: u64, count: u64) -> bool
 }
 
 fn moved_ok(moved: u64, count: u64) -> bool
-    ensures { result ≡ movedOk moved count }
+    ensures { result ≡ moved_ok moved count }
 {
     logic::and(moved % TURN_BLOCKS == 0, moved < count)
 }
 
 // The count first, so that its bytes do not wrap.
 fn job_ok(d: Drive, m: u64, j: Job) -> bool
-    ensures { result ≡ jobRules d m j }
+    ensures { result ≡ job_rules d m j }
 {
     let f = int13::function_of(j.registers);
     let sectors = int13::is_sectors(f);
@@ -257,13 +257,13 @@ fn job_ok(d: Drive, m: u64, j: Job) -> bool
 
 // What is asked of a waiting request on its drive, in windows of m bytes.
 pub fn request_ok(d: Drive, m: u64, q: Request) -> bool
-    ensures { result ≡ requestOk d m q }
+    ensures { result ≡ request_ok d m q }
 {
     logic::and(job_ok(d, m, q.job), moved_ok(q.moved, q.job.count))
 }
 
 fn stage_ok(b: Table, m: u64, stage: Stage) -> bool
-    ensures { result ≡ stageOk b m stage }
+    ensures { result ≡ stage_ok b m stage }
 {
     let Stage::Waiting(q) = stage else {
         return true;
@@ -277,7 +277,7 @@ fn stage_ok(b: Table, m: u64, stage: Stage) -> bool
 }
 
 fn rows_ok(rows: [Row; 8], b: Table, m: u64) -> bool
-    ensures { result ≡ rowsOk guests rows b m }
+    ensures { result ≡ rows_ok guests rows b m }
 {
     let mut good = true;
     let mut i: usize = 0;
@@ -297,7 +297,7 @@ const SEGMENTS: u64 = 0x10000;
 
 // Whether so many tables may stand from an address on, in windows of m bytes.
 pub fn place_ok(tables: u8, m: u64, address: u64) -> bool
-    ensures { result ≡ placeOk tables m address }
+    ensures { result ≡ place_ok tables m address }
 {
     let n = tables as u64;
     let inside = logic::ends_by(address, PARAMETER_SIZE * n, m);
@@ -307,7 +307,7 @@ pub fn place_ok(tables: u8, m: u64, address: u64) -> bool
 
 // A good place, or 0 where nothing is placed.
 pub fn placement_ok(tables: u8, m: u64, p: Placement) -> bool
-    ensures { result ≡ placementOk tables m p }
+    ensures { result ≡ placement_ok tables m p }
 {
     if p.placed {
         return place_ok(tables, m, p.address);
@@ -319,7 +319,7 @@ impl Desk {
     // A guest's placement.
     fn placement(self, guest: usize) -> Placement
         requires { guest < guests }
-        ensures { result ≡ placementAt self guest }
+        ensures { result ≡ placement_at self guest }
     {
         let placed = self.placed;
         let addresses = self.addresses;
@@ -330,7 +330,7 @@ impl Desk {
     }
 
     fn placements_ok(self) -> bool
-        ensures { result ≡ placementsOk guests (tableCount self.table) (windowLength self.arena) self }
+        ensures { result ≡ placements_ok guests (table_count self.table) (window_length self.arena) self }
     {
         let b = self.table;
         let tables = int13::table_count(b);
@@ -361,7 +361,7 @@ impl Desk {
 // The stage of a guest's row.
 fn stage_in(rows: [Row; 8], guest: usize) -> Stage
     requires { guest < guests }
-    ensures { result ≡ stageIn rows guest }
+    ensures { result ≡ stage_in rows guest }
 {
     let row = rows[guest];
     row.stage
@@ -370,7 +370,7 @@ fn stage_in(rows: [Row; 8], guest: usize) -> Stage
 // ---- the turn's search
 
 fn waits(stage: Stage) -> bool
-    ensures { result ≡ isWaiting stage }
+    ensures { result ≡ is_waiting stage }
 {
     match stage {
         Stage::Waiting(_) => true,
@@ -382,7 +382,7 @@ fn waits(stage: Stage) -> bool
 // The first waiting row at or after the pointer, which `accept` has found below 8.
 fn next_waiting(rows: [Row; 8], pointer: usize) -> Next
     requires { pointer < guests }
-    ensures { result ≡ firstWaiting rows guests pointer }
+    ensures { result ≡ first_waiting rows guests pointer }
 {
     let mut guest = pointer;
     let mut left: usize = GUESTS;
@@ -418,7 +418,7 @@ fn quota_of(q: Request) -> u64
 // The same before the first bad block of its drive. Its blocks have been found in range, so that their numbers do not wrap.
 fn moves_now(q: Request, bads: Bads) -> u64
     requires { Servable q }
-    ensures { (result ≡ movesNow bads q) × (result ≤ quota q) }
+    ensures { (result ≡ moves_now bads q) × (result ≤ quota q) }
 {
     attached::good(bads, q.job.start + q.moved, quota_of(q))
 }
@@ -426,7 +426,7 @@ fn moves_now(q: Request, bads: Bads) -> u64
 // k blocks moved, the request goes on waiting: it met no bad block, and more remain.
 fn goes_on(q: Request, k: u64) -> bool
     requires { q.moved + k < 2 ^ 64 }
-    ensures { result ≡ goesOn q k }
+    ensures { result ≡ goes_on q k }
 {
     logic::and(quota_of(q) <= k, q.moved + k < q.job.count)
 }
@@ -434,7 +434,7 @@ fn goes_on(q: Request, k: u64) -> bool
 // What a turn does to a request on a drive with those bad blocks. Acceptance has found it in range.
 pub fn service_of(q: Request, bads: Bads) -> Service
     requires { Servable q }
-    ensures { result ≡ serviceOf bads q }
+    ensures { result ≡ service_of bads q }
 {
     let k = moves_now(q, bads);
     let moved = q.moved + k;
@@ -454,15 +454,15 @@ pub fn service_of(q: Request, bads: Bads) -> Service
 
 // Where the next blocks of a request stand in the window and in the store, in bytes. The request is in range, so that neither wraps.
 fn window_place(buffer: u64, moved: u64) -> usize
-    requires { buffer + blockLength * moved < 2 ^ 64 }
-    ensures { result ≡ buffer + blockLength * moved }
+    requires { buffer + block_length * moved < 2 ^ 64 }
+    ensures { result ≡ buffer + block_length * moved }
 {
     (buffer + BLOCK_LENGTH * moved) as usize
 }
 
 fn store_place(first: u64, start: u64, moved: u64) -> usize
-    requires { blockLength * (first + start + moved) < 2 ^ 64 }
-    ensures { result ≡ blockLength * (first + start + moved) }
+    requires { block_length * (first + start + moved) < 2 ^ 64 }
+    ensures { result ≡ block_length * (first + start + moved) }
 {
     (BLOCK_LENGTH * (first + start + moved)) as usize
 }
@@ -477,7 +477,7 @@ fn move_blocks(
     arena: &mut [u8],
     store: &mut [u8],
 )
-    requires { (at + blockLength * k ≤ spanLength (length arena.old) guest (windowLength (length arena.old))) × (place + blockLength * k ≤ length store.old) }
+    requires { (at + block_length * k ≤ span_length (length arena.old) guest (window_length (length arena.old))) × (place + block_length * k ≤ length store.old) }
     ensures { Copied write guest at place k arena.old store.old arena.new store.new }
 {
     let m = memory::window_length(arena.len());
@@ -515,8 +515,8 @@ fn count_place(packet: u64) -> usize
 // A number of blocks moved goes to the packet's count word; 02h and 03h, which have no packet, have it in AL alone. Acceptance has found the
 // packet inside the window.
 pub fn report_moved(job: Job, moved: u64, guest: usize, arena: &mut [u8])
-    requires { (guest < guests) × (packetOk (ah job.registers) job.packet (windowLength (length arena.old)) ≡ true) × (moved ≤ mostRun) }
-    ensures { arena.new ≡ withOwn arena.old guest (reported job moved (ownWindow arena.old guest)) }
+    requires { (guest < guests) × (packet_ok (ah job.registers) job.packet (window_length (length arena.old)) ≡ true) × (moved ≤ most_run) }
+    ensures { arena.new ≡ with_own arena.old guest (reported job moved (own_window arena.old guest)) }
 {
     let registers = job.registers;
     if int13::is_sectors(int13::function_of(registers)) {
@@ -529,8 +529,8 @@ pub fn report_moved(job: Job, moved: u64, guest: usize, arena: &mut [u8])
 
 // After the data of a turn that moved k blocks: at a bad block the blocks moved in the whole request, else nothing.
 pub fn report_ending(q: Request, k: u64, guest: usize, arena: &mut [u8])
-    requires { (guest < guests) × (packetOk (ah q.job.registers) q.job.packet (windowLength (length arena.old)) ≡ true) × (q.moved + k ≤ mostRun) }
-    ensures { arena.new ≡ withOwn arena.old guest (beside q k (ownWindow arena.old guest)) }
+    requires { (guest < guests) × (packet_ok (ah q.job.registers) q.job.packet (window_length (length arena.old)) ≡ true) × (q.moved + k ≤ most_run) }
+    ensures { arena.new ≡ with_own arena.old guest (beside q k (own_window arena.old guest)) }
 {
     if goes_on(q, k) {
         return;
@@ -546,7 +546,7 @@ pub fn report_ending(q: Request, k: u64, guest: usize, arena: &mut [u8])
 // ---- what a withdrawal gives back
 
 pub fn given_back(q: Request) -> Registers
-    requires { q.moved < mostRun }
+    requires { q.moved < most_run }
     ensures { result ≡ withdraw q.moved q.job.registers }
 {
     let job = q.job;
@@ -558,8 +558,8 @@ pub fn given_back(q: Request) -> Registers
 
 // All tables of a drive table, laid in the guest's window from an address on. `place_ok` has found that they lie there.
 pub fn lay_tables(b: Table, guest: usize, address: u64, arena: &mut [u8])
-    requires { (guest < guests) × (placeOk (tableCount b) (windowLength (length arena.old)) address ≡ true) }
-    ensures { arena.new ≡ withOwn arena.old guest (tablesIn b address (ownWindow arena.old guest)) }
+    requires { (guest < guests) × (place_ok (table_count b) (window_length (length arena.old)) address ≡ true) }
+    ensures { arena.new ≡ with_own arena.old guest (tables_in b address (own_window arena.old guest)) }
 {
     let m = memory::window_length(arena.len());
     let bytes = int13::tables_of(b);
@@ -571,7 +571,7 @@ pub fn lay_tables(b: Table, guest: usize, address: u64, arena: &mut [u8])
 
 // A desk with all rows vacant, and nothing placed.
 fn vacant(pointer: usize, b: Table, arena: u64, store: u64) -> Desk
-    ensures { result ≡ withPointer (opened b arena store) pointer }
+    ensures { result ≡ with_pointer (opened b arena store) pointer }
 {
     let row = Row {
         stage: Stage::Vacant,
@@ -595,7 +595,7 @@ fn begin_own(
     guest: usize,
     arena: &mut [u8],
 ) -> Outcome
-    ensures { (result ≡ (begin (fed b placement) registers (ownWindow arena.old guest)).outcome) × (arena.new ≡ withOwn arena.old guest (begin (fed b placement) registers (ownWindow arena.old guest)).window) }
+    ensures { (result ≡ (begin (fed b placement) registers (own_window arena.old guest)).outcome) × (arena.new ≡ with_own arena.old guest (begin (fed b placement) registers (own_window arena.old guest)).window) }
 {
     let m = memory::window_length(arena.len());
     let span = memory::span_of(arena.len(), guest, m);
@@ -607,7 +607,7 @@ fn begin_own(
 impl Desk {
     // The house number of a call that is lent an arena and a store of these lengths.
     fn house(self, arena: usize, store: usize, guest: bool) -> u8
-        ensures { result ≡ houseNumber (accept self) (both (eqb arena self.arena) (eqb store self.store)) guest }
+        ensures { result ≡ house_number (accept self) (both (eqb arena self.arena) (eqb store self.store)) guest }
     {
         let lent = logic::and(arena as u64 == self.arena, store as u64 == self.store);
         house_number(self.accept(), lent, guest)
@@ -616,7 +616,7 @@ impl Desk {
     // The desk with another stage in the guest's row.
     fn with_stage(self, guest: usize, stage: Stage) -> Desk
         requires { guest < guests }
-        ensures { result ≡ withStage self guest stage }
+        ensures { result ≡ with_stage self guest stage }
     {
         let mut next = self;
         next.rows[guest] = Row { stage };
@@ -625,7 +625,7 @@ impl Desk {
 
     // Reads the table; a desk with all rows vacant, or the table's refusal with its place and a desk at which every call is 25.
     pub fn open(t: &[u8], arena: u64, store: u64) -> Opening
-        ensures { (result ≡ openOf t.now arena store) × (openNumbers result.answer ≡ openGiven t.now store) }
+        ensures { (result ≡ open_of t.now arena store) × (open_numbers result.answer ≡ open_given t.now store) }
     {
         let reading = table::read_table(t, store / BLOCK_LENGTH);
         let answer = reading.answer;
@@ -649,7 +649,7 @@ impl Desk {
 
     // Lays the drives out as a table again.
     pub fn write(self, out: &mut [u8]) -> Written
-        ensures { (result ≡ written_of self (length out.old)) × (out.new ≡ writtenOut self out.old) × (writtenNumbers result ≡ writeGiven self (length out.old)) }
+        ensures { (result ≡ written_of self (length out.old)) × (out.new ≡ written_out self out.old) × (written_numbers result ≡ write_given self (length out.old)) }
     {
         let number = house_number(self.accept(), true, true);
         if number != 0 {
@@ -662,7 +662,7 @@ impl Desk {
     // The row waits with no block moved, or stays vacant.
     fn posted(self, guest: usize, outcome: Outcome) -> Posted
         requires { guest < guests }
-        ensures { (result.desk ≡ (postChecked self guest [] [] outcome []).desk) × (result.answer ≡ (postChecked self guest [] [] outcome []).answer) }
+        ensures { (result.desk ≡ (post_checked self guest [] [] outcome []).desk) × (result.answer ≡ (post_checked self guest [] [] outcome []).answer) }
     {
         match outcome {
             Outcome::Answered(r) => Posted {
@@ -678,7 +678,7 @@ impl Desk {
 
     // A guest's call: answered at once, or the row waits.
     pub fn post(self, guest: usize, registers: Registers, arena: &mut [u8], store: &[u8]) -> Posted
-        ensures { (done result.desk result.answer arena.new store.now ≡ post_of self guest registers arena.old store.now) × (postNumbers result.answer ≡ postGiven self guest registers arena.old store.now) }
+        ensures { (done result.desk result.answer arena.new store.now ≡ post_of self guest registers arena.old store.now) × (post_numbers result.answer ≡ post_given self guest registers arena.old store.now) }
     {
         let number = self.house(arena.len(), store.len(), guest < GUESTS);
         if number != 0 {
@@ -703,7 +703,7 @@ impl Desk {
     // The desk after the blocks of a turn have moved.
     fn served(self, guest: usize, service: Service) -> Turned
         requires { guest < guests }
-        ensures { (result.desk ≡ withPointer (withStage self guest service.stage) (next guest)) × (result.answer ≡ Served guest service.moved) }
+        ensures { (result.desk ≡ with_pointer (with_stage self guest service.stage) (next guest)) × (result.answer ≡ Served guest service.moved) }
     {
         let stage = service.stage;
         let mut next = self.with_stage(guest, stage);
@@ -716,7 +716,7 @@ impl Desk {
 
     // Serves the first waiting row at or after the pointer.
     pub fn turn(self, arena: &mut [u8], store: &mut [u8]) -> Turned
-        ensures { (done result.desk result.answer arena.new store.new ≡ turn_of self arena.old store.old) × (turnNumbers result.answer ≡ turnGiven self arena.old store.old) }
+        ensures { (done result.desk result.answer arena.new store.new ≡ turn_of self arena.old store.old) × (turn_numbers result.answer ≡ turn_given self arena.old store.old) }
     {
         let number = self.house(arena.len(), store.len(), true);
         if number != 0 {
@@ -750,7 +750,7 @@ impl Desk {
 
     // A turn over a desk that is lent for change.
     pub fn turn_lent(&mut self, arena: &mut [u8], store: &mut [u8]) -> TurnAnswer
-        ensures { (done self.new result arena.new store.new ≡ turn_of self.old arena.old store.old) × (turnNumbers result ≡ turnGiven self.old arena.old store.old) }
+        ensures { (done self.new result arena.new store.new ≡ turn_of self.old arena.old store.old) × (turn_numbers result ≡ turn_given self.old arena.old store.old) }
     {
         let d = *self;
         let t = d.turn(arena, store);
@@ -760,7 +760,7 @@ impl Desk {
 
     // Hands the finished registers out and vacates the row.
     pub fn collect(self, guest: usize) -> Collected
-        ensures { ((arena store : List ℕ) → done result.desk result.answer arena store ≡ collectOf self guest arena store) × (collectNumbers result.answer ≡ collectGiven self guest) }
+        ensures { ((arena store : List ℕ) → done result.desk result.answer arena store ≡ collect_of self guest arena store) × (collect_numbers result.answer ≡ collect_given self guest) }
     {
         let number = house_number(self.accept(), true, guest < GUESTS);
         if number != 0 {
@@ -785,7 +785,7 @@ impl Desk {
 
     // Ends a waiting request: the row is vacant at once, and the registers say what was moved.
     pub fn withdraw(self, guest: usize, arena: &mut [u8], store: &[u8]) -> Withdrawn
-        ensures { (done result.desk result.answer arena.new store.now ≡ withdrawOf self guest arena.old store.now) × (withdrawNumbers result.answer ≡ withdrawGiven self guest arena.old store.now) }
+        ensures { (done result.desk result.answer arena.new store.now ≡ withdraw_of self guest arena.old store.now) × (withdraw_numbers result.answer ≡ withdraw_given self guest arena.old store.now) }
     {
         let number = self.house(arena.len(), store.len(), guest < GUESTS);
         if number != 0 {
@@ -812,7 +812,7 @@ impl Desk {
     // The desk with a guest's tables placed from an address on.
     fn with_placement(self, guest: usize, address: u64) -> Desk
         requires { guest < guests }
-        ensures { result ≡ withPlacement self guest address }
+        ensures { result ≡ with_placement self guest address }
     {
         let mut next = self;
         next.placed[guest] = true;
@@ -822,7 +822,7 @@ impl Desk {
 
     // Places the parameter tables of all drives in a guest's window, from an address on.
     pub fn place(self, guest: usize, address: u64, arena: &mut [u8], store: &[u8]) -> Placing
-        ensures { (done result.desk result.answer arena.new store.now ≡ place_of self guest address arena.old store.now) × (placeNumbers result.answer ≡ placeGiven self guest address arena.old store.now) }
+        ensures { (done result.desk result.answer arena.new store.now ≡ place_of self guest address arena.old store.now) × (place_numbers result.answer ≡ place_given self guest address arena.old store.now) }
     {
         let number = self.house(arena.len(), store.len(), guest < GUESTS);
         if number != 0 {

@@ -3,16 +3,16 @@
 use mathlib.Core.Path.{ap}
 use borrow.Author.Tests.{eq-eqb}
 use Rattle.drive.specs.declared.Drive.{Drive}
-use Rattle.drive.specs.Drive.{driveOf}
+use Rattle.drive.specs.Drive.{drive_of}
 use Rattle.drive.specs.Demand2.{Demand2}
-use Rattle.drive.proofs.DriveLaws.{drive-shortened, length-word-record, length-record, tail-record}
+use Rattle.drive.proofs.DriveLaws.{drive_shortened, length_word_record, length-record, tail-record}
 
-pub demand-2 : Demand2
-unfolding driveOf
-demand-2 d f =
-    let e = drive-shortened d f in
+pub demand_2 : Demand2
+unfolding drive_of
+demand_2 d f =
+    let e = drive_shortened d f in
     record {
-      length-word = length-word-record d;
+      length_word = length_word_record d;
       whole = length-record d record { bus = f.bus; interface = f.interface; path = f.path; device = f.device; tail = f.tail };
       kind = ap (λ (x : Drive). x.kind) e;
       cylinders = ap (λ (x : Drive). x.cylinders) e;

@@ -9,21 +9,21 @@ use mathlib.Core.Bool.{Bool, true, false}
 use lib.Dec.{leb, ltb, eqb}
 use borrow.Author.Tests.{eq-eqb, eqb-true, eqb-false, le-leb, lt-leb, leb-true, leb-false, lt-ltb, ltb-true}
 use Rattle.logic.specs.Logic.{pick, both, either}
-use Rattle.logic.proofs.LogicLaws.{impossible, both_true, pick-cases, leb-iff}
+use Rattle.logic.proofs.LogicLaws.{impossible, both_true, pick-cases, leb_iff}
 use lib.ListN.{length, get_or, set, take, drop, replicate, length-append, length-drop}
 use lib.Seq.{sets, take_at, drop-append-add, drop-drop, take_all, take-add, drop-cons, length-take-le}
-use Rattle.chs.specs.Chs.{inLimits, size}
+use Rattle.chs.specs.Chs.{in_limits, size}
 use Rattle.words.specs.Words.{Bytes, le, le_bytes, part}
-use Rattle.words.proofs.WordsLaws.{sets-append, sets-whole, length-leBytes, read-write, write_read, same_bytes, le-lt}
+use Rattle.words.proofs.WordsLaws.{sets-append, sets-whole, length-le_bytes, read-write, write_read, same_bytes, le_lt}
 use Rattle.drive.specs.declared.Drive.{Drive}
-use Rattle.drive.specs.Drive.{isDriveKind, driveLength, tailOf, driveOf, recordOf, geometryBytes, sizeBytes, nameBytes, tail_bytes, Fits, Holds, same, busOk, interfaceOk, isI2o, zeroTail, kindOk, geometryOf, geometryFits, fieldsOk, overlap}
+use Rattle.drive.specs.Drive.{is_drive_kind, drive_length, tail_of, drive_of, record_of, geometry_bytes, size_bytes, name_bytes, tail_bytes, Fits, Holds, same, bus_ok, interface_ok, is_i2o, zero_tail, kind_ok, geometry_of, geometry_fits, fields_ok, overlap}
 
 -- ---- the lengths of a record
 
-pub length-least : (kind : ℕ) → 68 ≤ driveLength kind
+pub length-least : (kind : ℕ) → 68 ≤ drive_length kind
 length-least kind = pick-cases (λ (n : ℕ). 68 ≤ n) (eqb kind 2) 76 68 (λ e. omega arith) (λ e. omega arith)
 
-pub length_most : (kind : ℕ) → driveLength kind ≤ 76
+pub length_most : (kind : ℕ) → drive_length kind ≤ 76
 length_most kind = pick-cases (λ (n : ℕ). n ≤ 76) (eqb kind 2) 76 68 (λ e. omega arith) (λ e. omega arith)
 
 -- ---- what the code stores
@@ -36,35 +36,35 @@ pub record Arrays (d : Drive) : Type 0 where
   pub device : length d.device ≡ 8
   pub tail : length d.tail ≡ 8
 
-pub geometry-stores : (s : List ℕ) (d : Drive) → sets s 0 (geometryBytes d)
-    ≡ sets (sets (sets (sets (sets s 0 (le_bytes 2 (driveLength d.kind))) 2 (le_bytes 2 d.kind)) 4 (le_bytes 4 d.cylinders)) 8 (le_bytes 4 d.heads)) 12 (le_bytes 4 d.sectors)
-unfolding geometryBytes
-geometry-stores s d = simp (sets-append, length-leBytes)
+pub geometry_stores : (s : List ℕ) (d : Drive) → sets s 0 (geometry_bytes d)
+    ≡ sets (sets (sets (sets (sets s 0 (le_bytes 2 (drive_length d.kind))) 2 (le_bytes 2 d.kind)) 4 (le_bytes 4 d.cylinders)) 8 (le_bytes 4 d.heads)) 12 (le_bytes 4 d.sectors)
+unfolding geometry_bytes
+geometry_stores s d = simp (sets-append, length-le_bytes)
 
-pub size-stores : (s : List ℕ) (d : Drive) → sets s 16 (sizeBytes d)
+pub size_stores : (s : List ℕ) (d : Drive) → sets s 16 (size_bytes d)
     ≡ sets (sets (sets (sets (sets s 16 (le_bytes 8 d.blocks)) 24 (le_bytes 8 d.first)) 32 (le_bytes 2 d.flags)) 34 (le_bytes 2 d.c)) 36 (le_bytes 2 d.h)
-unfolding sizeBytes
-size-stores s d = simp (sets-append, length-leBytes)
+unfolding size_bytes
+size_stores s d = simp (sets-append, length-le_bytes)
 
-pub name-stores : (s : List ℕ) (d : Drive) → Arrays d → sets s 38 (nameBytes d)
+pub name_stores : (s : List ℕ) (d : Drive) → Arrays d → sets s 38 (name_bytes d)
     ≡ sets (sets (sets (sets (set (set s 38 d.s) 39 d.protection) 40 d.bus) 44 d.interface) 52 d.path) 60 d.device
-unfolding nameBytes
-name-stores s d f = simp (sets-append, f.bus, f.interface, f.path)
+unfolding name_bytes
+name_stores s d f = simp (sets-append, f.bus, f.interface, f.path)
 
-length-geometry : (d : Drive) → length (geometryBytes d) ≡ 16
-unfolding geometryBytes
-length-geometry d = simp (length-append, length-leBytes)
+length_geometry : (d : Drive) → length (geometry_bytes d) ≡ 16
+unfolding geometry_bytes
+length_geometry d = simp (length-append, length-le_bytes)
 
-length-sizes : (d : Drive) → length (sizeBytes d) ≡ 22
-unfolding sizeBytes
-length-sizes d = simp (length-append, length-leBytes)
+length-sizes : (d : Drive) → length (size_bytes d) ≡ 22
+unfolding size_bytes
+length-sizes d = simp (length-append, length-le_bytes)
 
-length-names : (d : Drive) → Arrays d → length (nameBytes d) ≡ 30
-unfolding nameBytes
+length-names : (d : Drive) → Arrays d → length (name_bytes d) ≡ 30
+unfolding name_bytes
 length-names d f = simp (length-append, f.bus, f.interface, f.path, f.device)
 
 -- the record of kind 1 ends where that of kind 2 has its tail
-length-tail : (d : Drive) → Arrays d → 68 + length (tail_bytes d) ≡ driveLength d.kind
+length-tail : (d : Drive) → Arrays d → 68 + length (tail_bytes d) ≡ drive_length d.kind
 unfolding tail_bytes
 length-tail d f = by_kind (eqb d.kind 2) refl
   where
@@ -72,41 +72,41 @@ length-tail d f = by_kind (eqb d.kind 2) refl
     by_kind true e = omega (arith, f.tail)
     by_kind false e = refl
 
-pub length-record : (d : Drive) → Arrays d → length (recordOf d) ≡ driveLength d.kind
-unfolding recordOf
+pub length-record : (d : Drive) → Arrays d → length (record_of d) ≡ drive_length d.kind
+unfolding record_of
 length-record d f =
-    let n : length (recordOf d) ≡ 16 + (22 + (30 + length (tail_bytes d))) = simp (length-append, length-geometry, length-sizes, length-names d f) in
+    let n : length (record_of d) ≡ 16 + (22 + (30 + length (tail_bytes d))) = simp (length-append, length_geometry, length-sizes, length-names d f) in
     n ∙ omega arith ∙ length-tail d f
 
 -- the record with its tail, whatever its kind
 abbrev pub tailed : Drive → List ℕ
-tailed d = geometryBytes d ++ (sizeBytes d ++ (nameBytes d ++ d.tail))
+tailed d = geometry_bytes d ++ (size_bytes d ++ (name_bytes d ++ d.tail))
 
-pub record-stores : {o₁ o₂ o₃ o₄ : List ℕ} (s : List ℕ) (d : Drive) → Arrays d → length s ≡ 76
-    → o₁ ≡ sets s 0 (geometryBytes d) → o₂ ≡ sets o₁ 16 (sizeBytes d) → o₃ ≡ sets o₂ 38 (nameBytes d) → o₄ ≡ sets o₃ 68 d.tail → o₄ ≡ tailed d
-record-stores s d f l e₁ e₂ e₃ e₄ =
-    let n : length (tailed d) ≡ 76 = simp (length-append, length-geometry, length-sizes, length-names d f, f.tail) in
+pub record_stores : {o₁ o₂ o₃ o₄ : List ℕ} (s : List ℕ) (d : Drive) → Arrays d → length s ≡ 76
+    → o₁ ≡ sets s 0 (geometry_bytes d) → o₂ ≡ sets o₁ 16 (size_bytes d) → o₃ ≡ sets o₂ 38 (name_bytes d) → o₄ ≡ sets o₃ 68 d.tail → o₄ ≡ tailed d
+record_stores s d f l e₁ e₂ e₃ e₄ =
+    let n : length (tailed d) ≡ 76 = simp (length-append, length_geometry, length-sizes, length-names d f, f.tail) in
     let w : sets s 0 (tailed d) ≡ tailed d = sets-whole s (tailed d) (l ∙ sym n) in
-    let a : sets s 0 (tailed d) ≡ sets (sets (sets (sets s 0 (geometryBytes d)) 16 (sizeBytes d)) 38 (nameBytes d)) 68 d.tail =
-    simp (sets-append, length-geometry, length-sizes, length-names d f) in
+    let a : sets s 0 (tailed d) ≡ sets (sets (sets (sets s 0 (geometry_bytes d)) 16 (size_bytes d)) 38 (name_bytes d)) 68 d.tail =
+    simp (sets-append, length_geometry, length-sizes, length-names d f) in
     rw (e₄, e₃, e₂, e₁) (sym a ∙ w)
 
 -- of which the record is as much as its length says
-pub record-taken : (d : Drive) → Arrays d → take (driveLength d.kind) (tailed d) ≡ recordOf d
-unfolding recordOf tail_bytes
+pub record-taken : (d : Drive) → Arrays d → take (drive_length d.kind) (tailed d) ≡ record_of d
+unfolding record_of tail_bytes
 record-taken d f = by_kind (eqb d.kind 2) refl
   where
     front : List ℕ
-    front = geometryBytes d ++ (sizeBytes d ++ nameBytes d)
+    front = geometry_bytes d ++ (size_bytes d ++ name_bytes d)
 
-    split : (x : List ℕ) → geometryBytes d ++ (sizeBytes d ++ (nameBytes d ++ x)) ≡ front ++ x
+    split : (x : List ℕ) → geometry_bytes d ++ (size_bytes d ++ (name_bytes d ++ x)) ≡ front ++ x
     split x = simp append_assoc
 
     long : length front ≡ 68
-    long = simp (length-append, length-geometry, length-sizes, length-names d f)
+    long = simp (length-append, length_geometry, length-sizes, length-names d f)
 
-    by_kind : (t : Bool) → eqb d.kind 2 ≡ t → take (pick t 76 68) (tailed d) ≡ geometryBytes d ++ (sizeBytes d ++ (nameBytes d ++ pick t d.tail []))
-    by_kind true e = take_all 76 (tailed d) (simp (length-append, length-geometry, length-sizes, length-names d f, f.tail) (omega arith))
+    by_kind : (t : Bool) → eqb d.kind 2 ≡ t → take (pick t 76 68) (tailed d) ≡ geometry_bytes d ++ (size_bytes d ++ (name_bytes d ++ pick t d.tail []))
+    by_kind true e = take_all 76 (tailed d) (simp (length-append, length_geometry, length-sizes, length-names d f, f.tail) (omega arith))
     by_kind false e = ap (take 68) (split d.tail) ∙ take_at front d.tail 68 long ∙ sym (append-nil front) ∙ sym (split [])
 
 -- ---- from bytes to a drive and back
@@ -116,12 +116,12 @@ module _ (r : List ℕ) where
   glue : (k n at : ℕ) {x y : List ℕ} → x ≡ part k r at → y ≡ part n r (at + k) → x ++ y ≡ part (k + n) r at
   glue k n at p q = rw (p, q, take-add k n (drop at r), drop-drop k at r)
 
-  glue-one : (n at : ℕ) {y : List ℕ} → at < length r → y ≡ part n r (suc at) → get_or r at 0 ∷ y ≡ part (suc n) r at
-  glue-one n at l q = rw (q, drop-cons r at 0 l)
+  glue_one : (n at : ℕ) {y : List ℕ} → at < length r → y ≡ part n r (suc at) → get_or r at 0 ∷ y ≡ part (suc n) r at
+  glue_one n at l q = rw (q, drop-cons r at 0 l)
 
 -- the bytes of a record are those of its drive
-pub record-drive : (r : List ℕ) → Bytes r → length r ≡ driveLength (le 2 r 2) → le 2 r 0 ≡ driveLength (le 2 r 2) → recordOf (driveOf r) ≡ r
-unfolding driveOf recordOf geometryBytes sizeBytes nameBytes tail_bytes tailOf
+pub record-drive : (r : List ℕ) → Bytes r → length r ≡ drive_length (le 2 r 2) → le 2 r 0 ≡ drive_length (le 2 r 2) → record_of (drive_of r) ≡ r
+unfolding drive_of record_of geometry_bytes size_bytes name_bytes tail_bytes tail_of
 record-drive r b l e₀ = by_kind (eqb (le 2 r 2) 2) refl
   where
     w : (k at : ℕ) → at + k ≤ length r → le_bytes k (le k r at) ≡ part k r at
@@ -130,20 +130,20 @@ record-drive r b l e₀ = by_kind (eqb (le 2 r 2) 2) refl
     most : 68 ≤ length r
     most = rw l (length-least (le 2 r 2))
 
-    g : geometryBytes (driveOf r) ≡ part 16 r 0
+    g : geometry_bytes (drive_of r) ≡ part 16 r 0
     g = glue r 2 14 0 (ap (le_bytes 2) (sym e₀) ∙ w 2 0 (omega (arith, most))) (glue r 2 12 2 (w 2 2 (omega (arith, most)))
         (glue r 4 8 4 (w 4 4 (omega (arith, most))) (glue r 4 4 8 (w 4 8 (omega (arith, most))) (w 4 12 (omega (arith, most))))))
 
-    s : sizeBytes (driveOf r) ≡ part 22 r 16
+    s : size_bytes (drive_of r) ≡ part 22 r 16
     s = glue r 8 14 16 (w 8 16 (omega (arith, most))) (glue r 8 6 24 (w 8 24 (omega (arith, most))) (glue r 2 4 32 (w 2 32 (omega (arith, most))) (glue r 2 2 34 (w 2 34 (omega (arith, most))) (w 2 36 (omega (arith, most))))))
 
-    n : nameBytes (driveOf r) ≡ part 30 r 38
-    n = glue-one r 29 38 (omega (arith, most)) (glue-one r 28 39 (omega (arith, most)) (glue r 4 24 40 refl (glue r 8 16 44 refl (glue r 8 8 52 refl refl))))
+    n : name_bytes (drive_of r) ≡ part 30 r 38
+    n = glue_one r 29 38 (omega (arith, most)) (glue_one r 28 39 (omega (arith, most)) (glue r 4 24 40 refl (glue r 8 16 44 refl (glue r 8 8 52 refl refl))))
 
     by_kind : (t : Bool) → eqb (le 2 r 2) 2 ≡ t
-        → geometryBytes (driveOf r) ++ (sizeBytes (driveOf r) ++ (nameBytes (driveOf r) ++ pick t (pick t (part 8 r 68) (replicate 8 0)) [])) ≡ r
+        → geometry_bytes (drive_of r) ++ (size_bytes (drive_of r) ++ (name_bytes (drive_of r) ++ pick t (pick t (part 8 r 68) (replicate 8 0)) [])) ≡ r
     by_kind true e = glue r 16 60 0 g (glue r 22 38 16 s (glue r 30 8 38 n refl)) ∙ take_all 76 r (rw (l, e) (omega arith))
-    by_kind false e = glue r 16 52 0 g (glue r 22 30 16 s (append-nil (nameBytes (driveOf r)) ∙ n)) ∙ take_all 68 r (rw (l, e) (omega arith))
+    by_kind false e = glue r 16 52 0 g (glue r 22 30 16 s (append-nil (name_bytes (drive_of r)) ∙ n)) ∙ take_all 68 r (rw (l, e) (omega arith))
 
 -- a part past the first of two lists
 part-past : (k m : ℕ) {n : ℕ} (a b : List ℕ) → length a ≡ n → part k (a ++ b) (n + m) ≡ part k b m
@@ -172,22 +172,22 @@ shortened d = record {
 
 -- its bytes with the fields of its end one by one
 abbrev joined : Drive → List ℕ
-joined d = geometryBytes d ++ (sizeBytes d ++ (d.s ∷ d.protection ∷ (d.bus ++ (d.interface ++ (d.path ++ (d.device ++ tail_bytes d))))))
+joined d = geometry_bytes d ++ (size_bytes d ++ (d.s ∷ d.protection ∷ (d.bus ++ (d.interface ++ (d.path ++ (d.device ++ tail_bytes d))))))
 
-record-joined : (d : Drive) → recordOf d ≡ joined d
-unfolding recordOf nameBytes
+record-joined : (d : Drive) → record_of d ≡ joined d
+unfolding record_of name_bytes
 record-joined d = simp append_assoc
 
-kind-record : (d : Drive) → Fits d → le 2 (recordOf d) 2 ≡ d.kind
-unfolding recordOf geometryBytes le le_bytes
+kind-record : (d : Drive) → Fits d → le 2 (record_of d) 2 ≡ d.kind
+unfolding record_of geometry_bytes le le_bytes
 kind-record d f = read-write 2 d.kind f.kind
 
-pub length-word-record : (d : Drive) → le 2 (recordOf d) 0 ≡ driveLength d.kind
-unfolding recordOf geometryBytes le le_bytes
-length-word-record d = read-write 2 (driveLength d.kind) (omega (arith, length_most d.kind))
+pub length_word_record : (d : Drive) → le 2 (record_of d) 0 ≡ drive_length d.kind
+unfolding record_of geometry_bytes le le_bytes
+length_word_record d = read-write 2 (drive_length d.kind) (omega (arith, length_most d.kind))
 
 tail-joined : (d : Drive) → Fits d → eqb d.kind 2 ≡ true → part 8 (joined d) 68 ≡ d.tail
-unfolding geometryBytes sizeBytes tail_bytes le_bytes
+unfolding geometry_bytes size_bytes tail_bytes le_bytes
 tail-joined d f e =
     let end : List ℕ = tail_bytes d in
     let devices : List ℕ = d.device ++ end in
@@ -196,11 +196,11 @@ tail-joined d f e =
     part-past 8 24 d.bus names f.bus ∙ part-past 8 16 d.interface paths f.interface ∙ part-past 8 8 d.path devices f.path ∙ part-past 8 0 d.device end f.device
     ∙ ap (λ (t : Bool). take 8 (pick t d.tail [])) e ∙ take_all 8 d.tail (omega (arith, f.tail))
 
-pub tail-record : (d : Drive) → Fits d → eqb d.kind 2 ≡ true → part 8 (recordOf d) 68 ≡ d.tail
+pub tail-record : (d : Drive) → Fits d → eqb d.kind 2 ≡ true → part 8 (record_of d) 68 ≡ d.tail
 tail-record d f e = ap (λ (r : List ℕ). part 8 r 68) (record-joined d) ∙ tail-joined d f e
 
-tails : (d : Drive) → Fits d → tailOf (joined d) ≡ pick (eqb d.kind 2) d.tail (replicate 8 0)
-unfolding tailOf
+tails : (d : Drive) → Fits d → tail_of (joined d) ≡ pick (eqb d.kind 2) d.tail (replicate 8 0)
+unfolding tail_of
 tails d f =
     ap (λ (k : ℕ). pick (eqb k 2) (part 8 (joined d) 68) (replicate 8 0)) (ap (λ (r : List ℕ). le 2 r 2) (sym (record-joined d)) ∙ kind-record d f)
     ∙ pick_same (eqb d.kind 2) (part 8 (joined d) 68) d.tail (tail-joined d f)
@@ -209,8 +209,8 @@ tails d f =
     pick_same true x y h = h refl
     pick_same false x y h = refl
 
-drive-joined : (d : Drive) → Fits d → driveOf (joined d) ≡ shortened d
-unfolding driveOf geometryBytes sizeBytes le le_bytes
+drive-joined : (d : Drive) → Fits d → drive_of (joined d) ≡ shortened d
+unfolding drive_of geometry_bytes size_bytes le le_bytes
 drive-joined d f =
     let devices : List ℕ = d.device ++ tail_bytes d in
     let paths : List ℕ = d.path ++ devices in
@@ -235,69 +235,69 @@ drive-joined d f =
     }
 
 -- the record of a drive says that drive, as far as there is room
-pub drive-shortened : (d : Drive) → Fits d → driveOf (recordOf d) ≡ shortened d
-drive-shortened d f = ap driveOf (record-joined d) ∙ drive-joined d f
+pub drive_shortened : (d : Drive) → Fits d → drive_of (record_of d) ≡ shortened d
+drive_shortened d f = ap drive_of (record-joined d) ∙ drive-joined d f
 
 -- a drive whose kind has no tail has none
 abbrev pub Tailed : Drive → Type 0
 Tailed d = eqb d.kind 2 ≡ false → d.tail ≡ replicate 8 0
 
-pub shortened-is : (d : Drive) → Tailed d → shortened d ≡ d
-shortened-is d t = by_kind (eqb d.kind 2) refl
+pub shortened_is : (d : Drive) → Tailed d → shortened d ≡ d
+shortened_is d t = by_kind (eqb d.kind 2) refl
   where
     by_kind : (k : Bool) → eqb d.kind 2 ≡ k → shortened d ≡ d
     by_kind true e = rw e refl
     by_kind false e = rw (e, ← t e) refl
 
 -- the record of a drive says that drive
-pub drive-record : (d : Drive) → Fits d → Tailed d → driveOf (recordOf d) ≡ d
-drive-record d f t = drive-shortened d f ∙ shortened-is d t
+pub drive-record : (d : Drive) → Fits d → Tailed d → drive_of (record_of d) ≡ d
+drive-record d f t = drive_shortened d f ∙ shortened_is d t
 
-pub arrays-drive : (r : List ℕ) → length r ≡ driveLength (le 2 r 2) → Arrays (driveOf r)
-unfolding driveOf tailOf
-arrays-drive r l =
+pub arrays_drive : (r : List ℕ) → length r ≡ drive_length (le 2 r 2) → Arrays (drive_of r)
+unfolding drive_of tail_of
+arrays_drive r l =
     record { bus = n 4 40 (omega arith); interface = n 8 44 (omega arith); path = n 8 52 (omega arith); device = n 8 60 (omega arith); tail = by_kind (eqb (le 2 r 2) 2) refl }
   where
     long : (k at m : ℕ) → at + k ≤ m → length r ≡ m → length (part k r at) ≡ k
     long k at m h e = length-take-le k (drop at r) (simp length-drop (omega arith))
 
     n : (k at : ℕ) → at + k ≤ 68 → length (part k r at) ≡ k
-    n k at h = long k at (driveLength (le 2 r 2)) (omega (arith, h, length-least (le 2 r 2))) l
+    n k at h = long k at (drive_length (le 2 r 2)) (omega (arith, h, length-least (le 2 r 2))) l
 
     by_kind : (t : Bool) → eqb (le 2 r 2) 2 ≡ t → length (pick t (part 8 r 68) (replicate 8 0)) ≡ 8
     by_kind true e = long 8 68 76 (omega arith) (rw e at l)
     by_kind false e = refl
 
 -- C x H x S of good fields is at most the blocks
-pub geometry-inside : (d : Drive) → fieldsOk d ≡ true → size (geometryOf d) ≤ d.blocks
-unfolding fieldsOk geometryFits
-geometry-inside d h =
-    let names : Bool = both (busOk d.bus) (kindOk d) in
-    let fits : Bool = both (inLimits (geometryOf d)) (leb (size (geometryOf d)) d.blocks) in
+pub geometry_inside : (d : Drive) → fields_ok d ≡ true → size (geometry_of d) ≤ d.blocks
+unfolding fields_ok geometry_fits
+geometry_inside d h =
+    let names : Bool = both (bus_ok d.bus) (kind_ok d) in
+    let fits : Bool = both (in_limits (geometry_of d)) (leb (size (geometry_of d)) d.blocks) in
     let p = both_true (leb 1 d.blocks) (both (ltb d.flags 128) (both fits (both (leb d.protection 1) names))) h in
     let q = both_true (ltb d.flags 128) (both fits (both (leb d.protection 1) names)) p.1 in
     let r = both_true fits (both (leb d.protection 1) names) q.1 in
-    leb-true (size (geometryOf d)) d.blocks (both_true (inLimits (geometryOf d)) (leb (size (geometryOf d)) d.blocks) r.0).1
+    leb-true (size (geometry_of d)) d.blocks (both_true (in_limits (geometry_of d)) (leb (size (geometry_of d)) d.blocks) r.0).1
 
 -- the drive of a record fits its fields
-pub fits-drive : (r : List ℕ) → Bytes r → length r ≡ driveLength (le 2 r 2) → Fits (driveOf r)
-unfolding driveOf
+pub fits-drive : (r : List ℕ) → Bytes r → length r ≡ drive_length (le 2 r 2) → Fits (drive_of r)
+unfolding drive_of
 fits-drive r b l =
-    let a = arrays-drive r l in
+    let a = arrays_drive r l in
     record {
-      cylinders = le-lt 4 r 4 b;
-      heads = le-lt 4 r 8 b;
-      sectors = le-lt 4 r 12 b;
-      blocks = le-lt 8 r 16 b;
-      first = le-lt 8 r 24 b;
-      flags = le-lt 2 r 32 b;
-      c = le-lt 2 r 34 b;
-      h = le-lt 2 r 36 b;
+      cylinders = le_lt 4 r 4 b;
+      heads = le_lt 4 r 8 b;
+      sectors = le_lt 4 r 12 b;
+      blocks = le_lt 8 r 16 b;
+      first = le_lt 8 r 24 b;
+      flags = le_lt 2 r 32 b;
+      c = le_lt 2 r 34 b;
+      h = le_lt 2 r 36 b;
       bus = a.bus;
       interface = a.interface;
       path = a.path;
       device = a.device;
-      kind = le-lt 2 r 2 b;
+      kind = le_lt 2 r 2 b;
       tail = a.tail;
     }
 
@@ -320,41 +320,41 @@ same_true (x ∷ a) (y ∷ b) e =
     cc
 
 -- good fields are those that the kind allows
-pub kind-good : (d : Drive) → fieldsOk d ≡ true → kindOk d ≡ true
-unfolding fieldsOk
+pub kind-good : (d : Drive) → fields_ok d ≡ true → kind_ok d ≡ true
+unfolding fields_ok
 kind-good d h =
     let p = (both_true (leb 1 d.blocks) _ h).1 in
     let q = (both_true (ltb d.flags 128) _ p).1 in
-    let r = (both_true (geometryFits d) _ q).1 in
-    (both_true (busOk d.bus) (kindOk d) (both_true (leb d.protection 1) _ r).1).1
+    let r = (both_true (geometry_fits d) _ q).1 in
+    (both_true (bus_ok d.bus) (kind_ok d) (both_true (leb d.protection 1) _ r).1).1
 
-pub tailed-kind : (d : Drive) → kindOk d ≡ true → Tailed d
-unfolding kindOk zeroTail
-tailed-kind d h e =
-    let narrow : both (eqb d.kind 1) (both (interfaceOk d.interface) (same d.tail (replicate 8 0))) ≡ true = rw e at h in
-    same_true d.tail (replicate 8 0) (both_true (interfaceOk d.interface) _ (both_true (eqb d.kind 1) _ narrow).1).1
+pub tailed_kind : (d : Drive) → kind_ok d ≡ true → Tailed d
+unfolding kind_ok zero_tail
+tailed_kind d h e =
+    let narrow : both (eqb d.kind 1) (both (interface_ok d.interface) (same d.tail (replicate 8 0))) ≡ true = rw e at h in
+    same_true d.tail (replicate 8 0) (both_true (interface_ok d.interface) _ (both_true (eqb d.kind 1) _ narrow).1).1
 
-pub tailed-good : (d : Drive) → fieldsOk d ≡ true → Tailed d
-tailed-good d h = tailed-kind d (kind-good d h)
+pub tailed_good : (d : Drive) → fields_ok d ≡ true → Tailed d
+tailed_good d h = tailed_kind d (kind-good d h)
 
 -- and the kind is one of a drive
-pub drive-kind : (d : Drive) → fieldsOk d ≡ true → isDriveKind d.kind ≡ true
-unfolding kindOk
+pub drive-kind : (d : Drive) → fields_ok d ≡ true → is_drive_kind d.kind ≡ true
+unfolding kind_ok
 drive-kind d h = by_kind (eqb d.kind 2) refl (kind-good d h)
   where
-    either-true-right : (a : Bool) → either a true ≡ true
-    either-true-right true = refl
-    either-true-right false = refl
+    either_true_right : (a : Bool) → either a true ≡ true
+    either_true_right true = refl
+    either_true_right false = refl
 
     by_kind : (t : Bool) → eqb d.kind 2 ≡ t
-        → pick t (either (interfaceOk d.interface) (isI2o d)) (both (eqb d.kind 1) (both (interfaceOk d.interface) (zeroTail d))) ≡ true
+        → pick t (either (interface_ok d.interface) (is_i2o d)) (both (eqb d.kind 1) (both (interface_ok d.interface) (zero_tail d))) ≡ true
         → either (eqb d.kind 1) t ≡ true
-    by_kind true e g = either-true-right (eqb d.kind 1)
+    by_kind true e g = either_true_right (eqb d.kind 1)
     by_kind false e g = rw (both_true (eqb d.kind 1) _ g).0 refl
 
 -- equal words are the same bytes
-pub same-value : (k : ℕ) (a b : List ℕ) → length a ≡ k → length b ≡ k → Bytes a → Bytes b → eqb (le k a 0) (le k b 0) ≡ same a b
-same-value k a b la lb ha hb = by_value (eqb (le k a 0) (le k b 0)) refl
+pub same_value : (k : ℕ) (a b : List ℕ) → length a ≡ k → length b ≡ k → Bytes a → Bytes b → eqb (le k a 0) (le k b 0) ≡ same a b
+same_value k a b la lb ha hb = by_value (eqb (le k a 0) (le k b 0)) refl
   where
     by_value : (t : Bool) → eqb (le k a 0) (le k b 0) ≡ t → eqb (le k a 0) (le k b 0) ≡ same a b
     by_value true e = e ∙ sym (rw (same_bytes k a b la lb ha hb (eqb-true _ _ e)) (same_refl b))
@@ -369,29 +369,29 @@ abbrev pub all_bytes : List ℕ → Bool
 all_bytes [] = true
 all_bytes (x ∷ l) = both (ltb x 256) (all_bytes l)
 
-allBytes-true : (l : List ℕ) → all_bytes l ≡ true → Bytes l
-allBytes-true [] e i = omega arith
-allBytes-true (x ∷ l) e zero = ltb-true x 256 (both_true (ltb x 256) (all_bytes l) e).0
-allBytes-true (x ∷ l) e (suc i) = allBytes-true l (both_true (ltb x 256) (all_bytes l) e).1 i
+all_bytes_true : (l : List ℕ) → all_bytes l ≡ true → Bytes l
+all_bytes_true [] e i = omega arith
+all_bytes_true (x ∷ l) e zero = ltb-true x 256 (both_true (ltb x 256) (all_bytes l) e).0
+all_bytes_true (x ∷ l) e (suc i) = all_bytes_true l (both_true (ltb x 256) (all_bytes l) e).1 i
 
 -- bytes that are compared with a name by their words
 pub named : (k : ℕ) (b name : List ℕ) → length b ≡ k → length name ≡ k → Bytes b → all_bytes name ≡ true → eqb (le k b 0) (le k name 0) ≡ same b name
-named k b name lb ln hb t = same-value k b name lb ln hb (allBytes-true name t)
+named k b name lb ln hb t = same_value k b name lb ln hb (all_bytes_true name t)
 
 -- ---- two drives, by differences
 
 -- the one run of blocks begins first, or the other does
 module _ (first blocks other others : ℕ) where
   pub overlap-before : first ≤ other → ltb (other - first) blocks ≡ pick (leb first other) (ltb other (first + blocks)) (ltb first (other + others))
-  overlap-before h = rw (le-leb first other h) (leb-iff (suc (other - first)) blocks (suc other) (first + blocks) (λ q. omega arith) (λ q. omega arith))
+  overlap-before h = rw (le-leb first other h) (leb_iff (suc (other - first)) blocks (suc other) (first + blocks) (λ q. omega arith) (λ q. omega arith))
 
   pub overlap-after : other < first → ltb (first - other) others ≡ pick (leb first other) (ltb other (first + blocks)) (ltb first (other + others))
-  overlap-after h = rw (lt-leb first other h) (leb-iff (suc (first - other)) others (suc first) (other + others) (λ q. omega arith) (λ q. omega arith))
+  overlap-after h = rw (lt-leb first other h) (leb_iff (suc (first - other)) others (suc first) (other + others) (λ q. omega arith) (λ q. omega arith))
 
 -- drives of at least one block overlap exactly where some store block is in both
-pub overlap-common : (a b : Drive) → 1 ≤ a.blocks → 1 ≤ b.blocks → (overlap a b ≡ true) ↔ ((n : ℕ) × (Holds a n × Holds b n))
+pub overlap_common : (a b : Drive) → 1 ≤ a.blocks → 1 ≤ b.blocks → (overlap a b ≡ true) ↔ ((n : ℕ) × (Holds a n × Holds b n))
 unfolding overlap
-overlap-common a b p q = (to (leb a.first b.first) refl, from (leb a.first b.first) refl)
+overlap_common a b p q = (to (leb a.first b.first) refl, from (leb a.first b.first) refl)
   where
     to : (t : Bool) → leb a.first b.first ≡ t
         → pick t (ltb b.first (a.first + a.blocks)) (ltb a.first (b.first + b.blocks)) ≡ true → (n : ℕ) × (Holds a n × Holds b n)

@@ -7,9 +7,9 @@ use Prim.Native.Nat.{ℕ}
 use lib.ListN.{set, replicate}
 use lib.Seq.{sets}
 use Rattle.words.specs.Words.{le, le_bytes}
-use Rattle.chs.specs.Chs.{inLimits}
+use Rattle.chs.specs.Chs.{in_limits}
 use Rattle.drive.specs.declared.Drive.{Drive}
-use Rattle.drive.specs.Drive.{driveOf, recordOf, geometryBytes, sizeBytes, nameBytes, same, busOk, interfaceOk, geometryOf, geometryFits, fieldsOk, inStore, overlap, isProtected, blankNumbers, blank_names, isBlank, tailOf, tail_bytes, isI2o, zeroTail, kindOk, ata, i2o, isDriveKind, driveLength}
+use Rattle.drive.specs.Drive.{drive_of, record_of, geometry_bytes, size_bytes, name_bytes, same, bus_ok, interface_ok, geometry_of, geometry_fits, fields_ok, in_store, overlap, is_protected, blank_numbers, blank_names, is_blank, tail_of, tail_bytes, is_i2o, zero_tail, kind_ok, ata, i2o, is_drive_kind, drive_length}
 
 -- ---- the record
 
@@ -22,12 +22,12 @@ abbrev drive : Drive
 drive = record { cylinders = 67305985; heads = 134678021; sectors = 202050057; blocks = 1446519769809227277; first = 2025241152513840661; flags = 7709; c = 8223; h = 8737; s = 35; protection = 36; bus = 37 ∷ 38 ∷ 39 ∷ 40 ∷ []; interface = 41 ∷ 42 ∷ 43 ∷ 44 ∷ 45 ∷ 46 ∷ 47 ∷ 48 ∷ []; path = 49 ∷ 50 ∷ 51 ∷ 52 ∷ 53 ∷ 54 ∷ 55 ∷ 56 ∷ []; device = 57 ∷ 58 ∷ 59 ∷ 60 ∷ 61 ∷ 62 ∷ 63 ∷ 64 ∷ []; kind = 1; tail = replicate 8 0 }
 
 -- read, and written
-pub counted-read : driveOf counted ≡ drive
-unfolding driveOf tailOf le
+pub counted-read : drive_of counted ≡ drive
+unfolding drive_of tail_of le
 counted-read = refl
 
-pub counted-written : recordOf drive ≡ counted
-unfolding recordOf geometryBytes sizeBytes nameBytes tail_bytes le_bytes
+pub counted-written : record_of drive ≡ counted
+unfolding record_of geometry_bytes size_bytes name_bytes tail_bytes le_bytes
 counted-written = refl
 
 -- length 76, kind 2, and then the bytes 1 to 72 (document 02, 2026-06)
@@ -38,28 +38,28 @@ counted-wide = 76 ∷ 0 ∷ 2 ∷ 0 ∷ 1 ∷ 2 ∷ 3 ∷ 4 ∷ 5 ∷ 6 ∷ 7 �
 abbrev told : ℕ → List ℕ → Drive
 told k t = record { cylinders = 67305985; heads = 134678021; sectors = 202050057; blocks = 1446519769809227277; first = 2025241152513840661; flags = 7709; c = 8223; h = 8737; s = 35; protection = 36; bus = 37 ∷ 38 ∷ 39 ∷ 40 ∷ []; interface = 41 ∷ 42 ∷ 43 ∷ 44 ∷ 45 ∷ 46 ∷ 47 ∷ 48 ∷ []; path = 49 ∷ 50 ∷ 51 ∷ 52 ∷ 53 ∷ 54 ∷ 55 ∷ 56 ∷ []; device = 57 ∷ 58 ∷ 59 ∷ 60 ∷ 61 ∷ 62 ∷ 63 ∷ 64 ∷ []; kind = k; tail = t }
 
-pub counted-wide-read : driveOf counted-wide ≡ told 2 (65 ∷ 66 ∷ 67 ∷ 68 ∷ 69 ∷ 70 ∷ 71 ∷ 72 ∷ [])
-unfolding driveOf tailOf le
+pub counted-wide-read : drive_of counted-wide ≡ told 2 (65 ∷ 66 ∷ 67 ∷ 68 ∷ 69 ∷ 70 ∷ 71 ∷ 72 ∷ [])
+unfolding drive_of tail_of le
 counted-wide-read = refl
 
 -- written: of kind 2 with its tail, and so where the tail is zero; of kind 1 the 68 bytes alone, whatever the tail is
-pub counted-wide-written : map recordOf (told 2 (65 ∷ 66 ∷ 67 ∷ 68 ∷ 69 ∷ 70 ∷ 71 ∷ 72 ∷ []) ∷ told 2 (replicate 8 0) ∷ told 1 (65 ∷ 66 ∷ 67 ∷ 68 ∷ 69 ∷ 70 ∷ 71 ∷ 72 ∷ []) ∷ [])
+pub counted-wide-written : map record_of (told 2 (65 ∷ 66 ∷ 67 ∷ 68 ∷ 69 ∷ 70 ∷ 71 ∷ 72 ∷ []) ∷ told 2 (replicate 8 0) ∷ told 1 (65 ∷ 66 ∷ 67 ∷ 68 ∷ 69 ∷ 70 ∷ 71 ∷ 72 ∷ []) ∷ [])
     ≡ counted-wide ∷ sets counted-wide 68 (replicate 8 0) ∷ counted ∷ []
-unfolding recordOf geometryBytes sizeBytes nameBytes tail_bytes le_bytes
+unfolding record_of geometry_bytes size_bytes name_bytes tail_bytes le_bytes
 counted-wide-written = refl
 
 -- the bytes behind a record of kind 1 are none of its, and of its kind the high byte counts
-pub counted-more : driveOf (sets counted-wide 2 (1 ∷ [])) ∷ driveOf (sets counted-wide 3 (1 ∷ [])) ∷ [] ≡ told 1 (replicate 8 0) ∷ told 258 (replicate 8 0) ∷ []
-unfolding driveOf tailOf le
+pub counted-more : drive_of (sets counted-wide 2 (1 ∷ [])) ∷ drive_of (sets counted-wide 3 (1 ∷ [])) ∷ [] ≡ told 1 (replicate 8 0) ∷ told 258 (replicate 8 0) ∷ []
+unfolding drive_of tail_of le
 counted-more = refl
 
 -- how long the records of kinds 0 to 4 and 258 would be, and which of these kinds are a drive's
-pub kinds : (map driveLength (0 ∷ 1 ∷ 2 ∷ 3 ∷ 4 ∷ 258 ∷ []) ≡ 68 ∷ 68 ∷ 76 ∷ 68 ∷ 68 ∷ 68 ∷ []) × (map isDriveKind (0 ∷ 1 ∷ 2 ∷ 3 ∷ 4 ∷ 258 ∷ []) ≡ false ∷ true ∷ true ∷ false ∷ false ∷ false ∷ [])
+pub kinds : (map drive_length (0 ∷ 1 ∷ 2 ∷ 3 ∷ 4 ∷ 258 ∷ []) ≡ 68 ∷ 68 ∷ 76 ∷ 68 ∷ 68 ∷ 68 ∷ []) × (map is_drive_kind (0 ∷ 1 ∷ 2 ∷ 3 ∷ 4 ∷ 258 ∷ []) ≡ false ∷ true ∷ true ∷ false ∷ false ∷ false ∷ [])
 kinds = (refl, refl)
 
 -- and its geometry
-pub counted-geometry : geometryOf drive ≡ record { c = 8223; h = 8737; s = 35 }
-counted-geometry = refl
+pub counted_geometry : geometry_of drive ≡ record { c = 8223; h = 8737; s = 35 }
+counted_geometry = refl
 
 -- ---- the rules of the fields
 
@@ -107,9 +107,9 @@ but at bytes = sets own at bytes
 --   interface type zero: false
 --   interface path zero: true
 --   device path FFh: true
-pub rules : map (λ (r : List ℕ). fieldsOk (driveOf r)) (own ∷ (but 16 (le_bytes 8 5000000)) ∷ (but 16 (le_bytes 8 4999999)) ∷ (but 16 (le_bytes 8 0 ++ le_bytes 8 9 ++ le_bytes 2 90 ++ le_bytes 2 1 ++ le_bytes 2 1 ++ (1 ∷ []))) ∷ (but 16 (le_bytes 8 1 ++ le_bytes 8 9 ++ le_bytes 2 90 ++ le_bytes 2 1 ++ le_bytes 2 1 ++ (1 ∷ []))) ∷ (but 24 (le_bytes 8 0)) ∷ (but 4 (replicate 12 0)) ∷ (but 4 (replicate 12 255)) ∷ (but 32 (le_bytes 2 127)) ∷ (but 32 (le_bytes 2 128)) ∷ (but 32 (le_bytes 2 256)) ∷ (but 34 (le_bytes 2 1024 ++ le_bytes 2 1)) ∷ (but 34 (le_bytes 2 1025 ++ le_bytes 2 1)) ∷ (but 34 (le_bytes 2 0)) ∷ (but 34 (le_bytes 2 1 ++ le_bytes 2 255)) ∷ (but 34 (le_bytes 2 1 ++ le_bytes 2 256)) ∷ (but 36 (le_bytes 2 0)) ∷ (but 38 (63 ∷ [])) ∷ (but 38 (64 ∷ [])) ∷ (but 38 (0 ∷ [])) ∷ (but 39 (0 ∷ [])) ∷ (but 39 (2 ∷ [])) ∷ (but 40 (73 ∷ 83 ∷ 65 ∷ 0 ∷ [])) ∷ (but 40 (replicate 4 0)) ∷ (but 40 (83 ∷ 67 ∷ 83 ∷ 73 ∷ [])) ∷ (but 44 (65 ∷ 84 ∷ 65 ∷ 0 ∷ 0 ∷ 0 ∷ 0 ∷ 0 ∷ [])) ∷ (but 44 (65 ∷ 84 ∷ 65 ∷ 80 ∷ 73 ∷ 0 ∷ 0 ∷ 0 ∷ [])) ∷ (but 44 (85 ∷ 83 ∷ 66 ∷ 0 ∷ 0 ∷ 0 ∷ 0 ∷ 0 ∷ [])) ∷ (but 44 (49 ∷ 51 ∷ 57 ∷ 52 ∷ 0 ∷ 0 ∷ 0 ∷ 0 ∷ [])) ∷ (but 44 (70 ∷ 73 ∷ 66 ∷ 82 ∷ 69 ∷ 0 ∷ 0 ∷ 0 ∷ [])) ∷ (but 44 (80 ∷ 67 ∷ 73 ∷ 0 ∷ 0 ∷ 0 ∷ 0 ∷ 0 ∷ [])) ∷ (but 44 (replicate 8 0)) ∷ (but 52 (replicate 8 0)) ∷ (but 60 (replicate 8 255)) ∷ [])
+pub rules : map (λ (r : List ℕ). fields_ok (drive_of r)) (own ∷ (but 16 (le_bytes 8 5000000)) ∷ (but 16 (le_bytes 8 4999999)) ∷ (but 16 (le_bytes 8 0 ++ le_bytes 8 9 ++ le_bytes 2 90 ++ le_bytes 2 1 ++ le_bytes 2 1 ++ (1 ∷ []))) ∷ (but 16 (le_bytes 8 1 ++ le_bytes 8 9 ++ le_bytes 2 90 ++ le_bytes 2 1 ++ le_bytes 2 1 ++ (1 ∷ []))) ∷ (but 24 (le_bytes 8 0)) ∷ (but 4 (replicate 12 0)) ∷ (but 4 (replicate 12 255)) ∷ (but 32 (le_bytes 2 127)) ∷ (but 32 (le_bytes 2 128)) ∷ (but 32 (le_bytes 2 256)) ∷ (but 34 (le_bytes 2 1024 ++ le_bytes 2 1)) ∷ (but 34 (le_bytes 2 1025 ++ le_bytes 2 1)) ∷ (but 34 (le_bytes 2 0)) ∷ (but 34 (le_bytes 2 1 ++ le_bytes 2 255)) ∷ (but 34 (le_bytes 2 1 ++ le_bytes 2 256)) ∷ (but 36 (le_bytes 2 0)) ∷ (but 38 (63 ∷ [])) ∷ (but 38 (64 ∷ [])) ∷ (but 38 (0 ∷ [])) ∷ (but 39 (0 ∷ [])) ∷ (but 39 (2 ∷ [])) ∷ (but 40 (73 ∷ 83 ∷ 65 ∷ 0 ∷ [])) ∷ (but 40 (replicate 4 0)) ∷ (but 40 (83 ∷ 67 ∷ 83 ∷ 73 ∷ [])) ∷ (but 44 (65 ∷ 84 ∷ 65 ∷ 0 ∷ 0 ∷ 0 ∷ 0 ∷ 0 ∷ [])) ∷ (but 44 (65 ∷ 84 ∷ 65 ∷ 80 ∷ 73 ∷ 0 ∷ 0 ∷ 0 ∷ [])) ∷ (but 44 (85 ∷ 83 ∷ 66 ∷ 0 ∷ 0 ∷ 0 ∷ 0 ∷ 0 ∷ [])) ∷ (but 44 (49 ∷ 51 ∷ 57 ∷ 52 ∷ 0 ∷ 0 ∷ 0 ∷ 0 ∷ [])) ∷ (but 44 (70 ∷ 73 ∷ 66 ∷ 82 ∷ 69 ∷ 0 ∷ 0 ∷ 0 ∷ [])) ∷ (but 44 (80 ∷ 67 ∷ 73 ∷ 0 ∷ 0 ∷ 0 ∷ 0 ∷ 0 ∷ [])) ∷ (but 44 (replicate 8 0)) ∷ (but 52 (replicate 8 0)) ∷ (but 60 (replicate 8 255)) ∷ [])
     ≡ true ∷ true ∷ false ∷ false ∷ true ∷ true ∷ true ∷ true ∷ true ∷ false ∷ false ∷ true ∷ false ∷ false ∷ true ∷ false ∷ false ∷ true ∷ false ∷ false ∷ true ∷ false ∷ true ∷ false ∷ false ∷ true ∷ true ∷ true ∷ true ∷ true ∷ false ∷ false ∷ true ∷ true ∷ []
-unfolding le le_bytes inLimits driveOf tailOf same busOk interfaceOk zeroTail kindOk geometryFits fieldsOk
+unfolding le le_bytes in_limits drive_of tail_of same bus_ok interface_ok zero_tail kind_ok geometry_fits fields_ok
 rules = refl
 
 -- the same drive in a record of kind 2: its device path goes on with 21 to 28 (document 02, 2026-06)
@@ -143,10 +143,10 @@ with at bytes = sets own-wide at bytes
 --   kind 0: false
 --   kind 3: false
 --   kind 258: false
-pub wide-rules : map (λ (r : List ℕ). fieldsOk (driveOf r)) (own-wide ∷ (with 44 (65 ∷ 84 ∷ 65 ∷ 0 ∷ [])) ∷ (with 44 (65 ∷ 84 ∷ 65 ∷ 80 ∷ 73 ∷ [])) ∷ (with 44 (85 ∷ 83 ∷ 66 ∷ 0 ∷ [])) ∷ (with 44 (49 ∷ 51 ∷ 57 ∷ 52 ∷ [])) ∷ (with 44 (70 ∷ 73 ∷ 66 ∷ 82 ∷ 69 ∷ [])) ∷ (with 44 (73 ∷ 50 ∷ 79 ∷ 0 ∷ [])) ∷ (with 44 (73 ∷ 50 ∷ 79 ∷ replicate 5 32)) ∷ (with 44 (73 ∷ 50 ∷ 79 ∷ 0 ∷ 0 ∷ 0 ∷ 0 ∷ 1 ∷ [])) ∷ (with 44 (80 ∷ 67 ∷ 73 ∷ 0 ∷ [])) ∷ (with 44 (replicate 8 0)) ∷ (with 60 (replicate 16 255)) ∷ (with 60 (replicate 16 0)) ∷ (with 16 (replicate 8 0)) ∷ (with 32 (128 ∷ [])) ∷ (with 34 (0 ∷ 0 ∷ [])) ∷ (with 39 (2 ∷ [])) ∷ (with 40 (replicate 4 0)) ∷ (with 2 (1 ∷ [])) ∷ (sets (with 2 (1 ∷ [])) 44 (73 ∷ 50 ∷ 79 ∷ 0 ∷ [])) ∷ (with 2 (0 ∷ [])) ∷ (with 2 (3 ∷ [])) ∷ (with 3 (1 ∷ [])) ∷ [])
+pub wide_rules : map (λ (r : List ℕ). fields_ok (drive_of r)) (own-wide ∷ (with 44 (65 ∷ 84 ∷ 65 ∷ 0 ∷ [])) ∷ (with 44 (65 ∷ 84 ∷ 65 ∷ 80 ∷ 73 ∷ [])) ∷ (with 44 (85 ∷ 83 ∷ 66 ∷ 0 ∷ [])) ∷ (with 44 (49 ∷ 51 ∷ 57 ∷ 52 ∷ [])) ∷ (with 44 (70 ∷ 73 ∷ 66 ∷ 82 ∷ 69 ∷ [])) ∷ (with 44 (73 ∷ 50 ∷ 79 ∷ 0 ∷ [])) ∷ (with 44 (73 ∷ 50 ∷ 79 ∷ replicate 5 32)) ∷ (with 44 (73 ∷ 50 ∷ 79 ∷ 0 ∷ 0 ∷ 0 ∷ 0 ∷ 1 ∷ [])) ∷ (with 44 (80 ∷ 67 ∷ 73 ∷ 0 ∷ [])) ∷ (with 44 (replicate 8 0)) ∷ (with 60 (replicate 16 255)) ∷ (with 60 (replicate 16 0)) ∷ (with 16 (replicate 8 0)) ∷ (with 32 (128 ∷ [])) ∷ (with 34 (0 ∷ 0 ∷ [])) ∷ (with 39 (2 ∷ [])) ∷ (with 40 (replicate 4 0)) ∷ (with 2 (1 ∷ [])) ∷ (sets (with 2 (1 ∷ [])) 44 (73 ∷ 50 ∷ 79 ∷ 0 ∷ [])) ∷ (with 2 (0 ∷ [])) ∷ (with 2 (3 ∷ [])) ∷ (with 3 (1 ∷ [])) ∷ [])
     ≡ true ∷ true ∷ true ∷ true ∷ true ∷ true ∷ true ∷ false ∷ false ∷ false ∷ false ∷ true ∷ true ∷ false ∷ false ∷ false ∷ false ∷ false ∷ true ∷ false ∷ false ∷ false ∷ false ∷ []
-unfolding le inLimits driveOf tailOf same busOk interfaceOk isI2o zeroTail kindOk geometryFits fieldsOk
-wide-rules = refl
+unfolding le in_limits drive_of tail_of same bus_ok interface_ok is_i2o zero_tail kind_ok geometry_fits fields_ok
+wide_rules = refl
 
 -- a drive that no record says: one block, ISA, of a kind, an interface type and a tail
 abbrev literal : ℕ → List ℕ → List ℕ → Drive
@@ -162,26 +162,26 @@ literal k i t = record { cylinders = 0; heads = 0; sectors = 0; blocks = 1; firs
 --   kind 0, no tail: false
 --   kind 3, no tail: false
 --   kind 65537, no tail: false
-pub tails : map fieldsOk (literal 1 ata (replicate 8 0) ∷ literal 1 ata (set (replicate 8 0) 0 1) ∷ literal 1 ata (set (replicate 8 0) 7 1) ∷ literal 2 ata (set (replicate 8 0) 7 1) ∷ literal 2 i2o (set (replicate 8 0) 7 1) ∷ literal 1 i2o (replicate 8 0) ∷ literal 0 ata (replicate 8 0) ∷ literal 3 ata (replicate 8 0) ∷ literal 65537 ata (replicate 8 0) ∷ [])
+pub tails : map fields_ok (literal 1 ata (replicate 8 0) ∷ literal 1 ata (set (replicate 8 0) 0 1) ∷ literal 1 ata (set (replicate 8 0) 7 1) ∷ literal 2 ata (set (replicate 8 0) 7 1) ∷ literal 2 i2o (set (replicate 8 0) 7 1) ∷ literal 1 i2o (replicate 8 0) ∷ literal 0 ata (replicate 8 0) ∷ literal 3 ata (replicate 8 0) ∷ literal 65537 ata (replicate 8 0) ∷ [])
     ≡ true ∷ false ∷ false ∷ true ∷ true ∷ false ∷ false ∷ false ∷ false ∷ []
-unfolding inLimits same busOk interfaceOk isI2o zeroTail kindOk geometryFits fieldsOk
+unfolding in_limits same bus_ok interface_ok is_i2o zero_tail kind_ok geometry_fits fields_ok
 tails = refl
 
 -- I2O is its three letters and five NUL, of either kind
-pub i2os : map isI2o (literal 1 (73 ∷ 50 ∷ 79 ∷ 0 ∷ 0 ∷ 0 ∷ 0 ∷ 0 ∷ []) (replicate 8 0) ∷ literal 2 (73 ∷ 50 ∷ 79 ∷ 0 ∷ 0 ∷ 0 ∷ 0 ∷ 0 ∷ []) (replicate 8 0) ∷ literal 2 (73 ∷ 50 ∷ 79 ∷ replicate 5 32) (replicate 8 0) ∷ literal 2 ata (73 ∷ 50 ∷ 79 ∷ 0 ∷ 0 ∷ 0 ∷ 0 ∷ 0 ∷ []) ∷ []) ≡ true ∷ true ∷ false ∷ false ∷ []
-unfolding isI2o same
+pub i2os : map is_i2o (literal 1 (73 ∷ 50 ∷ 79 ∷ 0 ∷ 0 ∷ 0 ∷ 0 ∷ 0 ∷ []) (replicate 8 0) ∷ literal 2 (73 ∷ 50 ∷ 79 ∷ 0 ∷ 0 ∷ 0 ∷ 0 ∷ 0 ∷ []) (replicate 8 0) ∷ literal 2 (73 ∷ 50 ∷ 79 ∷ replicate 5 32) (replicate 8 0) ∷ literal 2 ata (73 ∷ 50 ∷ 79 ∷ 0 ∷ 0 ∷ 0 ∷ 0 ∷ 0 ∷ []) ∷ []) ≡ true ∷ true ∷ false ∷ false ∷ []
+unfolding is_i2o same
 i2os = refl
 
 -- protected is byte 39, and only 1
-pub protected : map (λ (x : ℕ). isProtected (driveOf (but 38 (1 ∷ x ∷ [])))) (0 ∷ 1 ∷ 2 ∷ []) ≡ false ∷ true ∷ false ∷ []
-unfolding driveOf le
+pub protected : map (λ (x : ℕ). is_protected (drive_of (but 38 (1 ∷ x ∷ [])))) (0 ∷ 1 ∷ 2 ∷ []) ≡ false ∷ true ∷ false ∷ []
+unfolding drive_of le
 protected = refl
 
 -- ---- the rules of the store
 
 -- a drive of n blocks from a store block
 abbrev at : ℕ → ℕ → Drive
-at first n = driveOf (but 16 (le_bytes 8 n ++ le_bytes 8 first))
+at first n = drive_of (but 16 (le_bytes 8 n ++ le_bytes 8 first))
 
 -- the end of the store
 --   7 to 10 in 11: true
@@ -190,8 +190,8 @@ at first n = driveOf (but 16 (le_bytes 8 n ++ le_bytes 8 first))
 --   all of 2^64 - 1 from 0: true
 --   a sum of 2^64, which would wrap to 0: false
 --   a sum of 2^64 + 1, which would wrap to 1: false
-pub ends : inStore (at 7 4) 11 ∷ inStore (at 7 4) 10 ∷ inStore (at 4 7) 11 ∷ inStore (at 0 18446744073709551615) 18446744073709551615 ∷ inStore (at 18446744073709551615 1) 18446744073709551615 ∷ inStore (at 18446744073709551615 2) 1 ∷ [] ≡ true ∷ false ∷ true ∷ true ∷ false ∷ false ∷ []
-unfolding driveOf le le_bytes inStore
+pub ends : in_store (at 7 4) 11 ∷ in_store (at 7 4) 10 ∷ in_store (at 4 7) 11 ∷ in_store (at 0 18446744073709551615) 18446744073709551615 ∷ in_store (at 18446744073709551615 1) 18446744073709551615 ∷ in_store (at 18446744073709551615 2) 1 ∷ [] ≡ true ∷ false ∷ true ∷ true ∷ false ∷ false ∷ []
+unfolding drive_of le le_bytes in_store
 ends = refl
 
 -- two drives
@@ -204,7 +204,7 @@ ends = refl
 --   10 to 19, and 10: true
 --   the last blocks that there are, and the first: false
 pub overlaps : overlap (at 10 10) (at 20 100) ∷ overlap (at 20 100) (at 10 10) ∷ overlap (at 10 10) (at 19 100) ∷ overlap (at 19 100) (at 10 10) ∷ overlap (at 5 100) (at 10 10) ∷ overlap (at 10 10) (at 5 100) ∷ overlap (at 10 10) (at 10 1) ∷ overlap (at 18446744073709551614 1) (at 0 18446744073709551614) ∷ [] ≡ false ∷ false ∷ true ∷ true ∷ true ∷ true ∷ true ∷ false ∷ []
-unfolding driveOf le le_bytes overlap
+unfolding drive_of le le_bytes overlap
 overlaps = refl
 
 -- ---- a blank slot
@@ -213,8 +213,8 @@ overlaps = refl
 abbrev edges : List ℕ
 edges = 4 ∷ 7 ∷ 8 ∷ 11 ∷ 12 ∷ 15 ∷ 16 ∷ 23 ∷ 24 ∷ 31 ∷ 32 ∷ 33 ∷ 34 ∷ 35 ∷ 36 ∷ 37 ∷ 38 ∷ 39 ∷ 40 ∷ 43 ∷ 44 ∷ 51 ∷ 52 ∷ 59 ∷ 60 ∷ 67 ∷ []
 
-pub blanks : isBlank (driveOf (replicate 68 0)) ∷ map (λ (i : ℕ). isBlank (driveOf (set (replicate 68 0) i 1))) edges ≡ true ∷ replicate 26 false
-unfolding driveOf tailOf le same zeroTail blankNumbers blank_names isBlank
+pub blanks : is_blank (drive_of (replicate 68 0)) ∷ map (λ (i : ℕ). is_blank (drive_of (set (replicate 68 0) i 1))) edges ≡ true ∷ replicate 26 false
+unfolding drive_of tail_of le same zero_tail blank_numbers blank_names is_blank
 blanks = refl
 
 -- nor are the kind and the tail, set alone
@@ -228,6 +228,6 @@ only k t = record { cylinders = 0; heads = 0; sectors = 0; blocks = 0; first = 0
 --   kind 256: false
 --   first byte of the tail: false
 --   last byte of the tail: false
-pub wide-blanks : map isBlank (only 0 (replicate 8 0) ∷ only 1 (replicate 8 0) ∷ only 2 (replicate 8 0) ∷ only 256 (replicate 8 0) ∷ only 0 (set (replicate 8 0) 0 1) ∷ only 0 (set (replicate 8 0) 7 1) ∷ []) ≡ true ∷ replicate 5 false
-unfolding same zeroTail blankNumbers blank_names isBlank
-wide-blanks = refl
+pub wide_blanks : map is_blank (only 0 (replicate 8 0) ∷ only 1 (replicate 8 0) ∷ only 2 (replicate 8 0) ∷ only 256 (replicate 8 0) ∷ only 0 (set (replicate 8 0) 0 1) ∷ only 0 (set (replicate 8 0) 7 1) ∷ []) ≡ true ∷ replicate 5 false
+unfolding same zero_tail blank_numbers blank_names is_blank
+wide_blanks = refl

@@ -4,15 +4,15 @@
 use Rattle.std.specs.Prelude.{ℕ, ◌≡◌, List, length, get_or}
 use Rattle.words.specs.Words.{le, part}
 use Rattle.drive.specs.declared.Drive.{Drive}
-use Rattle.drive.specs.Drive.{Fits, driveLength, recordOf}
+use Rattle.drive.specs.Drive.{Fits, drive_length, record_of}
 
 -- ---- "The drive table", the record of kind 1 by offset, and document 02, 2026-06, that of kind 2
 
 -- what the bytes r say at each offset is what the drive d has
 pub record ByOffset (d : Drive) (r : List ℕ) : Type 0 where
   -- 0 word: length, 68 or 76 by the kind; and so many bytes there are
-  pub length-word : le 2 r 0 ≡ driveLength d.kind
-  pub whole : length r ≡ driveLength d.kind
+  pub length_word : le 2 r 0 ≡ drive_length d.kind
+  pub whole : length r ≡ drive_length d.kind
   -- 2 word: the kind
   pub kind : le 2 r 2 ≡ d.kind
   -- 4, 8, 12 double words: physical cylinders, heads, sectors
@@ -41,4 +41,4 @@ pub record ByOffset (d : Drive) (r : List ℕ) : Type 0 where
 
 -- each field of a drive at its offset, under the widths only
 abbrev pub Demand2 : Type 0
-Demand2 = (d : Drive) → Fits d → ByOffset d (recordOf d)
+Demand2 = (d : Drive) → Fits d → ByOffset d (record_of d)

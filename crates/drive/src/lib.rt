@@ -3,12 +3,12 @@ ghost use Rattle.std.specs.Prelude.{◌≡◌, ◌+◌, ◌≤◌, ◌++◌, len
 ghost use Rattle.std.proofs.lemmas.List.Edits.{sets};
 ghost use Rattle.chs.specs.Chs.{size};
 ghost use Rattle.words.specs.Words.{le};
-ghost use Rattle.drive.specs.Drive.{isDriveKind, driveLength, tailOf, driveOf, recordOf, geometryBytes, sizeBytes, nameBytes, busOk, interfaceOk, isI2o, zeroTail, kindOk, geometryOf, geometryFits, fieldsOk, inStore, overlap, isProtected, same, blankNumbers, blank_names, isBlank};
+ghost use Rattle.drive.specs.Drive.{is_drive_kind, drive_length, tail_of, drive_of, record_of, geometry_bytes, size_bytes, name_bytes, bus_ok, interface_ok, is_i2o, zero_tail, kind_ok, geometry_of, geometry_fits, fields_ok, in_store, overlap, is_protected, same, blank_numbers, blank_names, is_blank};
 
 use chs::Geometry;
 
 // The fields of a record in the paper's order. Flags and the protection byte are kept as the table has them.
-#[derive(Drop)]
+#[derive(Clone, Copy)]
 pub struct Drive {
     // physical geometry, any
     pub cylinders: u32,
@@ -47,14 +47,14 @@ pub const WIDE_LENGTH: u16 = 76;
 
 // Whether a kind is that of a drive.
 pub fn is_drive_kind(kind: u16) -> bool
-    ensures { result ≡ isDriveKind kind }
+    ensures { result ≡ is_drive_kind kind }
 {
     logic::or(kind == DRIVE_KIND, kind == WIDE_KIND)
 }
 
 // How long the record of a drive of that kind is.
 pub fn length_of(kind: u16) -> u16
-    ensures { result ≡ driveLength kind }
+    ensures { result ≡ drive_length kind }
 {
     if kind == WIDE_KIND {
         WIDE_LENGTH
@@ -67,8 +67,8 @@ pub fn length_of(kind: u16) -> u16
 
 // The last eight bytes of the device path, of a record of that kind.
 fn tail_of(r: &[u8], kind: u16) -> [u8; 8]
-    requires { (driveLength (le 2 r.now 2) ≤ length r.now) × (kind ≡ le 2 r.now 2) }
-    ensures { result ≡ tailOf r.now }
+    requires { (drive_length (le 2 r.now 2) ≤ length r.now) × (kind ≡ le 2 r.now 2) }
+    ensures { result ≡ tail_of r.now }
 {
     if kind == WIDE_KIND {
         return words::load8(r, 68);
@@ -78,8 +78,8 @@ fn tail_of(r: &[u8], kind: u16) -> [u8; 8]
 
 // The drive of a whole record. The table reader has seen that all bytes of its kind are there.
 pub fn decode(r: &[u8]) -> Drive
-    requires { (68 ≤ length r.now) × (driveLength (le 2 r.now 2) ≤ length r.now) }
-    ensures { result ≡ driveOf r.now }
+    requires { (68 ≤ length r.now) × (drive_length (le 2 r.now 2) ≤ length r.now) }
+    ensures { result ≡ drive_of r.now }
 {
     let kind = words::get16(r, 2);
     Drive {
@@ -105,7 +105,7 @@ pub fn decode(r: &[u8]) -> Drive
 // The three runs of a record of either kind are written in a buffer of 76 bytes, which `encode` makes.
 fn put_geometry(d: Drive, out: &mut [u8])
     requires { 68 ≤ length out.old }
-    ensures { out.new ≡ sets out.old 0 (geometryBytes d) }
+    ensures { out.new ≡ sets out.old 0 (geometry_bytes d) }
 {
     words::store16(out, 0, length_of(d.kind));
     words::store16(out, 2, d.kind);
@@ -116,7 +116,7 @@ fn put_geometry(d: Drive, out: &mut [u8])
 
 fn put_sizes(d: Drive, out: &mut [u8])
     requires { 68 ≤ length out.old }
-    ensures { out.new ≡ sets out.old 16 (sizeBytes d) }
+    ensures { out.new ≡ sets out.old 16 (size_bytes d) }
 {
     words::store64(out, 16, d.blocks);
     words::store64(out, 24, d.first);
@@ -127,7 +127,7 @@ fn put_sizes(d: Drive, out: &mut [u8])
 
 fn put_names(d: Drive, out: &mut [u8])
     requires { 68 ≤ length out.old }
-    ensures { out.new ≡ sets out.old 38 (nameBytes d) }
+    ensures { out.new ≡ sets out.old 38 (name_bytes d) }
 {
     words::put_byte(out, 38, d.s);
     words::put_byte(out, 39, d.protection);
@@ -143,7 +143,7 @@ fn put_names(d: Drive, out: &mut [u8])
 
 // The record of a drive as one of kind 2 would be: the record of kind 1 is its first 68 bytes.
 fn encode(d: Drive) -> [u8; 76]
-    ensures { result ≡ geometryBytes d ++ (sizeBytes d ++ (nameBytes d ++ d.tail)) }
+    ensures { result ≡ geometry_bytes d ++ (size_bytes d ++ (name_bytes d ++ d.tail)) }
 {
     let tail = d.tail;
     let mut r = [0u8; 76];
@@ -156,15 +156,15 @@ fn encode(d: Drive) -> [u8; 76]
 
 // How long the record of a drive is.
 pub fn record_length(d: Drive) -> usize
-    ensures { (result ≡ length (recordOf d)) × (result ≡ driveLength d.kind) × (result ≤ 76) }
+    ensures { (result ≡ length (record_of d)) × (result ≡ drive_length d.kind) × (result ≤ 76) }
 {
     length_of(d.kind) as usize
 }
 
 // The record of a drive, laid from a place on; there is room for it.
 pub fn put_record(d: Drive, out: &mut [u8], at: usize)
-    requires { at + length (recordOf d) ≤ length out.old }
-    ensures { out.new ≡ sets out.old at (recordOf d) }
+    requires { at + length (record_of d) ≤ length out.old }
+    ensures { out.new ≡ sets out.old at (record_of d) }
 {
     let n = record_length(d);
     let r = encode(d);
@@ -193,14 +193,14 @@ const FIBRE: u64 = 0x0045_5242_4946;
 const I2O: u64 = 0x004F_3249;
 
 fn bus_ok(b: [u8; 4]) -> bool
-    ensures { result ≡ busOk b }
+    ensures { result ≡ bus_ok b }
 {
     let v = words::value4(b);
     logic::or(v == ISA, v == PCI)
 }
 
 fn interface_ok(b: [u8; 8]) -> bool
-    ensures { result ≡ interfaceOk b }
+    ensures { result ≡ interface_ok b }
 {
     let v = words::value8(b);
     logic::or(
@@ -217,7 +217,7 @@ fn interface_ok(b: [u8; 8]) -> bool
 
 // The interface type is I2O, which only a drive of kind 2 has.
 pub fn is_i2o(d: Drive) -> bool
-    ensures { result ≡ isI2o d }
+    ensures { result ≡ is_i2o d }
 {
     let interface = d.interface;
     words::value8(interface) == I2O
@@ -225,7 +225,7 @@ pub fn is_i2o(d: Drive) -> bool
 
 // The last eight bytes of the device path are zero.
 pub fn zero_tail(d: Drive) -> bool
-    ensures { result ≡ zeroTail d }
+    ensures { result ≡ zero_tail d }
 {
     let tail = d.tail;
     blank8(tail)
@@ -233,7 +233,7 @@ pub fn zero_tail(d: Drive) -> bool
 
 // What the kind allows: the interface types, and what stands behind the device path's eighth byte.
 fn kind_ok(d: Drive) -> bool
-    ensures { result ≡ kindOk d }
+    ensures { result ≡ kind_ok d }
 {
     let interface = d.interface;
     let six = interface_ok(interface);
@@ -245,7 +245,7 @@ fn kind_ok(d: Drive) -> bool
 
 // C, H and S of the record.
 pub fn geometry_of(d: Drive) -> Geometry
-    ensures { result ≡ geometryOf d }
+    ensures { result ≡ geometry_of d }
 {
     Geometry {
         c: d.c as u32,
@@ -256,13 +256,13 @@ pub fn geometry_of(d: Drive) -> Geometry
 
 // C x H x S, whatever the fields are; three numbers of 16, 16 and 8 bits fit in 64.
 pub fn geometry_size(d: Drive) -> u64
-    ensures { result ≡ size (geometryOf d) }
+    ensures { result ≡ size (geometry_of d) }
 {
     d.c as u64 * d.h as u64 * d.s as u64
 }
 
 fn geometry_fits(d: Drive) -> bool
-    ensures { result ≡ geometryFits d }
+    ensures { result ≡ geometry_fits d }
 {
     let n = geometry_size(d);
     logic::and(chs::in_limits(geometry_of(d)), n <= d.blocks)
@@ -270,7 +270,7 @@ fn geometry_fits(d: Drive) -> bool
 
 // Every field is as the table's rules say.
 pub fn fields_ok(d: Drive) -> bool
-    ensures { result ≡ fieldsOk d }
+    ensures { result ≡ fields_ok d }
 {
     let bus = d.bus;
     let names = logic::and(bus_ok(bus), kind_ok(d));
@@ -285,7 +285,7 @@ pub fn fields_ok(d: Drive) -> bool
 
 // The drive ends inside a store of that many blocks.
 pub fn in_store(d: Drive, store: u64) -> bool
-    ensures { result ≡ inStore d store }
+    ensures { result ≡ in_store d store }
 {
     logic::ends_by(d.first, d.blocks, store)
 }
@@ -303,7 +303,7 @@ pub fn overlaps(a: Drive, b: Drive) -> bool
 
 // Byte 39 says that the drive is protected.
 pub fn is_protected(d: Drive) -> bool
-    ensures { result ≡ isProtected d }
+    ensures { result ≡ is_protected d }
 {
     d.protection == 1
 }
@@ -321,7 +321,7 @@ fn blank8(a: [u8; 8]) -> bool
 }
 
 fn blank_numbers(d: Drive) -> bool
-    ensures { result ≡ blankNumbers d }
+    ensures { result ≡ blank_numbers d }
 {
     let physical = logic::and(d.cylinders == 0, logic::and(d.heads == 0, d.sectors == 0));
     let run = logic::and(d.blocks == 0, d.first == 0);
@@ -348,7 +348,7 @@ fn blank_names(d: Drive) -> bool
 
 // Every field is zero.
 pub fn is_blank(d: Drive) -> bool
-    ensures { result ≡ isBlank d }
+    ensures { result ≡ is_blank d }
 {
     logic::and(blank_numbers(d), blank_names(d))
 }

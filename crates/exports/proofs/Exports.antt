@@ -10,72 +10,72 @@ use Rattle.logic.specs.Logic.{pick, both}
 use Rattle.drive.specs.declared.Drive.{Drive}
 use Rattle.attached.specs.declared.Bads.{Bads}
 use Rattle.table.specs.declared.Table.{Table}
-use Rattle.int13.specs.Placement.{tableCount}
-use Rattle.int13.specs.Steps.{firstDrive, isDrive, driveAt, badsOf}
+use Rattle.int13.specs.Placement.{table_count}
+use Rattle.int13.specs.Steps.{first_drive, is_drive, drive_at, bads_of}
 use Rattle.desk.specs.declared.Stage.{Stage}
 use Rattle.desk.specs.declared.Desk.{Desk}
 use Rattle.desk.specs.declared.Next.{Next}
-use Rattle.desk.specs.Parts.{stageAt, withStage, isWaiting, next, withPointer, withPlacement}
+use Rattle.desk.specs.Parts.{stage_at, with_stage, is_waiting, next, with_pointer, with_placement}
 use Rattle.desk.specs.Acceptable.{accept}
-use Rattle.desk.specs.Calls.{houseNumber, firstWaiting}
-use Rattle.desk.proofs.AcceptableLaws.{accept-true}
-use Rattle.image.specs.Image.{readDesk, deskOf, accepted, laid, putStage, putPointer, putPlacement}
+use Rattle.desk.specs.Calls.{house_number, first_waiting}
+use Rattle.desk.proofs.AcceptableLaws.{accept_true}
+use Rattle.image.specs.Image.{read_desk, desk_of, accepted, laid, put_stage, put_pointer, put_placement}
 use Rattle.image.proofs.ImageLaws.{AcceptedBlock, accepted-read}
 use Rattle.image.proofs.Puts.{put-stage, put_both, put-placement}
 
-pub block : (b : List ℕ) → accept (deskOf b) ≡ true → AcceptedBlock b
+pub block : (b : List ℕ) → accept (desk_of b) ≡ true → AcceptedBlock b
 unfolding accepted
 block b a = accepted-read b a
 
 -- any tests that follow are not looked at where the block is none
-pub no-desk : {n : ℕ} (b : List ℕ) (l g : Bool) → n ≡ houseNumber false false false → accept (deskOf b) ≡ false → n ≡ houseNumber (accept (deskOf b)) l g
-unfolding houseNumber
-no-desk b l g e bad = rw bad e
+pub no_desk : {n : ℕ} (b : List ℕ) (l g : Bool) → n ≡ house_number false false false → accept (desk_of b) ≡ false → n ≡ house_number (accept (desk_of b)) l g
+unfolding house_number
+no_desk b l g e bad = rw bad e
 
-module _ (b : List ℕ) (a : accept (deskOf b) ≡ true) where
+module _ (b : List ℕ) (a : accept (desk_of b) ≡ true) where
   -- ---- what is read
 
-  pub lent-read : {l : Bool} (arena store : ℕ) → l ≡ both (eqb arena (readDesk b).arena) (eqb store (readDesk b).store) → l ≡ both (eqb arena (deskOf b).arena) (eqb store (deskOf b).store)
-  lent-read arena store e = e ∙ ap (λ (d : Desk). both (eqb arena d.arena) (eqb store d.store)) (sym (block b a).desk)
+  pub lent_read : {l : Bool} (arena store : ℕ) → l ≡ both (eqb arena (read_desk b).arena) (eqb store (read_desk b).store) → l ≡ both (eqb arena (desk_of b).arena) (eqb store (desk_of b).store)
+  lent_read arena store e = e ∙ ap (λ (d : Desk). both (eqb arena d.arena) (eqb store d.store)) (sym (block b a).desk)
 
-  pub pointer_read : (readDesk b).pointer < 8
-  pointer_read = (accept-true (readDesk b) (block b a).accept).pointer
+  pub pointer_read : (read_desk b).pointer < 8
+  pointer_read = (accept_true (read_desk b) (block b a).accept).pointer
 
-  pub next-read : {n : Next} → n ≡ firstWaiting (readDesk b).rows 8 (readDesk b).pointer → n ≡ firstWaiting (deskOf b).rows 8 (deskOf b).pointer
-  next-read e = e ∙ ap (λ (d : Desk). firstWaiting d.rows 8 d.pointer) (sym (block b a).desk)
+  pub next-read : {n : Next} → n ≡ first_waiting (read_desk b).rows 8 (read_desk b).pointer → n ≡ first_waiting (desk_of b).rows 8 (desk_of b).pointer
+  next-read e = e ∙ ap (λ (d : Desk). first_waiting d.rows 8 d.pointer) (sym (block b a).desk)
 
-  pub stage-read : {s : Stage} (g : ℕ) → s ≡ stageAt (readDesk b) g → s ≡ stageAt (deskOf b) g
-  stage-read g e = e ∙ ap (λ (d : Desk). stageAt d g) (sym (block b a).desk)
+  pub stage_read : {s : Stage} (g : ℕ) → s ≡ stage_at (read_desk b) g → s ≡ stage_at (desk_of b) g
+  stage_read g e = e ∙ ap (λ (d : Desk). stage_at d g) (sym (block b a).desk)
 
-  pub waiting-read : {w : Bool} (g : ℕ) → w ≡ isWaiting (stageAt (readDesk b) g) → w ≡ isWaiting (stageAt (deskOf b) g)
-  waiting-read g e = e ∙ ap (λ (d : Desk). isWaiting (stageAt d g)) (sym (block b a).desk)
+  pub waiting_read : {w : Bool} (g : ℕ) → w ≡ is_waiting (stage_at (read_desk b) g) → w ≡ is_waiting (stage_at (desk_of b) g)
+  waiting_read g e = e ∙ ap (λ (d : Desk). is_waiting (stage_at d g)) (sym (block b a).desk)
 
-  pub tables-read : {n : ℕ} → n ≡ tableCount (readDesk b).table → n ≡ tableCount (deskOf b).table
-  tables-read e = e ∙ ap (λ (d : Desk). tableCount d.table) (sym (block b a).desk)
+  pub tables-read : {n : ℕ} → n ≡ table_count (read_desk b).table → n ≡ table_count (desk_of b).table
+  tables-read e = e ∙ ap (λ (d : Desk). table_count d.table) (sym (block b a).desk)
 
-  pub table-read : {t : Table} → t ≡ (readDesk b).table → t ≡ (deskOf b).table
+  pub table-read : {t : Table} → t ≡ (read_desk b).table → t ≡ (desk_of b).table
   table-read e = e ∙ ap (λ (d : Desk). d.table) (sym (block b a).desk)
 
-  pub drive-read : {x : Drive} (n : ℕ) → x ≡ driveAt (readDesk b).table (pick (isDrive (readDesk b).table n) n firstDrive)
-      → isDrive (deskOf b).table n ≡ true → x ≡ driveAt (deskOf b).table n
+  pub drive-read : {x : Drive} (n : ℕ) → x ≡ drive_at (read_desk b).table (pick (is_drive (read_desk b).table n) n first_drive)
+      → is_drive (desk_of b).table n ≡ true → x ≡ drive_at (desk_of b).table n
   drive-read n e k =
       let r = (block b a).desk in
-      let known : isDrive (readDesk b).table n ≡ true = ap (λ (d : Desk). isDrive d.table n) (sym r) ∙ k in
-      e ∙ ap (λ (t : Bool). driveAt (readDesk b).table (pick t n firstDrive)) known ∙ ap (λ (d : Desk). driveAt d.table n) (sym r)
+      let known : is_drive (read_desk b).table n ≡ true = ap (λ (d : Desk). is_drive d.table n) (sym r) ∙ k in
+      e ∙ ap (λ (t : Bool). drive_at (read_desk b).table (pick t n first_drive)) known ∙ ap (λ (d : Desk). drive_at d.table n) (sym r)
 
-  pub bads-read : {l : Bads} (n : ℕ) → l ≡ badsOf (readDesk b).table n → l ≡ badsOf (deskOf b).table n
-  bads-read n e = e ∙ ap (λ (d : Desk). badsOf d.table n) (sym (block b a).desk)
+  pub bads_read : {l : Bads} (n : ℕ) → l ≡ bads_of (read_desk b).table n → l ≡ bads_of (desk_of b).table n
+  bads_read n e = e ∙ ap (λ (d : Desk). bads_of d.table n) (sym (block b a).desk)
 
   -- ---- what is written
 
-  pub put-row : {c : List ℕ} (g : ℕ) (s : Stage) → g < 8 → c ≡ putStage b g s → c ≡ laid b (withStage (deskOf b) g s)
+  pub put_row : {c : List ℕ} (g : ℕ) (s : Stage) → g < 8 → c ≡ put_stage b g s → c ≡ laid b (with_stage (desk_of b) g s)
   unfolding accepted
-  put-row g s h e = e ∙ put-stage b a g s h
+  put_row g s h e = e ∙ put-stage b a g s h
 
-  pub put-turn : {c : List ℕ} (g : ℕ) (s : Stage) → g < 8 → c ≡ putPointer (putStage b g s) (next g) → c ≡ laid b (withPointer (withStage (deskOf b) g s) (next g))
+  pub put_turn : {c : List ℕ} (g : ℕ) (s : Stage) → g < 8 → c ≡ put_pointer (put_stage b g s) (next g) → c ≡ laid b (with_pointer (with_stage (desk_of b) g s) (next g))
   unfolding accepted
-  put-turn g s h e = e ∙ put_both b a g s (next g) h
+  put_turn g s h e = e ∙ put_both b a g s (next g) h
 
-  pub put-place : {c : List ℕ} (g address : ℕ) → g < 8 → c ≡ putPlacement b g address → c ≡ laid b (withPlacement (deskOf b) g address)
+  pub put_place : {c : List ℕ} (g address : ℕ) → g < 8 → c ≡ put_placement b g address → c ≡ laid b (with_placement (desk_of b) g address)
   unfolding accepted
-  put-place g address h e = e ∙ put-placement b a g address h
+  put_place g address h e = e ∙ put-placement b a g address h

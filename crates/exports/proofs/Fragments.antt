@@ -10,77 +10,77 @@ use lib.Dec.{ltb, eqb}
 use borrow.Author.Tests.{eq-eqb}
 use Rattle.logic.specs.Logic.{pick}
 use Rattle.words.specs.Words.{Bytes}
-use Rattle.memory.specs.Blocks.{blockLength}
+use Rattle.memory.specs.Blocks.{block_length}
 use Rattle.table.specs.declared.Table.{Table}
 use Rattle.table.specs.declared.Answer.{Answer}
 use Rattle.table.specs.declared.Answer.TheVariants.{Accepted, Refused}
 use Rattle.table.specs.declared.Written.TheVariants.{Bytes as WrittenBytes, Refused as WriteRefused}
-use Rattle.table.specs.Table.{readTable, table_of, answerNumbers, writtenNumbers, writeAnswer, writeOut}
+use Rattle.table.specs.Table.{read_table, table_of, answer_numbers, written_numbers, write_answer, write_out}
 use Rattle.table.proofs.WriteRead.{write-read-table}
 use Rattle.feed.specs.declared.Feed.{Feed}
 use Rattle.feed.specs.declared.Fed.{Fed}
 use Rattle.feed.specs.declared.Fed.TheVariants.{More, Accepted as FedAccepted, Refused as FedRefused}
-use Rattle.feed.specs.Feed.{opened, feedAll, feeds, endFeed, answer_of, fedNumbers}
+use Rattle.feed.specs.Feed.{opened, feed_all, feeds, end_feed, answer_of, fed_numbers}
 use Rattle.feed.specs.Arrives.{joined, told, so_far, Arrives}
 use Rattle.feed.proofs.Arrives.{arrives}
-use Rattle.reader.specs.Reader.{image, readerSize, readReader, accept, accepted, laid, FitsReader, ImageOf}
+use Rattle.reader.specs.Reader.{image, reader_size, read_reader, accept, accepted, laid, FitsReader, ImageOf}
 use Rattle.reader.proofs.Exact.{exact}
 use Rattle.reader.proofs.Keeps.{fed-accepted, end-accepted, opened-accepted}
-use Rattle.exports.specs.Exports.{Effect, effect, over, readerOpenCall, readerEffect, readerFeedCall, readerEndCall, readerWriteEffect, readerWriteCall}
-use Rattle.exports.specs.Fragments.{leaves, fedBlock, arrived, endedBlock, whole, EachBytes, Fragments, EveryFragments}
+use Rattle.exports.specs.Exports.{Effect, effect, over, reader_open_call, reader_effect, reader_feed_call, reader_end_call, reader_write_effect, reader_write_call}
+use Rattle.exports.specs.Fragments.{leaves, fed_block, arrived, ended_block, whole, EachBytes, Fragments, EveryFragments}
 use Rattle.exports.proofs.Readers.{reader-size}
 
 -- ---- calls at the block of a reader
 
 -- a reader laid out in a block of the size
-laid-is : (b : List ℕ) (f : Feed) → length b ≡ readerSize → laid b f ≡ image f
+laid-is : (b : List ℕ) (f : Feed) → length b ≡ reader_size → laid b f ≡ image f
 unfolding laid
-laid-is b f e = rw (eq-eqb (length b) readerSize e)
+laid-is b f e = rw (eq-eqb (length b) reader_size e)
 
 module _ {b : List ℕ} {f : Feed} (i : ImageOf b f) where
-  size : length b ≡ readerSize
+  size : length b ≡ reader_size
   size = reader-size b (exact.every b f i).0
 
-  feed-is : (l : List ℕ) (place : ℕ) → readerFeedCall b l place ≡ effect (over (fedNumbers (answer_of (feedAll f l))) (0 ∷ place ∷ [])) (image (feedAll f l) ∷ [])
-  unfolding readerFeedCall
-  feed-is l place = rw ((exact.every b f i).0, (exact.every b f i).1, laid-is b (feedAll f l) size)
+  feed_is : (l : List ℕ) (place : ℕ) → reader_feed_call b l place ≡ effect (over (fed_numbers (answer_of (feed_all f l))) (0 ∷ place ∷ [])) (image (feed_all f l) ∷ [])
+  unfolding reader_feed_call
+  feed_is l place = rw ((exact.every b f i).0, (exact.every b f i).1, laid-is b (feed_all f l) size)
 
-  end_is : (place : ℕ) → readerEndCall b place ≡ effect (over (fedNumbers (answer_of (endFeed f))) (0 ∷ place ∷ [])) (image (endFeed f) ∷ [])
-  unfolding readerEndCall
-  end_is place = rw ((exact.every b f i).0, (exact.every b f i).1, laid-is b (endFeed f) size)
+  end_is : (place : ℕ) → reader_end_call b place ≡ effect (over (fed_numbers (answer_of (end_feed f))) (0 ∷ place ∷ [])) (image (end_feed f) ∷ [])
+  unfolding reader_end_call
+  end_is place = rw ((exact.every b f i).0, (exact.every b f i).1, laid-is b (end_feed f) size)
 
-  write-is : (out : List ℕ) (written : ℕ) → readerWriteCall b out written ≡ readerWriteEffect (answer_of f) f out written
-  unfolding readerWriteCall
+  write-is : (out : List ℕ) (written : ℕ) → reader_write_call b out written ≡ reader_write_effect (answer_of f) f out written
+  unfolding reader_write_call
   write-is out written = rw ((exact.every b f i).0, (exact.every b f i).1)
 
-  fed-image : (l : List ℕ) (place : ℕ) → Bytes l → ImageOf (leaves (readerFeedCall b l place)) (feedAll f l)
+  fed-image : (l : List ℕ) (place : ℕ) → Bytes l → ImageOf (leaves (reader_feed_call b l place)) (feed_all f l)
   fed-image l place h =
       let k = fed-accepted f l i.fits i.acceptable h in
-      record { fits = k.0; acceptable = k.1; image = sym (ap leaves (feed-is l place)) }
+      record { fits = k.0; acceptable = k.1; image = sym (ap leaves (feed_is l place)) }
 
-  end-image : (place : ℕ) → ImageOf (leaves (readerEndCall b place)) (endFeed f)
+  end-image : (place : ℕ) → ImageOf (leaves (reader_end_call b place)) (end_feed f)
   end-image place =
       let k = end-accepted f i.fits i.acceptable in
       record { fits = k.0; acceptable = k.1; image = sym (ap leaves (end_is place)) }
 
-open-image : (b : List ℕ) (store : ℕ) → length b ≡ readerSize → store < 256 ^ 8 → ImageOf (leaves (readerOpenCall b store)) (opened (store / blockLength))
-unfolding readerOpenCall
+open-image : (b : List ℕ) (store : ℕ) → length b ≡ reader_size → store < 256 ^ 8 → ImageOf (leaves (reader_open_call b store)) (opened (store / block_length))
+unfolding reader_open_call
 open-image b store e h =
-    let k = opened-accepted (store / blockLength) (omega arith) in
-    record { fits = k.0; acceptable = k.1; image = rw (eq-eqb (length b) readerSize e) (sym (laid-is b (opened (store / blockLength)) e)) }
+    let k = opened-accepted (store / block_length) (omega arith) in
+    record { fits = k.0; acceptable = k.1; image = rw (eq-eqb (length b) reader_size e) (sym (laid-is b (opened (store / block_length)) e)) }
 
 -- fragments, a call for each
-fed-images : {b : List ℕ} {f : Feed} (fs : List (List ℕ)) → ImageOf b f → EachBytes fs → ImageOf (fedBlock b fs) (feeds f fs)
-unfolding fedBlock feeds
-fed-images [] i h = i
-fed-images (l ∷ ls) i h = fed-images ls (fed-image i l 0 h.0) h.1
+fed_images : {b : List ℕ} {f : Feed} (fs : List (List ℕ)) → ImageOf b f → EachBytes fs → ImageOf (fed_block b fs) (feeds f fs)
+unfolding fed_block feeds
+fed_images [] i h = i
+fed_images (l ∷ ls) i h = fed_images ls (fed-image i l 0 h.0) h.1
 
 -- ---- one fragment more
 
-feeds-more : (f : Feed) (fs : List (List ℕ)) (l : List ℕ) → feedAll (feeds f fs) l ≡ feeds f (fs ++ (l ∷ []))
+feeds-more : (f : Feed) (fs : List (List ℕ)) (l : List ℕ) → feed_all (feeds f fs) l ≡ feeds f (fs ++ (l ∷ []))
 unfolding feeds
 feeds-more f [] l = refl
-feeds-more f (k ∷ ks) l = feeds-more (feedAll f k) ks l
+feeds-more f (k ∷ ks) l = feeds-more (feed_all f k) ks l
 
 joined-more : (fs : List (List ℕ)) (l : List ℕ) → joined fs ++ l ≡ joined (fs ++ (l ∷ []))
 unfolding joined
@@ -101,75 +101,75 @@ bytes-joined (l ∷ ls) h i = bytes-append l (joined ls) h.0 (bytes-joined ls h.
 
 -- ---- the answers
 
-told-numbers : (a : Answer) → fedNumbers (told a) ≡ answerNumbers a
-unfolding fedNumbers answerNumbers
+told-numbers : (a : Answer) → fed_numbers (told a) ≡ answer_numbers a
+unfolding fed_numbers answer_numbers
 told-numbers Accepted = refl
 told-numbers (Refused n at) = refl
 
 -- a table written, by its bytes
 written_is : {b : Table} {t : List ℕ} (f : Feed) (out : List ℕ) (written : ℕ) → f.table ≡ b → table_of b ≡ t
-    → readerWriteEffect FedAccepted f out written
+    → reader_write_effect FedAccepted f out written
     ≡ pick (ltb (length out) (length t)) (effect (19 ∷ written ∷ []) (out ∷ [])) (effect (0 ∷ length t ∷ []) ((t ++ drop (length t) out) ∷ []))
-unfolding readerWriteEffect writeAnswer writeOut over writtenNumbers
-written_is {b} {t} f out written e q = rw (e, q) (by-room (ltb (length out) (length t)))
+unfolding reader_write_effect write_answer write_out over written_numbers
+written_is {b} {t} f out written e q = rw (e, q) (by_room (ltb (length out) (length t)))
   where
-    by-room : (x : Bool) → effect (over (writtenNumbers (pick x (WriteRefused 19) (WrittenBytes (length t)))) (0 ∷ written ∷ [])) (pick x out (t ++ drop (length t) out) ∷ [])
+    by_room : (x : Bool) → effect (over (written_numbers (pick x (WriteRefused 19) (WrittenBytes (length t)))) (0 ∷ written ∷ [])) (pick x out (t ++ drop (length t) out) ∷ [])
         ≡ pick x (effect (19 ∷ written ∷ []) (out ∷ [])) (effect (0 ∷ length t ∷ []) ((t ++ drop (length t) out) ∷ []))
-    by-room true = refl
-    by-room false = refl
+    by_room true = refl
+    by_room false = refl
 
-unwritten-is : (f : Feed) (out : List ℕ) (written n at : ℕ) → readerWriteEffect (FedRefused n at) f out written ≡ effect (n ∷ written ∷ []) (out ∷ [])
-unfolding readerWriteEffect
+unwritten-is : (f : Feed) (out : List ℕ) (written n at : ℕ) → reader_write_effect (FedRefused n at) f out written ≡ effect (n ∷ written ∷ []) (out ∷ [])
+unfolding reader_write_effect
 unwritten-is f out written n at = refl
 
-early-is : (f : Feed) (out : List ℕ) (written : ℕ) → readerWriteEffect More f out written ≡ effect (256 ∷ written ∷ []) (out ∷ [])
-unfolding readerWriteEffect
+early-is : (f : Feed) (out : List ℕ) (written : ℕ) → reader_write_effect More f out written ≡ effect (256 ∷ written ∷ []) (out ∷ [])
+unfolding reader_write_effect
 early-is f out written = refl
 
-refused-numbers : (n at place : ℕ) → over (fedNumbers (FedRefused n at)) (0 ∷ place ∷ []) ≡ n ∷ at ∷ []
-unfolding over fedNumbers
+refused-numbers : (n at place : ℕ) → over (fed_numbers (FedRefused n at)) (0 ∷ place ∷ []) ≡ n ∷ at ∷ []
+unfolding over fed_numbers
 refused-numbers n at place = refl
 
 -- ---- the theorem
 
 pub fragments : EveryFragments
 fragments b store fs e h each =
-    let n : ℕ = store / blockLength in
+    let n : ℕ = store / block_length in
     let f : Feed = feeds (opened n) fs in
-    let i : ImageOf (arrived b store fs) f = fed-images fs (open-image b store e h) each in
-    let j : ImageOf (endedBlock b store fs) (endFeed f) = end-image i 0 in
+    let i : ImageOf (arrived b store fs) f = fed_images fs (open-image b store e h) each in
+    let j : ImageOf (ended_block b store fs) (end_feed f) = end-image i 0 in
     let a : Arrives n fs = arrives n fs in
     record {
       fed = λ l k place.
-          ap (λ (x : Effect). x.numbers) (feed-is i l place)
-          ∙ ap (λ (x : Fed). over (fedNumbers x) (0 ∷ place ∷ []))
-          (ap answer_of (feeds-more (opened n) fs l) ∙ (arrives n (fs ++ (l ∷ []))).before ∙ ap (λ (t : List ℕ). so_far (readTable t n).answer) (sym (joined-more fs l)));
+          ap (λ (x : Effect). x.numbers) (feed_is i l place)
+          ∙ ap (λ (x : Fed). over (fed_numbers x) (0 ∷ place ∷ []))
+          (ap answer_of (feeds-more (opened n) fs l) ∙ (arrives n (fs ++ (l ∷ []))).before ∙ ap (λ (t : List ℕ). so_far (read_table t n).answer) (sym (joined-more fs l)));
       stays = λ m at q l place.
           let said : answer_of f ≡ FedRefused m at = a.before ∙ q in
-          feed-is i l place
-          ∙ ap (λ (g : Feed). effect (over (fedNumbers (answer_of g)) (0 ∷ place ∷ [])) (image g ∷ [])) ((a.refused m at said).fed l)
-          ∙ (λ k. effect ((ap (λ (x : Fed). over (fedNumbers x) (0 ∷ place ∷ [])) said ∙ refused-numbers m at place) k) (i.image k ∷ []));
+          feed_is i l place
+          ∙ ap (λ (g : Feed). effect (over (fed_numbers (answer_of g)) (0 ∷ place ∷ [])) (image g ∷ [])) ((a.refused m at said).fed l)
+          ∙ (λ k. effect ((ap (λ (x : Fed). over (fed_numbers x) (0 ∷ place ∷ [])) said ∙ refused-numbers m at place) k) (i.image k ∷ []));
       end = λ place.
           ap (λ (x : Effect). x.numbers) (end_is i place)
-          ∙ ap (λ (x : List ℕ). over x (0 ∷ place ∷ [])) (ap fedNumbers a.answer ∙ told-numbers (whole fs store).answer);
+          ∙ ap (λ (x : List ℕ). over x (0 ∷ place ∷ [])) (ap fed_numbers a.answer ∙ told-numbers (whole fs store).answer);
       after = λ l place.
-          feed-is j l place
-          ∙ ap (λ (g : Feed). effect (over (fedNumbers (answer_of g)) (0 ∷ place ∷ [])) (image g ∷ [])) (a.ended.fed l)
-          ∙ (λ k. effect (over ((ap fedNumbers a.answer ∙ told-numbers (whole fs store).answer) k) (0 ∷ place ∷ [])) (j.image k ∷ []));
+          feed_is j l place
+          ∙ ap (λ (g : Feed). effect (over (fed_numbers (answer_of g)) (0 ∷ place ∷ [])) (image g ∷ [])) (a.ended.fed l)
+          ∙ (λ k. effect (over ((ap fed_numbers a.answer ∙ told-numbers (whole fs store).answer) k) (0 ∷ place ∷ [])) (j.image k ∷ []));
       again = λ place.
           end_is j place
-          ∙ ap (λ (g : Feed). effect (over (fedNumbers (answer_of g)) (0 ∷ place ∷ [])) (image g ∷ [])) a.ended.end
-          ∙ (λ k. effect (over ((ap fedNumbers a.answer ∙ told-numbers (whole fs store).answer) k) (0 ∷ place ∷ [])) (j.image k ∷ []));
+          ∙ ap (λ (g : Feed). effect (over (fed_numbers (answer_of g)) (0 ∷ place ∷ [])) (image g ∷ [])) a.ended.end
+          ∙ (λ k. effect (over ((ap fed_numbers a.answer ∙ told-numbers (whole fs store).answer) k) (0 ∷ place ∷ [])) (j.image k ∷ []));
       early = λ q out written.
-          write-is i out written ∙ ap (λ (x : Fed). readerWriteEffect x f out written) (a.before ∙ q) ∙ early-is f out written;
+          write-is i out written ∙ ap (λ (x : Fed). reader_write_effect x f out written) (a.before ∙ q) ∙ early-is f out written;
       unwritten = λ m at q out written.
-          write-is i out written ∙ ap (λ (x : Fed). readerWriteEffect x f out written) (a.before ∙ q) ∙ unwritten-is f out written m at;
+          write-is i out written ∙ ap (λ (x : Fed). reader_write_effect x f out written) (a.before ∙ q) ∙ unwritten-is f out written m at;
       written = λ q out written.
           write-is j out written
-          ∙ ap (λ (x : Fed). readerWriteEffect x (endFeed f) out written) (a.answer ∙ ap told q)
-          ∙ written_is (endFeed f) out written a.drives (write-read-table (joined fs) n (bytes-joined fs each) q);
+          ∙ ap (λ (x : Fed). reader_write_effect x (end_feed f) out written) (a.answer ∙ ap told q)
+          ∙ written_is (end_feed f) out written a.drives (write-read-table (joined fs) n (bytes-joined fs each) q);
       refused = λ m at q out written.
           write-is j out written
-          ∙ ap (λ (x : Fed). readerWriteEffect x (endFeed f) out written) (a.answer ∙ ap told q)
-          ∙ unwritten-is (endFeed f) out written m at;
+          ∙ ap (λ (x : Fed). reader_write_effect x (end_feed f) out written) (a.answer ∙ ap told q)
+          ∙ unwritten-is (end_feed f) out written m at;
     }

@@ -6,15 +6,15 @@ ghost use Rattle.std.specs.Prelude.{◌≡◌, List, [], ◌∷◌, ◌+◌, ◌
 ghost use Rattle.logic.specs.Logic.{pick, both};
 ghost use Rattle.memory.specs.Window.{guests};
 ghost use Rattle.int13.specs.Steps.{fed, begin};
-ghost use Rattle.desk.specs.Parts.{ownWindow, withOwn, next, placementAt};
+ghost use Rattle.desk.specs.Parts.{own_window, with_own, next, placement_at};
 ghost use Rattle.desk.specs.Acceptable.{accept};
-ghost use Rattle.desk.specs.Calls.{houseNumber};
-ghost use Rattle.int13.specs.Answers.{registerNumbers};
-ghost use Rattle.table.specs.Table.{writtenNumbers, writeAnswer, writeOut};
-ghost use Rattle.feed.specs.Feed.{answer_of, fedNumbers};
-ghost use Rattle.reader.specs.Reader.{readerSize};
-ghost use Rattle.image.specs.Image.{deskSize, readDesk, deskOf, putStage, putPointer};
-ghost use Rattle.exports.specs.Exports.{version, effect, over, openCall, writeCall, postCall, turnCall, collectCall, withdrawCall, placeCall, readerOpenCall, readerFeedCall, readerEndCall, readerWriteCall, windowCall, blockCall, addressCall, upCall, downCall};
+ghost use Rattle.desk.specs.Calls.{house_number};
+ghost use Rattle.int13.specs.Answers.{register_numbers};
+ghost use Rattle.table.specs.Table.{written_numbers, write_answer, write_out};
+ghost use Rattle.feed.specs.Feed.{answer_of, fed_numbers};
+ghost use Rattle.reader.specs.Reader.{reader_size};
+ghost use Rattle.image.specs.Image.{desk_size, read_desk, desk_of, put_stage, put_pointer};
+ghost use Rattle.exports.specs.Exports.{version, effect, over, open_call, write_call, post_call, turn_call, collect_call, withdraw_call, place_call, reader_open_call, reader_feed_call, reader_end_call, reader_write_call, window_call, block_call, address_call, up_call, down_call};
 
 use chs::{Address, Geometry, ToAddress, ToBlock};
 use desk::{Desk, Next, OpenAnswer, Request, Stage};
@@ -58,7 +58,7 @@ pub extern "C" fn edd_version() -> u32
 
 #[unsafe(no_mangle)]
 pub extern "C" fn edd_desk_size() -> u64
-    ensures { result ≡ deskSize }
+    ensures { result ≡ desk_size }
 {
     image::SIZE as u64
 }
@@ -71,7 +71,7 @@ pub extern "C" fn edd_open(
     store: u64,
     place: &mut u64,
 ) -> u32
-    ensures { effect (result ∷ place.new ∷ []) (desk.new ∷ []) ≡ openCall desk.old table.now arena store place.old }
+    ensures { effect (result ∷ place.new ∷ []) (desk.new ∷ []) ≡ open_call desk.old table.now arena store place.old }
 {
     if desk.len() != image::SIZE {
         return NOT_ACCEPTABLE;
@@ -92,7 +92,7 @@ pub extern "C" fn edd_open(
 
 #[unsafe(no_mangle)]
 pub extern "C" fn edd_write(desk: &[u8], out: &mut [u8], written: &mut u64) -> u32
-    ensures { effect (result ∷ written.new ∷ []) (out.new ∷ []) ≡ writeCall desk.now out.old written.old }
+    ensures { effect (result ∷ written.new ∷ []) (out.new ∷ []) ≡ write_call desk.now out.old written.old }
 {
     let number = desk::house_number(image::acceptable(desk), true, true);
     if number != 0 {
@@ -110,7 +110,7 @@ pub extern "C" fn edd_write(desk: &[u8], out: &mut [u8], written: &mut u64) -> u
 
 // A table's drives written into a buffer.
 fn write_out(b: Table, out: &mut [u8], written: &mut u64) -> u32
-    ensures { (result ∷ written.new ∷ [] ≡ over (writtenNumbers (writeAnswer b (length out.old))) (0 ∷ written.old ∷ [])) × (out.new ≡ writeOut b out.old) }
+    ensures { (result ∷ written.new ∷ [] ≡ over (written_numbers (write_answer b (length out.old))) (0 ∷ written.old ∷ [])) × (out.new ≡ write_out b out.old) }
 {
     let answer = table::write_table(b, out);
     match answer {
@@ -124,7 +124,7 @@ fn write_out(b: Table, out: &mut [u8], written: &mut u64) -> u32
 
 // The house number that a call comes to before it looks at a row, 0 where it passes.
 fn number_at(desk: &[u8], arena: usize, store: usize, guest: u64) -> u8
-    ensures { result ≡ houseNumber (accept (deskOf desk.now)) (both (eqb arena (deskOf desk.now).arena) (eqb store (deskOf desk.now).store)) (ltb guest guests) }
+    ensures { result ≡ house_number (accept (desk_of desk.now)) (both (eqb arena (desk_of desk.now).arena) (eqb store (desk_of desk.now).store)) (ltb guest guests) }
 {
     if !image::acceptable(desk) {
         return desk::house_number(false, false, false);
@@ -134,8 +134,8 @@ fn number_at(desk: &[u8], arena: usize, store: usize, guest: u64) -> u8
 
 // The steps of a post over the one drive that DL names.
 fn steps_at(desk: &[u8], guest: usize, r: Registers, window: &mut [u8]) -> Outcome
-    requires { (length desk.now ≡ deskSize) × (guest < guests) }
-    ensures { (result ≡ (begin (fed (readDesk desk.now).table (placementAt (readDesk desk.now) guest)) r window.old).outcome) × (window.new ≡ (begin (fed (readDesk desk.now).table (placementAt (readDesk desk.now) guest)) r window.old).window) }
+    requires { (length desk.now ≡ desk_size) × (guest < guests) }
+    ensures { (result ≡ (begin (fed (read_desk desk.now).table (placement_at (read_desk desk.now) guest)) r window.old).outcome) × (window.new ≡ (begin (fed (read_desk desk.now).table (placement_at (read_desk desk.now) guest)) r window.old).window) }
 {
     let n = int13::dl(r);
     let known = image::is_drive(desk, n);
@@ -148,8 +148,8 @@ fn steps_at(desk: &[u8], guest: usize, r: Registers, window: &mut [u8]) -> Outco
 
 // The same in the guest's window of the arena.
 fn begun(desk: &[u8], guest: usize, r: Registers, arena: &mut [u8]) -> Outcome
-    requires { (length desk.now ≡ deskSize) × (guest < guests) }
-    ensures { (result ≡ (begin (fed (readDesk desk.now).table (placementAt (readDesk desk.now) guest)) r (ownWindow arena.old guest)).outcome) × (arena.new ≡ withOwn arena.old guest (begin (fed (readDesk desk.now).table (placementAt (readDesk desk.now) guest)) r (ownWindow arena.old guest)).window) }
+    requires { (length desk.now ≡ desk_size) × (guest < guests) }
+    ensures { (result ≡ (begin (fed (read_desk desk.now).table (placement_at (read_desk desk.now) guest)) r (own_window arena.old guest)).outcome) × (arena.new ≡ with_own arena.old guest (begin (fed (read_desk desk.now).table (placement_at (read_desk desk.now) guest)) r (own_window arena.old guest)).window) }
 {
     let m = memory::window_length(arena.len());
     let span = memory::span_of(arena.len(), guest, m);
@@ -179,7 +179,7 @@ pub extern "C" fn edd_post(
     es: u16,
     carry: &mut u16,
 ) -> u32
-    ensures { effect (result ∷ ax.new ∷ bx.new ∷ cx.new ∷ dx.new ∷ carry.new ∷ []) (desk.new ∷ arena.new ∷ []) ≡ postCall desk.old arena.old store.now guest ax.old bx.old cx.old dx.old ds si es carry.old }
+    ensures { effect (result ∷ ax.new ∷ bx.new ∷ cx.new ∷ dx.new ∷ carry.new ∷ []) (desk.new ∷ arena.new ∷ []) ≡ post_call desk.old arena.old store.now guest ax.old bx.old cx.old dx.old ds si es carry.old }
 {
     let registers = Registers {
         ax: *ax,
@@ -219,8 +219,8 @@ pub extern "C" fn edd_post(
 
 // The served row and the pointer behind it.
 fn put_served(desk: &mut [u8], guest: usize, stage: Stage)
-    requires { (length desk.old ≡ deskSize) × (guest < guests) }
-    ensures { desk.new ≡ putPointer (putStage desk.old guest stage) (next guest) }
+    requires { (length desk.old ≡ desk_size) × (guest < guests) }
+    ensures { desk.new ≡ put_pointer (put_stage desk.old guest stage) (next guest) }
 {
     image::put_stage(desk, guest, stage);
     image::put_pointer(desk, (guest + 1) % memory::GUESTS);
@@ -234,7 +234,7 @@ pub extern "C" fn edd_turn(
     guest: &mut u64,
     moved: &mut u64,
 ) -> u32
-    ensures { effect (result ∷ guest.new ∷ moved.new ∷ []) (desk.new ∷ arena.new ∷ store.new ∷ []) ≡ turnCall desk.old arena.old store.old guest.old moved.old }
+    ensures { effect (result ∷ guest.new ∷ moved.new ∷ []) (desk.new ∷ arena.new ∷ store.new ∷ []) ≡ turn_call desk.old arena.old store.old guest.old moved.old }
 {
     // A turn names no guest: 0 passes that test.
     let number = number_at(desk, arena.len(), store.len(), 0);
@@ -272,7 +272,7 @@ fn hand(
     es: &mut u16,
     carry: &mut u16,
 )
-    ensures { ax.new ∷ bx.new ∷ cx.new ∷ dx.new ∷ ds.new ∷ si.new ∷ es.new ∷ carry.new ∷ [] ≡ registerNumbers r }
+    ensures { ax.new ∷ bx.new ∷ cx.new ∷ dx.new ∷ ds.new ∷ si.new ∷ es.new ∷ carry.new ∷ [] ≡ register_numbers r }
 {
     *ax = r.ax;
     *bx = r.bx;
@@ -297,7 +297,7 @@ pub extern "C" fn edd_collect(
     es: &mut u16,
     carry: &mut u16,
 ) -> u32
-    ensures { effect (result ∷ ax.new ∷ bx.new ∷ cx.new ∷ dx.new ∷ ds.new ∷ si.new ∷ es.new ∷ carry.new ∷ []) (desk.new ∷ []) ≡ collectCall desk.old guest (ax.old ∷ bx.old ∷ cx.old ∷ dx.old ∷ ds.old ∷ si.old ∷ es.old ∷ carry.old ∷ []) }
+    ensures { effect (result ∷ ax.new ∷ bx.new ∷ cx.new ∷ dx.new ∷ ds.new ∷ si.new ∷ es.new ∷ carry.new ∷ []) (desk.new ∷ []) ≡ collect_call desk.old guest (ax.old ∷ bx.old ∷ cx.old ∷ dx.old ∷ ds.old ∷ si.old ∷ es.old ∷ carry.old ∷ []) }
 {
     let number = desk::house_number(image::acceptable(desk), true, guest < GUESTS);
     if number != 0 {
@@ -328,7 +328,7 @@ pub extern "C" fn edd_withdraw(
     es: &mut u16,
     carry: &mut u16,
 ) -> u32
-    ensures { effect (result ∷ ax.new ∷ bx.new ∷ cx.new ∷ dx.new ∷ ds.new ∷ si.new ∷ es.new ∷ carry.new ∷ []) (desk.new ∷ arena.new ∷ []) ≡ withdrawCall desk.old arena.old store.now guest (ax.old ∷ bx.old ∷ cx.old ∷ dx.old ∷ ds.old ∷ si.old ∷ es.old ∷ carry.old ∷ []) }
+    ensures { effect (result ∷ ax.new ∷ bx.new ∷ cx.new ∷ dx.new ∷ ds.new ∷ si.new ∷ es.new ∷ carry.new ∷ []) (desk.new ∷ arena.new ∷ []) ≡ withdraw_call desk.old arena.old store.now guest (ax.old ∷ bx.old ∷ cx.old ∷ dx.old ∷ ds.old ∷ si.old ∷ es.old ∷ carry.old ∷ []) }
 {
     let number = number_at(desk, arena.len(), store.len(), guest);
     if number != 0 {
@@ -354,7 +354,7 @@ pub extern "C" fn edd_place(
     guest: u64,
     address: u64,
 ) -> u32
-    ensures { effect (result ∷ []) (desk.new ∷ arena.new ∷ []) ≡ placeCall desk.old arena.old store.now guest address }
+    ensures { effect (result ∷ []) (desk.new ∷ arena.new ∷ []) ≡ place_call desk.old arena.old store.now guest address }
 {
     let number = number_at(desk, arena.len(), store.len(), guest);
     if number != 0 {
@@ -377,14 +377,14 @@ pub extern "C" fn edd_place(
 
 #[unsafe(no_mangle)]
 pub extern "C" fn edd_reader_size() -> u64
-    ensures { result ≡ readerSize }
+    ensures { result ≡ reader_size }
 {
     reader::SIZE as u64
 }
 
 #[unsafe(no_mangle)]
 pub extern "C" fn edd_reader_open(reader: &mut [u8], store: u64) -> u32
-    ensures { effect (result ∷ []) (reader.new ∷ []) ≡ readerOpenCall reader.old store }
+    ensures { effect (result ∷ []) (reader.new ∷ []) ≡ reader_open_call reader.old store }
 {
     if reader.len() != reader::SIZE {
         return NO_READER;
@@ -396,7 +396,7 @@ pub extern "C" fn edd_reader_open(reader: &mut [u8], store: u64) -> u32
 
 // The number of what a reader says, and its place where it is refused.
 fn say(f: Feed, place: &mut u64) -> u32
-    ensures { result ∷ place.new ∷ [] ≡ over (fedNumbers (answer_of f)) (0 ∷ place.old ∷ []) }
+    ensures { result ∷ place.new ∷ [] ≡ over (fed_numbers (answer_of f)) (0 ∷ place.old ∷ []) }
 {
     let answer = f.answer();
     match answer {
@@ -411,7 +411,7 @@ fn say(f: Feed, place: &mut u64) -> u32
 
 #[unsafe(no_mangle)]
 pub extern "C" fn edd_reader_feed(reader: &mut [u8], bytes: &[u8], place: &mut u64) -> u32
-    ensures { effect (result ∷ place.new ∷ []) (reader.new ∷ []) ≡ readerFeedCall reader.old bytes.now place.old }
+    ensures { effect (result ∷ place.new ∷ []) (reader.new ∷ []) ≡ reader_feed_call reader.old bytes.now place.old }
 {
     if !reader::acceptable(reader) {
         return NO_READER;
@@ -423,7 +423,7 @@ pub extern "C" fn edd_reader_feed(reader: &mut [u8], bytes: &[u8], place: &mut u
 
 #[unsafe(no_mangle)]
 pub extern "C" fn edd_reader_end(reader: &mut [u8], place: &mut u64) -> u32
-    ensures { effect (result ∷ place.new ∷ []) (reader.new ∷ []) ≡ readerEndCall reader.old place.old }
+    ensures { effect (result ∷ place.new ∷ []) (reader.new ∷ []) ≡ reader_end_call reader.old place.old }
 {
     if !reader::acceptable(reader) {
         return NO_READER;
@@ -435,7 +435,7 @@ pub extern "C" fn edd_reader_end(reader: &mut [u8], place: &mut u64) -> u32
 
 #[unsafe(no_mangle)]
 pub extern "C" fn edd_reader_write(reader: &[u8], out: &mut [u8], written: &mut u64) -> u32
-    ensures { effect (result ∷ written.new ∷ []) (out.new ∷ []) ≡ readerWriteCall reader.now out.old written.old }
+    ensures { effect (result ∷ written.new ∷ []) (out.new ∷ []) ≡ reader_write_call reader.now out.old written.old }
 {
     if !reader::acceptable(reader) {
         return NO_READER;
@@ -454,7 +454,7 @@ pub extern "C" fn edd_reader_write(reader: &[u8], out: &mut [u8], written: &mut 
 
 #[unsafe(no_mangle)]
 pub extern "C" fn edd_window(arena: u64, guest: u64, start: &mut u64, length: &mut u64) -> u32
-    ensures { effect (result ∷ start.new ∷ length.new ∷ []) [] ≡ windowCall arena guest }
+    ensures { effect (result ∷ start.new ∷ length.new ∷ []) [] ≡ window_call arena guest }
 {
     let n = arena as usize;
     let span = memory::span_of(n, guest as usize, memory::window_length(n));
@@ -473,7 +473,7 @@ pub extern "C" fn edd_block(
     sector: u32,
     block: &mut u32,
 ) -> u32
-    ensures { effect (result ∷ block.new ∷ []) [] ≡ blockCall (record { c = cylinders; h = heads; s = sectors }) (record { cylinder = cylinder; head = head; sector = sector }) block.old }
+    ensures { effect (result ∷ block.new ∷ []) [] ≡ block_call (record { c = cylinders; h = heads; s = sectors }) (record { cylinder = cylinder; head = head; sector = sector }) block.old }
 {
     let g = Geometry {
         c: cylinders,
@@ -505,7 +505,7 @@ pub extern "C" fn edd_address(
     head: &mut u32,
     sector: &mut u32,
 ) -> u32
-    ensures { effect (result ∷ cylinder.new ∷ head.new ∷ sector.new ∷ []) [] ≡ addressCall (record { c = cylinders; h = heads; s = sectors }) block cylinder.old head.old sector.old }
+    ensures { effect (result ∷ cylinder.new ∷ head.new ∷ sector.new ∷ []) [] ≡ address_call (record { c = cylinders; h = heads; s = sectors }) block cylinder.old head.old sector.old }
 {
     let g = Geometry {
         c: cylinders,
@@ -526,14 +526,14 @@ pub extern "C" fn edd_address(
 
 #[unsafe(no_mangle)]
 pub extern "C" fn edd_convert_up(bytes: &[u8], out: &mut [u8]) -> u32
-    ensures { effect (result ∷ []) (out.new ∷ []) ≡ upCall bytes.now out.old }
+    ensures { effect (result ∷ []) (out.new ∷ []) ≡ up_call bytes.now out.old }
 {
     convert::up(bytes, out) as u32
 }
 
 #[unsafe(no_mangle)]
 pub extern "C" fn edd_convert_down(bytes: &[u8], out: &mut [u8]) -> u32
-    ensures { effect (result ∷ []) (out.new ∷ []) ≡ downCall bytes.now out.old }
+    ensures { effect (result ∷ []) (out.new ∷ []) ≡ down_call bytes.now out.old }
 {
     convert::down(bytes, out) as u32
 }

@@ -16,15 +16,15 @@ use Rattle.table.specs.declared.Step.TheVariants.{Next, Done, Refused as StepRef
 use Rattle.table.specs.declared.Stepped.{Stepped}
 use Rattle.table.specs.declared.Answer.TheVariants.{Accepted as TableAccepted, Refused as TableRefused}
 use Rattle.table.specs.declared.Reading.{Reading as TableReading}
-use Rattle.table.specs.Table.{stepped, stepAt, reading, goOn, readFrom, readTable, nextPlace}
+use Rattle.table.specs.Table.{stepped, step_at, reading, go_on, read_from, read_table, next_place}
 use Rattle.table.proofs.Enough.{one_more}
-use Rattle.table.proofs.Sound.{So, so-empty}
-use Rattle.table.proofs.Places.{Taken, Steps, place-empty, place-most, begin-few, Begin, begin-none, begin-last, begun-cases}
+use Rattle.table.proofs.Sound.{So, so_empty}
+use Rattle.table.proofs.Places.{Taken, Steps, place_empty, place-most, begin-few, Begin, begin-none, begin_last, begun-cases}
 use Rattle.feed.specs.declared.Course.{Course}
 use Rattle.feed.specs.declared.Course.TheVariants.{Reading, Closed, Accepted, Refused}
 use Rattle.feed.specs.declared.Feed.{Feed}
 use Rattle.feed.specs.declared.Fed.TheVariants.{More, Refused as FedRefused}
-use Rattle.feed.specs.Feed.{opened, cleared, heldWith, holding, afterStep, heldByte, byCourse, feedByte, feedAll, feeds, endBy, endFeed, refusedAt, answerBy, answer_of}
+use Rattle.feed.specs.Feed.{opened, cleared, held_with, holding, after_step, held_byte, by_course, feed_byte, feed_all, feeds, end_by, end_feed, refused_at, answer_by, answer_of}
 use Rattle.feed.proofs.FeedLaws.{refused-fed, accepted-fed}
 use Rattle.feed.specs.Arrives.{joined, told, so_far, Settles, Stays, Arrives}
 
@@ -34,22 +34,22 @@ use Rattle.feed.specs.Arrives.{joined, told, so_far, Settles, Stays, Arrives}
 record IsReading (t : List ℕ) (f : Feed) : Type 0 where
   so : So f.store f.table
   room : length f.held ≡ 134
-  all : length t ≡ nextPlace f.table + f.filled
-  rest : drop (nextPlace f.table) t ≡ take f.filled f.held
+  all : length t ≡ next_place f.table + f.filled
+  rest : drop (next_place f.table) t ≡ take f.filled f.held
   part : Begin (take f.filled f.held)
-  reads : (q : List ℕ) → readFrom 25 (t ++ q) f.store (nextPlace f.table) f.table ≡ readTable (t ++ q) f.store
+  reads : (q : List ℕ) → read_from 25 (t ++ q) f.store (next_place f.table) f.table ≡ read_table (t ++ q) f.store
 
 -- behind the end record: a table, and 8 with any byte more
 record IsClosed (t : List ℕ) (f : Feed) : Type 0 where
-  whole : readTable t f.store ≡ reading TableAccepted f.table
-  byte : (x : ℕ) (q : List ℕ) → readTable (t ++ (x ∷ q)) f.store ≡ reading (TableRefused 8 (nextPlace f.table + 4)) f.table
+  whole : read_table t f.store ≡ reading TableAccepted f.table
+  byte : (x : ℕ) (q : List ℕ) → read_table (t ++ (x ∷ q)) f.store ≡ reading (TableRefused 8 (next_place f.table + 4)) f.table
   few : length t ≤ 1844
   bare : f.filled ≡ 0
 
 -- refused: so is whatever they begin
 record IsRefused (n : ℕ) (t : List ℕ) (f : Feed) : Type 0 where
   other : n ≢ 1
-  reads : (q : List ℕ) → readTable (t ++ q) f.store ≡ reading (TableRefused n (refusedAt n f.table)) f.table
+  reads : (q : List ℕ) → read_table (t ++ q) f.store ≡ reading (TableRefused n (refused_at n f.table)) f.table
   bare : f.filled ≡ 0
 
 -- by the course; no bytes alone lead to acceptance
@@ -66,25 +66,25 @@ record Tracks (store : ℕ) (t : List ℕ) (f : Feed) : Type 0 where
 -- ---- a byte more
 
 -- a reading by its first step
-read_step : (s : Stepped) (t : List ℕ) (store at : ℕ) (b : Table) → stepAt t at b store ≡ s → readFrom 25 t store at b ≡ goOn s.step s.table (readFrom 24 t store)
-unfolding readFrom
+read_step : (s : Stepped) (t : List ℕ) (store at : ℕ) (b : Table) → step_at t at b store ≡ s → read_from 25 t store at b ≡ go_on s.step s.table (read_from 24 t store)
+unfolding read_from
 read_step s t store at b e = rw e
 
 module _ (t : List ℕ) (f : Feed) (x : ℕ) (i : IsReading t f) where
   abbrev at : ℕ
-  at = nextPlace f.table
+  at = next_place f.table
 
   abbrev bytes : List ℕ
   bytes = t ++ (x ∷ [])
 
   abbrev begins : List ℕ
-  begins = take (f.filled + 1) (heldWith f x)
+  begins = take (f.filled + 1) (held_with f x)
 
-  in-room : f.filled < 134
-  in-room = omega (arith, begin-few (take f.filled f.held) i.part, length-take f.filled f.held, i.room)
+  in_room : f.filled < 134
+  in_room = omega (arith, begin-few (take f.filled f.held) i.part, length-take f.filled f.held, i.room)
 
   begins-whole : begins ≡ take f.filled f.held ++ (x ∷ [])
-  begins-whole = rw add-one (take-suc-set f.held f.filled x (omega (arith, in-room, i.room)))
+  begins-whole = rw add-one (take-suc-set f.held f.filled x (omega (arith, in_room, i.room)))
 
   all-bytes : length bytes ≡ at + (f.filled + 1)
   all-bytes = omega (arith, length-append t (x ∷ []), i.all)
@@ -95,7 +95,7 @@ module _ (t : List ℕ) (f : Feed) (x : ℕ) (i : IsReading t f) where
   follows_on : (q : List ℕ) → drop at (bytes ++ q) ≡ begins ++ q
   follows_on q = drop-append-le at bytes q (omega (arith, all-bytes)) ∙ ap (λ (l : List ℕ). l ++ q) follows
 
-  on : (q : List ℕ) → readFrom 25 (bytes ++ q) f.store at f.table ≡ readTable (bytes ++ q) f.store
+  on : (q : List ℕ) → read_from 25 (bytes ++ q) f.store at f.table ≡ read_table (bytes ++ q) f.store
   on q = rw (append_assoc t (x ∷ []) q) (i.reads ((x ∷ []) ++ q))
 
   byte-stays : Begin begins → Tracks f.store bytes (holding f x)
@@ -107,15 +107,15 @@ module _ (t : List ℕ) (f : Feed) (x : ℕ) (i : IsReading t f) where
 
   byte-refused : (n : ℕ) → n ≢ 1 → n ≢ 8 → Steps begins f.table f.store (λ (p : ℕ). stepped (StepRefused n p) f.table)
       → Tracks f.store bytes (cleared f f.table (Refused n))
-  unfolding refusedAt
+  unfolding refused_at
   byte-refused n z y steps =
       record {
         kept = refl;
         by = record { other = z; reads = λ q. rw (ne_eqb n 8 y) (sym (on q) ∙ read_step _ (bytes ++ q) f.store at f.table (steps (bytes ++ q) q at (follows_on q))); bare = refl };
       }
 
-  byte-closed : length begins ≡ 4 → ((s : List ℕ) (p : ℕ) → drop p s ≡ begins → stepAt s p f.table f.store ≡ stepped Done f.table)
-      → ((s : List ℕ) (p y : ℕ) (q : List ℕ) → drop p s ≡ begins ++ (y ∷ q) → stepAt s p f.table f.store ≡ stepped (StepRefused 8 (p + 4)) f.table)
+  byte-closed : length begins ≡ 4 → ((s : List ℕ) (p : ℕ) → drop p s ≡ begins → step_at s p f.table f.store ≡ stepped Done f.table)
+      → ((s : List ℕ) (p y : ℕ) (q : List ℕ) → drop p s ≡ begins ++ (y ∷ q) → step_at s p f.table f.store ≡ stepped (StepRefused 8 (p + 4)) f.table)
       → Tracks f.store bytes (cleared f f.table Closed)
   byte-closed l last more =
       record {
@@ -132,7 +132,7 @@ module _ (t : List ℕ) (f : Feed) (x : ℕ) (i : IsReading t f) where
   byte-taken : (m : ℕ) (next : Table) → length begins ≡ m → Taken f.store m f.table next → Steps begins f.table f.store (λ (p : ℕ). stepped (Next (p + m)) next)
       → Tracks f.store bytes (cleared f next Reading)
   byte-taken m next l k steps =
-      let n : length bytes ≡ nextPlace next = omega (arith, k.place, length-drop at bytes, ap length follows, l, all-bytes) in
+      let n : length bytes ≡ next_place next = omega (arith, k.place, length-drop at bytes, ap length follows, l, all-bytes) in
       record {
         kept = refl;
         by =
@@ -140,7 +140,7 @@ module _ (t : List ℕ) (f : Feed) (x : ℕ) (i : IsReading t f) where
               so = k.so;
               room = refl;
               all = omega arith;
-              rest = drop_of_length-le bytes {i = nextPlace next} (omega arith);
+              rest = drop_of_length-le bytes {i = next_place next} (omega arith);
               part = begin-none;
               reads = λ q.
                   rw k.place (one_more 24 (bytes ++ q) f.store (at + m) next k.so.marks k.so.counts k.some
@@ -148,147 +148,147 @@ module _ (t : List ℕ) (f : Feed) (x : ℕ) (i : IsReading t f) where
             };
       }
 
-  byte-held : Tracks f.store bytes (heldByte f x)
-  unfolding heldByte afterStep
+  byte-held : Tracks f.store bytes (held_byte f x)
+  unfolding held_byte after_step
   byte-held =
-      begun-cases (λ (s : Stepped). Tracks f.store bytes (afterStep f x s.step s.table)) (take f.filled f.held) x begins f.table f.store begins-whole i.so i.part
+      begun-cases (λ (s : Stepped). Tracks f.store bytes (after_step f x s.step s.table)) (take f.filled f.held) x begins f.table f.store begins-whole i.so i.part
       byte-stays
       (λ n z y steps. rw (ne_eqb n 1 z) (byte-refused n z y steps))
       byte-closed
       byte-taken
 
-byte-by : (t : List ℕ) (f : Feed) (x : ℕ) (c : Course) → f.course ≡ c → By c t f → Tracks f.store (t ++ (x ∷ [])) (byCourse c f x)
-unfolding byCourse refusedAt
-byte-by t f x Reading e i = rw (lt-ltb f.filled 134 (in-room t f x i)) (byte-held t f x i)
-byte-by t f x Closed e i = record { kept = refl; by = record { other = λ z. omega arith; reads = λ q. rw (append_assoc t (x ∷ []) q) (i.byte x q); bare = refl } }
-byte-by t f x Accepted e i = absurd i
-byte-by t f x (Refused n) e i = record { kept = refl; by = rw e (record { other = i.other; reads = λ q. rw (append_assoc t (x ∷ []) q) (i.reads ((x ∷ []) ++ q)); bare = i.bare }) }
+byte_by : (t : List ℕ) (f : Feed) (x : ℕ) (c : Course) → f.course ≡ c → By c t f → Tracks f.store (t ++ (x ∷ [])) (by_course c f x)
+unfolding by_course refused_at
+byte_by t f x Reading e i = rw (lt-ltb f.filled 134 (in_room t f x i)) (byte-held t f x i)
+byte_by t f x Closed e i = record { kept = refl; by = record { other = λ z. omega arith; reads = λ q. rw (append_assoc t (x ∷ []) q) (i.byte x q); bare = refl } }
+byte_by t f x Accepted e i = absurd i
+byte_by t f x (Refused n) e i = record { kept = refl; by = rw e (record { other = i.other; reads = λ q. rw (append_assoc t (x ∷ []) q) (i.reads ((x ∷ []) ++ q)); bare = i.bare }) }
 
 -- ---- a fragment, and fragments
 
-tracks-byte : (store : ℕ) (t : List ℕ) (f : Feed) (x : ℕ) → Tracks store t f → Tracks store (t ++ (x ∷ [])) (feedByte f x)
-unfolding feedByte
-tracks-byte store t f x s = subst (λ (n : ℕ). Tracks n (t ++ (x ∷ [])) (feedByte f x)) s.kept (byte-by t f x f.course refl s.by)
+tracks_byte : (store : ℕ) (t : List ℕ) (f : Feed) (x : ℕ) → Tracks store t f → Tracks store (t ++ (x ∷ [])) (feed_byte f x)
+unfolding feed_byte
+tracks_byte store t f x s = subst (λ (n : ℕ). Tracks n (t ++ (x ∷ [])) (feed_byte f x)) s.kept (byte_by t f x f.course refl s.by)
 
-tracks-all : (store : ℕ) (l t : List ℕ) (f : Feed) → Tracks store t f → Tracks store (t ++ l) (feedAll f l)
-unfolding feedAll
-tracks-all store [] t f s = rw (append-nil t) s
-tracks-all store (x ∷ l) t f s =
-    subst (λ (u : List ℕ). Tracks store u (feedAll (feedByte f x) l)) (append_assoc t (x ∷ []) l) (tracks-all store l (t ++ (x ∷ [])) (feedByte f x) (tracks-byte store t f x s))
+tracks_all : (store : ℕ) (l t : List ℕ) (f : Feed) → Tracks store t f → Tracks store (t ++ l) (feed_all f l)
+unfolding feed_all
+tracks_all store [] t f s = rw (append-nil t) s
+tracks_all store (x ∷ l) t f s =
+    subst (λ (u : List ℕ). Tracks store u (feed_all (feed_byte f x) l)) (append_assoc t (x ∷ []) l) (tracks_all store l (t ++ (x ∷ [])) (feed_byte f x) (tracks_byte store t f x s))
 
-tracks-feeds : (store : ℕ) (fs : List (List ℕ)) (t : List ℕ) (f : Feed) → Tracks store t f → Tracks store (t ++ joined fs) (feeds f fs)
+tracks_feeds : (store : ℕ) (fs : List (List ℕ)) (t : List ℕ) (f : Feed) → Tracks store t f → Tracks store (t ++ joined fs) (feeds f fs)
 unfolding feeds joined
-tracks-feeds store [] t f s = rw (append-nil t) s
-tracks-feeds store (l ∷ fs) t f s =
-    subst (λ (u : List ℕ). Tracks store u (feeds (feedAll f l) fs)) (append_assoc t l (joined fs)) (tracks-feeds store fs (t ++ l) (feedAll f l) (tracks-all store l t f s))
+tracks_feeds store [] t f s = rw (append-nil t) s
+tracks_feeds store (l ∷ fs) t f s =
+    subst (λ (u : List ℕ). Tracks store u (feeds (feed_all f l) fs)) (append_assoc t l (joined fs)) (tracks_feeds store fs (t ++ l) (feed_all f l) (tracks_all store l t f s))
 
-tracks-opened : (store : ℕ) → Tracks store [] (opened store)
-unfolding opened readTable
-tracks-opened store =
+tracks_opened : (store : ℕ) → Tracks store [] (opened store)
+unfolding opened read_table
+tracks_opened store =
     record {
       kept = refl;
       by =
           record {
-            so = so-empty store;
+            so = so_empty store;
             room = refl;
-            all = omega (arith, place-empty);
-            rest = rw place-empty;
+            all = omega (arith, place_empty);
+            rest = rw place_empty;
             part = begin-none;
-            reads = λ q. rw place-empty;
+            reads = λ q. rw place_empty;
           };
     }
 
 -- ---- readers that ignore further bytes
 
 refused-stays : (n : ℕ) (f : Feed) → f.course ≡ Refused n → Stays f
-unfolding endFeed endBy
-refused-stays n f e = record { fed = refused-fed n f e; end = ap (λ (c : Course). endBy c f) e }
+unfolding end_feed end_by
+refused-stays n f e = record { fed = refused-fed n f e; end = ap (λ (c : Course). end_by c f) e }
 
 accepted-stays : (f : Feed) → f.course ≡ Accepted → Stays f
-unfolding endFeed endBy
-accepted-stays f e = record { fed = accepted-fed f e; end = ap (λ (c : Course). endBy c f) e }
+unfolding end_feed end_by
+accepted-stays f e = record { fed = accepted-fed f e; end = ap (λ (c : Course). end_by c f) e }
 
 -- ---- what each course says of the reading of the bytes so far
 
 module _ (t : List ℕ) (f : Feed) where
   -- while it reads they are cut off
-  cut : IsReading t f → readTable t f.store ≡ reading (TableRefused 1 (nextPlace f.table)) f.table
+  cut : IsReading t f → read_table t f.store ≡ reading (TableRefused 1 (next_place f.table)) f.table
   cut i =
-      rw append-nil at (sym (i.reads [])) ∙ read_step _ t f.store (nextPlace f.table) f.table
-      (begin-last t (take f.filled f.held) (nextPlace f.table) f.table f.store i.rest i.part)
+      rw append-nil at (sym (i.reads [])) ∙ read_step _ t f.store (next_place f.table) f.table
+      (begin_last t (take f.filled f.held) (next_place f.table) f.table f.store i.rest i.part)
 
-  refusal : (n : ℕ) → IsRefused n t f → readTable t f.store ≡ reading (TableRefused n (refusedAt n f.table)) f.table
+  refusal : (n : ℕ) → IsRefused n t f → read_table t f.store ≡ reading (TableRefused n (refused_at n f.table)) f.table
   refusal n i = rw append-nil at (i.reads [])
 
-  answer-by : (c : Course) → f.course ≡ c → By c t f → answer_of (endBy c f) ≡ told (readTable t f.store).answer
-  unfolding endBy answer_of answerBy refusedAt
+  answer-by : (c : Course) → f.course ≡ c → By c t f → answer_of (end_by c f) ≡ told (read_table t f.store).answer
+  unfolding end_by answer_of answer_by refused_at
   answer-by Reading e i = rw (cut i)
   answer-by Closed e i = rw i.whole
   answer-by Accepted e i = absurd i
   answer-by (Refused n) e i = rw (refusal n i, e)
 
-  drives-by : (c : Course) → By c t f → (endBy c f).table ≡ (readTable t f.store).table
-  unfolding endBy
-  drives-by Reading i = rw (cut i)
-  drives-by Closed i = rw i.whole
-  drives-by Accepted i = absurd i
-  drives-by (Refused n) i = rw (refusal n i)
+  drives_by : (c : Course) → By c t f → (end_by c f).table ≡ (read_table t f.store).table
+  unfolding end_by
+  drives_by Reading i = rw (cut i)
+  drives_by Closed i = rw i.whole
+  drives_by Accepted i = absurd i
+  drives_by (Refused n) i = rw (refusal n i)
 
-  ended_by : (c : Course) → f.course ≡ c → By c t f → Stays (endBy c f)
-  unfolding endBy
+  ended_by : (c : Course) → f.course ≡ c → By c t f → Stays (end_by c f)
+  unfolding end_by
   ended_by Reading e i = refused-stays 1 (cleared f f.table (Refused 1)) refl
   ended_by Closed e i = accepted-stays (cleared f f.table Accepted) refl
   ended_by Accepted e i = absurd i
   ended_by (Refused n) e i = refused-stays n f e
 
-  before-by : (c : Course) → By c t f → answerBy c f.table ≡ so_far (readTable t f.store).answer
-  unfolding answerBy
-  before-by Reading i = rw (cut i)
-  before-by Closed i = rw i.whole
-  before-by Accepted i = absurd i
-  before-by (Refused n) i = rw (refusal n i, ne_eqb n 1 i.other)
+  before_by : (c : Course) → By c t f → answer_by c f.table ≡ so_far (read_table t f.store).answer
+  unfolding answer_by
+  before_by Reading i = rw (cut i)
+  before_by Closed i = rw i.whole
+  before_by Accepted i = absurd i
+  before_by (Refused n) i = rw (refusal n i, ne_eqb n 1 i.other)
 
-  taken-by : (c : Course) → By c t f → f.table ≡ (readTable t f.store).table
-  taken-by Reading i = rw (cut i)
-  taken-by Closed i = rw i.whole
-  taken-by Accepted i = absurd i
-  taken-by (Refused n) i = rw (refusal n i)
+  taken_by : (c : Course) → By c t f → f.table ≡ (read_table t f.store).table
+  taken_by Reading i = rw (cut i)
+  taken_by Closed i = rw i.whole
+  taken_by Accepted i = absurd i
+  taken_by (Refused n) i = rw (refusal n i)
 
-  settled-by : (c : Course) → By c t f → (n at : ℕ) → answerBy c f.table ≡ FedRefused n at → Settles t f.store n at
-  unfolding answerBy
-  settled-by Reading i n at z = impossible (cc)
-  settled-by Closed i n at z = impossible (cc)
-  settled-by Accepted i n at z = absurd i
-  settled-by (Refused m) i n at z = λ q. ap (λ (r : TableReading). r.answer) (i.reads q) ∙ same m (refusedAt m f.table) n at z
+  settled_by : (c : Course) → By c t f → (n at : ℕ) → answer_by c f.table ≡ FedRefused n at → Settles t f.store n at
+  unfolding answer_by
+  settled_by Reading i n at z = impossible (cc)
+  settled_by Closed i n at z = impossible (cc)
+  settled_by Accepted i n at z = absurd i
+  settled_by (Refused m) i n at z = λ q. ap (λ (r : TableReading). r.answer) (i.reads q) ∙ same m (refused_at m f.table) n at z
     where
       same : (m p n q : ℕ) → FedRefused m p ≡ FedRefused n q → TableRefused m p ≡ TableRefused n q
       same m p n q e = let x : m ≡ n = cc in let y : p ≡ q = cc in rw (x, y)
 
-  refused-by : (c : Course) → f.course ≡ c → By c t f → (n at : ℕ) → answerBy c f.table ≡ FedRefused n at → Stays f
-  unfolding answerBy
-  refused-by Reading e i n at z = impossible (cc)
-  refused-by Closed e i n at z = impossible (cc)
-  refused-by Accepted e i n at z = absurd i
-  refused-by (Refused m) e i n at z = refused-stays m f e
+  refused_by : (c : Course) → f.course ≡ c → By c t f → (n at : ℕ) → answer_by c f.table ≡ FedRefused n at → Stays f
+  unfolding answer_by
+  refused_by Reading e i n at z = impossible (cc)
+  refused_by Closed e i n at z = impossible (cc)
+  refused_by Accepted e i n at z = absurd i
+  refused_by (Refused m) e i n at z = refused-stays m f e
 
-  few-by : (c : Course) → By c t f → answerBy c f.table ≡ More → length t < 1974
-  unfolding answerBy
-  few-by Reading i z = omega (arith, i.all, place-most f.store f.table i.so, in-room t f 0 i)
-  few-by Closed i z = omega (arith, i.few)
-  few-by Accepted i z = absurd i
-  few-by (Refused m) i z = impossible (cc)
+  few_by : (c : Course) → By c t f → answer_by c f.table ≡ More → length t < 1974
+  unfolding answer_by
+  few_by Reading i z = omega (arith, i.all, place-most f.store f.table i.so, in_room t f 0 i)
+  few_by Closed i z = omega (arith, i.few)
+  few_by Accepted i z = absurd i
+  few_by (Refused m) i z = impossible (cc)
 
-  bare-by : (c : Course) → f.course ≡ c → By c t f → (f.course ≡ Reading → ⊥) → f.filled ≡ 0
-  bare-by Reading e i z = absurd (z e)
-  bare-by Closed e i z = i.bare
-  bare-by Accepted e i z = absurd i
-  bare-by (Refused m) e i z = i.bare
+  bare_by : (c : Course) → f.course ≡ c → By c t f → (f.course ≡ Reading → ⊥) → f.filled ≡ 0
+  bare_by Reading e i z = absurd (z e)
+  bare_by Closed e i z = i.bare
+  bare_by Accepted e i z = absurd i
+  bare_by (Refused m) e i z = i.bare
 
 -- ---- a refusal that the bytes settle is said
 
 -- whatever bytes follow
 abbrev Follows : List ℕ → ℕ → ℕ → ℕ → Type 0
-Follows t store n at = (q : List ℕ) → Bytes q → (readTable (t ++ q) store).answer ≡ TableRefused n at
+Follows t store n at = (q : List ℕ) → Bytes q → (read_table (t ++ q) store).answer ≡ TableRefused n at
 
 zeros : (n : ℕ) → Bytes (replicate n 0)
 zeros zero i = omega arith
@@ -296,57 +296,57 @@ zeros (suc n) zero = omega arith
 zeros (suc n) (suc i) = zeros n i
 
 -- as many bytes as a table of eight drives and one record more are not cut off
-long : (t : List ℕ) (f : Feed) (c : Course) → By c t f → 1974 ≤ length t → (p : ℕ) → (readTable t f.store).answer ≡ TableRefused 1 p → ⊥
-long t f Reading i l p e = omega (arith, l, i.all, place-most f.store f.table i.so, in-room t f 0 i)
+long : (t : List ℕ) (f : Feed) (c : Course) → By c t f → 1974 ≤ length t → (p : ℕ) → (read_table t f.store).answer ≡ TableRefused 1 p → ⊥
+long t f Reading i l p e = omega (arith, l, i.all, place-most f.store f.table i.so, in_room t f 0 i)
 long t f Closed i l p e = omega (arith, l, i.few)
 long t f Accepted i l p e = absurd i
-long t f (Refused n) i l p e = i.other (number n (refusedAt n f.table) 1 p (sym (ap (λ (r : TableReading). r.answer) (refusal t f n i)) ∙ e))
+long t f (Refused n) i l p e = i.other (number n (refused_at n f.table) 1 p (sym (ap (λ (r : TableReading). r.answer) (refusal t f n i)) ∙ e))
   where
     number : (n p m q : ℕ) → TableRefused n p ≡ TableRefused m q → n ≡ m
     number n p m q e = cc
 
 -- so 1 is never settled
-cut-unsettled : (t : List ℕ) (f : Feed) (q : List ℕ) → 1974 ≤ length q → Bytes q → Tracks f.store t f → (p : ℕ) → Follows t f.store 1 p → ⊥
-cut-unsettled t f q l h s p z =
-    let s' = tracks-all f.store q t f s in
-    long (t ++ q) (feedAll f q) (feedAll f q).course s'.by (omega (arith, l, length-append t q)) p (rw s'.kept (z q h))
+cut_unsettled : (t : List ℕ) (f : Feed) (q : List ℕ) → 1974 ≤ length q → Bytes q → Tracks f.store t f → (p : ℕ) → Follows t f.store 1 p → ⊥
+cut_unsettled t f q l h s p z =
+    let s' = tracks_all f.store q t f s in
+    long (t ++ q) (feed_all f q) (feed_all f q).course s'.by (omega (arith, l, length-append t q)) p (rw s'.kept (z q h))
 
-unsettled-by : (t : List ℕ) (f : Feed) (c : Course) → By c t f → Tracks f.store t f → (n at : ℕ) → Follows t f.store n at → answerBy c f.table ≡ FedRefused n at
-unfolding answerBy
-unsettled-by t f c i s n at z = by-course c i (rw (append-nil t) at (z [] (zeros 0)))
+unsettled_by : (t : List ℕ) (f : Feed) (c : Course) → By c t f → Tracks f.store t f → (n at : ℕ) → Follows t f.store n at → answer_by c f.table ≡ FedRefused n at
+unfolding answer_by
+unsettled_by t f c i s n at z = by-course c i (rw (append-nil t) at (z [] (zeros 0)))
   where
-    by-course : (c : Course) → By c t f → (readTable t f.store).answer ≡ TableRefused n at → answerBy c f.table ≡ FedRefused n at
+    by-course : (c : Course) → By c t f → (read_table t f.store).answer ≡ TableRefused n at → answer_by c f.table ≡ FedRefused n at
     by-course Reading i e =
-        let cut_off : TableRefused 1 (nextPlace f.table) ≡ TableRefused n at = sym (ap (λ (r : TableReading). r.answer) (cut t f i)) ∙ e in
+        let cut-off : TableRefused 1 (next_place f.table) ≡ TableRefused n at = sym (ap (λ (r : TableReading). r.answer) (cut t f i)) ∙ e in
         let one : 1 ≡ n = cc in
-        absurd (cut-unsettled t f (replicate 1974 0) (rw length-replicate (omega arith)) (zeros 1974) s at (rw one z))
+        absurd (cut_unsettled t f (replicate 1974 0) (rw length-replicate (omega arith)) (zeros 1974) s at (rw one z))
     by-course Closed i e = let accepted : TableAccepted ≡ TableRefused n at = sym (ap (λ (r : TableReading). r.answer) i.whole) ∙ e in impossible (cc)
     by-course Accepted i e = absurd i
     by-course (Refused m) i e =
-        let same : TableRefused m (refusedAt m f.table) ≡ TableRefused n at = sym (ap (λ (r : TableReading). r.answer) (refusal t f m i)) ∙ e in
+        let same : TableRefused m (refused_at m f.table) ≡ TableRefused n at = sym (ap (λ (r : TableReading). r.answer) (refusal t f m i)) ∙ e in
         let number : m ≡ n = cc in
-        let place : refusedAt m f.table ≡ at = cc in
+        let place : refused_at m f.table ≡ at = cc in
         λ j. FedRefused (number j) (place j)
 
 -- ---- however the bytes are cut
 
 pub arrives : (store : ℕ) (fs : List (List ℕ)) → Arrives store fs
-unfolding endFeed answer_of
+unfolding end_feed answer_of
 arrives store fs =
     let f : Feed = feeds (opened store) fs in
     let t : List ℕ = joined fs in
-    let s : Tracks store t f = tracks-feeds store fs [] (opened store) (tracks-opened store) in
+    let s : Tracks store t f = tracks_feeds store fs [] (opened store) (tracks_opened store) in
     let own : Tracks f.store t f = record { kept = refl; by = s.by } in
     record {
-      drives = subst (λ (n : ℕ). (endFeed f).table ≡ (readTable t n).table) s.kept (drives-by t f f.course s.by);
-      answer = subst (λ (n : ℕ). answer_of (endFeed f) ≡ told (readTable t n).answer) s.kept (answer-by t f f.course refl s.by);
+      drives = subst (λ (n : ℕ). (end_feed f).table ≡ (read_table t n).table) s.kept (drives_by t f f.course s.by);
+      answer = subst (λ (n : ℕ). answer_of (end_feed f) ≡ told (read_table t n).answer) s.kept (answer-by t f f.course refl s.by);
       ended = ended_by t f f.course refl s.by;
-      before = subst (λ (n : ℕ). answer_of f ≡ so_far (readTable t n).answer) s.kept (before-by t f f.course s.by);
-      taken = subst (λ (n : ℕ). f.table ≡ (readTable t n).table) s.kept (taken-by t f f.course s.by);
-      settled = λ n at z. subst (λ (k : ℕ). Settles t k n at) s.kept (settled-by t f f.course s.by n at z);
-      unsettled = λ n at z. unsettled-by t f f.course s.by own n at (subst (λ (k : ℕ). Follows t k n at) (sym s.kept) z);
-      refused = refused-by t f f.course refl s.by;
-      held = λ e. let i : IsReading t f = subst (λ (c : Course). By c t f) e s.by in record { few = in-room t f 0 i; bytes = sym i.rest };
-      bare = bare-by t f f.course refl s.by;
-      few = few-by t f f.course s.by;
+      before = subst (λ (n : ℕ). answer_of f ≡ so_far (read_table t n).answer) s.kept (before_by t f f.course s.by);
+      taken = subst (λ (n : ℕ). f.table ≡ (read_table t n).table) s.kept (taken_by t f f.course s.by);
+      settled = λ n at z. subst (λ (k : ℕ). Settles t k n at) s.kept (settled_by t f f.course s.by n at z);
+      unsettled = λ n at z. unsettled_by t f f.course s.by own n at (subst (λ (k : ℕ). Follows t k n at) (sym s.kept) z);
+      refused = refused_by t f f.course refl s.by;
+      held = λ e. let i : IsReading t f = subst (λ (c : Course). By c t f) e s.by in record { few = in_room t f 0 i; bytes = sym i.rest };
+      bare = bare_by t f f.course refl s.by;
+      few = few_by t f f.course s.by;
     }

@@ -8,28 +8,28 @@ use Prim.Native.Nat.{ℕ}
 use lib.ListN.{take, drop, replicate}
 use lib.Seq.{sets}
 use Rattle.words.specs.Words.{le, le_bytes}
-use Rattle.chs.specs.Chs.{inLimits}
+use Rattle.chs.specs.Chs.{in_limits}
 use Rattle.drive.specs.declared.Drive.{Drive}
-use Rattle.drive.specs.Drive.{driveOf, recordOf, geometryBytes, sizeBytes, nameBytes, same, busOk, interfaceOk, geometryFits, fieldsOk, inStore, overlap, isI2o, kindOk, tail_bytes, tailOf, zeroTail}
-use Rattle.attached.specs.Parameters.{parametersRecord}
-use Rattle.attached.specs.Bad.{badCount, badLengthOk, badsIn, held_of, badRecord, ascends, areBlocks, listOk}
+use Rattle.drive.specs.Drive.{drive_of, record_of, geometry_bytes, size_bytes, name_bytes, same, bus_ok, interface_ok, geometry_fits, fields_ok, in_store, overlap, is_i2o, kind_ok, tail_bytes, tail_of, zero_tail}
+use Rattle.attached.specs.Parameters.{parameters_record}
+use Rattle.attached.specs.Bad.{bad_count, bad_length_ok, bads_in, held_of, bad_record, ascends, are_blocks, list_ok}
 use Rattle.table.specs.declared.Table.{Table}
 use Rattle.table.specs.declared.Answer.TheVariants.{Accepted as TableAccepted, Refused as TableRefused}
-use Rattle.table.specs.Table.{emptyTable, headerOf, headerAt, isUnfinished, overlapsAny, refusal, parametersRefusal, badsRefusal, recordRefusal, withRecord, recordStep, endStep, step_of, stepAt, readFrom, readTable, recordsOf, nextPlace}
+use Rattle.table.specs.Table.{empty_table, header_of, header_at, is_unfinished, overlaps_any, refusal, parameters_refusal, bads_refusal, record_refusal, with_record, record_step, end_step, step_of, step_at, read_from, read_table, records_of, next_place}
 use Rattle.table.proofs.Vectors.{record₁, record₂, end, store, but, from, wide, drives, given-bytes, attach, bads, sixteen, full as most}
 use Rattle.feed.specs.declared.Course.TheVariants.{Reading, Closed, Accepted, Refused}
 use Rattle.feed.specs.declared.Feed.{Feed}
-use Rattle.feed.specs.Feed.{nothing, opened, staysOpen, is_over, afterStep, heldByte, byCourse, feedByte, feedAll, feeds, endBy, endFeed, refusedAt, answerBy, answer_of, fedNumbers}
-use Rattle.feed.specs.Arrives.{joined, told as answerTold, so_far}
+use Rattle.feed.specs.Feed.{nothing, opened, stays_open, is_over, after_step, held_byte, by_course, feed_byte, feed_all, feeds, end_by, end_feed, refused_at, answer_by, answer_of, fed_numbers}
+use Rattle.feed.specs.Arrives.{joined, told as answer_told, so_far}
 
 -- what a reader says: 256 where nothing is settled, 0, or number and place
 abbrev said : Feed → List ℕ
-said f = fedNumbers (answer_of f)
+said f = fed_numbers (answer_of f)
 
 -- what it says after each byte
 abbrev along : Feed → List ℕ → List (List ℕ)
 along f [] = []
-along f (x ∷ l) = said (feedByte f x) ∷ along (feedByte f x) l
+along f (x ∷ l) = said (feed_byte f x) ∷ along (feed_byte f x) l
 
 -- n times that nothing is settled
 abbrev unsettled : ℕ → List (List ℕ)
@@ -37,10 +37,10 @@ unsettled n = replicate n (256 ∷ [])
 
 -- a reader that was fed those bytes, and one that was told the end after them
 abbrev after : List ℕ → Feed
-after l = feedAll (opened store) l
+after l = feed_all (opened store) l
 
 abbrev told : List ℕ → Feed
-told l = endFeed (after l)
+told l = end_feed (after l)
 
 -- bytes in two fragments, cut behind n, and in fragments of one byte
 abbrev cut : List ℕ → ℕ → List (List ℕ)
@@ -52,39 +52,39 @@ single l = map (λ (x : ℕ). x ∷ []) l
 -- ---- document 01's 72 bytes
 
 -- byte by byte nothing is settled, and then the end is told: 0
-pub bytewise : along (opened store) (record₁ ++ end) ++ (said (endFeed (feeds (opened store) (single (record₁ ++ end)))) ∷ [])
+pub bytewise : along (opened store) (record₁ ++ end) ++ (said (end_feed (feeds (opened store) (single (record₁ ++ end)))) ∷ [])
     ≡ unsettled 72 ++ ((0 ∷ []) ∷ [])
-unfolding le le_bytes inLimits driveOf same busOk interfaceOk geometryFits fieldsOk inStore overlap headerOf headerAt overlapsAny refusal parametersRefusal recordRefusal withRecord recordStep endStep step_of stepAt recordOf geometryBytes sizeBytes nameBytes parametersRecord recordsOf nextPlace refusedAt opened afterStep heldByte byCourse feedByte feedAll answerBy answer_of fedNumbers feeds endBy endFeed tailOf isI2o zeroTail kindOk tail_bytes
+unfolding le le_bytes in_limits drive_of same bus_ok interface_ok geometry_fits fields_ok in_store overlap header_of header_at overlaps_any refusal parameters_refusal record_refusal with_record record_step end_step step_of step_at record_of geometry_bytes size_bytes name_bytes parameters_record records_of next_place refused_at opened after_step held_byte by_course feed_byte feed_all answer_by answer_of fed_numbers feeds end_by end_feed tail_of is_i2o zero_tail kind_ok tail_bytes
 bytewise = refl
 
 -- cut in two, behind 0, 1, 3, 4, 5, 67, 68, 69, 71 and 72 bytes: nothing is settled
 pub in_two : map (λ (n : ℕ). said (feeds (opened store) (cut (record₁ ++ end) n))) (0 ∷ 1 ∷ 3 ∷ 4 ∷ 5 ∷ 67 ∷ 68 ∷ 69 ∷ 71 ∷ 72 ∷ [])
     ≡ unsettled 10
-unfolding le le_bytes inLimits driveOf same busOk interfaceOk geometryFits fieldsOk inStore overlap headerOf headerAt overlapsAny refusal parametersRefusal recordRefusal withRecord recordStep endStep step_of stepAt recordOf geometryBytes sizeBytes nameBytes parametersRecord recordsOf nextPlace refusedAt opened afterStep heldByte byCourse feedByte feedAll answerBy answer_of fedNumbers feeds tailOf isI2o zeroTail kindOk tail_bytes
+unfolding le le_bytes in_limits drive_of same bus_ok interface_ok geometry_fits fields_ok in_store overlap header_of header_at overlaps_any refusal parameters_refusal record_refusal with_record record_step end_step step_of step_at record_of geometry_bytes size_bytes name_bytes parameters_record records_of next_place refused_at opened after_step held_byte by_course feed_byte feed_all answer_by answer_of fed_numbers feeds tail_of is_i2o zero_tail kind_ok tail_bytes
 in_two = refl
 
 -- and then the end is told: 0
-pub in-two-told : map (λ (n : ℕ). said (endFeed (feeds (opened store) (cut (record₁ ++ end) n)))) (0 ∷ 1 ∷ 3 ∷ 4 ∷ 5 ∷ 67 ∷ 68 ∷ 69 ∷ 71 ∷ 72 ∷ [])
+pub in_two_told : map (λ (n : ℕ). said (end_feed (feeds (opened store) (cut (record₁ ++ end) n)))) (0 ∷ 1 ∷ 3 ∷ 4 ∷ 5 ∷ 67 ∷ 68 ∷ 69 ∷ 71 ∷ 72 ∷ [])
     ≡ replicate 10 (0 ∷ [])
-unfolding le le_bytes inLimits driveOf same busOk interfaceOk geometryFits fieldsOk inStore overlap headerOf headerAt overlapsAny refusal parametersRefusal recordRefusal withRecord recordStep endStep step_of stepAt recordOf geometryBytes sizeBytes nameBytes parametersRecord recordsOf nextPlace refusedAt opened afterStep heldByte byCourse feedByte feedAll answerBy answer_of fedNumbers feeds endBy endFeed tailOf isI2o zeroTail kindOk tail_bytes
-in-two-told = refl
+unfolding le le_bytes in_limits drive_of same bus_ok interface_ok geometry_fits fields_ok in_store overlap header_of header_at overlaps_any refusal parameters_refusal record_refusal with_record record_step end_step step_of step_at record_of geometry_bytes size_bytes name_bytes parameters_record records_of next_place refused_at opened after_step held_byte by_course feed_byte feed_all answer_by answer_of fed_numbers feeds end_by end_feed tail_of is_i2o zero_tail kind_ok tail_bytes
+in_two_told = refl
 
 -- with the drives of the whole
-pub in-two-drives : map (λ (n : ℕ). (endFeed (feeds (opened store) (cut (record₁ ++ end) n))).table) (0 ∷ 1 ∷ 3 ∷ 4 ∷ 5 ∷ 67 ∷ 68 ∷ 69 ∷ 71 ∷ 72 ∷ [])
-    ≡ replicate 10 (readTable (record₁ ++ end) store).table
-unfolding le le_bytes inLimits driveOf same busOk interfaceOk geometryFits fieldsOk inStore overlap headerOf headerAt overlapsAny refusal parametersRefusal recordRefusal withRecord recordStep endStep step_of stepAt readFrom readTable opened afterStep heldByte byCourse feedByte feedAll feeds endBy endFeed tailOf isI2o zeroTail kindOk
-in-two-drives = refl
+pub in_two_drives : map (λ (n : ℕ). (end_feed (feeds (opened store) (cut (record₁ ++ end) n))).table) (0 ∷ 1 ∷ 3 ∷ 4 ∷ 5 ∷ 67 ∷ 68 ∷ 69 ∷ 71 ∷ 72 ∷ [])
+    ≡ replicate 10 (read_table (record₁ ++ end) store).table
+unfolding le le_bytes in_limits drive_of same bus_ok interface_ok geometry_fits fields_ok in_store overlap header_of header_at overlaps_any refusal parameters_refusal record_refusal with_record record_step end_step step_of step_at read_from read_table opened after_step held_byte by_course feed_byte feed_all feeds end_by end_feed tail_of is_i2o zero_tail kind_ok
+in_two_drives = refl
 
 -- the end told early: after 0, 1, 3, 4, 5 and 67 bytes 1 at 0; after 68, which are a drive and no end record, 69 and 71 bytes 1 at 68; after 72 bytes 0
 pub ends : map (λ (n : ℕ). said (told (take n (record₁ ++ end)))) (0 ∷ 1 ∷ 3 ∷ 4 ∷ 5 ∷ 67 ∷ 68 ∷ 69 ∷ 71 ∷ 72 ∷ [])
     ≡ replicate 6 (1 ∷ 0 ∷ []) ++ replicate 3 (1 ∷ 68 ∷ []) ++ ((0 ∷ []) ∷ [])
-unfolding le le_bytes inLimits driveOf same busOk interfaceOk geometryFits fieldsOk inStore overlap headerOf headerAt overlapsAny refusal parametersRefusal recordRefusal withRecord recordStep endStep step_of stepAt recordOf geometryBytes sizeBytes nameBytes parametersRecord recordsOf nextPlace refusedAt opened afterStep heldByte byCourse feedByte feedAll answerBy answer_of fedNumbers endBy endFeed tailOf isI2o zeroTail kindOk tail_bytes
+unfolding le le_bytes in_limits drive_of same bus_ok interface_ok geometry_fits fields_ok in_store overlap header_of header_at overlaps_any refusal parameters_refusal record_refusal with_record record_step end_step step_of step_at record_of geometry_bytes size_bytes name_bytes parameters_record records_of next_place refused_at opened after_step held_byte by_course feed_byte feed_all answer_by answer_of fed_numbers end_by end_feed tail_of is_i2o zero_tail kind_ok tail_bytes
 ends = refl
 
 -- the bytes held after as many: of an unfinished record only
 pub keeps : map (λ (n : ℕ). (after (take n (record₁ ++ end))).filled) (0 ∷ 1 ∷ 3 ∷ 4 ∷ 5 ∷ 67 ∷ 68 ∷ 69 ∷ 71 ∷ 72 ∷ [])
     ≡ 0 ∷ 1 ∷ 3 ∷ 4 ∷ 5 ∷ 67 ∷ 0 ∷ 1 ∷ 3 ∷ 0 ∷ []
-unfolding le le_bytes inLimits driveOf same busOk interfaceOk geometryFits fieldsOk inStore overlap headerOf headerAt overlapsAny refusal parametersRefusal recordRefusal withRecord recordStep endStep step_of stepAt opened afterStep heldByte byCourse feedByte feedAll tailOf isI2o zeroTail kindOk
+unfolding le le_bytes in_limits drive_of same bus_ok interface_ok geometry_fits fields_ok in_store overlap header_of header_at overlaps_any refusal parameters_refusal record_refusal with_record record_step end_step step_of step_at opened after_step held_byte by_course feed_byte feed_all tail_of is_i2o zero_tail kind_ok
 keeps = refl
 
 -- ---- each refusal at the byte that settles it, after a drive of 68 bytes
@@ -93,42 +93,42 @@ keeps = refl
 --   kind 5: 3 at 68
 --   kind 9, of a wrong length too: 3 at 68
 --   kind 257: 3 at 68
-pub header-three : along (after record₁) (4 ∷ 0 ∷ 5 ∷ 0 ∷ []) ++ along (after record₁) (5 ∷ 0 ∷ 9 ∷ 0 ∷ []) ++ along (after record₁) (68 ∷ 0 ∷ 1 ∷ 1 ∷ [])
+pub header_three : along (after record₁) (4 ∷ 0 ∷ 5 ∷ 0 ∷ []) ++ along (after record₁) (5 ∷ 0 ∷ 9 ∷ 0 ∷ []) ++ along (after record₁) (68 ∷ 0 ∷ 1 ∷ 1 ∷ [])
     ≡ unsettled 3 ++ ((3 ∷ 68 ∷ []) ∷ []) ++ (unsettled 3 ++ ((3 ∷ 68 ∷ []) ∷ [])) ++ (unsettled 3 ++ ((3 ∷ 68 ∷ []) ∷ []))
-unfolding le le_bytes inLimits driveOf same busOk interfaceOk geometryFits fieldsOk inStore overlap headerOf headerAt overlapsAny refusal parametersRefusal recordRefusal withRecord recordStep endStep step_of stepAt recordOf geometryBytes sizeBytes nameBytes parametersRecord recordsOf nextPlace refusedAt opened afterStep heldByte byCourse feedByte feedAll answerBy answer_of fedNumbers tailOf isI2o zeroTail kindOk tail_bytes
-header-three = refl
+unfolding le le_bytes in_limits drive_of same bus_ok interface_ok geometry_fits fields_ok in_store overlap header_of header_at overlaps_any refusal parameters_refusal record_refusal with_record record_step end_step step_of step_at record_of geometry_bytes size_bytes name_bytes parameters_record records_of next_place refused_at opened after_step held_byte by_course feed_byte feed_all answer_by answer_of fed_numbers tail_of is_i2o zero_tail kind_ok tail_bytes
+header_three = refl
 
 -- 2 there as well: it waits for no byte of the record
 --   a drive of length 67: 2 at 68
 --   an end record of length 5: 2 at 68
 --   parameters of length 276: 2 at 68
-pub header-two : along (after record₁) (67 ∷ 0 ∷ 1 ∷ 0 ∷ []) ++ along (after record₁) (5 ∷ 0 ∷ 0 ∷ 0 ∷ []) ++ along (after record₁) (20 ∷ 1 ∷ 4 ∷ 0 ∷ [])
+pub header_two : along (after record₁) (67 ∷ 0 ∷ 1 ∷ 0 ∷ []) ++ along (after record₁) (5 ∷ 0 ∷ 0 ∷ 0 ∷ []) ++ along (after record₁) (20 ∷ 1 ∷ 4 ∷ 0 ∷ [])
     ≡ unsettled 3 ++ ((2 ∷ 68 ∷ []) ∷ []) ++ (unsettled 3 ++ ((2 ∷ 68 ∷ []) ∷ [])) ++ (unsettled 3 ++ ((2 ∷ 68 ∷ []) ∷ []))
-unfolding le le_bytes inLimits driveOf same busOk interfaceOk geometryFits fieldsOk inStore overlap headerOf headerAt overlapsAny refusal parametersRefusal recordRefusal withRecord recordStep endStep step_of stepAt recordOf geometryBytes sizeBytes nameBytes parametersRecord recordsOf nextPlace refusedAt opened afterStep heldByte byCourse feedByte feedAll answerBy answer_of fedNumbers tailOf isI2o zeroTail kindOk tail_bytes
-header-two = refl
+unfolding le le_bytes in_limits drive_of same bus_ok interface_ok geometry_fits fields_ok in_store overlap header_of header_at overlaps_any refusal parameters_refusal record_refusal with_record record_step end_step step_of step_at record_of geometry_bytes size_bytes name_bytes parameters_record records_of next_place refused_at opened after_step held_byte by_course feed_byte feed_all answer_by answer_of fed_numbers tail_of is_i2o zero_tail kind_ok tail_bytes
+header_two = refl
 
 -- 4 at the last byte of a ninth drive, though no ninth one is good: 4 at 544
 pub ninth : along (after (drives 8)) record₁
     ≡ unsettled 67 ++ ((4 ∷ 544 ∷ []) ∷ [])
-unfolding le le_bytes inLimits driveOf same busOk interfaceOk geometryFits fieldsOk inStore overlap headerOf headerAt overlapsAny refusal parametersRefusal recordRefusal withRecord recordStep endStep step_of stepAt recordOf geometryBytes sizeBytes nameBytes parametersRecord recordsOf nextPlace refusedAt opened afterStep heldByte byCourse feedByte feedAll answerBy answer_of fedNumbers tailOf isI2o zeroTail kindOk tail_bytes
+unfolding le le_bytes in_limits drive_of same bus_ok interface_ok geometry_fits fields_ok in_store overlap header_of header_at overlaps_any refusal parameters_refusal record_refusal with_record record_step end_step step_of step_at record_of geometry_bytes size_bytes name_bytes parameters_record records_of next_place refused_at opened after_step held_byte by_course feed_byte feed_all answer_by answer_of fed_numbers tail_of is_i2o zero_tail kind_ok tail_bytes
 ninth = refl
 
 -- 5 at the record's last byte, though protection 2 is its byte 39: 5 at 68
 pub field : along (after record₁) (but 39 (2 ∷ []))
     ≡ unsettled 67 ++ ((5 ∷ 68 ∷ []) ∷ [])
-unfolding le le_bytes inLimits driveOf same busOk interfaceOk geometryFits fieldsOk inStore overlap headerOf headerAt overlapsAny refusal parametersRefusal recordRefusal withRecord recordStep endStep step_of stepAt recordOf geometryBytes sizeBytes nameBytes parametersRecord recordsOf nextPlace refusedAt opened afterStep heldByte byCourse feedByte feedAll answerBy answer_of fedNumbers tailOf isI2o zeroTail kindOk tail_bytes
+unfolding le le_bytes in_limits drive_of same bus_ok interface_ok geometry_fits fields_ok in_store overlap header_of header_at overlaps_any refusal parameters_refusal record_refusal with_record record_step end_step step_of step_at record_of geometry_bytes size_bytes name_bytes parameters_record records_of next_place refused_at opened after_step held_byte by_course feed_byte feed_all answer_by answer_of fed_numbers tail_of is_i2o zero_tail kind_ok tail_bytes
 field = refl
 
 -- 6 at the last byte, past the store by one block: 6 at 68
 pub past : along (after record₁) (from 4294965249)
     ≡ unsettled 67 ++ ((6 ∷ 68 ∷ []) ∷ [])
-unfolding le le_bytes inLimits driveOf same busOk interfaceOk geometryFits fieldsOk inStore overlap headerOf headerAt overlapsAny refusal parametersRefusal recordRefusal withRecord recordStep endStep step_of stepAt recordOf geometryBytes sizeBytes nameBytes parametersRecord recordsOf nextPlace refusedAt opened afterStep heldByte byCourse feedByte feedAll answerBy answer_of fedNumbers tailOf isI2o zeroTail kindOk tail_bytes
+unfolding le le_bytes in_limits drive_of same bus_ok interface_ok geometry_fits fields_ok in_store overlap header_of header_at overlaps_any refusal parameters_refusal record_refusal with_record record_step end_step step_of step_at record_of geometry_bytes size_bytes name_bytes parameters_record records_of next_place refused_at opened after_step held_byte by_course feed_byte feed_all answer_by answer_of fed_numbers tail_of is_i2o zero_tail kind_ok tail_bytes
 past = refl
 
 -- 7 at the last byte, the same drive again: 7 at 68
 pub overlaps : along (after record₁) record₁
     ≡ unsettled 67 ++ ((7 ∷ 68 ∷ []) ∷ [])
-unfolding le le_bytes inLimits driveOf same busOk interfaceOk geometryFits fieldsOk inStore overlap headerOf headerAt overlapsAny refusal parametersRefusal recordRefusal withRecord recordStep endStep step_of stepAt recordOf geometryBytes sizeBytes nameBytes parametersRecord recordsOf nextPlace refusedAt opened afterStep heldByte byCourse feedByte feedAll answerBy answer_of fedNumbers tailOf isI2o zeroTail kindOk tail_bytes
+unfolding le le_bytes in_limits drive_of same bus_ok interface_ok geometry_fits fields_ok in_store overlap header_of header_at overlaps_any refusal parameters_refusal record_refusal with_record record_step end_step step_of step_at record_of geometry_bytes size_bytes name_bytes parameters_record records_of next_place refused_at opened after_step held_byte by_course feed_byte feed_all answer_by answer_of fed_numbers tail_of is_i2o zero_tail kind_ok tail_bytes
 overlaps = refl
 
 -- 9 at the last byte of a record of parameters
@@ -136,7 +136,7 @@ overlaps = refl
 --   repeated: 9 at 88
 pub names : along (after record₁) (attach 1) ++ along (after record₁) (attach 0 ++ attach 0)
     ≡ unsettled 19 ++ ((9 ∷ 68 ∷ []) ∷ []) ++ (unsettled 39 ++ ((9 ∷ 88 ∷ []) ∷ []))
-unfolding le le_bytes inLimits driveOf same busOk interfaceOk geometryFits fieldsOk inStore overlap headerOf headerAt overlapsAny refusal parametersRefusal recordRefusal withRecord recordStep endStep step_of stepAt recordOf geometryBytes sizeBytes nameBytes parametersRecord recordsOf nextPlace refusedAt opened afterStep heldByte byCourse feedByte feedAll answerBy answer_of fedNumbers tailOf isI2o zeroTail kindOk tail_bytes
+unfolding le le_bytes in_limits drive_of same bus_ok interface_ok geometry_fits fields_ok in_store overlap header_of header_at overlaps_any refusal parameters_refusal record_refusal with_record record_step end_step step_of step_at record_of geometry_bytes size_bytes name_bytes parameters_record records_of next_place refused_at opened after_step held_byte by_course feed_byte feed_all answer_by answer_of fed_numbers tail_of is_i2o zero_tail kind_ok tail_bytes
 names = refl
 
 -- 8 at the first byte behind the end record, and not at the end record
@@ -144,7 +144,7 @@ names = refl
 --   after no drive: 8 at 4
 pub byte-follows : along (after record₁) (end ++ (0 ∷ [])) ++ along (opened store) (end ++ (4 ∷ []))
     ≡ unsettled 4 ++ ((8 ∷ 72 ∷ []) ∷ []) ++ (unsettled 4 ++ ((8 ∷ 4 ∷ []) ∷ []))
-unfolding le le_bytes inLimits driveOf same busOk interfaceOk geometryFits fieldsOk inStore overlap headerOf headerAt overlapsAny refusal parametersRefusal recordRefusal withRecord recordStep endStep step_of stepAt recordOf geometryBytes sizeBytes nameBytes parametersRecord recordsOf nextPlace refusedAt opened afterStep heldByte byCourse feedByte feedAll answerBy answer_of fedNumbers tailOf isI2o zeroTail kindOk tail_bytes
+unfolding le le_bytes in_limits drive_of same bus_ok interface_ok geometry_fits fields_ok in_store overlap header_of header_at overlaps_any refusal parameters_refusal record_refusal with_record record_step end_step step_of step_at record_of geometry_bytes size_bytes name_bytes parameters_record records_of next_place refused_at opened after_step held_byte by_course feed_byte feed_all answer_by answer_of fed_numbers tail_of is_i2o zero_tail kind_ok tail_bytes
 byte-follows = refl
 
 -- 1 once the end is told, and not before
@@ -153,11 +153,11 @@ byte-follows = refl
 --   a drive and no end record: 1 at 68
 --   three bytes after it, and 67: 1 at 68
 --   parameters after it and no end record: 1 at 88
-pub cut_off : map (λ (l : List ℕ). said (after l)) ([] ∷ take 3 record₁ ∷ record₁ ∷ (record₁ ++ (4 ∷ 0 ∷ 9 ∷ [])) ∷ (record₁ ++ take 67 record₁) ∷ (record₁ ++ attach 0) ∷ [])
+pub cut-off : map (λ (l : List ℕ). said (after l)) ([] ∷ take 3 record₁ ∷ record₁ ∷ (record₁ ++ (4 ∷ 0 ∷ 9 ∷ [])) ∷ (record₁ ++ take 67 record₁) ∷ (record₁ ++ attach 0) ∷ [])
     ++ map (λ (l : List ℕ). said (told l)) ([] ∷ take 3 record₁ ∷ record₁ ∷ (record₁ ++ (4 ∷ 0 ∷ 9 ∷ [])) ∷ (record₁ ++ take 67 record₁) ∷ (record₁ ++ attach 0) ∷ [])
     ≡ unsettled 6 ++ ((1 ∷ 0 ∷ []) ∷ (1 ∷ 0 ∷ []) ∷ (1 ∷ 68 ∷ []) ∷ (1 ∷ 68 ∷ []) ∷ (1 ∷ 68 ∷ []) ∷ (1 ∷ 88 ∷ []) ∷ [])
-unfolding le le_bytes inLimits driveOf same busOk interfaceOk geometryFits fieldsOk inStore overlap headerOf headerAt overlapsAny refusal parametersRefusal recordRefusal withRecord recordStep endStep step_of stepAt recordOf geometryBytes sizeBytes nameBytes parametersRecord recordsOf nextPlace refusedAt opened afterStep heldByte byCourse feedByte feedAll answerBy answer_of fedNumbers endBy endFeed tailOf isI2o zeroTail kindOk tail_bytes
-cut_off = refl
+unfolding le le_bytes in_limits drive_of same bus_ok interface_ok geometry_fits fields_ok in_store overlap header_of header_at overlaps_any refusal parameters_refusal record_refusal with_record record_step end_step step_of step_at record_of geometry_bytes size_bytes name_bytes parameters_record records_of next_place refused_at opened after_step held_byte by_course feed_byte feed_all answer_by answer_of fed_numbers end_by end_feed tail_of is_i2o zero_tail kind_ok tail_bytes
+cut-off = refl
 
 -- ---- records of bad blocks, after a drive of 68 bytes
 
@@ -167,86 +167,86 @@ listed = record₁ ++ bads 0 (5 ∷ 7 ∷ []) ++ attach 0 ++ end
 
 -- cut in two within the record, 68 to 90: in its header, behind it, in its drive's number, in the list, and behind the last number; nothing is
 -- settled, and 0 once the end is told
-pub bads-in-two : map (λ (n : ℕ). said (feeds (opened store) (cut listed n))) (68 ∷ 69 ∷ 72 ∷ 73 ∷ 75 ∷ 82 ∷ 85 ∷ 89 ∷ 90 ∷ [])
-    ++ map (λ (n : ℕ). said (endFeed (feeds (opened store) (cut listed n)))) (68 ∷ 69 ∷ 72 ∷ 73 ∷ 75 ∷ 82 ∷ 85 ∷ 89 ∷ 90 ∷ [])
+pub bads_in_two : map (λ (n : ℕ). said (feeds (opened store) (cut listed n))) (68 ∷ 69 ∷ 72 ∷ 73 ∷ 75 ∷ 82 ∷ 85 ∷ 89 ∷ 90 ∷ [])
+    ++ map (λ (n : ℕ). said (end_feed (feeds (opened store) (cut listed n)))) (68 ∷ 69 ∷ 72 ∷ 73 ∷ 75 ∷ 82 ∷ 85 ∷ 89 ∷ 90 ∷ [])
     ≡ unsettled 9 ++ replicate 9 (0 ∷ [])
-unfolding le le_bytes inLimits driveOf same busOk interfaceOk geometryFits fieldsOk inStore overlap headerOf headerAt overlapsAny refusal parametersRefusal recordRefusal withRecord recordStep endStep step_of stepAt badCount badLengthOk badsIn held_of ascends areBlocks listOk badsRefusal recordOf geometryBytes sizeBytes nameBytes parametersRecord badRecord recordsOf nextPlace refusedAt opened afterStep heldByte byCourse feedByte feedAll answerBy answer_of fedNumbers feeds endBy endFeed tailOf isI2o zeroTail kindOk tail_bytes
-bads-in-two = refl
+unfolding le le_bytes in_limits drive_of same bus_ok interface_ok geometry_fits fields_ok in_store overlap header_of header_at overlaps_any refusal parameters_refusal record_refusal with_record record_step end_step step_of step_at bad_count bad_length_ok bads_in held_of ascends are_blocks list_ok bads_refusal record_of geometry_bytes size_bytes name_bytes parameters_record bad_record records_of next_place refused_at opened after_step held_byte by_course feed_byte feed_all answer_by answer_of fed_numbers feeds end_by end_feed tail_of is_i2o zero_tail kind_ok tail_bytes
+bads_in_two = refl
 
 -- with the bad blocks and the parameters of the whole: read whole, cut in the list, cut between the numbers, and in fragments of one byte
 abbrev listings : List Table
-listings = (readTable listed store).table ∷ (endFeed (feeds (opened store) (cut listed 75))).table ∷ (endFeed (feeds (opened store) (cut listed 82))).table ∷ (endFeed (feeds (opened store) (single listed))).table ∷ []
+listings = (read_table listed store).table ∷ (end_feed (feeds (opened store) (cut listed 75))).table ∷ (end_feed (feeds (opened store) (cut listed 82))).table ∷ (end_feed (feeds (opened store) (single listed))).table ∷ []
 
-pub bads-in-two-counts : map (λ (b : Table). b.counts) listings ≡ replicate 4 (2 ∷ replicate 7 0)
-unfolding le le_bytes inLimits driveOf same busOk interfaceOk geometryFits fieldsOk inStore overlap headerOf headerAt overlapsAny refusal parametersRefusal recordRefusal withRecord recordStep endStep step_of stepAt badCount badLengthOk badsIn held_of ascends areBlocks listOk badsRefusal readFrom readTable opened afterStep heldByte byCourse feedByte feedAll feeds endBy endFeed tailOf isI2o zeroTail kindOk
-bads-in-two-counts = refl
+pub bads_in_two_counts : map (λ (b : Table). b.counts) listings ≡ replicate 4 (2 ∷ replicate 7 0)
+unfolding le le_bytes in_limits drive_of same bus_ok interface_ok geometry_fits fields_ok in_store overlap header_of header_at overlaps_any refusal parameters_refusal record_refusal with_record record_step end_step step_of step_at bad_count bad_length_ok bads_in held_of ascends are_blocks list_ok bads_refusal read_from read_table opened after_step held_byte by_course feed_byte feed_all feeds end_by end_feed tail_of is_i2o zero_tail kind_ok
+bads_in_two_counts = refl
 
-pub bads-in-two-lists : map (λ (b : Table). take 24 b.bad) listings ≡ replicate 4 (5 ∷ replicate 7 0 ++ (7 ∷ replicate 15 0))
-unfolding le le_bytes inLimits driveOf same busOk interfaceOk geometryFits fieldsOk inStore overlap headerOf headerAt overlapsAny refusal parametersRefusal recordRefusal withRecord recordStep endStep step_of stepAt badCount badLengthOk badsIn held_of ascends areBlocks listOk badsRefusal readFrom readTable opened afterStep heldByte byCourse feedByte feedAll feeds endBy endFeed tailOf isI2o zeroTail kindOk
-bads-in-two-lists = refl
+pub bads_in_two_lists : map (λ (b : Table). take 24 b.bad) listings ≡ replicate 4 (5 ∷ replicate 7 0 ++ (7 ∷ replicate 15 0))
+unfolding le le_bytes in_limits drive_of same bus_ok interface_ok geometry_fits fields_ok in_store overlap header_of header_at overlaps_any refusal parameters_refusal record_refusal with_record record_step end_step step_of step_at bad_count bad_length_ok bads_in held_of ascends are_blocks list_ok bads_refusal read_from read_table opened after_step held_byte by_course feed_byte feed_all feeds end_by end_feed tail_of is_i2o zero_tail kind_ok
+bads_in_two_lists = refl
 
-pub bads-in-two-parameters : map (λ (b : Table). take 14 b.parameters) listings ≡ replicate 4 given-bytes
-unfolding le le_bytes inLimits driveOf same busOk interfaceOk geometryFits fieldsOk inStore overlap headerOf headerAt overlapsAny refusal parametersRefusal recordRefusal withRecord recordStep endStep step_of stepAt badCount badLengthOk badsIn held_of ascends areBlocks listOk badsRefusal readFrom readTable opened afterStep heldByte byCourse feedByte feedAll feeds endBy endFeed tailOf isI2o zeroTail kindOk
-bads-in-two-parameters = refl
+pub bads_in_two_parameters : map (λ (b : Table). take 14 b.parameters) listings ≡ replicate 4 given-bytes
+unfolding le le_bytes in_limits drive_of same bus_ok interface_ok geometry_fits fields_ok in_store overlap header_of header_at overlaps_any refusal parameters_refusal record_refusal with_record record_step end_step step_of step_at bad_count bad_length_ok bads_in held_of ascends are_blocks list_ok bads_refusal read_from read_table opened after_step held_byte by_course feed_byte feed_all feeds end_by end_feed tail_of is_i2o zero_tail kind_ok
+bads_in_two_parameters = refl
 
 -- 2 by the fourth byte
 --   of no number, length 6: 2 at 68
 --   length 15: 2 at 68
 --   of seventeen numbers, length 142: 2 at 68
-pub bads-two : along (after record₁) (6 ∷ 0 ∷ 3 ∷ 0 ∷ []) ++ along (after record₁) (15 ∷ 0 ∷ 3 ∷ 0 ∷ []) ++ along (after record₁) (142 ∷ 0 ∷ 3 ∷ 0 ∷ [])
+pub bads_two : along (after record₁) (6 ∷ 0 ∷ 3 ∷ 0 ∷ []) ++ along (after record₁) (15 ∷ 0 ∷ 3 ∷ 0 ∷ []) ++ along (after record₁) (142 ∷ 0 ∷ 3 ∷ 0 ∷ [])
     ≡ unsettled 3 ++ ((2 ∷ 68 ∷ []) ∷ []) ++ (unsettled 3 ++ ((2 ∷ 68 ∷ []) ∷ [])) ++ (unsettled 3 ++ ((2 ∷ 68 ∷ []) ∷ []))
-unfolding le le_bytes inLimits driveOf same busOk interfaceOk geometryFits fieldsOk inStore overlap headerOf headerAt overlapsAny refusal parametersRefusal recordRefusal withRecord recordStep endStep step_of stepAt badCount badLengthOk badsIn held_of ascends areBlocks listOk badsRefusal recordOf geometryBytes sizeBytes nameBytes parametersRecord badRecord recordsOf nextPlace refusedAt opened afterStep heldByte byCourse feedByte feedAll answerBy answer_of fedNumbers tailOf isI2o zeroTail kindOk tail_bytes
-bads-two = refl
+unfolding le le_bytes in_limits drive_of same bus_ok interface_ok geometry_fits fields_ok in_store overlap header_of header_at overlaps_any refusal parameters_refusal record_refusal with_record record_step end_step step_of step_at bad_count bad_length_ok bads_in held_of ascends are_blocks list_ok bads_refusal record_of geometry_bytes size_bytes name_bytes parameters_record bad_record records_of next_place refused_at opened after_step held_byte by_course feed_byte feed_all answer_by answer_of fed_numbers tail_of is_i2o zero_tail kind_ok tail_bytes
+bads_two = refl
 
 -- 9 by the last byte only
 --   for a later drive: 9 at 68
 --   repeated: 9 at 90
 --   behind the drive's parameters: 9 at 88
-pub bads-nine : along (after record₁) (bads 1 (5 ∷ 7 ∷ [])) ++ along (after record₁) (bads 0 (5 ∷ 7 ∷ []) ++ bads 0 (9 ∷ [])) ++ along (after record₁) (attach 0 ++ bads 0 (9 ∷ []))
+pub bads_nine : along (after record₁) (bads 1 (5 ∷ 7 ∷ [])) ++ along (after record₁) (bads 0 (5 ∷ 7 ∷ []) ++ bads 0 (9 ∷ [])) ++ along (after record₁) (attach 0 ++ bads 0 (9 ∷ []))
     ≡ unsettled 21 ++ ((9 ∷ 68 ∷ []) ∷ []) ++ (unsettled 35 ++ ((9 ∷ 90 ∷ []) ∷ [])) ++ (unsettled 33 ++ ((9 ∷ 88 ∷ []) ∷ []))
-unfolding le le_bytes inLimits driveOf same busOk interfaceOk geometryFits fieldsOk inStore overlap headerOf headerAt overlapsAny refusal parametersRefusal recordRefusal withRecord recordStep endStep step_of stepAt badCount badLengthOk badsIn held_of ascends areBlocks listOk badsRefusal recordOf geometryBytes sizeBytes nameBytes parametersRecord badRecord recordsOf nextPlace refusedAt opened afterStep heldByte byCourse feedByte feedAll answerBy answer_of fedNumbers tailOf isI2o zeroTail kindOk tail_bytes
-bads-nine = refl
+unfolding le le_bytes in_limits drive_of same bus_ok interface_ok geometry_fits fields_ok in_store overlap header_of header_at overlaps_any refusal parameters_refusal record_refusal with_record record_step end_step step_of step_at bad_count bad_length_ok bads_in held_of ascends are_blocks list_ok bads_refusal record_of geometry_bytes size_bytes name_bytes parameters_record bad_record records_of next_place refused_at opened after_step held_byte by_course feed_byte feed_all answer_by answer_of fed_numbers tail_of is_i2o zero_tail kind_ok tail_bytes
+bads_nine = refl
 
 -- 5 by the last byte only
 --   not in order: 5 at 68
 --   repeated: 5 at 68
 --   the first of two past the drive's blocks: 5 at 68
-pub bads-five : along (after record₁) (bads 0 (7 ∷ 5 ∷ [])) ++ along (after record₁) (bads 0 (5 ∷ 5 ∷ [])) ++ along (after record₁) (bads 0 (2048 ∷ 2049 ∷ []))
+pub bads_five : along (after record₁) (bads 0 (7 ∷ 5 ∷ [])) ++ along (after record₁) (bads 0 (5 ∷ 5 ∷ [])) ++ along (after record₁) (bads 0 (2048 ∷ 2049 ∷ []))
     ≡ unsettled 21 ++ ((5 ∷ 68 ∷ []) ∷ []) ++ (unsettled 21 ++ ((5 ∷ 68 ∷ []) ∷ [])) ++ (unsettled 21 ++ ((5 ∷ 68 ∷ []) ∷ []))
-unfolding le le_bytes inLimits driveOf same busOk interfaceOk geometryFits fieldsOk inStore overlap headerOf headerAt overlapsAny refusal parametersRefusal recordRefusal withRecord recordStep endStep step_of stepAt badCount badLengthOk badsIn held_of ascends areBlocks listOk badsRefusal recordOf geometryBytes sizeBytes nameBytes parametersRecord badRecord recordsOf nextPlace refusedAt opened afterStep heldByte byCourse feedByte feedAll answerBy answer_of fedNumbers tailOf isI2o zeroTail kindOk tail_bytes
-bads-five = refl
+unfolding le le_bytes in_limits drive_of same bus_ok interface_ok geometry_fits fields_ok in_store overlap header_of header_at overlaps_any refusal parameters_refusal record_refusal with_record record_step end_step step_of step_at bad_count bad_length_ok bads_in held_of ascends are_blocks list_ok bads_refusal record_of geometry_bytes size_bytes name_bytes parameters_record bad_record records_of next_place refused_at opened after_step held_byte by_course feed_byte feed_all answer_by answer_of fed_numbers tail_of is_i2o zero_tail kind_ok tail_bytes
+bads_five = refl
 
 -- the longest record, of sixteen: held to its 133rd byte, and then none of it
 --   the bytes held after 132, 133 and 134 of it
-pub bads-kept : map (λ (n : ℕ). (after (record₁ ++ take n (bads 0 sixteen))).filled) (132 ∷ 133 ∷ 134 ∷ []) ≡ 132 ∷ 133 ∷ 0 ∷ []
-unfolding le le_bytes inLimits driveOf same busOk interfaceOk geometryFits fieldsOk inStore overlap headerOf headerAt overlapsAny refusal parametersRefusal recordRefusal withRecord recordStep endStep step_of stepAt badCount badLengthOk badsIn held_of ascends areBlocks listOk badsRefusal opened afterStep heldByte byCourse feedByte feedAll tailOf isI2o zeroTail kindOk
-bads-kept = refl
+pub bads_kept : map (λ (n : ℕ). (after (record₁ ++ take n (bads 0 sixteen))).filled) (132 ∷ 133 ∷ 134 ∷ []) ≡ 132 ∷ 133 ∷ 0 ∷ []
+unfolding le le_bytes in_limits drive_of same bus_ok interface_ok geometry_fits fields_ok in_store overlap header_of header_at overlaps_any refusal parameters_refusal record_refusal with_record record_step end_step step_of step_at bad_count bad_length_ok bads_in held_of ascends are_blocks list_ok bads_refusal opened after_step held_byte by_course feed_byte feed_all tail_of is_i2o zero_tail kind_ok
+bads_kept = refl
 
 --   which, after 133: 1 at 68 once the end is told there; after 134 its numbers are the drive's, and 1 is at 202
-pub bads-held : (after (record₁ ++ take 133 (bads 0 sixteen))).held ∷ take 128 (after (record₁ ++ bads 0 sixteen)).table.bad
+pub bads_held : (after (record₁ ++ take 133 (bads 0 sixteen))).held ∷ take 128 (after (record₁ ++ bads 0 sixteen)).table.bad
     ∷ said (told (record₁ ++ take 133 (bads 0 sixteen))) ∷ said (told (record₁ ++ bads 0 sixteen)) ∷ []
     ≡ (take 133 (bads 0 sixteen) ++ (0 ∷ [])) ∷ drop 6 (bads 0 sixteen) ∷ (1 ∷ 68 ∷ []) ∷ (1 ∷ 202 ∷ []) ∷ []
-unfolding le le_bytes inLimits driveOf same busOk interfaceOk geometryFits fieldsOk inStore overlap headerOf headerAt overlapsAny refusal parametersRefusal recordRefusal withRecord recordStep endStep step_of stepAt badCount badLengthOk badsIn held_of ascends areBlocks listOk badsRefusal recordOf geometryBytes sizeBytes nameBytes parametersRecord badRecord recordsOf nextPlace refusedAt opened afterStep heldByte byCourse feedByte feedAll answerBy answer_of fedNumbers endBy endFeed tailOf isI2o zeroTail kindOk tail_bytes
-bads-held = refl
+unfolding le le_bytes in_limits drive_of same bus_ok interface_ok geometry_fits fields_ok in_store overlap header_of header_at overlaps_any refusal parameters_refusal record_refusal with_record record_step end_step step_of step_at bad_count bad_length_ok bads_in held_of ascends are_blocks list_ok bads_refusal record_of geometry_bytes size_bytes name_bytes parameters_record bad_record records_of next_place refused_at opened after_step held_byte by_course feed_byte feed_all answer_by answer_of fed_numbers end_by end_feed tail_of is_i2o zero_tail kind_ok tail_bytes
+bads_held = refl
 
 -- the longest table, eight drives of kind 2 with sixteen bad blocks and parameters each, 1840 bytes, and 133 more: nothing is settled; with the next
 -- byte, the 1974th: 9 at 1840
 pub longest : along (after (most 8)) (bads 8 sixteen)
     ≡ unsettled 133 ++ ((9 ∷ 1840 ∷ []) ∷ [])
-unfolding le le_bytes inLimits driveOf same busOk interfaceOk geometryFits fieldsOk inStore overlap headerOf headerAt overlapsAny refusal parametersRefusal recordRefusal withRecord recordStep endStep step_of stepAt badCount badLengthOk badsIn held_of ascends areBlocks listOk badsRefusal recordOf geometryBytes sizeBytes nameBytes parametersRecord badRecord recordsOf nextPlace refusedAt opened afterStep heldByte byCourse feedByte feedAll answerBy answer_of fedNumbers tailOf isI2o zeroTail kindOk tail_bytes
+unfolding le le_bytes in_limits drive_of same bus_ok interface_ok geometry_fits fields_ok in_store overlap header_of header_at overlaps_any refusal parameters_refusal record_refusal with_record record_step end_step step_of step_at bad_count bad_length_ok bads_in held_of ascends are_blocks list_ok bads_refusal record_of geometry_bytes size_bytes name_bytes parameters_record bad_record records_of next_place refused_at opened after_step held_byte by_course feed_byte feed_all answer_by answer_of fed_numbers tail_of is_i2o zero_tail kind_ok tail_bytes
 longest = refl
 
 -- ---- records of kind 2 (document 02, 2026-06)
 
 -- byte by byte nothing is settled; the end told behind 75 bytes of it: 1 at 0, behind 76: 1 at 76, behind the end record: 0; a byte more: 8 at 80
-pub wide-bytewise : along (opened store) (record₂ ++ end) ++ map said (told (take 75 record₂) ∷ told record₂ ∷ told (record₂ ++ end) ∷ after (record₂ ++ end ++ (0 ∷ [])) ∷ [])
+pub wide_bytewise : along (opened store) (record₂ ++ end) ++ map said (told (take 75 record₂) ∷ told record₂ ∷ told (record₂ ++ end) ∷ after (record₂ ++ end ++ (0 ∷ [])) ∷ [])
     ≡ unsettled 80 ++ ((1 ∷ 0 ∷ []) ∷ (1 ∷ 76 ∷ []) ∷ (0 ∷ []) ∷ (8 ∷ 80 ∷ []) ∷ [])
-unfolding le le_bytes inLimits driveOf same busOk interfaceOk geometryFits fieldsOk inStore overlap headerOf headerAt overlapsAny refusal parametersRefusal recordRefusal withRecord recordStep endStep step_of stepAt recordOf geometryBytes sizeBytes nameBytes parametersRecord recordsOf nextPlace refusedAt opened afterStep heldByte byCourse feedByte feedAll answerBy answer_of fedNumbers endBy endFeed tailOf isI2o zeroTail kindOk tail_bytes
-wide-bytewise = refl
+unfolding le le_bytes in_limits drive_of same bus_ok interface_ok geometry_fits fields_ok in_store overlap header_of header_at overlaps_any refusal parameters_refusal record_refusal with_record record_step end_step step_of step_at record_of geometry_bytes size_bytes name_bytes parameters_record records_of next_place refused_at opened after_step held_byte by_course feed_byte feed_all answer_by answer_of fed_numbers end_by end_feed tail_of is_i2o zero_tail kind_ok tail_bytes
+wide_bytewise = refl
 
 -- the bytes held after 68, 75 and 76, and the drives so far
 pub wide-kept : map (λ (n : ℕ). (after (take n record₂)).filled ∷ (after (take n record₂)).table.count ∷ []) (68 ∷ 75 ∷ 76 ∷ []) ≡ (68 ∷ 0 ∷ []) ∷ (75 ∷ 0 ∷ []) ∷ (0 ∷ 1 ∷ []) ∷ []
-unfolding le le_bytes inLimits driveOf same busOk interfaceOk geometryFits fieldsOk inStore overlap headerOf headerAt overlapsAny refusal parametersRefusal recordRefusal withRecord recordStep endStep step_of stepAt opened afterStep heldByte byCourse feedByte feedAll tailOf isI2o zeroTail kindOk
+unfolding le le_bytes in_limits drive_of same bus_ok interface_ok geometry_fits fields_ok in_store overlap header_of header_at overlaps_any refusal parameters_refusal record_refusal with_record record_step end_step step_of step_at opened after_step held_byte by_course feed_byte feed_all tail_of is_i2o zero_tail kind_ok
 wide-kept = refl
 
 -- a drive of either kind, in fragments of one byte: the kinds and the last eight bytes of the device paths
@@ -254,25 +254,25 @@ abbrev wide-drives : List Drive
 wide-drives = (feeds (opened store) (single (record₁ ++ wide 2048))).table.drives
 
 pub wide-taken : (map (λ (d : Drive). d.kind) wide-drives ≡ 1 ∷ 2 ∷ replicate 6 0) × (map (λ (d : Drive). d.tail) wide-drives ≡ replicate 8 0 ∷ (159 ∷ 160 ∷ 161 ∷ 162 ∷ 163 ∷ 164 ∷ 165 ∷ 166 ∷ []) ∷ replicate 6 (replicate 8 0))
-unfolding le le_bytes inLimits driveOf same busOk interfaceOk geometryFits fieldsOk inStore overlap headerOf headerAt overlapsAny refusal parametersRefusal recordRefusal withRecord recordStep endStep step_of stepAt opened afterStep heldByte byCourse feedByte feedAll feeds tailOf isI2o zeroTail kindOk
+unfolding le le_bytes in_limits drive_of same bus_ok interface_ok geometry_fits fields_ok in_store overlap header_of header_at overlaps_any refusal parameters_refusal record_refusal with_record record_step end_step step_of step_at opened after_step held_byte by_course feed_byte feed_all feeds tail_of is_i2o zero_tail kind_ok
 wide-taken = (refl, refl)
 
 -- 2 at the header's fourth byte
 --   kind 2 of length 68: 2 at 76
 --   kind 1 of length 76: 2 at 76
-pub wide-two : along (after record₂) (68 ∷ 0 ∷ 2 ∷ 0 ∷ []) ++ along (after record₂) (76 ∷ 0 ∷ 1 ∷ 0 ∷ [])
+pub wide_two : along (after record₂) (68 ∷ 0 ∷ 2 ∷ 0 ∷ []) ++ along (after record₂) (76 ∷ 0 ∷ 1 ∷ 0 ∷ [])
     ≡ unsettled 3 ++ ((2 ∷ 76 ∷ []) ∷ []) ++ (unsettled 3 ++ ((2 ∷ 76 ∷ []) ∷ []))
-unfolding le le_bytes inLimits driveOf same busOk interfaceOk geometryFits fieldsOk inStore overlap headerOf headerAt overlapsAny refusal parametersRefusal recordRefusal withRecord recordStep endStep step_of stepAt recordOf geometryBytes sizeBytes nameBytes parametersRecord recordsOf nextPlace refusedAt opened afterStep heldByte byCourse feedByte feedAll answerBy answer_of fedNumbers tailOf isI2o zeroTail kindOk tail_bytes
-wide-two = refl
+unfolding le le_bytes in_limits drive_of same bus_ok interface_ok geometry_fits fields_ok in_store overlap header_of header_at overlaps_any refusal parameters_refusal record_refusal with_record record_step end_step step_of step_at record_of geometry_bytes size_bytes name_bytes parameters_record records_of next_place refused_at opened after_step held_byte by_course feed_byte feed_all answer_by answer_of fed_numbers tail_of is_i2o zero_tail kind_ok tail_bytes
+wide_two = refl
 
 -- 5 and 7 at the 76th byte, and at the 68th of a record of kind 1
 --   kind 2, protection 2: 5 at 76
 --   kind 1, I2O: 5 at 76
 --   kind 2, the same drive again: 7 at 76
-pub wide-five : along (after record₂) (sets (wide 2048) 39 (2 ∷ [])) ++ along (after record₂) (sets (from 2048) 44 (73 ∷ 50 ∷ 79 ∷ 0 ∷ [])) ++ along (after record₂) record₂
+pub wide_five : along (after record₂) (sets (wide 2048) 39 (2 ∷ [])) ++ along (after record₂) (sets (from 2048) 44 (73 ∷ 50 ∷ 79 ∷ 0 ∷ [])) ++ along (after record₂) record₂
     ≡ unsettled 75 ++ ((5 ∷ 76 ∷ []) ∷ []) ++ (unsettled 67 ++ ((5 ∷ 76 ∷ []) ∷ [])) ++ (unsettled 75 ++ ((7 ∷ 76 ∷ []) ∷ []))
-unfolding le le_bytes inLimits driveOf same busOk interfaceOk geometryFits fieldsOk inStore overlap headerOf headerAt overlapsAny refusal parametersRefusal recordRefusal withRecord recordStep endStep step_of stepAt recordOf geometryBytes sizeBytes nameBytes parametersRecord recordsOf nextPlace refusedAt opened afterStep heldByte byCourse feedByte feedAll answerBy answer_of fedNumbers tailOf isI2o zeroTail kindOk tail_bytes
-wide-five = refl
+unfolding le le_bytes in_limits drive_of same bus_ok interface_ok geometry_fits fields_ok in_store overlap header_of header_at overlaps_any refusal parameters_refusal record_refusal with_record record_step end_step step_of step_at record_of geometry_bytes size_bytes name_bytes parameters_record records_of next_place refused_at opened after_step held_byte by_course feed_byte feed_all answer_by answer_of fed_numbers tail_of is_i2o zero_tail kind_ok tail_bytes
+wide_five = refl
 
 -- ---- fragments
 
@@ -281,9 +281,9 @@ wide-five = refl
 --   between the others: 0 once the end is told
 --   behind the end record: no byte follows
 pub empty : map (λ (fs : List (List ℕ)). said (feeds (opened store) fs)) ([] ∷ ([] ∷ [] ∷ []) ∷ ([] ∷ record₁ ∷ [] ∷ [] ∷ take 2 end ∷ [] ∷ drop 2 end ∷ []) ∷ (record₁ ∷ end ∷ [] ∷ []) ∷ [])
-    ++ map (λ (fs : List (List ℕ)). said (endFeed (feeds (opened store) fs))) ([] ∷ ([] ∷ [] ∷ []) ∷ ([] ∷ record₁ ∷ [] ∷ [] ∷ take 2 end ∷ [] ∷ drop 2 end ∷ []) ∷ (record₁ ∷ end ∷ [] ∷ []) ∷ [])
+    ++ map (λ (fs : List (List ℕ)). said (end_feed (feeds (opened store) fs))) ([] ∷ ([] ∷ [] ∷ []) ∷ ([] ∷ record₁ ∷ [] ∷ [] ∷ take 2 end ∷ [] ∷ drop 2 end ∷ []) ∷ (record₁ ∷ end ∷ [] ∷ []) ∷ [])
     ≡ unsettled 4 ++ ((1 ∷ 0 ∷ []) ∷ (1 ∷ 0 ∷ []) ∷ (0 ∷ []) ∷ (0 ∷ []) ∷ [])
-unfolding le le_bytes inLimits driveOf same busOk interfaceOk geometryFits fieldsOk inStore overlap headerOf headerAt overlapsAny refusal parametersRefusal recordRefusal withRecord recordStep endStep step_of stepAt recordOf geometryBytes sizeBytes nameBytes parametersRecord recordsOf nextPlace refusedAt opened afterStep heldByte byCourse feedByte feedAll answerBy answer_of fedNumbers feeds endBy endFeed tailOf isI2o zeroTail kindOk tail_bytes
+unfolding le le_bytes in_limits drive_of same bus_ok interface_ok geometry_fits fields_ok in_store overlap header_of header_at overlaps_any refusal parameters_refusal record_refusal with_record record_step end_step step_of step_at record_of geometry_bytes size_bytes name_bytes parameters_record records_of next_place refused_at opened after_step held_byte by_course feed_byte feed_all answer_by answer_of fed_numbers feeds end_by end_feed tail_of is_i2o zero_tail kind_ok tail_bytes
 empty = refl
 
 -- the end of a drive's record, its parameters, a drive with parameters and half an end record in one fragment
@@ -291,26 +291,26 @@ abbrev several : List (List ℕ)
 several = take 10 record₁ ∷ (drop 10 record₁ ++ attach 0 ++ from 2048 ++ attach 1 ++ take 2 end) ∷ drop 2 end ∷ []
 
 -- nothing is settled; 0 once the end is told; 8 at 180 with a byte more
-pub several-said : said (feeds (opened store) several) ∷ said (endFeed (feeds (opened store) several)) ∷ said (feedAll (feeds (opened store) several) (0 ∷ [])) ∷ []
+pub several_said : said (feeds (opened store) several) ∷ said (end_feed (feeds (opened store) several)) ∷ said (feed_all (feeds (opened store) several) (0 ∷ [])) ∷ []
     ≡ (256 ∷ []) ∷ (0 ∷ []) ∷ (8 ∷ 180 ∷ []) ∷ []
-unfolding le le_bytes inLimits driveOf same busOk interfaceOk geometryFits fieldsOk inStore overlap headerOf headerAt overlapsAny refusal parametersRefusal recordRefusal withRecord recordStep endStep step_of stepAt recordOf geometryBytes sizeBytes nameBytes parametersRecord recordsOf nextPlace refusedAt opened afterStep heldByte byCourse feedByte feedAll answerBy answer_of fedNumbers feeds endBy endFeed tailOf isI2o zeroTail kindOk tail_bytes
-several-said = refl
+unfolding le le_bytes in_limits drive_of same bus_ok interface_ok geometry_fits fields_ok in_store overlap header_of header_at overlaps_any refusal parameters_refusal record_refusal with_record record_step end_step step_of step_at record_of geometry_bytes size_bytes name_bytes parameters_record records_of next_place refused_at opened after_step held_byte by_course feed_byte feed_all answer_by answer_of fed_numbers feeds end_by end_feed tail_of is_i2o zero_tail kind_ok tail_bytes
+several_said = refl
 
 -- two drives, the second from block 2048 on, each with its parameters
-pub several-drives : map (λ (d : Drive). d.first) (feeds (opened store) several).table.drives
+pub several_drives : map (λ (d : Drive). d.first) (feeds (opened store) several).table.drives
     ≡ 0 ∷ 2048 ∷ replicate 6 0
-unfolding le le_bytes inLimits driveOf same busOk interfaceOk geometryFits fieldsOk inStore overlap headerOf headerAt overlapsAny refusal parametersRefusal recordRefusal withRecord recordStep endStep step_of stepAt opened afterStep heldByte byCourse feedByte feedAll feeds tailOf isI2o zeroTail kindOk
-several-drives = refl
+unfolding le le_bytes in_limits drive_of same bus_ok interface_ok geometry_fits fields_ok in_store overlap header_of header_at overlaps_any refusal parameters_refusal record_refusal with_record record_step end_step step_of step_at opened after_step held_byte by_course feed_byte feed_all feeds tail_of is_i2o zero_tail kind_ok
+several_drives = refl
 
-pub several-marks : (feeds (opened store) several).table.present
+pub several_marks : (feeds (opened store) several).table.present
     ≡ true ∷ true ∷ replicate 6 false
-unfolding le le_bytes inLimits driveOf same busOk interfaceOk geometryFits fieldsOk inStore overlap headerOf headerAt overlapsAny refusal parametersRefusal recordRefusal withRecord recordStep endStep step_of stepAt opened afterStep heldByte byCourse feedByte feedAll feeds tailOf isI2o zeroTail kindOk
-several-marks = refl
+unfolding le le_bytes in_limits drive_of same bus_ok interface_ok geometry_fits fields_ok in_store overlap header_of header_at overlaps_any refusal parameters_refusal record_refusal with_record record_step end_step step_of step_at opened after_step held_byte by_course feed_byte feed_all feeds tail_of is_i2o zero_tail kind_ok
+several_marks = refl
 
-pub several-parameters : (feeds (opened store) several).table.parameters
+pub several_parameters : (feeds (opened store) several).table.parameters
     ≡ given-bytes ++ given-bytes ++ replicate 84 0
-unfolding le le_bytes inLimits driveOf same busOk interfaceOk geometryFits fieldsOk inStore overlap headerOf headerAt overlapsAny refusal parametersRefusal recordRefusal withRecord recordStep endStep step_of stepAt opened afterStep heldByte byCourse feedByte feedAll feeds tailOf isI2o zeroTail kindOk
-several-parameters = refl
+unfolding le le_bytes in_limits drive_of same bus_ok interface_ok geometry_fits fields_ok in_store overlap header_of header_at overlaps_any refusal parameters_refusal record_refusal with_record record_step end_step step_of step_at opened after_step held_byte by_course feed_byte feed_all feeds tail_of is_i2o zero_tail kind_ok
+several_parameters = refl
 
 -- ---- what stays
 
@@ -321,7 +321,7 @@ several-parameters = refl
 --   7 at 68, and the end record: 7 at 68
 pub refused-stays : along (after (record₁ ++ (67 ∷ 0 ∷ 1 ∷ 0 ∷ []))) (end ++ take 4 record₁) ++ map said (told (record₁ ++ (67 ∷ 0 ∷ 1 ∷ 0 ∷ [])) ∷ after (record₁ ++ end ++ (0 ∷ 1 ∷ [])) ∷ told (record₁ ++ end ++ (0 ∷ 1 ∷ [])) ∷ told (record₁ ++ record₁ ++ end) ∷ [])
     ≡ replicate 8 (2 ∷ 68 ∷ []) ++ ((2 ∷ 68 ∷ []) ∷ (8 ∷ 72 ∷ []) ∷ (8 ∷ 72 ∷ []) ∷ (7 ∷ 68 ∷ []) ∷ [])
-unfolding le le_bytes inLimits driveOf same busOk interfaceOk geometryFits fieldsOk inStore overlap headerOf headerAt overlapsAny refusal parametersRefusal recordRefusal withRecord recordStep endStep step_of stepAt recordOf geometryBytes sizeBytes nameBytes parametersRecord recordsOf nextPlace refusedAt opened afterStep heldByte byCourse feedByte feedAll answerBy answer_of fedNumbers endBy endFeed tailOf isI2o zeroTail kindOk tail_bytes
+unfolding le le_bytes in_limits drive_of same bus_ok interface_ok geometry_fits fields_ok in_store overlap header_of header_at overlaps_any refusal parameters_refusal record_refusal with_record record_step end_step step_of step_at record_of geometry_bytes size_bytes name_bytes parameters_record records_of next_place refused_at opened after_step held_byte by_course feed_byte feed_all answer_by answer_of fed_numbers end_by end_feed tail_of is_i2o zero_tail kind_ok tail_bytes
 refused-stays = refl
 
 -- after the end was told
@@ -330,15 +330,15 @@ refused-stays = refl
 --   1 at 0, and an end record: 1 at 0
 --   1 at 68, and the end record that was missing: 1 at 68
 --   1 at 68, and the end again: 1 at 68
-pub told-stays : map said (feedAll (told (record₁ ++ end)) (0 ∷ []) ∷ endFeed (told (record₁ ++ end)) ∷ feedAll (told []) end ∷ feedAll (told record₁) end ∷ endFeed (told record₁) ∷ [])
+pub told-stays : map said (feed_all (told (record₁ ++ end)) (0 ∷ []) ∷ end_feed (told (record₁ ++ end)) ∷ feed_all (told []) end ∷ feed_all (told record₁) end ∷ end_feed (told record₁) ∷ [])
     ≡ (0 ∷ []) ∷ (0 ∷ []) ∷ (1 ∷ 0 ∷ []) ∷ (1 ∷ 68 ∷ []) ∷ (1 ∷ 68 ∷ []) ∷ []
-unfolding le le_bytes inLimits driveOf same busOk interfaceOk geometryFits fieldsOk inStore overlap headerOf headerAt overlapsAny refusal parametersRefusal recordRefusal withRecord recordStep endStep step_of stepAt recordOf geometryBytes sizeBytes nameBytes parametersRecord recordsOf nextPlace refusedAt opened afterStep heldByte byCourse feedByte feedAll answerBy answer_of fedNumbers endBy endFeed tailOf isI2o zeroTail kindOk tail_bytes
+unfolding le le_bytes in_limits drive_of same bus_ok interface_ok geometry_fits fields_ok in_store overlap header_of header_at overlaps_any refusal parameters_refusal record_refusal with_record record_step end_step step_of step_at record_of geometry_bytes size_bytes name_bytes parameters_record records_of next_place refused_at opened after_step held_byte by_course feed_byte feed_all answer_by answer_of fed_numbers end_by end_feed tail_of is_i2o zero_tail kind_ok tail_bytes
 told-stays = refl
 
 -- the drives so far: none after 67 bytes, one after 68, one at a refusal of the second, two
 pub counted : map (λ (l : List ℕ). (after l).table.count) (take 67 record₁ ∷ record₁ ∷ (record₁ ++ record₁) ∷ (record₁ ++ from 2048) ∷ [])
     ≡ 0 ∷ 1 ∷ 1 ∷ 2 ∷ []
-unfolding le le_bytes inLimits driveOf same busOk interfaceOk geometryFits fieldsOk inStore overlap headerOf headerAt overlapsAny refusal parametersRefusal recordRefusal withRecord recordStep endStep step_of stepAt opened afterStep heldByte byCourse feedByte feedAll tailOf isI2o zeroTail kindOk
+unfolding le le_bytes in_limits drive_of same bus_ok interface_ok geometry_fits fields_ok in_store overlap header_of header_at overlaps_any refusal parameters_refusal record_refusal with_record record_step end_step step_of step_at opened after_step held_byte by_course feed_byte feed_all tail_of is_i2o zero_tail kind_ok
 counted = refl
 
 -- ---- what a reader keeps
@@ -346,35 +346,35 @@ counted = refl
 -- opened; five bytes; a drive; a drive and three bytes; cut in two within the second record; closed; refused with 3, and bytes after it; refused
 -- with 8; accepted, and bytes after it; refused with 1
 abbrev points : List Feed
-points = opened store ∷ after (take 5 record₁) ∷ after record₁ ∷ after (record₁ ++ take 3 end) ∷ feeds (opened store) (cut (record₁ ++ take 3 end) 70) ∷ after (record₁ ++ end) ∷ after (record₁ ++ (4 ∷ 0 ∷ 5 ∷ 0 ∷ 7 ∷ 7 ∷ [])) ∷ after (record₁ ++ end ++ (7 ∷ [])) ∷ feedAll (told (record₁ ++ end)) (7 ∷ 7 ∷ []) ∷ told (record₁ ++ take 3 end) ∷ []
+points = opened store ∷ after (take 5 record₁) ∷ after record₁ ∷ after (record₁ ++ take 3 end) ∷ feeds (opened store) (cut (record₁ ++ take 3 end) 70) ∷ after (record₁ ++ end) ∷ after (record₁ ++ (4 ∷ 0 ∷ 5 ∷ 0 ∷ 7 ∷ 7 ∷ [])) ∷ after (record₁ ++ end ++ (7 ∷ [])) ∷ feed_all (told (record₁ ++ end)) (7 ∷ 7 ∷ []) ∷ told (record₁ ++ take 3 end) ∷ []
 
 -- how many bytes are held: those of an unfinished record, while nothing is settled
-pub points-filled : map (λ (f : Feed). f.filled) points
+pub points_filled : map (λ (f : Feed). f.filled) points
     ≡ 0 ∷ 5 ∷ 0 ∷ 3 ∷ 3 ∷ 0 ∷ 0 ∷ 0 ∷ 0 ∷ 0 ∷ []
-unfolding le le_bytes inLimits driveOf same busOk interfaceOk geometryFits fieldsOk inStore overlap headerOf headerAt overlapsAny refusal parametersRefusal recordRefusal withRecord recordStep endStep step_of stepAt opened afterStep heldByte byCourse feedByte feedAll feeds endBy endFeed tailOf isI2o zeroTail kindOk
-points-filled = refl
+unfolding le le_bytes in_limits drive_of same bus_ok interface_ok geometry_fits fields_ok in_store overlap header_of header_at overlaps_any refusal parameters_refusal record_refusal with_record record_step end_step step_of step_at opened after_step held_byte by_course feed_byte feed_all feeds end_by end_feed tail_of is_i2o zero_tail kind_ok
+points_filled = refl
 
 -- and which: zeros behind them, and of a record that was taken no byte
-pub points-held : map (λ (f : Feed). f.held) points
+pub points_held : map (λ (f : Feed). f.held) points
     ≡ replicate 134 0 ∷ (68 ∷ 0 ∷ 1 ∷ 0 ∷ 2 ∷ replicate 129 0) ∷ replicate 134 0 ∷ (4 ∷ replicate 133 0) ∷ (4 ∷ replicate 133 0) ∷ replicate 5 (replicate 134 0)
-unfolding le le_bytes inLimits driveOf same busOk interfaceOk geometryFits fieldsOk inStore overlap headerOf headerAt overlapsAny refusal parametersRefusal recordRefusal withRecord recordStep endStep step_of stepAt opened afterStep heldByte byCourse feedByte feedAll feeds endBy endFeed tailOf isI2o zeroTail kindOk
-points-held = refl
+unfolding le le_bytes in_limits drive_of same bus_ok interface_ok geometry_fits fields_ok in_store overlap header_of header_at overlaps_any refusal parameters_refusal record_refusal with_record record_step end_step step_of step_at opened after_step held_byte by_course feed_byte feed_all feeds end_by end_feed tail_of is_i2o zero_tail kind_ok
+points_held = refl
 
 -- the store's number of blocks stays
-pub points-store : map (λ (f : Feed). f.store) points
+pub points_store : map (λ (f : Feed). f.store) points
     ≡ replicate 10 4294967296
-unfolding le le_bytes inLimits driveOf same busOk interfaceOk geometryFits fieldsOk inStore overlap headerOf headerAt overlapsAny refusal parametersRefusal recordRefusal withRecord recordStep endStep step_of stepAt opened afterStep heldByte byCourse feedByte feedAll feeds endBy endFeed tailOf isI2o zeroTail kindOk
-points-store = refl
+unfolding le le_bytes in_limits drive_of same bus_ok interface_ok geometry_fits fields_ok in_store overlap header_of header_at overlaps_any refusal parameters_refusal record_refusal with_record record_step end_step step_of step_at opened after_step held_byte by_course feed_byte feed_all feeds end_by end_feed tail_of is_i2o zero_tail kind_ok
+points_store = refl
 
 -- a reader that no bytes lead to, whose record is whole and not taken
 abbrev full : Feed
-full = record { table = emptyTable; store = store; held = replicate 134 7; filled = 134; course = Reading }
+full = record { table = empty_table; store = store; held = replicate 134 7; filled = 134; course = Reading }
 
 -- a byte more: it stays, and nothing is said
-pub full-stays : said (feedByte full 9) ∷ ((feedByte full 9).filled ∷ []) ∷ (feedByte full 9).held ∷ []
+pub full_stays : said (feed_byte full 9) ∷ ((feed_byte full 9).filled ∷ []) ∷ (feed_byte full 9).held ∷ []
     ≡ (256 ∷ []) ∷ (134 ∷ []) ∷ replicate 134 7 ∷ []
-unfolding le le_bytes inLimits driveOf same busOk interfaceOk geometryFits fieldsOk inStore overlap headerOf headerAt overlapsAny refusal parametersRefusal recordRefusal withRecord recordStep endStep step_of stepAt recordOf geometryBytes sizeBytes nameBytes parametersRecord recordsOf nextPlace refusedAt opened afterStep heldByte byCourse feedByte feedAll answerBy answer_of fedNumbers tailOf isI2o zeroTail kindOk tail_bytes
-full-stays = refl
+unfolding le le_bytes in_limits drive_of same bus_ok interface_ok geometry_fits fields_ok in_store overlap header_of header_at overlaps_any refusal parameters_refusal record_refusal with_record record_step end_step step_of step_at record_of geometry_bytes size_bytes name_bytes parameters_record records_of next_place refused_at opened after_step held_byte by_course feed_byte feed_all answer_by answer_of fed_numbers tail_of is_i2o zero_tail kind_ok tail_bytes
+full_stays = refl
 
 -- ---- the answers of the whole, as the theorem says them
 
@@ -384,10 +384,10 @@ unfolding joined
 joins = refl
 
 -- accepted, 1 at 68, 2 at 68, 8 at 72: once the end was told, and before it, where 1 and acceptance are not said
-pub answers : map (λ a. fedNumbers (answerTold a)) (TableAccepted ∷ TableRefused 1 68 ∷ TableRefused 2 68 ∷ TableRefused 8 72 ∷ [])
-    ++ map (λ a. fedNumbers (so_far a)) (TableAccepted ∷ TableRefused 1 68 ∷ TableRefused 2 68 ∷ TableRefused 8 72 ∷ [])
+pub answers : map (λ a. fed_numbers (answer_told a)) (TableAccepted ∷ TableRefused 1 68 ∷ TableRefused 2 68 ∷ TableRefused 8 72 ∷ [])
+    ++ map (λ a. fed_numbers (so_far a)) (TableAccepted ∷ TableRefused 1 68 ∷ TableRefused 2 68 ∷ TableRefused 8 72 ∷ [])
     ≡ (0 ∷ []) ∷ (1 ∷ 68 ∷ []) ∷ (2 ∷ 68 ∷ []) ∷ (8 ∷ 72 ∷ []) ∷ (256 ∷ []) ∷ (256 ∷ []) ∷ (2 ∷ 68 ∷ []) ∷ (8 ∷ 72 ∷ []) ∷ []
-unfolding fedNumbers
+unfolding fed_numbers
 answers = refl
 
 -- ---- bytes that settle nothing, and bytes that are ignored
@@ -404,14 +404,14 @@ answers = refl
 --   the 134th: false
 --   past the longest record: false
 --   behind the end record, once accepted, once refused: false
-pub opens : staysOpen Reading nothing 0 68 ∷ staysOpen Reading (68 ∷ 0 ∷ 1 ∷ replicate 131 0) 3 0 ∷ staysOpen Reading (68 ∷ 0 ∷ 9 ∷ replicate 131 0) 3 0
-    ∷ staysOpen Reading (68 ∷ 0 ∷ 1 ∷ replicate 131 0) 3 1 ∷ staysOpen Reading (67 ∷ 0 ∷ 1 ∷ replicate 131 0) 3 0
-    ∷ staysOpen Reading (take 66 record₁ ++ replicate 68 0) 66 0 ∷ staysOpen Reading (take 67 record₁ ++ replicate 67 0) 67 0
-    ∷ staysOpen Reading (134 ∷ 0 ∷ 3 ∷ replicate 131 0) 3 0 ∷ staysOpen Reading (135 ∷ 0 ∷ 3 ∷ replicate 131 0) 3 0
-    ∷ staysOpen Reading (take 132 (bads 0 sixteen) ++ (0 ∷ 0 ∷ [])) 132 0 ∷ staysOpen Reading (take 133 (bads 0 sixteen) ++ (0 ∷ [])) 133 0
-    ∷ staysOpen Reading (bads 0 sixteen) 134 0 ∷ staysOpen Closed nothing 0 68 ∷ staysOpen Accepted nothing 0 68 ∷ staysOpen (Refused 3) nothing 0 68 ∷ []
+pub opens : stays_open Reading nothing 0 68 ∷ stays_open Reading (68 ∷ 0 ∷ 1 ∷ replicate 131 0) 3 0 ∷ stays_open Reading (68 ∷ 0 ∷ 9 ∷ replicate 131 0) 3 0
+    ∷ stays_open Reading (68 ∷ 0 ∷ 1 ∷ replicate 131 0) 3 1 ∷ stays_open Reading (67 ∷ 0 ∷ 1 ∷ replicate 131 0) 3 0
+    ∷ stays_open Reading (take 66 record₁ ++ replicate 68 0) 66 0 ∷ stays_open Reading (take 67 record₁ ++ replicate 67 0) 67 0
+    ∷ stays_open Reading (134 ∷ 0 ∷ 3 ∷ replicate 131 0) 3 0 ∷ stays_open Reading (135 ∷ 0 ∷ 3 ∷ replicate 131 0) 3 0
+    ∷ stays_open Reading (take 132 (bads 0 sixteen) ++ (0 ∷ 0 ∷ [])) 132 0 ∷ stays_open Reading (take 133 (bads 0 sixteen) ++ (0 ∷ [])) 133 0
+    ∷ stays_open Reading (bads 0 sixteen) 134 0 ∷ stays_open Closed nothing 0 68 ∷ stays_open Accepted nothing 0 68 ∷ stays_open (Refused 3) nothing 0 68 ∷ []
     ≡ true ∷ true ∷ false ∷ false ∷ false ∷ true ∷ false ∷ true ∷ false ∷ true ∷ false ∷ false ∷ false ∷ false ∷ false ∷ []
-unfolding staysOpen isUnfinished headerAt headerOf le le_bytes badCount badLengthOk
+unfolding stays_open is_unfinished header_at header_of le le_bytes bad_count bad_length_ok
 opens = refl
 
 -- bytes are ignored once the end was told or it is refused, and not before

@@ -1,9 +1,9 @@
 // The drive table read as it arrives: a reader that is fed fragments of any length, keeps at most one unfinished record between them, and is
 // told when the input ends.
 ghost use Rattle.std.specs.Prelude.{◌≡◌, ◌≤◌, ◌<◌, take};
-ghost use Rattle.table.specs.Table.{longestRecord, stepAt};
+ghost use Rattle.table.specs.Table.{longest_record, step_at};
 ghost use Rattle.feed.specs.declared.Course.TheVariants.{Reading};
-ghost use Rattle.feed.specs.Feed.{cleared, holding, heldByte, opened, staysOpen, is_over, feedByte, feedAll, endFeed, refusedAt, answer_of};
+ghost use Rattle.feed.specs.Feed.{cleared, holding, held_byte, opened, stays_open, is_over, feed_byte, feed_all, end_feed, refused_at, answer_of};
 
 use table::{Cursor, Step, Stepped, Table};
 
@@ -13,7 +13,7 @@ const CUT_OFF: u8 = table::CUT_OFF;
 const BYTE_FOLLOWS: u8 = table::BYTE_FOLLOWS;
 
 // How the reading goes: it reads; it has read the end record; the end was told and the table is accepted; or it is refused.
-#[derive(Drop)]
+#[derive(Clone, Copy)]
 pub enum Course {
     Reading,
     Closed,
@@ -23,7 +23,7 @@ pub enum Course {
 
 // The drives so far, the store's number of blocks, and the first `filled` bytes of a record that is not whole yet. Where a refused record begins
 // is not kept: it follows from the drives.
-#[derive(Drop)]
+#[derive(Clone, Copy)]
 pub struct Feed {
     pub table: Table,
     pub store: u64,
@@ -33,7 +33,7 @@ pub struct Feed {
 }
 
 // What a reader says: nothing is settled, the table is accepted, or refusal number and place.
-#[derive(Drop)]
+#[derive(Clone, Copy)]
 pub enum Fed {
     More,
     Accepted,
@@ -55,7 +55,7 @@ fn cleared(f: Feed, b: Table, course: Course) -> Feed
 
 // The reader that holds a byte more. `byte` has seen that there is room.
 fn holding(f: Feed, x: u8) -> Feed
-    requires { f.filled < longestRecord }
+    requires { f.filled < longest_record }
     ensures { result ≡ holding f x }
 {
     let b = f.table;
@@ -73,8 +73,8 @@ fn holding(f: Feed, x: u8) -> Feed
 
 // The record that n bytes begin, after those drives: document 01's step on them alone.
 pub fn begun(held: [u8; table::LONGEST_RECORD], n: usize, b: Table, store: u64) -> Stepped
-    requires { n ≤ longestRecord }
-    ensures { result ≡ stepAt (take n held) 0 b store }
+    requires { n ≤ longest_record }
+    ensures { result ≡ step_at (take n held) 0 b store }
 {
     let c = Cursor {
         at: 0,
@@ -89,8 +89,8 @@ pub fn begun(held: [u8; table::LONGEST_RECORD], n: usize, b: Table, store: u64) 
 
 // A byte more of a record.
 fn held_byte(f: Feed, x: u8) -> Feed
-    requires { f.filled < longestRecord }
-    ensures { result ≡ heldByte f x }
+    requires { f.filled < longest_record }
+    ensures { result ≡ held_byte f x }
 {
     let more = holding(f, x);
     let held = more.held;
@@ -111,7 +111,7 @@ fn held_byte(f: Feed, x: u8) -> Feed
 }
 
 fn byte(f: Feed, x: u8) -> Feed
-    ensures { result ≡ feedByte f x }
+    ensures { result ≡ feed_byte f x }
 {
     let course = f.course;
     match course {
@@ -132,7 +132,7 @@ fn byte(f: Feed, x: u8) -> Feed
 
 // Whether a byte leaves the record that n bytes begin unfinished.
 fn leaves_open(held: [u8; table::LONGEST_RECORD], n: usize, x: u8) -> bool
-    ensures { result ≡ staysOpen Reading held n x }
+    ensures { result ≡ stays_open Reading held n x }
 {
     if table::LONGEST_RECORD <= n {
         return false;
@@ -144,7 +144,7 @@ fn leaves_open(held: [u8; table::LONGEST_RECORD], n: usize, x: u8) -> bool
 }
 
 fn stays_open(course: Course, held: [u8; table::LONGEST_RECORD], n: usize, x: u8) -> bool
-    ensures { result ≡ staysOpen course held n x }
+    ensures { result ≡ stays_open course held n x }
 {
     match course {
         Course::Reading => leaves_open(held, n, x),
@@ -168,7 +168,7 @@ fn is_over(course: Course) -> bool
 
 // Where a refusal with that number is, after those drives.
 fn refused_at(number: u8, b: Table) -> usize
-    ensures { result ≡ refusedAt number b }
+    ensures { result ≡ refused_at number b }
 {
     let next = table::next_place(b);
     if number == BYTE_FOLLOWS {
@@ -194,7 +194,7 @@ impl Feed {
     // The reader after a fragment, of any length. Most bytes leave a record unfinished: they are laid in place, since to hand the reader on by value
     // copies all its drives.
     pub fn take(self, bytes: &[u8]) -> Self
-        ensures { result ≡ feedAll self bytes.now }
+        ensures { result ≡ feed_all self bytes.now }
     {
         let mut f = self;
         let mut i = 0;
@@ -220,7 +220,7 @@ impl Feed {
 
     // The reader once the input has ended.
     pub fn end(self) -> Self
-        ensures { result ≡ endFeed self }
+        ensures { result ≡ end_feed self }
     {
         let course = self.course;
         let b = self.table;

@@ -4,19 +4,19 @@ ghost use Rattle.std.specs.Prelude.{◌≡◌, ◌+◌, ◌*◌, ◌≤◌, ◌<
 ghost use Rattle.std.proofs.lemmas.List.Edits.{sets};
 ghost use Rattle.logic.specs.Logic.{pick, both};
 ghost use Rattle.words.specs.Words.{part};
-ghost use Rattle.drive.specs.Drive.{driveLength};
-ghost use Rattle.attached.specs.Parameters.{givenLength};
-ghost use Rattle.attached.specs.Bad.{mostBad, listLength};
-ghost use Rattle.table.specs.Table.{mostDrives, attachedAt, attachedTo, badsAt, listed_at, listedTo, parametersTo, recordsOf, writeAnswer, writeOut};
+ghost use Rattle.drive.specs.Drive.{drive_length};
+ghost use Rattle.attached.specs.Parameters.{given_length};
+ghost use Rattle.attached.specs.Bad.{most_bad, list_length};
+ghost use Rattle.table.specs.Table.{most_drives, attached_at, attached_to, bads_at, listed_at, listed_to, parameters_to, records_of, write_answer, write_out};
 ghost use Rattle.desk.specs.declared.Stage.TheVariants.{Waiting, Finished};
-ghost use Rattle.desk.specs.Parts.{stageAt, isWaiting, placementAt};
-ghost use Rattle.desk.specs.Acceptable.{placementsOk};
-ghost use Rattle.desk.specs.Calls.{firstWaiting};
+ghost use Rattle.desk.specs.Parts.{stage_at, is_waiting, placement_at};
+ghost use Rattle.desk.specs.Acceptable.{placements_ok};
+ghost use Rattle.desk.specs.Calls.{first_waiting};
 ghost use Rattle.memory.specs.Window.{guests};
-ghost use Rattle.int13.specs.Placement.{tableCount};
-ghost use Rattle.int13.specs.Steps.{firstDrive, driveCount, isDrive, driveAt, badsOf, shownOf};
-ghost use Rattle.image.specs.Image.{rowSize, slotSize, slot_at, deskSize, each, flat, stageWords, rowWords, driveWords, image, registersAt, requestAt, readStage, readDrive, readMarks, readCounts, readDesk, accepted, laid, putStage, putPointer, markAt, presentAt, bytes_at, badsCountAt, badsListAt, marksWords, placesWords, givenWords, parametersWords, listWords, badsWords, putPlacement};
-ghost use Rattle.image.specs.Judged.{below, areRegisters, isRequest, isSlot, driveGood, drivesGood, restZero, firstIn, blocksIn, apart, aloneTo, drivesApart, follows, ascending, waitingGood, finishedGood, rowGood, rowsGood, tableGood, zeroBytes, parametersGood, placesGood, badsGood, moreGood};
+ghost use Rattle.int13.specs.Placement.{table_count};
+ghost use Rattle.int13.specs.Steps.{first_drive, drive_count, is_drive, drive_at, bads_of, shown_of};
+ghost use Rattle.image.specs.Image.{row_size, slot_size, slot_at, desk_size, each, flat, stage_words, row_words, drive_words, image, registers_at, request_at, read_stage, read_drive, read_marks, read_counts, read_desk, accepted, laid, put_stage, put_pointer, mark_at, present_at, bytes_at, bads_count_at, bads_list_at, marks_words, places_words, given_words, parameters_words, list_words, bads_words, put_placement};
+ghost use Rattle.image.specs.Judged.{below, are_registers, is_request, is_slot, drive_good, drives_good, rest_zero, first_in, blocks_in, apart, alone_to, drives_apart, follows, ascending, waiting_good, finished_good, row_good, rows_good, table_good, zero_bytes, parameters_good, places_good, bads_good, more_good};
 
 use attached::Bads;
 use desk::{Desk, Next, Request, Row, Stage};
@@ -81,7 +81,7 @@ const BLOCK_LENGTH: u64 = memory::BLOCK_LENGTH as u64;
 
 fn registers_at(b: &[u8], i: usize) -> Registers
     requires { i + 8 * 8 ≤ length b.now }
-    ensures { result ≡ registersAt b.now i }
+    ensures { result ≡ registers_at b.now i }
 {
     Registers {
         ax: words::get16(b, i),
@@ -97,7 +97,7 @@ fn registers_at(b: &[u8], i: usize) -> Registers
 
 fn request_at(b: &[u8], i: usize) -> Request
     requires { i + 8 * 14 ≤ length b.now }
-    ensures { result ≡ requestAt b.now i }
+    ensures { result ≡ request_at b.now i }
 {
     Request {
         job: Job {
@@ -113,8 +113,8 @@ fn request_at(b: &[u8], i: usize) -> Request
 }
 
 fn stage_at(b: &[u8], i: usize) -> Stage
-    requires { i + rowSize ≤ length b.now }
-    ensures { result ≡ readStage b.now i }
+    requires { i + row_size ≤ length b.now }
+    ensures { result ≡ read_stage b.now i }
 {
     let number = b[i];
     if number == 1 {
@@ -127,8 +127,8 @@ fn stage_at(b: &[u8], i: usize) -> Stage
 }
 
 fn drive_at(b: &[u8], i: usize) -> Drive
-    requires { i + slotSize ≤ length b.now }
-    ensures { result ≡ readDrive b.now i }
+    requires { i + slot_size ≤ length b.now }
+    ensures { result ≡ read_drive b.now i }
 {
     Drive {
         cylinders: words::get32(b, i),
@@ -152,8 +152,8 @@ fn drive_at(b: &[u8], i: usize) -> Drive
 
 // The drive of a slot.
 fn drive_in(b: &[u8], i: usize) -> Drive
-    requires { (length b.now ≡ deskSize) × (i < mostDrives) }
-    ensures { result ≡ readDrive b.now (slot_at i) }
+    requires { (length b.now ≡ desk_size) × (i < most_drives) }
+    ensures { result ≡ read_drive b.now (slot_at i) }
 {
     drive_at(b, SLOTS + SLOT * i)
 }
@@ -168,8 +168,8 @@ fn mark_at(b: &[u8], at: usize) -> bool
 
 // Which slots have parameters.
 fn present_of(b: &[u8]) -> [bool; 8]
-    requires { length b.now ≡ deskSize }
-    ensures { result ≡ readMarks b.now (presentAt 0) }
+    requires { length b.now ≡ desk_size }
+    ensures { result ≡ read_marks b.now (present_at 0) }
 {
     [
         mark_at(b, PRESENT),
@@ -185,7 +185,7 @@ fn present_of(b: &[u8]) -> [bool; 8]
 
 // The bytes of all slots.
 fn parameters_of(b: &[u8]) -> [u8; 112]
-    requires { length b.now ≡ deskSize }
+    requires { length b.now ≡ desk_size }
     ensures { result ≡ part 112 b.now (bytes_at 0) }
 {
     let from = BYTES;
@@ -197,8 +197,8 @@ fn parameters_of(b: &[u8]) -> [u8; 112]
 
 // How many bad blocks each slot has.
 fn counts_of(b: &[u8]) -> [u8; 8]
-    requires { length b.now ≡ deskSize }
-    ensures { result ≡ readCounts b.now }
+    requires { length b.now ≡ desk_size }
+    ensures { result ≡ read_counts b.now }
 {
     [
         b[BAD_COUNTS],
@@ -214,8 +214,8 @@ fn counts_of(b: &[u8]) -> [u8; 8]
 
 // The numbers of all slots.
 fn lists_of(b: &[u8]) -> [u8; 1024]
-    requires { length b.now ≡ deskSize }
-    ensures { result ≡ part 1024 b.now (badsListAt 0) }
+    requires { length b.now ≡ desk_size }
+    ensures { result ≡ part 1024 b.now (bads_list_at 0) }
 {
     let from = BAD_LISTS;
     let end = SIZE;
@@ -225,8 +225,8 @@ fn lists_of(b: &[u8]) -> [u8; 1024]
 }
 
 pub fn table_of(b: &[u8]) -> Table
-    requires { length b.now ≡ deskSize }
-    ensures { result ≡ (readDesk b.now).table }
+    requires { length b.now ≡ desk_size }
+    ensures { result ≡ (read_desk b.now).table }
 {
     let drives = [
         drive_in(b, 0),
@@ -252,8 +252,8 @@ pub fn table_of(b: &[u8]) -> Table
 
 // Arena and store have the lengths of the opening.
 pub fn is_lent(b: &[u8], arena: usize, store: usize) -> bool
-    requires { length b.now ≡ deskSize }
-    ensures { result ≡ both (eqb arena (readDesk b.now).arena) (eqb store (readDesk b.now).store) }
+    requires { length b.now ≡ desk_size }
+    ensures { result ≡ both (eqb arena (read_desk b.now).arena) (eqb store (read_desk b.now).store) }
 {
     let same = arena as u64 == words::get64(b, ARENA);
     logic::and(same, store as u64 == words::get64(b, STORE))
@@ -261,24 +261,24 @@ pub fn is_lent(b: &[u8], arena: usize, store: usize) -> bool
 
 // What a guest's row holds.
 pub fn stage_of(b: &[u8], guest: usize) -> Stage
-    requires { (length b.now ≡ deskSize) × (guest < guests) }
-    ensures { result ≡ stageAt (readDesk b.now) guest }
+    requires { (length b.now ≡ desk_size) × (guest < guests) }
+    ensures { result ≡ stage_at (read_desk b.now) guest }
 {
     stage_at(b, ROW * guest)
 }
 
 // Whether a guest's row waits, by the number of its stage.
 pub fn is_waiting(b: &[u8], guest: usize) -> bool
-    requires { (length b.now ≡ deskSize) × (guest < guests) }
-    ensures { result ≡ isWaiting (stageAt (readDesk b.now) guest) }
+    requires { (length b.now ≡ desk_size) × (guest < guests) }
+    ensures { result ≡ is_waiting (stage_at (read_desk b.now) guest) }
 {
     b[ROW * guest] == 1
 }
 
 // The first waiting row at or after the pointer, by the numbers of the stages.
 pub fn next_of(b: &[u8]) -> Next
-    requires { (length b.now ≡ deskSize) × ((readDesk b.now).pointer < guests) }
-    ensures { result ≡ firstWaiting (readDesk b.now).rows guests (readDesk b.now).pointer }
+    requires { (length b.now ≡ desk_size) × ((read_desk b.now).pointer < guests) }
+    ensures { result ≡ first_waiting (read_desk b.now).rows guests (read_desk b.now).pointer }
 {
     let mut guest = words::get64(b, POINTER) as usize;
     let mut left: usize = GUESTS;
@@ -294,8 +294,8 @@ pub fn next_of(b: &[u8]) -> Next
 
 // How many drives the table holds, at most eight.
 pub fn count_of(b: &[u8]) -> u8
-    requires { length b.now ≡ deskSize }
-    ensures { (result ≡ driveCount (readDesk b.now).table) × (result ≤ 8) }
+    requires { length b.now ≡ desk_size }
+    ensures { (result ≡ drive_count (read_desk b.now).table) × (result ≤ 8) }
 {
     let count = words::get64(b, COUNT);
     if count < 8 { count as u8 } else { 8 }
@@ -303,8 +303,8 @@ pub fn count_of(b: &[u8]) -> u8
 
 // Whether the table has a drive of that BIOS number.
 pub fn is_drive(b: &[u8], n: u8) -> bool
-    requires { length b.now ≡ deskSize }
-    ensures { result ≡ isDrive (readDesk b.now).table n }
+    requires { length b.now ≡ desk_size }
+    ensures { result ≡ is_drive (read_desk b.now).table n }
 {
     let end = FIRST_DRIVE + count_of(b);
     logic::and(FIRST_DRIVE <= n, n < end)
@@ -312,8 +312,8 @@ pub fn is_drive(b: &[u8], n: u8) -> bool
 
 // The drive of a BIOS number, or the first where the number is not known: a caller that has not tested the number asks nothing of it.
 pub fn drive_named(b: &[u8], n: u8) -> Drive
-    requires { length b.now ≡ deskSize }
-    ensures { result ≡ driveAt (readDesk b.now).table (pick (isDrive (readDesk b.now).table n) n firstDrive) }
+    requires { length b.now ≡ desk_size }
+    ensures { result ≡ drive_at (read_desk b.now).table (pick (is_drive (read_desk b.now).table n) n first_drive) }
 {
     if is_drive(b, n) {
         return drive_in(b, (n - FIRST_DRIVE) as usize);
@@ -323,8 +323,8 @@ pub fn drive_named(b: &[u8], n: u8) -> Drive
 
 // The bad blocks of a slot.
 fn bads_in(b: &[u8], i: usize) -> Bads
-    requires { (length b.now ≡ deskSize) × (i < mostDrives) }
-    ensures { result ≡ badsAt (readDesk b.now).table i }
+    requires { (length b.now ≡ desk_size) × (i < most_drives) }
+    ensures { result ≡ bads_at (read_desk b.now).table i }
 {
     let from = BAD_LISTS + attached::LIST_LENGTH * i;
     let end = from + attached::LIST_LENGTH;
@@ -338,8 +338,8 @@ fn bads_in(b: &[u8], i: usize) -> Bads
 
 // The bad blocks of the drive of a BIOS number; a number that is no drive's has none.
 pub fn bads_of(b: &[u8], n: u8) -> Bads
-    requires { length b.now ≡ deskSize }
-    ensures { result ≡ badsOf (readDesk b.now).table n }
+    requires { length b.now ≡ desk_size }
+    ensures { result ≡ bads_of (read_desk b.now).table n }
 {
     if !is_drive(b, n) {
         return attached::no_bads();
@@ -349,8 +349,8 @@ pub fn bads_of(b: &[u8], n: u8) -> Bads
 
 // A guest's placement.
 fn placement_of(b: &[u8], guest: usize) -> Placement
-    requires { (length b.now ≡ deskSize) × (guest < guests) }
-    ensures { result ≡ placementAt (readDesk b.now) guest }
+    requires { (length b.now ≡ desk_size) × (guest < guests) }
+    ensures { result ≡ placement_at (read_desk b.now) guest }
 {
     Placement {
         placed: mark_at(b, MARKS + 8 * guest),
@@ -360,8 +360,8 @@ fn placement_of(b: &[u8], guest: usize) -> Placement
 
 // How many of the first n slots have parameters. Its callers ask for at most eight.
 fn tables_before(b: &[u8], n: usize) -> u8
-    requires { (length b.now ≡ deskSize) × (n ≤ mostDrives) }
-    ensures { (result ≡ parametersTo n (readDesk b.now).table) × (result ≤ n) }
+    requires { (length b.now ≡ desk_size) × (n ≤ most_drives) }
+    ensures { (result ≡ parameters_to n (read_desk b.now).table) × (result ≤ n) }
 {
     let mut count = 0u8;
     let mut i = 0;
@@ -376,16 +376,16 @@ fn tables_before(b: &[u8], n: usize) -> u8
 
 // How many parameter tables there are.
 pub fn table_count(b: &[u8]) -> u8
-    requires { length b.now ≡ deskSize }
-    ensures { result ≡ tableCount (readDesk b.now).table }
+    requires { length b.now ≡ desk_size }
+    ensures { result ≡ table_count (read_desk b.now).table }
 {
     tables_before(b, MOST_DRIVES)
 }
 
 // What a guest is shown of the drive of a BIOS number.
 pub fn shown_of(b: &[u8], guest: usize, n: u8) -> Shown
-    requires { (length b.now ≡ deskSize) × (guest < guests) }
-    ensures { result ≡ shownOf (readDesk b.now).table (placementAt (readDesk b.now) guest) n }
+    requires { (length b.now ≡ desk_size) × (guest < guests) }
+    ensures { result ≡ shown_of (read_desk b.now).table (placement_at (read_desk b.now) guest) n }
 {
     let none = Shown {
         table: false,
@@ -406,16 +406,16 @@ pub fn shown_of(b: &[u8], guest: usize, n: u8) -> Shown
 
 // How long the record of a slot's drive is, by its kind.
 fn length_in(b: &[u8], i: usize) -> usize
-    requires { (length b.now ≡ deskSize) × (i < mostDrives) }
-    ensures { (result ≡ driveLength (readDrive b.now (slot_at i)).kind) × (result ≤ 76) }
+    requires { (length b.now ≡ desk_size) × (i < most_drives) }
+    ensures { (result ≡ drive_length (read_drive b.now (slot_at i)).kind) × (result ≤ 76) }
 {
     drive::length_of(words::get16(b, SLOTS + SLOT * i + 112)) as usize
 }
 
 // The length of the records of the first n slots. `write_table` asks for at most eight.
 fn records_length(b: &[u8], n: usize) -> usize
-    requires { (length b.now ≡ deskSize) × (n ≤ mostDrives) }
-    ensures { (result ≡ length (recordsOf n (readDesk b.now).table)) × (result ≤ 230 * n) }
+    requires { (length b.now ≡ desk_size) × (n ≤ most_drives) }
+    ensures { (result ≡ length (records_of n (read_desk b.now).table)) × (result ≤ 230 * n) }
 {
     let mut total: usize = 0;
     let mut i = 0;
@@ -430,8 +430,8 @@ fn records_length(b: &[u8], n: usize) -> usize
 
 // The records of the first n slots, laid at the start of a buffer that `write_table` has found long enough.
 fn put_records(b: &[u8], n: usize, out: &mut [u8])
-    requires { (length b.now ≡ deskSize) × (n ≤ mostDrives) × (length (recordsOf n (readDesk b.now).table) ≤ length out.old) }
-    ensures { out.new ≡ sets out.old 0 (recordsOf n (readDesk b.now).table) }
+    requires { (length b.now ≡ desk_size) × (n ≤ most_drives) × (length (records_of n (read_desk b.now).table) ≤ length out.old) }
+    ensures { out.new ≡ sets out.old 0 (records_of n (read_desk b.now).table) }
 {
     let from = BYTES;
     let end = BAD_COUNTS;
@@ -448,8 +448,8 @@ fn put_records(b: &[u8], n: usize, out: &mut [u8])
 
 // Lays the drives of the block's table out as a table.
 pub fn write_table(b: &[u8], out: &mut [u8]) -> Written
-    requires { length b.now ≡ deskSize }
-    ensures { (result ≡ writeAnswer (readDesk b.now).table (length out.old)) × (out.new ≡ writeOut (readDesk b.now).table out.old) }
+    requires { length b.now ≡ desk_size }
+    ensures { (result ≡ write_answer (read_desk b.now).table (length out.old)) × (out.new ≡ write_out (read_desk b.now).table out.old) }
 {
     let n = count_of(b) as usize;
     let end = records_length(b, n);
@@ -481,21 +481,21 @@ fn below(b: &[u8], at: usize, n: usize, end: u64) -> bool
 // Seven words of two bytes, and the carry bit.
 fn are_registers(b: &[u8], i: usize) -> bool
     requires { i + 8 * 8 ≤ length b.now }
-    ensures { result ≡ areRegisters b.now i }
+    ensures { result ≡ are_registers b.now i }
 {
     logic::and(words::get64(b, i + 56) < 2, below(b, i, 7, 65536))
 }
 
 fn is_request(b: &[u8], i: usize) -> bool
     requires { i + 8 * 14 ≤ length b.now }
-    ensures { result ≡ isRequest b.now i }
+    ensures { result ≡ is_request b.now i }
 {
     logic::and(words::get64(b, i + 64) < 256, are_registers(b, i))
 }
 
 fn is_slot(b: &[u8], i: usize) -> bool
-    requires { i + slotSize ≤ length b.now }
-    ensures { result ≡ isSlot b.now i }
+    requires { i + slot_size ≤ length b.now }
+    ensures { result ≡ is_slot b.now i }
 {
     let numbers = logic::and(below(b, i + 40, 3, 65536), below(b, i, 3, 4294967296));
     let bytes = logic::and(below(b, i + 64, 2, 256), numbers);
@@ -504,16 +504,16 @@ fn is_slot(b: &[u8], i: usize) -> bool
 }
 
 fn drive_good(b: &[u8], i: usize, store: u64) -> bool
-    requires { i + slotSize ≤ length b.now }
-    ensures { result ≡ driveGood b.now store i }
+    requires { i + slot_size ≤ length b.now }
+    ensures { result ≡ drive_good b.now store i }
 {
     logic::and(is_slot(b, i), table::obeys(drive_at(b, i), store))
 }
 
 // Every caller has found at most eight drives.
 fn drives_good(b: &[u8], n: usize, store: u64) -> bool
-    requires { (length b.now ≡ deskSize) × (n ≤ mostDrives) }
-    ensures { result ≡ drivesGood n b.now store }
+    requires { (length b.now ≡ desk_size) × (n ≤ most_drives) }
+    ensures { result ≡ drives_good n b.now store }
 {
     let mut i = 0;
     while i < n {
@@ -526,8 +526,8 @@ fn drives_good(b: &[u8], n: usize, store: u64) -> bool
 }
 
 fn rest_zero(b: &[u8], n: usize) -> bool
-    requires { (length b.now ≡ deskSize) × (n ≤ mostDrives) }
-    ensures { result ≡ restZero mostDrives n b.now }
+    requires { (length b.now ≡ desk_size) × (n ≤ most_drives) }
+    ensures { result ≡ rest_zero most_drives n b.now }
 {
     let mut i = n;
     while i < MOST_DRIVES {
@@ -550,23 +550,23 @@ fn are_apart(first: u64, blocks: u64, other: u64, others: u64) -> bool
 }
 
 fn first_in(b: &[u8], i: usize) -> u64
-    requires { (length b.now ≡ deskSize) × (i < mostDrives) }
-    ensures { result ≡ firstIn b.now i }
+    requires { (length b.now ≡ desk_size) × (i < most_drives) }
+    ensures { result ≡ first_in b.now i }
 {
     words::get64(b, SLOTS + SLOT * i + 32)
 }
 
 fn blocks_in(b: &[u8], i: usize) -> u64
-    requires { (length b.now ≡ deskSize) × (i < mostDrives) }
-    ensures { result ≡ blocksIn b.now i }
+    requires { (length b.now ≡ desk_size) × (i < most_drives) }
+    ensures { result ≡ blocks_in b.now i }
 {
     words::get64(b, SLOTS + SLOT * i + 24)
 }
 
 // The drive of a slot shares no block with one before it.
 fn is_alone(b: &[u8], i: usize) -> bool
-    requires { (length b.now ≡ deskSize) × (i < mostDrives) }
-    ensures { result ≡ aloneTo i b.now i }
+    requires { (length b.now ≡ desk_size) × (i < most_drives) }
+    ensures { result ≡ alone_to i b.now i }
 {
     let first = first_in(b, i);
     let blocks = blocks_in(b, i);
@@ -583,7 +583,7 @@ fn is_alone(b: &[u8], i: usize) -> bool
 }
 
 fn next_follows(b: &[u8], i: usize) -> bool
-    requires { (length b.now ≡ deskSize) × (i + 1 < mostDrives) }
+    requires { (length b.now ≡ desk_size) × (i + 1 < most_drives) }
     ensures { result ≡ follows b.now i }
 {
     let first = first_in(b, i);
@@ -592,7 +592,7 @@ fn next_follows(b: &[u8], i: usize) -> bool
 }
 
 fn is_ascending(b: &[u8], n: usize) -> bool
-    requires { (length b.now ≡ deskSize) × (n ≤ mostDrives) }
+    requires { (length b.now ≡ desk_size) × (n ≤ most_drives) }
     ensures { result ≡ ascending n b.now }
 {
     let mut good = true;
@@ -606,8 +606,8 @@ fn is_ascending(b: &[u8], n: usize) -> bool
 
 // No two of the first n drives share a block. A table in the order of the store, as most are, needs no pairs.
 fn drives_apart(b: &[u8], n: usize) -> bool
-    requires { (length b.now ≡ deskSize) × (n ≤ mostDrives) }
-    ensures { result ≡ drivesApart n b.now }
+    requires { (length b.now ≡ desk_size) × (n ≤ most_drives) }
+    ensures { result ≡ drives_apart n b.now }
 {
     if is_ascending(b, n) {
         return true;
@@ -622,8 +622,8 @@ fn drives_apart(b: &[u8], n: usize) -> bool
 }
 
 fn table_good(b: &[u8]) -> bool
-    requires { length b.now ≡ deskSize }
-    ensures { result ≡ tableGood b.now }
+    requires { length b.now ≡ desk_size }
+    ensures { result ≡ table_good b.now }
 {
     let count = words::get64(b, COUNT);
     if 8 < count {
@@ -637,8 +637,8 @@ fn table_good(b: &[u8]) -> bool
 }
 
 fn waiting_good(b: &[u8], i: usize, m: u64) -> bool
-    requires { (length b.now ≡ deskSize) × (i + rowSize ≤ deskSize) }
-    ensures { result ≡ waitingGood b.now m i }
+    requires { (length b.now ≡ desk_size) × (i + row_size ≤ desk_size) }
+    ensures { result ≡ waiting_good b.now m i }
 {
     let q = request_at(b, i + 8);
     let n = q.job.drive;
@@ -650,15 +650,15 @@ fn waiting_good(b: &[u8], i: usize, m: u64) -> bool
 }
 
 fn finished_good(b: &[u8], i: usize) -> bool
-    requires { i + rowSize ≤ length b.now }
-    ensures { result ≡ finishedGood b.now i }
+    requires { i + row_size ≤ length b.now }
+    ensures { result ≡ finished_good b.now i }
 {
     logic::and(below(b, i + 8, 14, 1), are_registers(b, i + 120))
 }
 
 fn row_good(b: &[u8], i: usize, m: u64) -> bool
-    requires { (length b.now ≡ deskSize) × (i + rowSize ≤ deskSize) }
-    ensures { result ≡ rowGood b.now m i }
+    requires { (length b.now ≡ desk_size) × (i + row_size ≤ desk_size) }
+    ensures { result ≡ row_good b.now m i }
 {
     let stage = words::get64(b, i);
     if stage == 0 {
@@ -674,8 +674,8 @@ fn row_good(b: &[u8], i: usize, m: u64) -> bool
 }
 
 fn rows_good(b: &[u8], m: u64) -> bool
-    requires { length b.now ≡ deskSize }
-    ensures { result ≡ rowsGood guests b.now m }
+    requires { length b.now ≡ desk_size }
+    ensures { result ≡ rows_good guests b.now m }
 {
     let mut g = 0;
     while g < GUESTS {
@@ -689,16 +689,16 @@ fn rows_good(b: &[u8], m: u64) -> bool
 
 // The fourteen bytes of a slot are zero, tested as two words, of which the second begins inside the first.
 fn zero_given(b: &[u8], at: usize) -> bool
-    requires { at + givenLength ≤ length b.now }
-    ensures { result ≡ zeroBytes givenLength b.now at }
+    requires { at + given_length ≤ length b.now }
+    ensures { result ≡ zero_bytes given_length b.now at }
 {
     logic::and(words::get64(b, at) == 0, words::get64(b, at + 6) == 0)
 }
 
 // A slot has parameters only if it has a drive, and zeros for them if it has none.
 fn is_attached(b: &[u8], i: usize) -> bool
-    requires { (length b.now ≡ deskSize) × (i < mostDrives) }
-    ensures { result ≡ attachedAt (readDesk b.now).table i }
+    requires { (length b.now ≡ desk_size) × (i < most_drives) }
+    ensures { result ≡ attached_at (read_desk b.now).table i }
 {
     if mark_at(b, PRESENT + 8 * i) {
         return (i as u64) < words::get64(b, COUNT);
@@ -707,8 +707,8 @@ fn is_attached(b: &[u8], i: usize) -> bool
 }
 
 fn all_attached(b: &[u8]) -> bool
-    requires { length b.now ≡ deskSize }
-    ensures { result ≡ attachedTo mostDrives (readDesk b.now).table }
+    requires { length b.now ≡ desk_size }
+    ensures { result ≡ attached_to most_drives (read_desk b.now).table }
 {
     let mut good = true;
     let mut i = 0;
@@ -720,15 +720,15 @@ fn all_attached(b: &[u8]) -> bool
 }
 
 fn parameters_good(b: &[u8]) -> bool
-    requires { length b.now ≡ deskSize }
-    ensures { result ≡ parametersGood b.now }
+    requires { length b.now ≡ desk_size }
+    ensures { result ≡ parameters_good b.now }
 {
     logic::and(below(b, PRESENT, MOST_DRIVES, 2), all_attached(b))
 }
 
 fn placements_ok(b: &[u8], tables: u8, m: u64) -> bool
-    requires { length b.now ≡ deskSize }
-    ensures { result ≡ placementsOk guests tables m (readDesk b.now) }
+    requires { length b.now ≡ desk_size }
+    ensures { result ≡ placements_ok guests tables m (read_desk b.now) }
 {
     let mut good = true;
     let mut g = 0;
@@ -740,8 +740,8 @@ fn placements_ok(b: &[u8], tables: u8, m: u64) -> bool
 }
 
 fn places_good(b: &[u8], m: u64) -> bool
-    requires { length b.now ≡ deskSize }
-    ensures { result ≡ placesGood b.now m }
+    requires { length b.now ≡ desk_size }
+    ensures { result ≡ places_good b.now m }
 {
     logic::and(
         below(b, MARKS, GUESTS, 2),
@@ -751,15 +751,15 @@ fn places_good(b: &[u8], m: u64) -> bool
 
 // A slot has bad blocks of its drive only, and zeros behind them.
 fn is_listed(b: &[u8], i: usize) -> bool
-    requires { (length b.now ≡ deskSize) × (i < mostDrives) }
-    ensures { result ≡ listed_at (readDesk b.now).table i }
+    requires { (length b.now ≡ desk_size) × (i < most_drives) }
+    ensures { result ≡ listed_at (read_desk b.now).table i }
 {
     attached::bads_ok(bads_in(b, i), blocks_in(b, i))
 }
 
 fn all_listed(b: &[u8]) -> bool
-    requires { length b.now ≡ deskSize }
-    ensures { result ≡ listedTo mostDrives (readDesk b.now).table }
+    requires { length b.now ≡ desk_size }
+    ensures { result ≡ listed_to most_drives (read_desk b.now).table }
 {
     let mut i = 0;
     while i < MOST_DRIVES {
@@ -774,8 +774,8 @@ fn all_listed(b: &[u8]) -> bool
 // No slot has bad blocks, and all words for them are zero. They are tested slot by slot: of a fixed number of words that is not large the
 // compiler makes one test, and of all of them at once a loop of many.
 fn none_listed(b: &[u8]) -> bool
-    requires { length b.now ≡ deskSize }
-    ensures { result ≡ below (mostDrives + mostBad * mostDrives) 1 b.now (badsCountAt 0) }
+    requires { length b.now ≡ desk_size }
+    ensures { result ≡ below (most_drives + most_bad * most_drives) 1 b.now (bads_count_at 0) }
 {
     let mut none = below(b, BAD_COUNTS, MOST_DRIVES, 1);
     let mut i = 0;
@@ -794,8 +794,8 @@ fn none_listed(b: &[u8]) -> bool
 
 // The bad blocks of all slots. In most blocks there are none, and zeros for them, which are good.
 fn bads_good(b: &[u8]) -> bool
-    requires { length b.now ≡ deskSize }
-    ensures { result ≡ badsGood b.now }
+    requires { length b.now ≡ desk_size }
+    ensures { result ≡ bads_good b.now }
 {
     if none_listed(b) {
         return true;
@@ -806,8 +806,8 @@ fn bads_good(b: &[u8]) -> bool
 // What stands behind the last words. In most blocks that is zeros, which are good. Each case has a return of its own, so that the compiler
 // keeps the tests above out of the way of such a block.
 fn more_good(b: &[u8], m: u64) -> bool
-    requires { length b.now ≡ deskSize }
-    ensures { result ≡ moreGood b.now m }
+    requires { length b.now ≡ desk_size }
+    ensures { result ≡ more_good b.now m }
 {
     if !bads_good(b) {
         return false;
@@ -854,7 +854,7 @@ fn bit(carry: bool) -> u64
 }
 
 fn waiting_words(q: Request) -> [u64; 23]
-    ensures { result ≡ stageWords (Waiting q) }
+    ensures { result ≡ stage_words (Waiting q) }
 {
     let j = q.job;
     let r = j.registers;
@@ -886,7 +886,7 @@ fn waiting_words(q: Request) -> [u64; 23]
 }
 
 fn finished_words(r: Registers) -> [u64; 23]
-    ensures { result ≡ stageWords (Finished r) }
+    ensures { result ≡ stage_words (Finished r) }
 {
     [
         2,
@@ -916,7 +916,7 @@ fn finished_words(r: Registers) -> [u64; 23]
 }
 
 fn stage_words(s: Stage) -> [u64; 23]
-    ensures { result ≡ stageWords s }
+    ensures { result ≡ stage_words s }
 {
     match s {
         Stage::Vacant => [0; 23],
@@ -926,7 +926,7 @@ fn stage_words(s: Stage) -> [u64; 23]
 }
 
 fn drive_words(d: Drive) -> [u64; 16]
-    ensures { result ≡ driveWords d }
+    ensures { result ≡ drive_words d }
 {
     let bus = d.bus;
     let interface = d.interface;
@@ -966,8 +966,8 @@ fn put_words(out: &mut [u8], at: usize, w: &[u64])
 }
 
 fn put_rows(out: &mut [u8], rows: [Row; 8])
-    requires { length out.old ≡ deskSize }
-    ensures { out.new ≡ sets out.old 0 (flat (each rowWords rows)) }
+    requires { length out.old ≡ desk_size }
+    ensures { out.new ≡ sets out.old 0 (flat (each row_words rows)) }
 {
     let mut k = 0;
     while k < GUESTS {
@@ -980,8 +980,8 @@ fn put_rows(out: &mut [u8], rows: [Row; 8])
 }
 
 fn put_drives(out: &mut [u8], drives: [Drive; 8])
-    requires { length out.old ≡ deskSize }
-    ensures { out.new ≡ sets out.old (slot_at 0) (flat (each driveWords drives)) }
+    requires { length out.old ≡ desk_size }
+    ensures { out.new ≡ sets out.old (slot_at 0) (flat (each drive_words drives)) }
 {
     let mut k = 0;
     while k < MOST_DRIVES {
@@ -994,8 +994,8 @@ fn put_drives(out: &mut [u8], drives: [Drive; 8])
 
 // What a guest's row holds from now on: only the row's words are written.
 pub fn put_stage(b: &mut [u8], guest: usize, stage: Stage)
-    requires { (length b.old ≡ deskSize) × (guest < guests) }
-    ensures { b.new ≡ putStage b.old guest stage }
+    requires { (length b.old ≡ desk_size) × (guest < guests) }
+    ensures { b.new ≡ put_stage b.old guest stage }
 {
     let w = stage_words(stage);
     put_words(b, ROW * guest, &w);
@@ -1003,16 +1003,16 @@ pub fn put_stage(b: &mut [u8], guest: usize, stage: Stage)
 
 // Where the next search begins: only the pointer's word is written.
 pub fn put_pointer(b: &mut [u8], pointer: usize)
-    requires { length b.old ≡ deskSize }
-    ensures { b.new ≡ putPointer b.old pointer }
+    requires { length b.old ≡ desk_size }
+    ensures { b.new ≡ put_pointer b.old pointer }
 {
     words::store64(b, POINTER, pointer as u64);
 }
 
 // A guest's tables are placed from an address on: only its mark and its address are written.
 pub fn put_placement(b: &mut [u8], guest: usize, address: u64)
-    requires { (length b.old ≡ deskSize) × (guest < guests) }
-    ensures { b.new ≡ putPlacement b.old guest address }
+    requires { (length b.old ≡ desk_size) × (guest < guests) }
+    ensures { b.new ≡ put_placement b.old guest address }
 {
     words::store64(b, MARKS + 8 * guest, 1);
     words::store64(b, ADDRESSES + 8 * guest, address);
@@ -1021,7 +1021,7 @@ pub fn put_placement(b: &mut [u8], guest: usize, address: u64)
 // Lays eight marks out, a word each.
 fn put_marks(out: &mut [u8], at: usize, marks: [bool; 8])
     requires { at + 64 ≤ length out.old }
-    ensures { out.new ≡ sets out.old at (flat (marksWords marks)) }
+    ensures { out.new ≡ sets out.old at (flat (marks_words marks)) }
 {
     let w = [
         bit(marks[0]),
@@ -1038,16 +1038,16 @@ fn put_marks(out: &mut [u8], at: usize, marks: [bool; 8])
 
 // Lays the bytes of all slots out as they are: words of them have the same bytes.
 fn put_given(out: &mut [u8], bytes: &[u8])
-    requires { (length out.old ≡ deskSize) × (length bytes.now ≡ givenLength * mostDrives) }
-    ensures { out.new ≡ sets out.old (bytes_at 0) (flat (givenWords bytes.now)) }
+    requires { (length out.old ≡ desk_size) × (length bytes.now ≡ given_length * most_drives) }
+    ensures { out.new ≡ sets out.old (bytes_at 0) (flat (given_words bytes.now)) }
 {
     words::store(out, BYTES, bytes);
 }
 
 // Lays how many bad blocks each slot has out, a word each, and the numbers of all slots as they are.
 fn put_bads(out: &mut [u8], counts: [u8; 8], bad: &[u8])
-    requires { (length out.old ≡ deskSize) × (length bad.now ≡ listLength * mostDrives) }
-    ensures { out.new ≡ sets out.old (badsCountAt 0) (flat (counts ++ listWords bad.now)) }
+    requires { (length out.old ≡ desk_size) × (length bad.now ≡ list_length * most_drives) }
+    ensures { out.new ≡ sets out.old (bads_count_at 0) (flat (counts ++ list_words bad.now)) }
 {
     let w = [
         counts[0] as u64,
@@ -1065,8 +1065,8 @@ fn put_bads(out: &mut [u8], counts: [u8; 8], bad: &[u8])
 
 // The sections behind the last words.
 fn put_more(d: Desk, out: &mut [u8])
-    requires { length out.old ≡ deskSize }
-    ensures { out.new ≡ sets out.old (markAt 0) (flat (placesWords d ++ (parametersWords d.table ++ badsWords d.table))) }
+    requires { length out.old ≡ desk_size }
+    ensures { out.new ≡ sets out.old (mark_at 0) (flat (places_words d ++ (parameters_words d.table ++ bads_words d.table))) }
 {
     let b = d.table;
     let placed = d.placed;
@@ -1084,7 +1084,7 @@ fn put_more(d: Desk, out: &mut [u8])
 
 // Lays a desk out in a block of its size.
 fn lay(d: Desk, out: &mut [u8])
-    requires { length out.old ≡ deskSize }
+    requires { length out.old ≡ desk_size }
     ensures { out.new ≡ image d }
 {
     let rows = d.rows;

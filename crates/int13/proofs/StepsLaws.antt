@@ -15,70 +15,70 @@ use Rattle.logic.proofs.LogicLaws.{both_true, either_true, impossible}
 use Rattle.drive.specs.declared.Drive.{Drive}
 use Rattle.attached.specs.declared.Bads.{Bads}
 use Rattle.table.specs.declared.Table.{Table}
-use Rattle.table.specs.Table.{noDrive}
+use Rattle.table.specs.Table.{no_drive}
 use Rattle.layout.specs.declared.PacketRead.TheVariants.{Whole, Refused as NoPacket}
-use Rattle.layout.specs.Packet.{badParameter, packetLength, packetAt, readPacket}
+use Rattle.layout.specs.Packet.{bad_parameter, packet_length, packet_at, read_packet}
 use Rattle.int13.specs.declared.Registers.{Registers}
 use Rattle.int13.specs.declared.Placement.{Placement}
 use Rattle.int13.specs.declared.Shown.{Shown}
 use Rattle.int13.specs.declared.Outcome.TheVariants.{Answered}
 use Rattle.int13.specs.declared.Plan.TheVariants.{Refuse, Clear}
-use Rattle.int13.specs.Answers.{ah, al, dl, isSectors, isWrite, refuse}
-use Rattle.int13.specs.Steps.{unchanged, fed, firstDrive, driveCount, isDrive, driveAt, driveIn, driveNamed, badsOf, shownOf, packetPlace, verifyOk, packetRead, packetPlan, extended, seek, sectors, parameters, extensions, result, steps, begin}
+use Rattle.int13.specs.Answers.{ah, al, dl, is_sectors, is_write, refuse}
+use Rattle.int13.specs.Steps.{unchanged, fed, first_drive, drive_count, is_drive, drive_at, drive_in, drive_named, bads_of, shown_of, packet_place, verify_ok, packet_read, packet_plan, extended, seek, sectors, parameters, extensions, result_into, steps, begin}
 
 -- ---- drives
 
 -- a table's eight places hold at most eight drives
-pub count_most : (b : Table) → length b.drives ≡ 8 → driveCount b ≤ 8
+pub count_most : (b : Table) → length b.drives ≡ 8 → drive_count b ≤ 8
 count_most b l = omega (arith, length-take b.count b.drives)
 
 -- the number of a drive
-pub isDrive-true : (b : Table) (n : ℕ) → isDrive b n ≡ true → (firstDrive ≤ n) × (n < firstDrive + driveCount b)
-unfolding isDrive
-isDrive-true b n e = let p = both_true _ _ e in (leb-true _ _ p.0, ltb-true _ _ p.1)
+pub is_drive_true : (b : Table) (n : ℕ) → is_drive b n ≡ true → (first_drive ≤ n) × (n < first_drive + drive_count b)
+unfolding is_drive
+is_drive_true b n e = let p = both_true _ _ e in (leb-true _ _ p.0, ltb-true _ _ p.1)
 
 -- so that it is 128 and one of the eight slots
-pub drive-slot : (b : Table) (n : ℕ) → length b.drives ≡ 8 → isDrive b n ≡ true → (128 ≤ n) × (n - 128 < 8)
-drive-slot b n l e = let t = isDrive-true b n e in (omega arith, omega (arith, count_most b l))
+pub drive_slot : (b : Table) (n : ℕ) → length b.drives ≡ 8 → is_drive b n ≡ true → (128 ≤ n) × (n - 128 < 8)
+drive_slot b n l e = let t = is_drive_true b n e in (omega arith, omega (arith, count_most b l))
 
 -- a drive stands in the place of its number
-pub drive-in : (b : Table) (n : ℕ) → length b.drives ≡ 8 → isDrive b n ≡ true → driveIn b n ≡ driveAt b n
+pub drive-in : (b : Table) (n : ℕ) → length b.drives ≡ 8 → is_drive b n ≡ true → drive_in b n ≡ drive_at b n
 drive-in b n l e =
-    let t = isDrive-true b n e in
+    let t = is_drive_true b n e in
     let p : n % 8 ≡ n - 128 = omega (arith, count_most b l) in
-    ap (λ (i : ℕ). get_or b.drives i noDrive) p
+    ap (λ (i : ℕ). get_or b.drives i no_drive) p
 
 -- ---- ranges
 
 -- "not at most" is "below"
 pub not-leb : (m n : ℕ) → not (leb m n) ≡ ltb n m
-not-leb m n = by-test (leb m n) refl
+not-leb m n = by_test (leb m n) refl
   where
-    by-test : (t : Bool) → leb m n ≡ t → not t ≡ ltb n m
-    by-test true e = sym (le-ltb n m (leb-true m n e))
-    by-test false e = sym (lt-ltb n m (leb-false m n e))
+    by_test : (t : Bool) → leb m n ≡ t → not t ≡ ltb n m
+    by_test true e = sym (le-ltb n m (leb-true m n e))
+    by_test false e = sym (lt-ltb n m (leb-false m n e))
 
 -- ---- 42h, 43h, 44h
 
 -- the count word is set only where the whole packet is inside the window
-pub plan-clear : (known : Bool) (d : Drive) (l : Bads) (r : Registers) (w : List ℕ) (code n : ℕ) → packetPlan known d l r w ≡ Clear code n
-    → packetPlace r + packetLength ≤ length w
-unfolding packetPlan readPacket
-plan-clear known d l r w code n h = by_tests known (both (isWrite (ah r)) (not (verifyOk (al r) d.flags))) (leb (packetPlace r + packetLength) (length w)) refl h
+pub plan_clear : (known : Bool) (d : Drive) (l : Bads) (r : Registers) (w : List ℕ) (code n : ℕ) → packet_plan known d l r w ≡ Clear code n
+    → packet_place r + packet_length ≤ length w
+unfolding packet_plan read_packet
+plan_clear known d l r w code n h = by_tests known (both (is_write (ah r)) (not (verify_ok (al r) d.flags))) (leb (packet_place r + packet_length) (length w)) refl h
   where
-    by_tests : (known verify inside : Bool) → leb (packetPlace r + packetLength) (length w) ≡ inside
-        → pick (not known) (Refuse badParameter) (pick verify (Refuse badParameter)
-        (packetRead d l r (length w) (pick inside (Whole (packetAt w (packetPlace r))) (NoPacket badParameter)))) ≡ Clear code n
-        → packetPlace r + packetLength ≤ length w
+    by_tests : (known verify inside : Bool) → leb (packet_place r + packet_length) (length w) ≡ inside
+        → pick (not known) (Refuse bad_parameter) (pick verify (Refuse bad_parameter)
+        (packet_read d l r (length w) (pick inside (Whole (packet_at w (packet_place r))) (NoPacket bad_parameter)))) ≡ Clear code n
+        → packet_place r + packet_length ≤ length w
     by_tests false verify inside e q = impossible (cc)
     by_tests true true inside e q = impossible (cc)
     by_tests true false false e q = impossible (cc)
-    by_tests true false true e q = leb-true (packetPlace r + packetLength) (length w) e
+    by_tests true false true e q = leb-true (packet_place r + packet_length) (length w) e
 
 -- ---- 48h: the window from a place to its end, lent and put back
 
-pub lent-rest : (w : List ℕ) (place : ℕ) → take (length w - place) (drop place w) ≡ drop place w
-lent-rest w place = take_all (length w - place) (drop place w) (omega (arith, length-drop place w))
+pub lent_rest : (w : List ℕ) (place : ℕ) → take (length w - place) (drop place w) ≡ drop place w
+lent_rest w place = take_all (length w - place) (drop place w) (omega (arith, length-drop place w))
 
 pub put_rest : (w out : List ℕ) (place : ℕ) → take place w ++ (out ++ drop (length w - place) (drop place w)) ≡ take place w ++ out
 put_rest w out place = rw (drop_of_length-le (drop place w) {i = length w - place} (omega (arith, length-drop place w)), append-nil)
@@ -86,35 +86,35 @@ put_rest w out place = rw (drop_of_length-le (drop place w) {i = length w - plac
 -- ---- every function by its number
 
 module _ (known : Bool) (count : ℕ) (d : Drive) (l : Bads) (s : Shown) (r : Registers) (w : List ℕ) {f : ℕ} (q : f ≡ ah r) where
-  pub steps-02-03 : isSectors f ≡ true → steps known count d l s r w ≡ unchanged w (sectors known d r (length w))
+  pub steps_02_03 : is_sectors f ≡ true → steps known count d l s r w ≡ unchanged w (sectors known d r (length w))
   unfolding steps
-  steps-02-03 e = rw (← q, e)
+  steps_02_03 e = rw (← q, e)
 
-  pub steps-08 : f ≡ 0x08 → steps known count d l s r w ≡ unchanged w (parameters known count d r)
+  pub steps_08 : f ≡ 0x08 → steps known count d l s r w ≡ unchanged w (parameters known count d r)
   unfolding steps
-  steps-08 e = rw (sym q ∙ e)
+  steps_08 e = rw (sym q ∙ e)
 
-  pub steps-41 : f ≡ 0x41 → steps known count d l s r w ≡ unchanged w (extensions known s r)
+  pub steps_41 : f ≡ 0x41 → steps known count d l s r w ≡ unchanged w (extensions known s r)
   unfolding steps
-  steps-41 e = rw (sym q ∙ e)
+  steps_41 e = rw (sym q ∙ e)
 
-  pub steps-42-43-44 : either (eqb f 0x42) (either (eqb f 0x43) (eqb f 0x44)) ≡ true → steps known count d l s r w ≡ extended known d l r w
+  pub steps_42_43_44 : either (eqb f 0x42) (either (eqb f 0x43) (eqb f 0x44)) ≡ true → steps known count d l s r w ≡ extended known d l r w
   unfolding steps
-  steps-42-43-44 e =
+  steps_42_43_44 e =
       ⊎_elim (λ x. rw (sym q ∙ eqb-true f 0x42 x))
       (λ y. ⊎_elim (λ x. rw (sym q ∙ eqb-true f 0x43 x)) (λ x. rw (sym q ∙ eqb-true f 0x44 x)) (either_true (eqb f 0x43) (eqb f 0x44) y))
       (either_true (eqb f 0x42) (either (eqb f 0x43) (eqb f 0x44)) e)
 
-  pub steps-47 : f ≡ 0x47 → steps known count d l s r w ≡ unchanged w (seek known d r w)
+  pub steps_47 : f ≡ 0x47 → steps known count d l s r w ≡ unchanged w (seek known d r w)
   unfolding steps
-  steps-47 e = rw (sym q ∙ e)
+  steps_47 e = rw (sym q ∙ e)
 
-  pub steps-48 : f ≡ 0x48 → steps known count d l s r w ≡ result known d s r w
+  pub steps_48 : f ≡ 0x48 → steps known count d l s r w ≡ result_into known d s r w
   unfolding steps
-  steps-48 e = rw (sym q ∙ e)
+  steps_48 e = rw (sym q ∙ e)
 
-  pub steps-other : isSectors f ≡ false → (f ≡ 0x08 → ⊥) → (f ≡ 0x41 → ⊥) → either (eqb f 0x42) (either (eqb f 0x43) (eqb f 0x44)) ≡ false
-      → (f ≡ 0x47 → ⊥) → (f ≡ 0x48 → ⊥) → steps known count d l s r w ≡ unchanged w (Answered (refuse badParameter r))
+  pub steps-other : is_sectors f ≡ false → (f ≡ 0x08 → ⊥) → (f ≡ 0x41 → ⊥) → either (eqb f 0x42) (either (eqb f 0x43) (eqb f 0x44)) ≡ false
+      → (f ≡ 0x47 → ⊥) → (f ≡ 0x48 → ⊥) → steps known count d l s r w ≡ unchanged w (Answered (refuse bad_parameter r))
   unfolding steps
   steps-other e₁ n₂ n₃ e₄ n₅ n₆ = rw (← q, e₁, ne_eqb f 0x08 n₂, ne_eqb f 0x41 n₃, e₄, ne_eqb f 0x47 n₅, ne_eqb f 0x48 n₆)
 
@@ -122,12 +122,12 @@ module _ (known : Bool) (count : ℕ) (d : Drive) (l : Bads) (s : Shown) (r : Re
 
 pub steps-drive : (known : Bool) (count : ℕ) (d e : Drive) (l : Bads) (s : Shown) (r : Registers) (w : List ℕ) → (known ≡ true → d ≡ e)
     → steps known count d l s r w ≡ steps known count e l s r w
-unfolding steps sectors parameters extensions packetPlan seek result
+unfolding steps sectors parameters extensions packet_plan seek result_into
 steps-drive true count d e l s r w h = ap (λ (x : Drive). steps true count x l s r w) (h refl)
 steps-drive false count d e l s r w h = refl
 
 -- the steps over any drive that is the one which DL names, if it names one
-pub begin-steps : {known : Bool} {count : ℕ} {d : Drive} {l : Bads} {s : Shown} (b : Table) (p : Placement) (r : Registers) (w : List ℕ) → known ≡ isDrive b (dl r)
-    → count ≡ driveCount b → (isDrive b (dl r) ≡ true → d ≡ driveNamed b r) → l ≡ badsOf b (dl r) → s ≡ shownOf b p (dl r) → steps known count d l s r w ≡ begin (fed b p) r w
+pub begin-steps : {known : Bool} {count : ℕ} {d : Drive} {l : Bads} {s : Shown} (b : Table) (p : Placement) (r : Registers) (w : List ℕ) → known ≡ is_drive b (dl r)
+    → count ≡ drive_count b → (is_drive b (dl r) ≡ true → d ≡ drive_named b r) → l ≡ bads_of b (dl r) → s ≡ shown_of b p (dl r) → steps known count d l s r w ≡ begin (fed b p) r w
 unfolding begin
-begin-steps {known} {count} {d} {l} {s} b p r w k n h f e = steps-drive known count d (driveNamed b r) l s r w (λ t. h (sym k ∙ t)) ∙ cc
+begin-steps {known} {count} {d} {l} {s} b p r w k n h f e = steps-drive known count d (drive_named b r) l s r w (λ t. h (sym k ∙ t)) ∙ cc

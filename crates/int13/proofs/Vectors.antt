@@ -11,16 +11,16 @@ use lib.Seq.{sets}
 use lib.Dec.{eqb}
 use Rattle.logic.specs.Logic.{pick}
 use Rattle.words.specs.Words.{le, le_bytes, part}
-use Rattle.chs.specs.Chs.{inLimits, isValid, block_of}
+use Rattle.chs.specs.Chs.{in_limits, is_valid, block_of}
 use Rattle.drive.specs.declared.Drive.{Drive}
-use Rattle.drive.specs.Drive.{driveOf as driveRead, same, busOk, interfaceOk, geometryFits, fieldsOk, inStore, overlap, isI2o, kindOk, zeroTail, tailOf}
+use Rattle.drive.specs.Drive.{drive_of as drive_read, same, bus_ok, interface_ok, geometry_fits, fields_ok, in_store, overlap, is_i2o, kind_ok, zero_tail, tail_of}
 use Rattle.attached.specs.declared.Bads.{Bads}
-use Rattle.attached.specs.Bad.{badCount, badLengthOk, badsIn, held_of, noBads, badAt, ascends, areBlocks, listOk, isBad, good}
+use Rattle.attached.specs.Bad.{bad_count, bad_length_ok, bads_in, held_of, no_bads, bad_at, ascends, are_blocks, list_ok, is_bad, good}
 use Rattle.table.specs.declared.Table.{Table}
-use Rattle.table.specs.Table.{headerOf, headerAt, overlapsAny, refusal, parametersRefusal, badsRefusal, recordRefusal, withRecord, recordStep, endStep, step_of, stepAt, zeroDrive, emptyTable, readFrom, readTable, parametersTo}
-use Rattle.layout.specs.Packet.{packetAt, readPacket}
-use Rattle.layout.specs.ParameterTable.{placedBytes, parameterTable}
-use Rattle.layout.specs.ResultBuffer.{returnedSize, parameterBytes, blockBytes, interfaceBytes, pathBytes, sum, wholeResult, resultBytes, resultAnswer, padded, wideInterfaceBytes, widePathBytes, summedBytes}
+use Rattle.table.specs.Table.{header_of, header_at, overlaps_any, refusal, parameters_refusal, bads_refusal, record_refusal, with_record, record_step, end_step, step_of, step_at, zero_drive, empty_table, read_from, read_table, parameters_to}
+use Rattle.layout.specs.Packet.{packet_at, read_packet}
+use Rattle.layout.specs.ParameterTable.{placed_bytes, parameter_table}
+use Rattle.layout.specs.ResultBuffer.{returned_size, parameter_bytes, block_bytes, interface_bytes, path_bytes, sum, whole_result, result_bytes, result_answer, padded, wide_interface_bytes, wide_path_bytes, summed_bytes}
 use Rattle.memory.specs.Blocks.{blocks}
 use Rattle.int13.specs.declared.Registers.{Registers}
 use Rattle.int13.specs.declared.Job.{Job}
@@ -30,12 +30,12 @@ use Rattle.int13.specs.declared.Outcome.{Outcome}
 use Rattle.int13.specs.declared.Outcome.TheVariants.{Answered, Waits}
 use Rattle.int13.specs.declared.Plan.{Plan}
 use Rattle.int13.specs.declared.Plan.TheVariants.{Refuse, Clear, Finish, Wait}
-use Rattle.int13.specs.Answers.{dl, succeed, withdraw, ended, posted, outcomeNumbers}
-use Rattle.int13.specs.Placement.{noPlacement, placed_at, tablesTo, tables_of, tableCount, tableAddress, notShown, pointerOf}
-use Rattle.int13.specs.Steps.{Checked, fed, isDrive, badsOf, shownOf, driveAt, driveIn, driveNamed, verifyOk, verified, packetTests, packetPlan, seek, sectors, parameters, extensions, result, steps, begin}
-use Rattle.int13.specs.Numbers.{sectorsGiven, parametersGiven, checkGiven, packetTestsGiven, packetNumbersAt, extendedGiven, seekGiven, bufferGiven, stepsGiven, beginGiven}
-use Rattle.int13.specs.Alone.{asked, namedFrom, Memory, storeBlock, moves, goodOf, reported, Served, servedBy, alone}
-use Rattle.int13.specs.AloneBytes.{askedBuffer, wornBlock}
+use Rattle.int13.specs.Answers.{dl, succeed, withdraw, ended, posted, outcome_numbers}
+use Rattle.int13.specs.Placement.{no_placement, placed_at, tables_to, tables_of, table_count, table_address, not_shown, pointer_of}
+use Rattle.int13.specs.Steps.{Checked, fed, is_drive, bads_of, shown_of, drive_at, drive_in, drive_named, verify_ok, verified, packet_tests, packet_plan, seek, sectors, parameters, extensions, result_into, steps, begin}
+use Rattle.int13.specs.Numbers.{sectors_given, parameters_given, check_given, packet_tests_given, packet_numbers_at, extended_given, seek_given, buffer_given, steps_given, begin_given}
+use Rattle.int13.specs.Alone.{asked, named_from, Memory, store_block, moves, good_of, reported, Served, served_by, alone}
+use Rattle.int13.specs.AloneBytes.{asked_buffer, worn_block}
 
 -- ---- tables
 
@@ -66,14 +66,14 @@ table drives count =
     record {
       drives = drives;
       count = count;
-      present = emptyTable.present;
-      parameters = emptyTable.parameters;
-      counts = emptyTable.counts;
-      bad = emptyTable.bad;
+      present = empty_table.present;
+      parameters = empty_table.parameters;
+      counts = empty_table.counts;
+      bad = empty_table.bad;
     }
 
 abbrev one : Drive → Table
-one d = table (d ∷ replicate 7 zeroDrive) 1
+one d = table (d ∷ replicate 7 zero_drive) 1
 
 abbrev plain : Table
 plain = one (drive 0 2 0)
@@ -86,7 +86,7 @@ abbrev verifying : Table
 verifying = one (drive 0 10 0)
 
 abbrev three : Table
-three = table (drive 0 2 0 ∷ drive 2048 2 0 ∷ drive 4096 2 0 ∷ replicate 5 zeroDrive) 3
+three = table (drive 0 2 0 ∷ drive 2048 2 0 ∷ drive 4096 2 0 ∷ replicate 5 zero_drive) 3
 
 abbrev eight : Table
 eight =
@@ -120,9 +120,9 @@ abbrev bytes : List ℕ
 bytes = 68 ∷ 0 ∷ 1 ∷ 0 ∷ 2 ∷ 0 ∷ 0 ∷ 0 ∷ 16 ∷ 0 ∷ 0 ∷ 0 ∷ 63 ∷ 0 ∷ 0 ∷ 0 ∷ 0 ∷ 8 ∷ 0 ∷ 0 ∷ 0 ∷ 0 ∷ 0 ∷ 0 ∷ 0 ∷ 0 ∷ 0 ∷ 0 ∷ 0 ∷ 0 ∷ 0 ∷ 0 ∷ 2 ∷ 0 ∷ 2 ∷ 0 ∷ 16 ∷ 0 ∷ 63 ∷ 0 ∷ 80 ∷ 67 ∷ 73 ∷ 0 ∷ 65 ∷ 84 ∷ 65 ∷ 0 ∷ 0 ∷ 0 ∷ 0 ∷ 0 ∷ 0 ∷ 31 ∷ 1 ∷ 0 ∷ 0 ∷ 0 ∷ 0 ∷ 0 ∷ 0 ∷ 0 ∷ 0 ∷ 0 ∷ 0 ∷ 0 ∷ 0 ∷ 0 ∷ 4 ∷ 0 ∷ 0 ∷ 0 ∷ []
 
 -- they are read as the drive above
-pub worked-table : (readTable bytes 4294967296).table ≡ plain
-unfolding le le_bytes inLimits driveRead same busOk interfaceOk geometryFits fieldsOk inStore overlap headerOf headerAt overlapsAny refusal recordRefusal withRecord recordStep endStep step_of stepAt readFrom readTable isI2o zeroTail kindOk tailOf
-worked-table = refl
+pub worked_table : (read_table bytes 4294967296).table ≡ plain
+unfolding le le_bytes in_limits drive_read same bus_ok interface_ok geometry_fits fields_ok in_store overlap header_of header_at overlaps_any refusal record_refusal with_record record_step end_step step_of step_at read_from read_table is_i2o zero_tail kind_ok tail_of
+worked_table = refl
 
 -- ---- calls
 
@@ -149,19 +149,19 @@ pub record Called (A : Type 0) : Type 0 where
 
 -- a call at a table, of a guest without placement and of one with it; and over one drive
 abbrev by : Placement → Table → Registers → List ℕ → Called Checked
-by p b r w = record { made = begin (fed b p) r w; numbers = beginGiven b p.placed r w }
+by p b r w = record { made = begin (fed b p) r w; numbers = begin_given b p.placed r w }
 
 abbrev at : Table → Registers → List ℕ → Called Checked
-at b r w = by noPlacement b r w
+at b r w = by no_placement b r w
 
 abbrev over : Bool → ℕ → Drive → Bads → Registers → List ℕ → Called Checked
-over known n d l r w = record { made = steps known n d l notShown r w; numbers = stepsGiven known n d l false r w }
+over known n d l r w = record { made = steps known n d l not_shown r w; numbers = steps_given known n d l false r w }
 
 -- 02h and 03h at a table, in a window of that many bytes
-abbrev sectorsOf : Table → Registers → ℕ → Called Outcome
-sectorsOf b r M = record {
-  made = sectors (isDrive b (dl r)) (driveNamed b r) r M;
-  numbers = sectorsGiven (isDrive b (dl r)) (driveNamed b r) r M;
+abbrev sectors_of : Table → Registers → ℕ → Called Outcome
+sectors_of b r M = record {
+  made = sectors (is_drive b (dl r)) (drive_named b r) r M;
+  numbers = sectors_given (is_drive b (dl r)) (drive_named b r) r M;
 }
 
 -- size byte, count, offset and segment of the buffer, start; byte 1 is A5h, which nobody reads
@@ -226,8 +226,8 @@ gives c l = record { made = short c.made.outcome ∷ shortly c.numbers ∷ []; g
 abbrev comes : Called Outcome → List ℕ → Case
 comes o l = record { made = short o.made ∷ shortly o.numbers ∷ []; given = l ∷ l ∷ [] }
 
-abbrev givesAll : Called Checked → List ℕ → Case
-givesAll c l = record { made = whole c.made.outcome ∷ wholly c.numbers ∷ []; given = l ∷ l ∷ [] }
+abbrev gives_all : Called Checked → List ℕ → Case
+gives_all c l = record { made = whole c.made.outcome ∷ wholly c.numbers ∷ []; given = l ∷ l ∷ [] }
 
 abbrev leaves : Called Checked → List ℕ → List ℕ → Case
 leaves c l w = record { made = short c.made.outcome ∷ shortly c.numbers ∷ c.made.window ∷ []; given = l ∷ l ∷ w ∷ [] }
@@ -274,36 +274,36 @@ pub record Vectors : Type 0 where
   --   47h, start 2048: AX 0455h
   --   48h, size 26: AX 0055h
   --   48h, size 25: AX 0155h
-  pub registers-answered : Hold
-      ((givesAll (at plain (call 0x0205 0x81) []) (kept 0x0100 0x81 1))
-      ∷ (givesAll (at plain (call 0x0305 0x81) []) (kept 0x0100 0x81 1))
-      ∷ (givesAll (at guarded (call 0x0305 0x80) []) (kept 0x0300 0x80 1))
-      ∷ (givesAll (at plain (call 0x0855 0x80) []) (0x0000 ∷ 0x1111 ∷ 0x013F ∷ 0x0F01 ∷ 0 ∷ 0 ∷ 0x3333 ∷ 0 ∷ []))
-      ∷ (givesAll (at plain (call 0x0855 0x81) []) (kept 0x0755 0x81 1))
-      ∷ (givesAll (at plain (call 0x4255 0x80) (packet 16 0 16 0 0)) (kept 0x0055 0x80 0))
-      ∷ (givesAll (at plain (call 0x4255 0x80) (packet 16 0 16 0 2049)) (kept 0x0455 0x80 1))
-      ∷ (givesAll (at plain (call 0x4301 0x80) (packet 16 0 16 0 0)) (kept 0x0001 0x80 0))
-      ∷ (givesAll (at guarded (call 0x4301 0x80) (packet 16 0 16 0 0)) (kept 0x0301 0x80 1))
-      ∷ (givesAll (at plain (call 0x4455 0x80) (packet 16 1 16 0 0)) (kept 0x0055 0x80 0))
-      ∷ (givesAll (at plain (call 0x4455 0x80) (packet 16 0 16 0 2049)) (kept 0x0455 0x80 1))
-      ∷ (givesAll (at plain (call 0x4755 0x80) (packet 16 0 16 0 0)) (kept 0x0055 0x80 0))
-      ∷ (givesAll (at plain (call 0x4755 0x80) (packet 16 0 16 0 2048)) (kept 0x0455 0x80 1))
-      ∷ (givesAll (at plain (call 0x4855 0x80) (26 ∷ replicate 25 0)) (kept 0x0055 0x80 0))
-      ∷ (givesAll (at plain (call 0x4855 0x80) (25 ∷ replicate 25 0)) (kept 0x0155 0x80 1))
+  pub registers_answered : Hold
+      ((gives_all (at plain (call 0x0205 0x81) []) (kept 0x0100 0x81 1))
+      ∷ (gives_all (at plain (call 0x0305 0x81) []) (kept 0x0100 0x81 1))
+      ∷ (gives_all (at guarded (call 0x0305 0x80) []) (kept 0x0300 0x80 1))
+      ∷ (gives_all (at plain (call 0x0855 0x80) []) (0x0000 ∷ 0x1111 ∷ 0x013F ∷ 0x0F01 ∷ 0 ∷ 0 ∷ 0x3333 ∷ 0 ∷ []))
+      ∷ (gives_all (at plain (call 0x0855 0x81) []) (kept 0x0755 0x81 1))
+      ∷ (gives_all (at plain (call 0x4255 0x80) (packet 16 0 16 0 0)) (kept 0x0055 0x80 0))
+      ∷ (gives_all (at plain (call 0x4255 0x80) (packet 16 0 16 0 2049)) (kept 0x0455 0x80 1))
+      ∷ (gives_all (at plain (call 0x4301 0x80) (packet 16 0 16 0 0)) (kept 0x0001 0x80 0))
+      ∷ (gives_all (at guarded (call 0x4301 0x80) (packet 16 0 16 0 0)) (kept 0x0301 0x80 1))
+      ∷ (gives_all (at plain (call 0x4455 0x80) (packet 16 1 16 0 0)) (kept 0x0055 0x80 0))
+      ∷ (gives_all (at plain (call 0x4455 0x80) (packet 16 0 16 0 2049)) (kept 0x0455 0x80 1))
+      ∷ (gives_all (at plain (call 0x4755 0x80) (packet 16 0 16 0 0)) (kept 0x0055 0x80 0))
+      ∷ (gives_all (at plain (call 0x4755 0x80) (packet 16 0 16 0 2048)) (kept 0x0455 0x80 1))
+      ∷ (gives_all (at plain (call 0x4855 0x80) (26 ∷ replicate 25 0)) (kept 0x0055 0x80 0))
+      ∷ (gives_all (at plain (call 0x4855 0x80) (25 ∷ replicate 25 0)) (kept 0x0155 0x80 1))
       ∷ [])
   -- 41h: AL becomes 0 on success and stays on refusal, DH is not set
   --   drive known, BX 55AAh: AX 3000h, BX AA55h, CX 0001h
   --   drive known, BX AA55h: AX 0155h
   --   drive unknown, BX 55AAh: AX 0155h
   pub registers-extensions : Hold
-      ((givesAll (at plain (asks41 0x55AA 0x7780) []) (0x3000 ∷ 0xAA55 ∷ 0x0001 ∷ 0x7780 ∷ 0 ∷ 0 ∷ 0x3333 ∷ 0 ∷ []))
-      ∷ (givesAll (at plain (asks41 0xAA55 0x7780) []) (0x0155 ∷ 0xAA55 ∷ 0x2222 ∷ 0x7780 ∷ 0 ∷ 0 ∷ 0x3333 ∷ 1 ∷ []))
-      ∷ (givesAll (at plain (asks41 0x55AA 0x7781) []) (0x0155 ∷ 0x55AA ∷ 0x2222 ∷ 0x7781 ∷ 0 ∷ 0 ∷ 0x3333 ∷ 1 ∷ []))
+      ((gives_all (at plain (asks41 0x55AA 0x7780) []) (0x3000 ∷ 0xAA55 ∷ 0x0001 ∷ 0x7780 ∷ 0 ∷ 0 ∷ 0x3333 ∷ 0 ∷ []))
+      ∷ (gives_all (at plain (asks41 0xAA55 0x7780) []) (0x0155 ∷ 0xAA55 ∷ 0x2222 ∷ 0x7780 ∷ 0 ∷ 0 ∷ 0x3333 ∷ 1 ∷ []))
+      ∷ (gives_all (at plain (asks41 0x55AA 0x7781) []) (0x0155 ∷ 0x55AA ∷ 0x2222 ∷ 0x7781 ∷ 0 ∷ 0 ∷ 0x3333 ∷ 1 ∷ []))
       ∷ [])
   -- a request that waits keeps its registers, with carry clear: drive 80h, then the registers
   --   42h, one block
-  pub registers-waiting : Hold
-      ((givesAll (at plain (call 0x4255 0x80) (roomy (packet 16 1 16 0 0))) (0x80 ∷ kept 0x4255 0x80 0))
+  pub registers_waiting : Hold
+      ((gives_all (at plain (call 0x4255 0x80) (roomy (packet 16 1 16 0 0))) (0x80 ∷ kept 0x4255 0x80 0))
       ∷ [])
   -- an unknown function is 01h whatever DL, AL stays
   --   00h, drive 80h: AX 0155h
@@ -312,20 +312,20 @@ pub record Vectors : Type 0 where
   --   15h, drive 81h: AX 0155h
   --   45h, drive 80h: AX 0155h
   --   FFh, drive 80h: AX 0155h
-  pub unknown-functions : Hold
-      ((givesAll (at plain (call 0x0055 0x80) []) (kept 0x0155 0x80 1))
-      ∷ (givesAll (at plain (call 0x0155 0x80) []) (kept 0x0155 0x80 1))
-      ∷ (givesAll (at plain (call 0x0455 0x00) []) (kept 0x0155 0x00 1))
-      ∷ (givesAll (at plain (call 0x1555 0x81) []) (kept 0x0155 0x81 1))
-      ∷ (givesAll (at plain (call 0x4555 0x80) []) (kept 0x0155 0x80 1))
-      ∷ (givesAll (at plain (call 0xFF55 0x80) []) (kept 0x0155 0x80 1))
+  pub unknown_functions : Hold
+      ((gives_all (at plain (call 0x0055 0x80) []) (kept 0x0155 0x80 1))
+      ∷ (gives_all (at plain (call 0x0155 0x80) []) (kept 0x0155 0x80 1))
+      ∷ (gives_all (at plain (call 0x0455 0x00) []) (kept 0x0155 0x00 1))
+      ∷ (gives_all (at plain (call 0x1555 0x81) []) (kept 0x0155 0x81 1))
+      ∷ (gives_all (at plain (call 0x4555 0x80) []) (kept 0x0155 0x80 1))
+      ∷ (gives_all (at plain (call 0xFF55 0x80) []) (kept 0x0155 0x80 1))
       ∷ [])
   -- drive numbers 00h, 7Fh, 80h, 80h + n - 1, 80h + n and FFh of n = 0, 1 and 8 drives; DL - 80h is never taken in eight bits
   --   no drive: none is one
   --   one drive: 80h is one
   --   eight drives: 80h, 81h and 87h are
   pub drive-numbers :
-      map (λ (b : Table). map (λ (n : ℕ). bit (isDrive b n)) (0x00 ∷ 0x7F ∷ 0x80 ∷ 0x81 ∷ 0x87 ∷ 0x88 ∷ 0xFF ∷ [])) (emptyTable ∷ plain ∷ eight ∷ [])
+      map (λ (b : Table). map (λ (n : ℕ). bit (is_drive b n)) (0x00 ∷ 0x7F ∷ 0x80 ∷ 0x81 ∷ 0x87 ∷ 0x88 ∷ 0xFF ∷ [])) (empty_table ∷ plain ∷ eight ∷ [])
       ≡ (0 ∷ 0 ∷ 0 ∷ 0 ∷ 0 ∷ 0 ∷ 0 ∷ []) ∷ (0 ∷ 0 ∷ 1 ∷ 0 ∷ 0 ∷ 0 ∷ 0 ∷ []) ∷ (0 ∷ 0 ∷ 1 ∷ 1 ∷ 1 ∷ 0 ∷ 0 ∷ []) ∷ []
   -- a drive function of an unknown drive is 01h, 08h is 07h
   --   02h, 00h: AX 0100h
@@ -336,10 +336,10 @@ pub record Vectors : Type 0 where
   --   42h, 81h: AX 0155h
   --   47h, 81h: AX 0155h
   --   48h, 7Fh: AX 0155h
-  pub unknown-drives : Hold
+  pub unknown_drives : Hold
       ((gives (at plain (call 0x0201 0x00) []) (0x0100 ∷ 1 ∷ []))
       ∷ (gives (at plain (call 0x0301 0x7F) []) (0x0100 ∷ 1 ∷ []))
-      ∷ (gives (at emptyTable (call 0x0855 0x80) []) (0x0755 ∷ 1 ∷ []))
+      ∷ (gives (at empty_table (call 0x0855 0x80) []) (0x0755 ∷ 1 ∷ []))
       ∷ (gives (at eight (call 0x0855 0x88) []) (0x0755 ∷ 1 ∷ []))
       ∷ (gives (at plain (call 0x4155 0xFF) []) (0x0155 ∷ 1 ∷ []))
       ∷ (gives (at plain (call 0x4255 0x81) (packet 16 0 16 0 0)) (0x0155 ∷ 1 ∷ []))
@@ -355,7 +355,7 @@ pub record Vectors : Type 0 where
   --   43h, protected and out of range: 03h
   --   44h, count 127: success
   --   44h, count 128: 01h
-  pub run-by-program : Hold
+  pub run_by_program : Hold
       ((gives (at plain (call 0x4200 0x80) (roomy (packet 16 1 16 0 2047))) (2047 ∷ 1 ∷ 16 ∷ 0 ∷ []))
       ∷ (gives (at plain (call 0x4200 0x80) (roomy (packet 16 0 16 0 2048))) (0x0000 ∷ 0 ∷ []))
       ∷ (gives (at plain (call 0x4200 0x80) (roomy (packet 16 1 16 0 2048))) (0x0400 ∷ 1 ∷ []))
@@ -367,17 +367,17 @@ pub record Vectors : Type 0 where
   --   02h, AL 128 at 0/0/1: waits
   --   02h, AL 129: 09h
   --   03h, protected and out of range: 03h
-  pub run-by-program-sectors : Hold
-      ((comes (sectorsOf plain (run 0x0280 0x0001 0x0080) 65536) (0 ∷ 128 ∷ 0 ∷ 0 ∷ []))
-      ∷ (comes (sectorsOf plain (run 0x0281 0x0001 0x0080) 65536) (0x0900 ∷ 1 ∷ []))
-      ∷ (comes (sectorsOf guarded (run 0x0301 0x0201 0x0080) 65536) (0x0300 ∷ 1 ∷ []))
+  pub run_by_program_sectors : Hold
+      ((comes (sectors_of plain (run 0x0280 0x0001 0x0080) 65536) (0 ∷ 128 ∷ 0 ∷ 0 ∷ []))
+      ∷ (comes (sectors_of plain (run 0x0281 0x0001 0x0080) 65536) (0x0900 ∷ 1 ∷ []))
+      ∷ (comes (sectors_of guarded (run 0x0301 0x0201 0x0080) 65536) (0x0300 ∷ 1 ∷ []))
       ∷ [])
   -- 42h by count, in a window of 65040 bytes
   --   count 127: waits
   --   count 128: 01h
-  pub run-by-program-packets : Hold
-      ((plans (packetTests (drive 0 2 0) noBads (call 0x4200 0x80) 65040 (record { size = 16; count = 127; buffer = 16; start = 0 })) (3 ∷ 0 ∷ 127 ∷ 16 ∷ 0 ∷ []))
-      ∷ (plans (packetTests (drive 0 2 0) noBads (call 0x4200 0x80) 65040 (record { size = 16; count = 128; buffer = 16; start = 0 })) (1 ∷ 1 ∷ 0 ∷ []))
+  pub run_by_program_packets : Hold
+      ((plans (packet_tests (drive 0 2 0) no_bads (call 0x4200 0x80) 65040 (record { size = 16; count = 127; buffer = 16; start = 0 })) (3 ∷ 0 ∷ 127 ∷ 16 ∷ 0 ∷ []))
+      ∷ (plans (packet_tests (drive 0 2 0) no_bads (call 0x4200 0x80) 65040 (record { size = 16; count = 128; buffer = 16; start = 0 })) (1 ∷ 1 ∷ 0 ∷ []))
       ∷ [])
   -- ---- 42h, 43h, 44h: each pair of adjoining tests with both faults, and the window after it
 
@@ -388,7 +388,7 @@ pub record Vectors : Type 0 where
   --   count 128 and out of range: 01h, count word 0
   --   out of range and buffer outside: 04h, count word 0
   --   buffer outside: 09h, count word 0
-  pub order-read : Hold
+  pub order_read : Hold
       ((leaves (at plain (call 0x4200 0x81) (take 15 (packet 16 1 16 0 0))) (0x0100 ∷ 1 ∷ []) (take 15 (packet 16 1 16 0 0)))
       ∷ (leaves (at plain (call 0x4200 0x80) (take 15 (packet 15 1 16 0 0))) (0x0100 ∷ 1 ∷ []) (take 15 (packet 15 1 16 0 0)))
       ∷ (leaves (at plain (call 0x4200 0x80) (packet 15 128 16 0 0)) (0x0100 ∷ 1 ∷ []) (packet 15 128 16 0 0))
@@ -405,7 +405,7 @@ pub record Vectors : Type 0 where
   --   protected and out of range: 03h, count word 0
   --   out of range and buffer outside: 04h, count word 0
   --   buffer outside: 09h, count word 0
-  pub order-write : Hold
+  pub order_write : Hold
       ((leaves (at plain (call 0x4303 0x81) (packet 16 1 16 0 0)) (0x0103 ∷ 1 ∷ []) (packet 16 1 16 0 0))
       ∷ (leaves (at plain (call 0x4303 0x80) (take 15 (packet 16 1 16 0 0))) (0x0103 ∷ 1 ∷ []) (take 15 (packet 16 1 16 0 0)))
       ∷ (leaves (at plain (call 0x4300 0x80) (take 15 (packet 15 1 16 0 0))) (0x0100 ∷ 1 ∷ []) (take 15 (packet 15 1 16 0 0)))
@@ -422,7 +422,7 @@ pub record Vectors : Type 0 where
   --   count 128 and out of range: 01h, count word 0
   --   out of range: 04h, count word 0
   --   protected, AL FFh, count 127, buffer FFFFh:FFFFh: success, nothing written
-  pub order-verify : Hold
+  pub order_verify : Hold
       ((leaves (at plain (call 0x4403 0x81) (take 15 (packet 16 1 16 0 0))) (0x0103 ∷ 1 ∷ []) (take 15 (packet 16 1 16 0 0)))
       ∷ (leaves (at plain (call 0x4403 0x80) (take 15 (packet 15 1 16 0 0))) (0x0103 ∷ 1 ∷ []) (take 15 (packet 15 1 16 0 0)))
       ∷ (leaves (at plain (call 0x4403 0x80) (packet 15 128 16 0 0)) (0x0103 ∷ 1 ∷ []) (packet 15 128 16 0 0))
@@ -452,7 +452,7 @@ pub record Vectors : Type 0 where
   --   44h, count FFh: 01h
   --   42h, count FFFFh: 01h, both bytes 0
   --   42h, count 0, buffer FFFFh:FFFFh: 09h
-  pub packet-forms : Hold
+  pub packet_forms : Hold
       ((leaves (at plain (call 0x4400 0x80) (packet 24 1 16 0 0)) (0x0000 ∷ 0 ∷ []) (packet 24 1 16 0 0))
       ∷ (leaves (at plain (call 0x4400 0x80) (packet 255 1 16 0 0)) (0x0000 ∷ 0 ∷ []) (packet 255 1 16 0 0))
       ∷ (leaves (at plain (call 0x4400 0x80) (packet 16 0x0100 16 0 0)) (0x0100 ∷ 1 ∷ []) (packet 16 0 16 0 0))
@@ -466,10 +466,10 @@ pub record Vectors : Type 0 where
   --   65000 in a window of 69096: waits
   --   65000 in a window of 69095: 09h
   pub buffers : Hold
-      ((plans (packetTests (drive 0 2 0) noBads (call 0x4200 0x80) (0x10FFEF + 512) (record { size = 16; count = 1; buffer = 0x10FFEF; start = 0 })) (3 ∷ 0 ∷ 1 ∷ 0x10FFEF ∷ 0 ∷ []))
-      ∷ (plans (packetTests (drive 0 2 0) noBads (call 0x4200 0x80) (0x10FFEF + 511) (record { size = 16; count = 1; buffer = 0x10FFEF; start = 0 })) (1 ∷ 9 ∷ 0 ∷ []))
-      ∷ (plans (packetTests (drive 0 2 0) noBads (call 0x4200 0x80) 69096 (record { size = 16; count = 8; buffer = 65000; start = 0 })) (3 ∷ 0 ∷ 8 ∷ 65000 ∷ 0 ∷ []))
-      ∷ (plans (packetTests (drive 0 2 0) noBads (call 0x4200 0x80) 69095 (record { size = 16; count = 8; buffer = 65000; start = 0 })) (1 ∷ 9 ∷ 0 ∷ []))
+      ((plans (packet_tests (drive 0 2 0) no_bads (call 0x4200 0x80) (0x10FFEF + 512) (record { size = 16; count = 1; buffer = 0x10FFEF; start = 0 })) (3 ∷ 0 ∷ 1 ∷ 0x10FFEF ∷ 0 ∷ []))
+      ∷ (plans (packet_tests (drive 0 2 0) no_bads (call 0x4200 0x80) (0x10FFEF + 511) (record { size = 16; count = 1; buffer = 0x10FFEF; start = 0 })) (1 ∷ 9 ∷ 0 ∷ []))
+      ∷ (plans (packet_tests (drive 0 2 0) no_bads (call 0x4200 0x80) 69096 (record { size = 16; count = 8; buffer = 65000; start = 0 })) (3 ∷ 0 ∷ 8 ∷ 65000 ∷ 0 ∷ []))
+      ∷ (plans (packet_tests (drive 0 2 0) no_bads (call 0x4200 0x80) 69095 (record { size = 16; count = 8; buffer = 65000; start = 0 })) (1 ∷ 9 ∷ 0 ∷ []))
       ∷ [])
   -- start + count never wraps: every one is 04h
   --   42h, start 2^64 - 1 count 0
@@ -491,7 +491,7 @@ pub record Vectors : Type 0 where
   --   AL 2, bit clear, count 128: 01h, nothing written
   --   AL 3, bit set, count 128: 01h, nothing written
   --   AL FFh, bit set, count 128: 01h, nothing written
-  pub verify-flag : Hold
+  pub verify_flag : Hold
       ((leaves (at plain (call 0x4300 0x80) (packet 16 0 16 0 0)) (0x0000 ∷ 0 ∷ []) (packet 16 0 16 0 0))
       ∷ (leaves (at plain (call 0x4301 0x80) (packet 16 0 16 0 0)) (0x0001 ∷ 0 ∷ []) (packet 16 0 16 0 0))
       ∷ (leaves (at verifying (call 0x4302 0x80) (packet 16 0 16 0 0)) (0x0002 ∷ 0 ∷ []) (packet 16 0 16 0 0))
@@ -523,15 +523,15 @@ pub record Vectors : Type 0 where
   --   cylinder 2 and buffer outside: 04h
   --   buffer outside: 09h
   --   buffer at the end: waits
-  pub order-sectors : Hold
-      ((comes (sectorsOf plain (run 0x0281 0x0001 0x0081) 65536) (0x0100 ∷ 1 ∷ []))
-      ∷ (comes (sectorsOf guarded (run 0x0300 0x0001 0x0080) 65536) (0x0100 ∷ 1 ∷ []))
-      ∷ (comes (sectorsOf guarded (run 0x0381 0x0001 0x0080) 65536) (0x0900 ∷ 1 ∷ []))
-      ∷ (comes (sectorsOf guarded (run 0x0301 0x0201 0x0080) 65536) (0x0300 ∷ 1 ∷ []))
-      ∷ (comes (sectorsOf guarded (run 0x0201 0x0001 0x0080) 65536) (0 ∷ 1 ∷ 0 ∷ 0 ∷ []))
-      ∷ (comes (sectorsOf plain (run 0x0201 0x0201 0x0080) 511) (0x0400 ∷ 1 ∷ []))
-      ∷ (comes (sectorsOf plain (run 0x0201 0x0001 0x0080) 511) (0x0900 ∷ 1 ∷ []))
-      ∷ (comes (sectorsOf plain (run 0x0201 0x0001 0x0080) 512) (0 ∷ 1 ∷ 0 ∷ 0 ∷ []))
+  pub order_sectors : Hold
+      ((comes (sectors_of plain (run 0x0281 0x0001 0x0081) 65536) (0x0100 ∷ 1 ∷ []))
+      ∷ (comes (sectors_of guarded (run 0x0300 0x0001 0x0080) 65536) (0x0100 ∷ 1 ∷ []))
+      ∷ (comes (sectors_of guarded (run 0x0381 0x0001 0x0080) 65536) (0x0900 ∷ 1 ∷ []))
+      ∷ (comes (sectors_of guarded (run 0x0301 0x0201 0x0080) 65536) (0x0300 ∷ 1 ∷ []))
+      ∷ (comes (sectors_of guarded (run 0x0201 0x0001 0x0080) 65536) (0 ∷ 1 ∷ 0 ∷ 0 ∷ []))
+      ∷ (comes (sectors_of plain (run 0x0201 0x0201 0x0080) 511) (0x0400 ∷ 1 ∷ []))
+      ∷ (comes (sectors_of plain (run 0x0201 0x0001 0x0080) 511) (0x0900 ∷ 1 ∷ []))
+      ∷ (comes (sectors_of plain (run 0x0201 0x0001 0x0080) 512) (0 ∷ 1 ∷ 0 ∷ 0 ∷ []))
       ∷ [])
   -- 02h: the address and its run in the geometry of 2016 blocks, of a drive of 2048
   --   cylinder 1, head 15, sector 63, AL 1: waits at block 2015
@@ -541,21 +541,21 @@ pub record Vectors : Type 0 where
   --   cylinder 256, in the top bits of CL: 04h
   --   a run across tracks, 128 blocks from 0/0/63: waits at block 62
   pub addresses : Hold
-      ((comes (sectorsOf plain (run 0x0201 0x013F 0x0F80) 65536) (2015 ∷ 1 ∷ 0 ∷ 0 ∷ []))
-      ∷ (comes (sectorsOf plain (run 0x0202 0x013F 0x0F80) 65536) (0x0400 ∷ 1 ∷ []))
-      ∷ (comes (sectorsOf plain (run 0x0201 0x0001 0x1080) 65536) (0x0400 ∷ 1 ∷ []))
-      ∷ (comes (sectorsOf plain (run 0x0201 0x0000 0x0080) 65536) (0x0400 ∷ 1 ∷ []))
-      ∷ (comes (sectorsOf plain (run 0x0201 0x0041 0x0080) 65536) (0x0400 ∷ 1 ∷ []))
-      ∷ (comes (sectorsOf plain (run 0x0280 0x003F 0x0080) 65536) (62 ∷ 128 ∷ 0 ∷ 0 ∷ []))
+      ((comes (sectors_of plain (run 0x0201 0x013F 0x0F80) 65536) (2015 ∷ 1 ∷ 0 ∷ 0 ∷ []))
+      ∷ (comes (sectors_of plain (run 0x0202 0x013F 0x0F80) 65536) (0x0400 ∷ 1 ∷ []))
+      ∷ (comes (sectors_of plain (run 0x0201 0x0001 0x1080) 65536) (0x0400 ∷ 1 ∷ []))
+      ∷ (comes (sectors_of plain (run 0x0201 0x0000 0x0080) 65536) (0x0400 ∷ 1 ∷ []))
+      ∷ (comes (sectors_of plain (run 0x0201 0x0041 0x0080) 65536) (0x0400 ∷ 1 ∷ []))
+      ∷ (comes (sectors_of plain (run 0x0280 0x003F 0x0080) 65536) (62 ∷ 128 ∷ 0 ∷ 0 ∷ []))
       ∷ [])
   -- 08h: the number of drives whichever was asked, and the largest geometry
   --   82h of three: CX 013Fh, DX 0F03h
   --   80h of three: CX 013Fh, DX 0F03h
   --   C 1024, H 255, S 63: CX FFFFh, DX FE01h
   pub parameters-given : Hold
-      ((givesAll (at three (call 0x0855 0x82) []) (0x0000 ∷ 0x1111 ∷ 0x013F ∷ 0x0F03 ∷ 0 ∷ 0 ∷ 0x3333 ∷ 0 ∷ []))
-      ∷ (givesAll (at three (call 0x0855 0x80) []) (0x0000 ∷ 0x1111 ∷ 0x013F ∷ 0x0F03 ∷ 0 ∷ 0 ∷ 0x3333 ∷ 0 ∷ []))
-      ∷ (givesAll (at largest (call 0x0855 0x80) []) (0x0000 ∷ 0x1111 ∷ 0xFFFF ∷ 0xFE01 ∷ 0 ∷ 0 ∷ 0x3333 ∷ 0 ∷ []))
+      ((gives_all (at three (call 0x0855 0x82) []) (0x0000 ∷ 0x1111 ∷ 0x013F ∷ 0x0F03 ∷ 0 ∷ 0 ∷ 0x3333 ∷ 0 ∷ []))
+      ∷ (gives_all (at three (call 0x0855 0x80) []) (0x0000 ∷ 0x1111 ∷ 0x013F ∷ 0x0F03 ∷ 0 ∷ 0 ∷ 0x3333 ∷ 0 ∷ []))
+      ∷ (gives_all (at largest (call 0x0855 0x80) []) (0x0000 ∷ 0x1111 ∷ 0xFFFF ∷ 0xFE01 ∷ 0 ∷ 0 ∷ 0x3333 ∷ 0 ∷ []))
       ∷ [])
   -- 48h at place 4 of the window: bytes before it and past the returned size stay, and a refusal writes none
   --   size 29, 29 bytes left: 26 returned
@@ -570,29 +570,29 @@ pub record Vectors : Type 0 where
       ∷ [])
 
 pub vectors : Vectors
-unfolding le le_bytes inLimits isValid block_of readPacket packetAt returnedSize parameterBytes blockBytes interfaceBytes pathBytes sum wholeResult resultBytes resultAnswer held_of isBad good isDrive badsOf shownOf verifyOk verified packetTests packetPlan seek sectors parameters extensions result steps begin outcomeNumbers sectorsGiven parametersGiven checkGiven packetTestsGiven packetNumbersAt extendedGiven seekGiven bufferGiven stepsGiven beginGiven isI2o same padded wideInterfaceBytes widePathBytes summedBytes
+unfolding le le_bytes in_limits is_valid block_of read_packet packet_at returned_size parameter_bytes block_bytes interface_bytes path_bytes sum whole_result result_bytes result_answer held_of is_bad good is_drive bads_of shown_of verify_ok verified packet_tests packet_plan seek sectors parameters extensions result_into steps begin outcome_numbers sectors_given parameters_given check_given packet_tests_given packet_numbers_at extended_given seek_given buffer_given steps_given begin_given is_i2o same padded wide_interface_bytes wide_path_bytes summed_bytes
 vectors =
     record {
       registers-sectors = refl;
-      registers-answered = refl;
+      registers_answered = refl;
       registers-extensions = refl;
-      registers-waiting = refl;
-      unknown-functions = refl;
+      registers_waiting = refl;
+      unknown_functions = refl;
       drive-numbers = refl;
-      unknown-drives = refl;
-      run-by-program = refl;
-      run-by-program-sectors = refl;
-      run-by-program-packets = refl;
-      order-read = refl;
-      order-write = refl;
-      order-verify = refl;
+      unknown_drives = refl;
+      run_by_program = refl;
+      run_by_program_sectors = refl;
+      run_by_program_packets = refl;
+      order_read = refl;
+      order_write = refl;
+      order_verify = refl;
       count-zero = refl;
-      packet-forms = refl;
+      packet_forms = refl;
       buffers = refl;
       no_wrap = refl;
-      verify-flag = refl;
+      verify_flag = refl;
       seeks = refl;
-      order-sectors = refl;
+      order_sectors = refl;
       addresses = refl;
       parameters-given = refl;
       results = refl;
@@ -665,7 +665,7 @@ drive82 = record {
 }
 
 abbrev apart : Table
-apart = table (drive80 ∷ drive81 ∷ drive82 ∷ replicate 5 zeroDrive) 3
+apart = table (drive80 ∷ drive81 ∷ drive82 ∷ replicate 5 zero_drive) 3
 
 -- AX, BX, CX and DX; DS:SI is place 19, ES:0005h place 37, and carry was given
 abbrev own : ℕ → ℕ → ℕ → ℕ → Registers
@@ -685,18 +685,18 @@ one57 count start = placed (packet 16 count 9 3 start) 534
 
 -- an outcome as numbers, by both promises: 0 and the registers; or 256, drive, start, count, buffer, packet and the registers kept
 abbrev numbers : Called Checked → List ℕ → Case
-numbers c l = record { made = outcomeNumbers c.made.outcome ∷ c.numbers ∷ []; given = l ∷ l ∷ [] }
+numbers c l = record { made = outcome_numbers c.made.outcome ∷ c.numbers ∷ []; given = l ∷ l ∷ [] }
 
 -- the same, and the window after it
 abbrev both_ways : Called Checked → List ℕ → List ℕ → Case
-both_ways c l w = record { made = outcomeNumbers c.made.outcome ∷ c.numbers ∷ c.made.window ∷ []; given = l ∷ l ∷ w ∷ [] }
+both_ways c l w = record { made = outcome_numbers c.made.outcome ∷ c.numbers ∷ c.made.window ∷ []; given = l ∷ l ∷ w ∷ [] }
 
 abbrev asks82 : Job
 asks82 = record { registers = own 0x4277 5 0x0242 0x0182; drive = 0x82; start = 4; count = 1; buffer = 57; packet = 19 }
 
 pub record Apart : Type 0 where
   -- drives by their numbers: 80h, 81h and 82h have their first blocks, and every number has a place
-  pub drive-places : map (λ (n : ℕ). (driveAt apart n).first) (0x80 ∷ 0x81 ∷ 0x82 ∷ []) ++ map (λ (n : ℕ). (driveIn apart n).first) (0x80 ∷ 0x81 ∷ 0x82 ∷ 0x01 ∷ 0x8A ∷ [])
+  pub drive-places : map (λ (n : ℕ). (drive_at apart n).first) (0x80 ∷ 0x81 ∷ 0x82 ∷ []) ++ map (λ (n : ℕ). (drive_in apart n).first) (0x80 ∷ 0x81 ∷ 0x82 ∷ 0x01 ∷ 0x8A ∷ [])
       ≡ 700 ∷ 6000 ∷ 9001 ∷ 700 ∷ 6000 ∷ 9001 ∷ 6000 ∷ 9001 ∷ []
   -- 02h and 03h: buffer at ES:BX, address from CX and DH, geometry and protection of DL's drive
   --   02h, 81h, 258/1/2 of 300/3/2, two blocks in a window that ends with them: block 1551, buffer 37
@@ -736,7 +736,7 @@ pub record Apart : Type 0 where
   --   47h, 82h, start 40: success
   --   47h, 82h, start 41: 04h, nothing written
   --   47h, 80h, start 41: success
-  pub own-verify-seek : Hold
+  pub own_verify_seek : Hold
       ((both_ways (at apart (own 0x4477 5 0x0242 0x0182) (one57 1 40)) (0 ∷ kept19 0x0077 5 0x0242 0x0182 0) (one57 1 40))
       ∷ (both_ways (at apart (own 0x4477 5 0x0242 0x0182) (one57 1 41)) (0 ∷ kept19 0x0477 5 0x0242 0x0182 1) (one57 0 41))
       ∷ (both_ways (at apart (own 0x4777 5 0x0242 0x0182) (one57 1 40)) (0 ∷ kept19 0x0077 5 0x0242 0x0182 0) (one57 1 40))
@@ -749,8 +749,8 @@ pub record Apart : Type 0 where
       ∷ (numbers (at apart (own 0x0877 5 0x0242 0x0181) []) (0 ∷ kept19 0 5 0x2B42 0x0203 0))
       ∷ (numbers (at apart (own 0x0877 5 0x0242 0x0182) []) (0 ∷ kept19 0 5 0x0105 0x0303 0))
       ∷ (numbers (at apart (own 0x0877 5 0x0242 0x0183) []) (0 ∷ kept19 0x0777 5 0x0242 0x0183 1))
-      ∷ (numbers (over true 6 drive81 noBads (own 0x0877 5 0x0242 0x0180) []) (0 ∷ kept19 0 5 0x2B42 0x0206 0))
-      ∷ (numbers (over false 6 drive81 noBads (own 0x0877 5 0x0242 0x0180) []) (0 ∷ kept19 0x0777 5 0x0242 0x0180 1))
+      ∷ (numbers (over true 6 drive81 no_bads (own 0x0877 5 0x0242 0x0180) []) (0 ∷ kept19 0 5 0x2B42 0x0206 0))
+      ∷ (numbers (over false 6 drive81 no_bads (own 0x0877 5 0x0242 0x0180) []) (0 ∷ kept19 0x0777 5 0x0242 0x0180 1))
       ∷ [])
   -- 41h: 82h is known and 83h is not; the registers that are not named stay
   pub own-extensions : Hold
@@ -761,7 +761,7 @@ pub record Apart : Type 0 where
   --   82h: flags 74h, physical geometry 1031/10/14, 41 blocks
   --   80h: flags 2 of 72h, physical geometry 6/8/12, 5000 blocks
   --   82h, the word at DS:SI cut off: 01h
-  pub own-results : Hold
+  pub own_results : Hold
       ((both_ways (at apart (own 0x4877 5 0x0242 0x0182) (placed (26 ∷ 0 ∷ []) 26)) (0 ∷ kept19 0x0077 5 0x0242 0x0182 0)
       (placed (26 ∷ 0 ∷ 0x74 ∷ 0 ∷ 7 ∷ 4 ∷ 0 ∷ 0 ∷ 10 ∷ 0 ∷ 0 ∷ 0 ∷ 14 ∷ 0 ∷ 0 ∷ 0 ∷ 41 ∷ 0 ∷ 0 ∷ 0 ∷ 0 ∷ 0 ∷ 0 ∷ 0 ∷ 0 ∷ 2 ∷ []) 2))
       ∷ (both_ways (at apart (own 0x4877 5 0x0242 0x0180) (placed (26 ∷ 0 ∷ []) 26)) (0 ∷ kept19 0x0077 5 0x0242 0x0180 0)
@@ -778,25 +778,25 @@ pub record Apart : Type 0 where
       ∷ (holds (withdraw 48 (posted (own 0x4277 5 0x0242 0x0181))) (kept19 0x8077 5 0x0242 0x0181 1))
       ∷ [])
   -- a request's own words: n, buffer and the store block named first, of 02h on 81h and of 42h on 82h; the store block of a job on 82h
-  pub own-words :
-      asked (own 0x0202 5 0x0242 0x0181) [] ∷ askedBuffer (own 0x0202 5 0x0242 0x0181) [] ∷ namedFrom apart (own 0x0202 5 0x0242 0x0181) []
-      ∷ asked (own 0x4277 5 0x0242 0x0182) (one57 1 40) ∷ askedBuffer (own 0x4277 5 0x0242 0x0182) (one57 1 40) ∷ namedFrom apart (own 0x4277 5 0x0242 0x0182) (one57 1 40)
-      ∷ storeBlock apart asks82 ∷ []
+  pub own_words :
+      asked (own 0x0202 5 0x0242 0x0181) [] ∷ asked_buffer (own 0x0202 5 0x0242 0x0181) [] ∷ named_from apart (own 0x0202 5 0x0242 0x0181) []
+      ∷ asked (own 0x4277 5 0x0242 0x0182) (one57 1 40) ∷ asked_buffer (own 0x4277 5 0x0242 0x0182) (one57 1 40) ∷ named_from apart (own 0x4277 5 0x0242 0x0182) (one57 1 40)
+      ∷ store_block apart asks82 ∷ []
       ≡ 2 ∷ 37 ∷ 7551 ∷ 1 ∷ 57 ∷ 9041 ∷ 9005 ∷ []
 
-pub apart-vectors : Apart
-unfolding le le_bytes inLimits isValid block_of readPacket packetAt returnedSize parameterBytes blockBytes interfaceBytes pathBytes sum wholeResult resultBytes resultAnswer held_of isBad good isDrive badsOf shownOf verifyOk verified packetTests packetPlan seek sectors parameters extensions result steps begin outcomeNumbers sectorsGiven parametersGiven checkGiven packetTestsGiven packetNumbersAt extendedGiven seekGiven bufferGiven stepsGiven beginGiven isI2o same padded wideInterfaceBytes widePathBytes summedBytes
-apart-vectors =
+pub apart_vectors : Apart
+unfolding le le_bytes in_limits is_valid block_of read_packet packet_at returned_size parameter_bytes block_bytes interface_bytes path_bytes sum whole_result result_bytes result_answer held_of is_bad good is_drive bads_of shown_of verify_ok verified packet_tests packet_plan seek sectors parameters extensions result_into steps begin outcome_numbers sectors_given parameters_given check_given packet_tests_given packet_numbers_at extended_given seek_given buffer_given steps_given begin_given is_i2o same padded wide_interface_bytes wide_path_bytes summed_bytes
+apart_vectors =
     record {
       drive-places = refl;
       own-sectors = refl;
       own-packets = refl;
-      own-verify-seek = refl;
+      own_verify_seek = refl;
       own-parameters = refl;
       own-extensions = refl;
-      own-results = refl;
+      own_results = refl;
       own-answers = refl;
-      own-words = refl;
+      own_words = refl;
     }
 
 -- ---- three drives of which 80h and 82h have parameters
@@ -842,7 +842,7 @@ paths80 = 0xDD ∷ 0xBE ∷ 0x24 ∷ 0 ∷ 0 ∷ 0 ∷ 80 ∷ 67 ∷ 73 ∷ 0 �
 
 -- what a guest is shown, as numbers
 abbrev shown : Table → Placement → ℕ → List ℕ
-shown b p n = bit (shownOf b p n).table ∷ (shownOf b p n).segment ∷ []
+shown b p n = bit (shown_of b p n).table ∷ (shown_of b p n).segment ∷ []
 
 -- 48h of a drive for a result of n bytes, which must be l
 abbrev result19 : Placement → ℕ → ℕ → List ℕ → Case
@@ -859,14 +859,14 @@ pub record Tabled : Type 0 where
   pub tables : tables_of tabled
       ≡ 0xD1 ∷ 0xD2 ∷ 0xD3 ∷ 0xD4 ∷ 0xF3 ∷ 0xD6 ∷ 0xD7 ∷ 0xD8 ∷ 0xD9 ∷ 0xDA ∷ 0xDB ∷ 0xDC ∷ 0xDD ∷ 0xDE ∷ 0x11 ∷ 0x08
       ∷ 0x31 ∷ 0x32 ∷ 0x33 ∷ 0x34 ∷ 0xAA ∷ 0x36 ∷ 0x37 ∷ 0x38 ∷ 0x39 ∷ 0x3A ∷ 0x3B ∷ 0x3C ∷ 0x3D ∷ 0x3E ∷ 0x11 ∷ 0x71 ∷ []
-  pub no-tables : tables_of apart ≡ []
+  pub no_tables : tables_of apart ≡ []
   -- how many there are, in all and before each slot, and where the two stand
-  pub counts : tableCount tabled ∷ tableCount apart ∷ map (λ (n : ℕ). parametersTo n tabled) (0 ∷ 1 ∷ 2 ∷ 3 ∷ []) ≡ 2 ∷ 0 ∷ 0 ∷ 1 ∷ 1 ∷ 2 ∷ []
-  pub table-addresses : map (tableAddress tabled 0x7B40) (0 ∷ 2 ∷ []) ≡ 0x7B40 ∷ 0x7B50 ∷ []
+  pub counts : table_count tabled ∷ table_count apart ∷ map (λ (n : ℕ). parameters_to n tabled) (0 ∷ 1 ∷ 2 ∷ 3 ∷ []) ≡ 2 ∷ 0 ∷ 0 ∷ 1 ∷ 1 ∷ 2 ∷ []
+  pub table-addresses : map (table_address tabled 0x7B40) (0 ∷ 2 ∷ []) ≡ 0x7B40 ∷ 0x7B50 ∷ []
   -- of the drives 80h, 81h, 82h, and of numbers that are no drive's
-  pub shown-here : map (shown tabled here) (0x80 ∷ 0x81 ∷ 0x82 ∷ 0x83 ∷ 0x00 ∷ []) ≡ (1 ∷ 0x7B4 ∷ []) ∷ (0 ∷ 0 ∷ []) ∷ (1 ∷ 0x7B5 ∷ []) ∷ (0 ∷ 0 ∷ []) ∷ (0 ∷ 0 ∷ []) ∷ []
+  pub shown_here : map (shown tabled here) (0x80 ∷ 0x81 ∷ 0x82 ∷ 0x83 ∷ 0x00 ∷ []) ≡ (1 ∷ 0x7B4 ∷ []) ∷ (0 ∷ 0 ∷ []) ∷ (1 ∷ 0x7B5 ∷ []) ∷ (0 ∷ 0 ∷ []) ∷ (0 ∷ 0 ∷ []) ∷ []
   -- 80h, 82h: without placement; placed at 0; in a place whose segments have more than sixteen bits; and 80h of a table without records
-  pub shown-elsewhere : map (shown tabled noPlacement) (0x80 ∷ 0x82 ∷ []) ++ (map (shown tabled (placed_at 0)) (0x80 ∷ 0x82 ∷ [])
+  pub shown_elsewhere : map (shown tabled no_placement) (0x80 ∷ 0x82 ∷ []) ++ (map (shown tabled (placed_at 0)) (0x80 ∷ 0x82 ∷ [])
       ++ (map (shown tabled (placed_at 0x1234560)) (0x80 ∷ 0x82 ∷ []) ++ (shown apart here 0x80 ∷ [])))
       ≡ (0 ∷ 0 ∷ []) ∷ (0 ∷ 0 ∷ []) ∷ (1 ∷ 0 ∷ []) ∷ (1 ∷ 1 ∷ []) ∷ (1 ∷ 0x3456 ∷ []) ∷ (1 ∷ 0x3457 ∷ []) ∷ (0 ∷ 0 ∷ []) ∷ []
   -- 41h
@@ -881,7 +881,7 @@ pub record Tabled : Type 0 where
       ∷ (support here 0x0182 0x0005)
       ∷ (support here 0x0181 0x0001)
       ∷ (support (placed_at 0) 0x0180 0x0005)
-      ∷ (support noPlacement 0x0180 0x0001)
+      ∷ (support no_placement 0x0180 0x0001)
       ∷ (numbers (by here tabled (own 0x4177 0x55AA 0x0242 0x0183) []) (0 ∷ kept19 0x0177 0x55AA 0x0242 0x0183 1))
       ∷ (numbers (by here tabled (own 0x4177 0x55AA 0x0242 0x0100) []) (0 ∷ kept19 0x0177 0x55AA 0x0242 0x0100 1))
       ∷ [])
@@ -900,20 +900,20 @@ pub record Tabled : Type 0 where
       ∷ (result19 here 0x0182 30 (front82 30 ++ (0 ∷ 0 ∷ 0xB5 ∷ 0x07 ∷ [])))
       ∷ (result19 (placed_at 0) 0x0180 30 (front80 30 ++ (0 ∷ 0 ∷ 0 ∷ 0 ∷ [])))
       ∷ (result19 (placed_at 0) 0x0182 30 (front82 30 ++ (0 ∷ 0 ∷ 1 ∷ 0 ∷ [])))
-      ∷ (result19 noPlacement 0x0180 30 (front80 30 ++ (0xFF ∷ 0xFF ∷ 0xFF ∷ 0xFF ∷ [])))
-      ∷ (result19 noPlacement 0x0182 30 (front82 30 ++ (0xFF ∷ 0xFF ∷ 0xFF ∷ 0xFF ∷ [])))
+      ∷ (result19 no_placement 0x0180 30 (front80 30 ++ (0xFF ∷ 0xFF ∷ 0xFF ∷ 0xFF ∷ [])))
+      ∷ (result19 no_placement 0x0182 30 (front82 30 ++ (0xFF ∷ 0xFF ∷ 0xFF ∷ 0xFF ∷ [])))
       ∷ [])
 
-pub tabled-vectors : Tabled
-unfolding le le_bytes placedBytes parameterTable parametersTo tablesTo returnedSize parameterBytes blockBytes interfaceBytes pathBytes sum wholeResult resultBytes resultAnswer isDrive shownOf extensions result steps begin outcomeNumbers checkGiven bufferGiven stepsGiven beginGiven isI2o same padded wideInterfaceBytes widePathBytes summedBytes
-tabled-vectors =
+pub tabled_vectors : Tabled
+unfolding le le_bytes placed_bytes parameter_table parameters_to tables_to returned_size parameter_bytes block_bytes interface_bytes path_bytes sum whole_result result_bytes result_answer is_drive shown_of extensions result_into steps begin outcome_numbers check_given buffer_given steps_given begin_given is_i2o same padded wide_interface_bytes wide_path_bytes summed_bytes
+tabled_vectors =
     record {
       tables = refl;
-      no-tables = refl;
+      no_tables = refl;
       counts = refl;
       table-addresses = refl;
-      shown-here = refl;
-      shown-elsewhere = refl;
+      shown_here = refl;
+      shown_elsewhere = refl;
       support-given = refl;
       pointers = refl;
     }
@@ -965,7 +965,7 @@ wide82 = record {
 -- 80h and 82h have parameters
 abbrev wide : Table
 wide = record {
-  drives = drive80 ∷ wide81 ∷ wide82 ∷ replicate 5 zeroDrive;
+  drives = drive80 ∷ wide81 ∷ wide82 ∷ replicate 5 zero_drive;
   count = 3;
   present = tabled.present;
   parameters = tabled.parameters;
@@ -986,8 +986,8 @@ abbrev result81 : List ℕ
 result81 = front81 66 ++ (0xFF ∷ 0xFF ∷ 0xFF ∷ 0xFF ∷ 0xDD ∷ 0xBE ∷ 36 ∷ 0 ∷ 0 ∷ 0 ∷ 73 ∷ 83 ∷ 65 ∷ 0 ∷ 83 ∷ 67 ∷ 83 ∷ 73 ∷ 0 ∷ 0 ∷ 0 ∷ 0 ∷ 1 ∷ 2 ∷ 3 ∷ 4 ∷ 5 ∷ 6 ∷ 7 ∷ 8 ∷ 9 ∷ 10 ∷ 11 ∷ 12 ∷ 13 ∷ 14 ∷ 15 ∷ 16 ∷ 0 ∷ 0xAA ∷ [])
 
 -- and its 74
-abbrev wide-result81 : List ℕ
-wide-result81 = front81 74 ++ (0xFF ∷ 0xFF ∷ 0xFF ∷ 0xFF ∷ 0xDD ∷ 0xBE ∷ 44 ∷ 0 ∷ 0 ∷ 0 ∷ 73 ∷ 83 ∷ 65 ∷ 32 ∷ 83 ∷ 67 ∷ 83 ∷ 73 ∷ 32 ∷ 32 ∷ 32 ∷ 32 ∷ 1 ∷ 2 ∷ 3 ∷ 4 ∷ 5 ∷ 6 ∷ 7 ∷ 8 ∷ 9 ∷ 10 ∷ 11 ∷ 12 ∷ 13 ∷ 14 ∷ 15 ∷ 16 ∷ 0xC9 ∷ 0xCA ∷ 0xCB ∷ 0xCC ∷ 0xCD ∷ 0xCE ∷ 0xCF ∷ 0xD0 ∷ 0 ∷ 0x9E ∷ [])
+abbrev wide_result81 : List ℕ
+wide_result81 = front81 74 ++ (0xFF ∷ 0xFF ∷ 0xFF ∷ 0xFF ∷ 0xDD ∷ 0xBE ∷ 44 ∷ 0 ∷ 0 ∷ 0 ∷ 73 ∷ 83 ∷ 65 ∷ 32 ∷ 83 ∷ 67 ∷ 83 ∷ 73 ∷ 32 ∷ 32 ∷ 32 ∷ 32 ∷ 1 ∷ 2 ∷ 3 ∷ 4 ∷ 5 ∷ 6 ∷ 7 ∷ 8 ∷ 9 ∷ 10 ∷ 11 ∷ 12 ∷ 13 ∷ 14 ∷ 15 ∷ 16 ∷ 0xC9 ∷ 0xCA ∷ 0xCB ∷ 0xCC ∷ 0xCD ∷ 0xCE ∷ 0xCF ∷ 0xD0 ∷ 0 ∷ 0x9E ∷ [])
 
 -- 82h's 30: the pointer is that of its table
 abbrev result82 : List ℕ
@@ -1003,9 +1003,9 @@ pub record Wide : Type 0 where
   pub results : Hold
       ((wide19 0x0181 66 66 result81)
       ∷ (wide19 0x0181 73 73 result81)
-      ∷ (wide19 0x0181 74 74 wide-result81)
+      ∷ (wide19 0x0181 74 74 wide_result81)
       ∷ (wide19 0x0180 74 74 (front80 74 ++ (0 ∷ 0 ∷ 0xB4 ∷ 0x07 ∷ 0xDD ∷ 0xBE ∷ 44 ∷ 0 ∷ 0 ∷ 0 ∷ 80 ∷ 67 ∷ 73 ∷ 32 ∷ 65 ∷ 84 ∷ 65 ∷ 32 ∷ 32 ∷ 32 ∷ 32 ∷ 32 ∷ 0 ∷ 31 ∷ 1 ∷ 0 ∷ 0 ∷ 0 ∷ 0 ∷ 0 ∷ 0 ∷ 0 ∷ 0 ∷ 0 ∷ 0 ∷ 0 ∷ 0 ∷ 0 ∷ 0 ∷ 0 ∷ 0 ∷ 0 ∷ 0 ∷ 0 ∷ 0 ∷ 0 ∷ 0 ∷ 0xA7 ∷ [])))
-      ∷ (wide19 0x0181 300 300 wide-result81)
+      ∷ (wide19 0x0181 300 300 wide_result81)
       ∷ (narrow19 0x0181 74 73)
       ∷ [])
   -- 48h of a drive of type I2O
@@ -1014,7 +1014,7 @@ pub record Wide : Type 0 where
   --   66 bytes with room for 29: 01h
   --   74 bytes: 74
   --   74 bytes with room for 73: 01h
-  pub results-I2O : Hold
+  pub results_I2O : Hold
       ((wide19 0x0182 66 66 result82)
       ∷ (wide19 0x0182 73 73 result82)
       ∷ (wide19 0x0182 66 30 result82)
@@ -1023,9 +1023,9 @@ pub record Wide : Type 0 where
       ∷ (narrow19 0x0182 74 73)
       ∷ [])
 
-pub wide-vectors : Wide
-unfolding le le_bytes placedBytes parameterTable parametersTo tablesTo returnedSize parameterBytes blockBytes interfaceBytes pathBytes sum wholeResult resultBytes resultAnswer isDrive shownOf extensions result steps begin outcomeNumbers checkGiven bufferGiven stepsGiven beginGiven isI2o same padded wideInterfaceBytes widePathBytes summedBytes
-wide-vectors = record { results = refl; results-I2O = refl }
+pub wide_vectors : Wide
+unfolding le le_bytes placed_bytes parameter_table parameters_to tables_to returned_size parameter_bytes block_bytes interface_bytes path_bytes sum whole_result result_bytes result_answer is_drive shown_of extensions result_into steps begin outcome_numbers check_given buffer_given steps_given begin_given is_i2o same padded wide_interface_bytes wide_path_bytes summed_bytes
+wide_vectors = record { results = refl; results_I2O = refl }
 
 -- ---- the three drives with bad blocks, each with its own (document 02, 2026-04)
 
@@ -1051,15 +1051,15 @@ worn = record {
 
 -- how many bad blocks a number's drive has, and the first three places of its list
 abbrev bads : ℕ → List ℕ
-bads n = (badsOf worn n).count ∷ map (badAt (badsOf worn n)) (0 ∷ 1 ∷ 2 ∷ [])
+bads n = (bads_of worn n).count ∷ map (bad_at (bads_of worn n)) (0 ∷ 1 ∷ 2 ∷ [])
 
 -- 44h of a drive by start and count, with the AX, the carry and the count word that must come
 abbrev verifies : ℕ → ℕ → ℕ → ℕ → ℕ → ℕ → Case
 verifies dx start count ax carry n = both_ways (at worn (own 0x4477 5 0x0242 dx) (one57 count start)) (0 ∷ kept19 ax 5 0x0242 dx carry) (one57 n start)
 
 -- a request of eleven blocks from block 1 of a drive
-abbrev asksEleven : ℕ → Job
-asksEleven n = record { registers = own 0x4277 5 0x0242 n; drive = n; start = 1; count = 11; buffer = 57; packet = 19 }
+abbrev asks_eleven : ℕ → Job
+asks_eleven n = record { registers = own 0x4277 5 0x0242 n; drive = n; start = 1; count = 11; buffer = 57; packet = 19 }
 
 -- a request of 81h that ends after some of n blocks, with the AX and the carry that must come
 abbrev ends : ℕ → ℕ → ℕ → ℕ → ℕ → Case
@@ -1070,8 +1070,8 @@ pub record Worn : Type 0 where
   pub lists : map bads (0x80 ∷ 0x81 ∷ 0x82 ∷ 0x83 ∷ 0x00 ∷ []) ≡ (2 ∷ 6 ∷ 261 ∷ 0 ∷ []) ∷ (3 ∷ 5 ∷ 7 ∷ 2999 ∷ []) ∷ (1 ∷ 4 ∷ 0 ∷ 0 ∷ []) ∷ replicate 2 (0 ∷ 0 ∷ 0 ∷ 0 ∷ [])
   -- whether a block is bad, straight from the table's bytes: 5, 6, 261 and 0 of 80h, 5, 6, 7, 2999, 183 (B7h, the low byte of 2999) and 0 of 81h, 4, 5
   -- and 0 of 82h
-  pub worn-blocks : map (wornBlock worn (own 0x4277 5 0x0242 0x0180)) (5 ∷ 6 ∷ 261 ∷ 0 ∷ [])
-      ++ (map (wornBlock worn (own 0x4277 5 0x0242 0x0181)) (5 ∷ 6 ∷ 7 ∷ 2999 ∷ 183 ∷ 0 ∷ []) ++ map (wornBlock worn (own 0x4277 5 0x0242 0x0182)) (4 ∷ 5 ∷ 0 ∷ []))
+  pub worn_blocks : map (worn_block worn (own 0x4277 5 0x0242 0x0180)) (5 ∷ 6 ∷ 261 ∷ 0 ∷ [])
+      ++ (map (worn_block worn (own 0x4277 5 0x0242 0x0181)) (5 ∷ 6 ∷ 7 ∷ 2999 ∷ 183 ∷ 0 ∷ []) ++ map (worn_block worn (own 0x4277 5 0x0242 0x0182)) (4 ∷ 5 ∷ 0 ∷ []))
       ≡ false ∷ true ∷ true ∷ false ∷ true ∷ false ∷ true ∷ true ∷ false ∷ false ∷ true ∷ false ∷ false ∷ []
   -- 44h, by DL, start and count: 10h gives the good blocks before the first bad one in the count word, and AL stays; success leaves the packet
   --   81h, 3 and 4: 10h, count word 2
@@ -1091,7 +1091,7 @@ pub record Worn : Type 0 where
   --   82h, protected, 0 and 41: 10h, count word 4
   --   82h, protected, 5 and 36: success
   --   83h, 3 and 4: 01h, nothing written
-  pub worn-verify : Hold
+  pub worn_verify : Hold
       ((verifies 0x0181 3 4 0x1077 1 2)
       ∷ (verifies 0x0181 5 1 0x1077 1 0)
       ∷ (verifies 0x0181 6 1 0x0077 0 1)
@@ -1111,9 +1111,9 @@ pub record Worn : Type 0 where
       ∷ (verifies 0x0183 3 4 0x0177 1 4)
       ∷ [])
   -- 44h over one drive: the bad blocks are those that are given, here 82h's; where the drive is not known they are not looked at
-  pub worn-over : Hold
-      ((both_ways (over true 3 drive81 (badsOf worn 0x82) (own 0x4477 5 0x0242 0x0181) (one57 4 3)) (0 ∷ kept19 0x1077 5 0x0242 0x0181 1) (one57 1 3))
-      ∷ (both_ways (over false 3 drive81 (badsOf worn 0x82) (own 0x4477 5 0x0242 0x0181) (one57 4 3)) (0 ∷ kept19 0x0177 5 0x0242 0x0181 1) (one57 4 3))
+  pub worn_over : Hold
+      ((both_ways (over true 3 drive81 (bads_of worn 0x82) (own 0x4477 5 0x0242 0x0181) (one57 4 3)) (0 ∷ kept19 0x1077 5 0x0242 0x0181 1) (one57 1 3))
+      ∷ (both_ways (over false 3 drive81 (bads_of worn 0x82) (own 0x4477 5 0x0242 0x0181) (one57 4 3)) (0 ∷ kept19 0x0177 5 0x0242 0x0181 1) (one57 4 3))
       ∷ [])
   -- the others do not look at bad blocks when they are called: block 5 of 81h, and the window is not written
   --   42h: waits
@@ -1121,7 +1121,7 @@ pub record Worn : Type 0 where
   --   02h, 0/2/2 of 300/3/2: waits
   --   03h, the same: waits
   --   47h: success
-  pub worn-calls : Hold
+  pub worn_calls : Hold
       ((both_ways (at worn (own 0x4277 5 0x0242 0x0181) (one57 1 5)) (256 ∷ 0x81 ∷ 5 ∷ 1 ∷ 57 ∷ 19 ∷ kept19 0x4277 5 0x0242 0x0181 0) (one57 1 5))
       ∷ (both_ways (at worn (own 0x4302 5 0x0242 0x0181) (one57 1 5)) (256 ∷ 0x81 ∷ 5 ∷ 1 ∷ 57 ∷ 19 ∷ kept19 0x4302 5 0x0242 0x0181 0) (one57 1 5))
       ∷ (both_ways (at worn (own 0x0201 5 0x0002 0x0281) (one57 1 5)) (256 ∷ 0x81 ∷ 5 ∷ 1 ∷ 37 ∷ 0 ∷ kept19 0x0201 5 0x0002 0x0281 0) (one57 1 5))
@@ -1129,7 +1129,7 @@ pub record Worn : Type 0 where
       ∷ (both_ways (at worn (own 0x4777 5 0x0242 0x0181) (one57 1 5)) (0 ∷ kept19 0x0077 5 0x0242 0x0181 0) (one57 1 5))
       ∷ [])
   -- of nine blocks of a request those before the first bad one of its own drive: from its block 2 on of 80h, 81h and 82h, from 0 and 7 on of 81h
-  pub worn-good : map (λ (n : ℕ). goodOf worn (asksEleven n) 2 9) (0x80 ∷ 0x81 ∷ 0x82 ∷ []) ++ map (λ (i : ℕ). goodOf worn (asksEleven 0x81) i 9) (0 ∷ 7 ∷ [])
+  pub worn_good : map (λ (n : ℕ). good_of worn (asks_eleven n) 2 9) (0x80 ∷ 0x81 ∷ 0x82 ∷ []) ++ map (λ (i : ℕ). good_of worn (asks_eleven 0x81) i 9) (0 ∷ 7 ∷ [])
       ≡ 3 ∷ 2 ∷ 1 ∷ 4 ∷ 9 ∷ []
   -- a request's end: 10h for a read, CCh for a write; AL gives the blocks for 02h and 03h, and stays for the others
   --   02h of 4, after 2: AX 1002h
@@ -1139,7 +1139,7 @@ pub record Worn : Type 0 where
   --   02h of 4, after none: AX 1000h
   --   03h of 128, after 127: AX CC7Fh
   --   each of 4, after all: AX 0004h, 0004h, 0077h and 0001h
-  pub worn-ends : Hold
+  pub worn_ends : Hold
       ((ends 0x0204 4 2 0x1002 1)
       ∷ (ends 0x0304 4 2 0xCC02 1)
       ∷ (ends 0x4277 4 2 0x1077 1)
@@ -1152,28 +1152,28 @@ pub record Worn : Type 0 where
       ∷ (ends 0x4301 4 4 0x0001 0)
       ∷ [])
 
-pub worn-vectors : Worn
-unfolding ended le le_bytes inLimits isValid block_of readPacket packetAt held_of isBad good isDrive badsOf shownOf verifyOk verified packetTests packetPlan seek sectors parameters extensions result steps begin outcomeNumbers sectorsGiven parametersGiven checkGiven packetTestsGiven packetNumbersAt extendedGiven seekGiven bufferGiven stepsGiven beginGiven
-worn-vectors =
+pub worn_vectors : Worn
+unfolding ended le le_bytes in_limits is_valid block_of read_packet packet_at held_of is_bad good is_drive bads_of shown_of verify_ok verified packet_tests packet_plan seek sectors parameters extensions result_into steps begin outcome_numbers sectors_given parameters_given check_given packet_tests_given packet_numbers_at extended_given seek_given buffer_given steps_given begin_given
+worn_vectors =
     record {
       lists = refl;
-      worn-blocks = refl;
-      worn-verify = refl;
-      worn-over = refl;
-      worn-calls = refl;
-      worn-good = refl;
-      worn-ends = refl;
+      worn_blocks = refl;
+      worn_verify = refl;
+      worn_over = refl;
+      worn_calls = refl;
+      worn_good = refl;
+      worn_ends = refl;
     }
 
 -- functions that there are not, on a drive and with an address and a packet that would do: 04h, 07h, 15h, 40h, 45h, 46h and 49h
-pub no-functions : map (λ (ax : ℕ). outcomeNumbers (begin (fed apart noPlacement) (own ax 5 0x0242 0x0181) (one57 1 2999)).outcome) (0x0401 ∷ 0x0701 ∷ 0x1501 ∷ 0x4001 ∷ 0x4501 ∷ 0x4601 ∷ 0x4901 ∷ [])
+pub no_functions : map (λ (ax : ℕ). outcome_numbers (begin (fed apart no_placement) (own ax 5 0x0242 0x0181) (one57 1 2999)).outcome) (0x0401 ∷ 0x0701 ∷ 0x1501 ∷ 0x4001 ∷ 0x4501 ∷ 0x4601 ∷ 0x4901 ∷ [])
     ≡ replicate 7 (0 ∷ kept19 0x0101 5 0x0242 0x0181 1)
-unfolding le le_bytes inLimits isValid block_of readPacket packetAt held_of isBad good isDrive badsOf shownOf verifyOk verified packetTests packetPlan seek sectors parameters extensions result steps begin outcomeNumbers
-no-functions = refl
+unfolding le le_bytes in_limits is_valid block_of read_packet packet_at held_of is_bad good is_drive bads_of shown_of verify_ok verified packet_tests packet_plan seek sectors parameters extensions result_into steps begin outcome_numbers
+no_functions = refl
 
 -- each of eight drives at its place, and a number below 80h
-pub places-of-eight : map (λ (n : ℕ). (driveIn eight n).first) (0x80 ∷ 0x84 ∷ 0x87 ∷ 0x0F ∷ []) ≡ 0 ∷ 8192 ∷ 14336 ∷ 14336 ∷ []
-places-of-eight = refl
+pub places_of_eight : map (λ (n : ℕ). (drive_in eight n).first) (0x80 ∷ 0x84 ∷ 0x87 ∷ 0x0F ∷ []) ≡ 0 ∷ 8192 ∷ 14336 ∷ 14336 ∷ []
+places_of_eight = refl
 
 -- ---- the blocks that move, in any window and store: the buffer is 7 and block 0 of the job is store block 5
 
@@ -1196,12 +1196,12 @@ abbrev small : List ℕ
 small = sets bytes 16 (le_bytes 8 3 ++ le_bytes 8 1 ++ le_bytes 2 2 ++ le_bytes 2 1 ++ le_bytes 2 1 ++ (3 ∷ []))
 
 -- the same with a record of parameters behind the drive's: length 20, kind 4, drive 0
-abbrev smallTabled : List ℕ
-smallTabled = take 68 small ++ (20 ∷ 0 ∷ 4 ∷ 0 ∷ 0 ∷ 0 ∷ (given80 ++ drop 68 small))
+abbrev small_tabled : List ℕ
+small_tabled = take 68 small ++ (20 ∷ 0 ∷ 4 ∷ 0 ∷ 0 ∷ 0 ∷ (given80 ++ drop 68 small))
 
 -- by AX; CX is 0/0/2, the buffer at ES:BX place 37, the packet at DS:SI place 19
 abbrev served : ℕ → List ℕ → List ℕ → Served
-served ax window store = alone (fed small noPlacement) (own ax 5 2 0x80) (record { window = window; store = store })
+served ax window store = alone (fed small no_placement) (own ax 5 2 0x80) (record { window = window; store = store })
 
 abbrev leaving : ℕ → Bool → List ℕ → List ℕ → Served
 leaving ax carry window store = record {
@@ -1218,12 +1218,12 @@ module _ (window store : List ℕ) (lw : length window ≡ 1061) where
       ∷ leaving 0x0002 false window (blocks store 1024 window 37 2)
       ∷ leaving 0x0177 true (placed (packet 16 0 9 3 1) 0) store
       ∷ []
-  unfolding alone moves reported ended le le_bytes inLimits isValid block_of driveRead same busOk interfaceOk geometryFits fieldsOk inStore overlap headerOf headerAt overlapsAny refusal recordRefusal withRecord recordStep endStep step_of stepAt readFrom readTable readPacket packetAt held_of isBad good isDrive badsOf shownOf verified packetTests packetPlan sectors steps begin isI2o zeroTail kindOk tailOf
+  unfolding alone moves reported ended le le_bytes in_limits is_valid block_of drive_read same bus_ok interface_ok geometry_fits fields_ok in_store overlap header_of header_at overlaps_any refusal record_refusal with_record record_step end_step step_of step_at read_from read_table read_packet packet_at held_of is_bad good is_drive bads_of shown_of verified packet_tests packet_plan sectors steps begin is_i2o zero_tail kind_ok tail_of
   served-alone ls = rw (lw, ls)
 
-  pub served-short : length store ≡ 2047 → served 0x0202 window store ≡ leaving 0x0100 true window store
-  unfolding alone moves reported ended le le_bytes inLimits isValid block_of driveRead same busOk interfaceOk geometryFits fieldsOk inStore overlap headerOf headerAt overlapsAny refusal recordRefusal withRecord recordStep endStep step_of stepAt readFrom readTable held_of isBad good isDrive badsOf shownOf sectors steps begin isI2o zeroTail kindOk tailOf
-  served-short ls = rw (lw, ls)
+  pub served_short : length store ≡ 2047 → served 0x0202 window store ≡ leaving 0x0100 true window store
+  unfolding alone moves reported ended le le_bytes in_limits is_valid block_of drive_read same bus_ok interface_ok geometry_fits fields_ok in_store overlap header_of header_at overlaps_any refusal record_refusal with_record record_step end_step step_of step_at read_from read_table held_of is_bad good is_drive bads_of shown_of sectors steps begin is_i2o zero_tail kind_ok tail_of
+  served_short ls = rw (lw, ls)
 
 -- 41h, with the table's bytes and the placement; it changes neither window nor store
 module _ (window store : List ℕ) where
@@ -1237,22 +1237,22 @@ module _ (window store : List ℕ) where
   }
 
   -- the drive with a record of parameters, with placement and without it; and without the record
-  pub served-placed : length store ≡ 2048 → served41 smallTabled here ∷ served41 smallTabled noPlacement ∷ served41 small here ∷ []
+  pub served-placed : length store ≡ 2048 → served41 small_tabled here ∷ served41 small_tabled no_placement ∷ served41 small here ∷ []
       ≡ leaving41 0x0005 ∷ leaving41 0x0001 ∷ leaving41 0x0001 ∷ []
-  unfolding alone le le_bytes inLimits driveRead same busOk interfaceOk geometryFits fieldsOk inStore overlap headerOf headerAt overlapsAny refusal parametersRefusal recordRefusal withRecord recordStep endStep step_of stepAt readFrom readTable isDrive shownOf extensions steps begin isI2o zeroTail kindOk tailOf
+  unfolding alone le le_bytes in_limits drive_read same bus_ok interface_ok geometry_fits fields_ok in_store overlap header_of header_at overlaps_any refusal parameters_refusal record_refusal with_record record_step end_step step_of step_at read_from read_table is_drive shown_of extensions steps begin is_i2o zero_tail kind_ok tail_of
   served-placed ls = rw ls
 
 -- ---- served alone at bad blocks: a drive of 9 blocks from store block 1, with C, H and S 1, 1 and 9, of which 5 and 7 are bad
 
 -- behind the drive's record that of kind 3: length 22, drive 0
-abbrev smallWorn : List ℕ
-smallWorn =
+abbrev small_worn : List ℕ
+small_worn =
     take 68 (sets bytes 16 (le_bytes 8 9 ++ le_bytes 8 1 ++ le_bytes 2 2 ++ le_bytes 2 1 ++ le_bytes 2 1 ++ (9 ∷ [])))
     ++ (22 ∷ 0 ∷ 3 ∷ 0 ∷ 0 ∷ 0 ∷ (bytes8 (5 ∷ 7 ∷ []) ++ drop 68 bytes))
 
 -- by AX; CX is 0/0/4, block 3, the buffer at ES:BX place 37, the packet at DS:SI place 19
 abbrev wears : ℕ → List ℕ → List ℕ → Served
-wears ax window store = alone (fed smallWorn noPlacement) (own ax 5 4 0x80) (record { window = window; store = store })
+wears ax window store = alone (fed small_worn no_placement) (own ax 5 4 0x80) (record { window = window; store = store })
 
 abbrev ending : ℕ → Bool → List ℕ → List ℕ → Served
 ending ax carry window store = record {
@@ -1261,22 +1261,22 @@ ending ax carry window store = record {
 }
 
 -- 02h and 03h of four sectors from block 3, of which two come before the first bad one and move, and there is no count word; 02h of these two
-pub worn-sectors : (window store : List ℕ) → length window ≡ 2085 → length store ≡ 5120
+pub worn_sectors : (window store : List ℕ) → length window ≡ 2085 → length store ≡ 5120
     → wears 0x0204 window store ∷ wears 0x0304 window store ∷ wears 0x0202 window store ∷ []
     ≡ ending 0x1002 true (blocks window 37 store 2048 2) store
     ∷ ending 0xCC02 true window (blocks store 2048 window 37 2)
     ∷ ending 0x0002 false (blocks window 37 store 2048 2) store
     ∷ []
-unfolding alone moves reported ended le le_bytes inLimits isValid block_of driveRead same busOk interfaceOk geometryFits fieldsOk inStore overlap badCount badLengthOk badsIn held_of ascends areBlocks listOk headerOf headerAt overlapsAny refusal badsRefusal recordRefusal withRecord recordStep endStep step_of stepAt readFrom readTable isBad good isDrive badsOf shownOf sectors steps begin isI2o zeroTail kindOk tailOf
-worn-sectors window store lw ls = rw (lw, ls)
+unfolding alone moves reported ended le le_bytes in_limits is_valid block_of drive_read same bus_ok interface_ok geometry_fits fields_ok in_store overlap bad_count bad_length_ok bads_in held_of ascends are_blocks list_ok header_of header_at overlaps_any refusal bads_refusal record_refusal with_record record_step end_step step_of step_at read_from read_table is_bad good is_drive bads_of shown_of sectors steps begin is_i2o zero_tail kind_ok tail_of
+worn_sectors window store lw ls = rw (lw, ls)
 
 -- 44h of four blocks from 3 moves none, and the count word is 2
-pub worn-reported : (store : List ℕ) → length store ≡ 5120
+pub worn_reported : (store : List ℕ) → length store ≡ 5120
     → wears 0x4477 (placed (packet 16 4 9 3 3) 0) store ≡ ending 0x1077 true (placed (packet 16 2 9 3 3) 0) store
-unfolding alone le le_bytes inLimits driveRead same busOk interfaceOk geometryFits fieldsOk inStore overlap badCount badLengthOk badsIn held_of ascends areBlocks listOk headerOf headerAt overlapsAny refusal badsRefusal recordRefusal withRecord recordStep endStep step_of stepAt readFrom readTable readPacket packetAt isBad good isDrive badsOf shownOf verified packetTests packetPlan steps begin isI2o zeroTail kindOk tailOf
-worn-reported store ls =
+unfolding alone le le_bytes in_limits drive_read same bus_ok interface_ok geometry_fits fields_ok in_store overlap bad_count bad_length_ok bads_in held_of ascends are_blocks list_ok header_of header_at overlaps_any refusal bads_refusal record_refusal with_record record_step end_step step_of step_at read_from read_table read_packet packet_at is_bad good is_drive bads_of shown_of verified packet_tests packet_plan steps begin is_i2o zero_tail kind_ok tail_of
+worn_reported store ls =
     let m : Memory = record { window = placed (packet 16 4 9 3 3) 0; store = store } in
-    ap (λ (n : ℕ). servedBy (fed (readTable smallWorn (n / 512)).table noPlacement) (own 0x4477 5 4 0x80) m) ls
+    ap (λ (n : ℕ). served_by (fed (read_table small_worn (n / 512)).table no_placement) (own 0x4477 5 4 0x80) m) ls
 
 -- with a packet of that buffer, count and start, in a window of 2105 bytes
 module _ (rest store : List ℕ) (lr : length rest ≡ 2070) (ls : length store ≡ 5120) where
@@ -1284,24 +1284,24 @@ module _ (rest store : List ℕ) (lr : length rest ≡ 2070) (ls : length store 
   asking offset segment count start = replicate 19 15 ++ (packet 16 count offset segment start ++ rest)
 
   -- four blocks from 3, of which two move, and the count word is 2: 42h to place 57, and 43h from there
-  pub worn-packets : wears 0x4277 (asking 9 3 4 3) store ∷ wears 0x4301 (asking 9 3 4 3) store ∷ []
+  pub worn_packets : wears 0x4277 (asking 9 3 4 3) store ∷ wears 0x4301 (asking 9 3 4 3) store ∷ []
       ≡ ending 0x1077 true (sets (blocks (asking 9 3 4 3) 57 store 2048 2) 21 (2 ∷ 0 ∷ [])) store
       ∷ ending 0xCC01 true (asking 9 3 2 3) (blocks store 2048 (asking 9 3 4 3) 57 2)
       ∷ []
-  unfolding alone moves reported ended le le_bytes inLimits isValid block_of driveRead same busOk interfaceOk geometryFits fieldsOk inStore overlap badCount badLengthOk badsIn held_of ascends areBlocks listOk headerOf headerAt overlapsAny refusal badsRefusal recordRefusal withRecord recordStep endStep step_of stepAt readFrom readTable readPacket packetAt isBad good isDrive badsOf shownOf verifyOk verified packetTests packetPlan steps begin isI2o zeroTail kindOk tailOf
-  worn-packets = rw (lr, ls)
+  unfolding alone moves reported ended le le_bytes in_limits is_valid block_of drive_read same bus_ok interface_ok geometry_fits fields_ok in_store overlap bad_count bad_length_ok bads_in held_of ascends are_blocks list_ok header_of header_at overlaps_any refusal bads_refusal record_refusal with_record record_step end_step step_of step_at read_from read_table read_packet packet_at is_bad good is_drive bads_of shown_of verify_ok verified packet_tests packet_plan steps begin is_i2o zero_tail kind_ok tail_of
+  worn_packets = rw (lr, ls)
 
   -- 42h to place 9, over its packet: the count word lies on the data. 42h of block 8 succeeds, and the packet stays, or is the data that covers it
-  pub worn-covered : wears 0x4277 (asking 9 0 4 3) store ∷ wears 0x4277 (asking 9 3 1 8) store ∷ wears 0x4277 (asking 9 0 1 8) store ∷ []
+  pub worn_covered : wears 0x4277 (asking 9 0 4 3) store ∷ wears 0x4277 (asking 9 3 1 8) store ∷ wears 0x4277 (asking 9 0 1 8) store ∷ []
       ≡ ending 0x1077 true (sets (blocks (asking 9 0 4 3) 9 store 2048 2) 21 (2 ∷ 0 ∷ [])) store
       ∷ ending 0x0077 false (blocks (asking 9 3 1 8) 57 store 4608 1) store
       ∷ ending 0x0077 false (blocks (asking 9 0 1 8) 9 store 4608 1) store
       ∷ []
-  unfolding alone moves reported ended le le_bytes inLimits isValid block_of driveRead same busOk interfaceOk geometryFits fieldsOk inStore overlap badCount badLengthOk badsIn held_of ascends areBlocks listOk headerOf headerAt overlapsAny refusal badsRefusal recordRefusal withRecord recordStep endStep step_of stepAt readFrom readTable readPacket packetAt isBad good isDrive badsOf shownOf verifyOk verified packetTests packetPlan steps begin isI2o zeroTail kindOk tailOf
-  worn-covered = rw (lr, ls)
+  unfolding alone moves reported ended le le_bytes in_limits is_valid block_of drive_read same bus_ok interface_ok geometry_fits fields_ok in_store overlap bad_count bad_length_ok bads_in held_of ascends are_blocks list_ok header_of header_at overlaps_any refusal bads_refusal record_refusal with_record record_step end_step step_of step_at read_from read_table read_packet packet_at is_bad good is_drive bads_of shown_of verify_ok verified packet_tests packet_plan steps begin is_i2o zero_tail kind_ok tail_of
+  worn_covered = rw (lr, ls)
 
   -- a bad block first, 5 of two: none moves, and the count word is 0
-  pub worn-first : wears 0x4277 (asking 9 3 2 5) store ∷ wears 0x4301 (asking 9 3 2 5) store ∷ []
+  pub worn_first : wears 0x4277 (asking 9 3 2 5) store ∷ wears 0x4301 (asking 9 3 2 5) store ∷ []
       ≡ ending 0x1077 true (asking 9 3 0 5) store ∷ ending 0xCC01 true (asking 9 3 0 5) store ∷ []
-  unfolding blocks alone moves reported ended le le_bytes inLimits isValid block_of driveRead same busOk interfaceOk geometryFits fieldsOk inStore overlap badCount badLengthOk badsIn held_of ascends areBlocks listOk headerOf headerAt overlapsAny refusal badsRefusal recordRefusal withRecord recordStep endStep step_of stepAt readFrom readTable readPacket packetAt isBad good isDrive badsOf shownOf verifyOk verified packetTests packetPlan steps begin isI2o zeroTail kindOk tailOf
-  worn-first = rw (lr, ls)
+  unfolding blocks alone moves reported ended le le_bytes in_limits is_valid block_of drive_read same bus_ok interface_ok geometry_fits fields_ok in_store overlap bad_count bad_length_ok bads_in held_of ascends are_blocks list_ok header_of header_at overlaps_any refusal bads_refusal record_refusal with_record record_step end_step step_of step_at read_from read_table read_packet packet_at is_bad good is_drive bads_of shown_of verify_ok verified packet_tests packet_plan steps begin is_i2o zero_tail kind_ok tail_of
+  worn_first = rw (lr, ls)

@@ -10,28 +10,28 @@ use Rattle.int13.specs.declared.Outcome.TheVariants.{Answered, Waits}
 -- ---- "Numbers given back", the codes in AH; 01h is layout's `badParameter`, 04h chs's `outside`
 
 -- 03h: write to a protected drive
-abbrev pub writeProtected : ℕ
-writeProtected = 0x03
+abbrev pub write_protected : ℕ
+write_protected = 0x03
 
 -- 07h: 08h on an unknown drive
-abbrev pub noParameters : ℕ
-noParameters = 0x07
+abbrev pub no_parameters : ℕ
+no_parameters = 0x07
 
 -- 09h: transfer buffer outside the window, or AL above 128
-abbrev pub badBuffer : ℕ
-badBuffer = 0x09
+abbrev pub bad_buffer : ℕ
+bad_buffer = 0x09
 
 -- 80h: withdrawn
-abbrev pub withdrawnCode : ℕ
-withdrawnCode = 0x80
+abbrev pub withdrawn_code : ℕ
+withdrawn_code = 0x80
 
 -- 10h: a bad block, of a read and of 44h (document 02, 2026-04)
-abbrev pub badRead : ℕ
-badRead = 0x10
+abbrev pub bad_read : ℕ
+bad_read = 0x10
 
 -- CCh: a bad block, of a write (document 02, 2026-04)
-abbrev pub badWrite : ℕ
-badWrite = 0xCC
+abbrev pub bad_write : ℕ
+bad_write = 0xCC
 
 -- ---- "Numbers given back", halves of the registers
 
@@ -50,12 +50,12 @@ dl r = r.dx % 256
 -- ---- "Steps of each function", the functions by their numbers
 
 -- 02h and 03h, which say a run of sectors in AL
-abbrev pub isSectors : ℕ → Bool
-isSectors f = either (eqb f 0x02) (eqb f 0x03)
+abbrev pub is_sectors : ℕ → Bool
+is_sectors f = either (eqb f 0x02) (eqb f 0x03)
 
 -- 03h and 43h, which write the drive
-abbrev pub isWrite : ℕ → Bool
-isWrite f = either (eqb f 0x03) (eqb f 0x43)
+abbrev pub is_write : ℕ → Bool
+is_write f = either (eqb f 0x03) (eqb f 0x43)
 
 -- ---- "Numbers given back", what an answer does to the registers
 
@@ -70,7 +70,7 @@ succeed r = answer false 0 (al r) r
 
 -- a request that ends with a code after some blocks: AL gives them for 02h and 03h, and stays for the others
 abbrev pub stop : ℕ → ℕ → Registers → Registers
-stop code moved r = answer true code (pick (isSectors (ah r)) moved (al r)) r
+stop code moved r = answer true code (pick (is_sectors (ah r)) moved (al r)) r
 
 -- a refusal moved none: "A refused 02h or 03h sets AL = 0"
 abbrev pub refuse : ℕ → Registers → Registers
@@ -78,15 +78,15 @@ refuse code r = stop code 0 r
 
 -- a withdrawal: carry set, AH = 80h
 abbrev pub withdraw : ℕ → Registers → Registers
-withdraw moved r = stop withdrawnCode moved r
+withdraw moved r = stop withdrawn_code moved r
 
 -- "AH = 10h for a read, CCh for a write" (document 02, 2026-04)
-abbrev pub badCode : Registers → ℕ
-badCode r = pick (isWrite (ah r)) badWrite badRead
+abbrev pub bad_code : Registers → ℕ
+bad_code r = pick (is_write (ah r)) bad_write bad_read
 
 -- a request of n blocks that ends after some of them: all, and it succeeds; or those before a bad block
 unfoldable pub ended : ℕ → ℕ → Registers → Registers
-ended n moved r = pick (ltb moved n) (stop (badCode r) moved r) (succeed r)
+ended n moved r = pick (ltb moved n) (stop (bad_code r) moved r) (succeed r)
 
 -- the registers that a waiting row keeps: every answer names carry, so that what the guest gave there is dropped
 abbrev pub posted : Registers → Registers
@@ -95,14 +95,14 @@ posted r = record { ax = r.ax; bx = r.bx; cx = r.cx; dx = r.dx; ds = r.ds; si = 
 -- ---- "Numbers given back", the answers as numbers
 
 -- the registers in the order of the post, carry last
-abbrev pub registerNumbers : Registers → List ℕ
-registerNumbers r = r.ax ∷ r.bx ∷ r.cx ∷ r.dx ∷ r.ds ∷ r.si ∷ r.es ∷ pick r.carry 1 0 ∷ []
+abbrev pub register_numbers : Registers → List ℕ
+register_numbers r = r.ax ∷ r.bx ∷ r.cx ∷ r.dx ∷ r.ds ∷ r.si ∷ r.es ∷ pick r.carry 1 0 ∷ []
 
 -- 256: a call or a row waits, or a turn is idle; document 01 gives none of them a number, and has no number 256
-abbrev pub nothingYet : ℕ
-nothingYet = 256
+abbrev pub nothing_yet : ℕ
+nothing_yet = 256
 
 -- 0 and the registers; or 256, what the request asks, and the registers that its row keeps
-unfoldable pub outcomeNumbers : Outcome → List ℕ
-outcomeNumbers (Answered r) = 0 ∷ registerNumbers r
-outcomeNumbers (Waits j) = nothingYet ∷ j.drive ∷ j.start ∷ j.count ∷ j.buffer ∷ j.packet ∷ registerNumbers j.registers
+unfoldable pub outcome_numbers : Outcome → List ℕ
+outcome_numbers (Answered r) = 0 ∷ register_numbers r
+outcome_numbers (Waits j) = nothing_yet ∷ j.drive ∷ j.start ∷ j.count ∷ j.buffer ∷ j.packet ∷ register_numbers j.registers

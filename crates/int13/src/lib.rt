@@ -4,12 +4,12 @@
 ghost use Rattle.std.specs.Prelude.{◌≡◌, true, ◌+◌, ◌-◌, ◌*◌, ◌/◌, ◌%◌, ◌≤◌, ◌<◌, length, replicate, ltb, eqb};
 ghost use Rattle.std.proofs.lemmas.List.Edits.{sets};
 ghost use Rattle.logic.specs.Logic.{pick, either};
-ghost use Rattle.table.specs.Table.{parametersTo};
+ghost use Rattle.table.specs.Table.{parameters_to};
 ghost use Rattle.chs.specs.declared.ToBlock.TheVariants.{Block};
-ghost use Rattle.int13.specs.Answers.{ah, al, dl, isSectors, isWrite, answer, succeed, stop, refuse, withdraw, badCode, ended, posted, outcomeNumbers};
-ghost use Rattle.int13.specs.Placement.{tables_of, tableCount, pointerOf};
-ghost use Rattle.int13.specs.Steps.{driveCount, isDrive, driveAt, driveIn, badsOf, shownOf, fed, packetPlace, verifyOk, packetJob, verified, packetTests, packetRead, packetPlan, extended, seekRead, seek, sectorBuffer, sectorJob, sectorRun, sectors, geometryGiven, parameters, extensionsGiven, extensions, resultGiven, result, steps, begin};
-ghost use Rattle.int13.specs.Numbers.{stepsGiven, beginGiven};
+ghost use Rattle.int13.specs.Answers.{ah, al, dl, is_sectors, is_write, answer, succeed, stop, refuse, withdraw, bad_code, ended, posted, outcome_numbers};
+ghost use Rattle.int13.specs.Placement.{tables_of, table_count, pointer_of};
+ghost use Rattle.int13.specs.Steps.{drive_count, is_drive, drive_at, drive_in, bads_of, shown_of, fed, packet_place, verify_ok, packet_job, verified, packet_tests, packet_read, packet_plan, extended, seek_read, seek, sector_buffer, sector_job, sector_run, sectors, geometry_given, parameters, extensions_given, extensions, result_given, result_into, steps, begin};
+ghost use Rattle.int13.specs.Numbers.{steps_given, begin_given};
 
 use attached::Bads;
 use chs::ToBlock;
@@ -18,7 +18,7 @@ use layout::{Packet, PacketRead, Pointer, ResultAnswer};
 use table::Table;
 
 // The registers of a call.
-#[derive(Drop)]
+#[derive(Clone, Copy)]
 pub struct Registers {
     pub ax: u16,
     pub bx: u16,
@@ -31,7 +31,7 @@ pub struct Registers {
 }
 
 // What a request asks, which never changes while it waits. Its function is AH of the registers.
-#[derive(Drop)]
+#[derive(Clone, Copy)]
 pub struct Job {
     // as posted, carry clear
     pub registers: Registers,
@@ -46,28 +46,28 @@ pub struct Job {
 }
 
 // Where a guest's device parameter tables stand in its window, if the host has placed them: address 0 is a place. Without placement it is 0.
-#[derive(Drop)]
+#[derive(Clone, Copy)]
 pub struct Placement {
     pub placed: bool,
     pub address: u64,
 }
 
 // What a guest is shown of a drive: whether it finds a parameter table of it in its window, and the segment of that table, else 0.
-#[derive(Drop)]
+#[derive(Clone, Copy)]
 pub struct Shown {
     pub table: bool,
     pub segment: u16,
 }
 
 // A call is answered at once, or it waits.
-#[derive(Drop)]
+#[derive(Clone, Copy)]
 pub enum Outcome {
     Answered(Registers),
     Waits(Job),
 }
 
 // What 42h, 43h and 44h do: refuse; refuse and set the packet's count word, to 0 but for a bad block; succeed at once; wait.
-#[derive(Drop)]
+#[derive(Clone, Copy)]
 pub enum Plan {
     Refuse(u8),
     Clear(u8, u16),
@@ -116,14 +116,14 @@ const GET_RESULT: u8 = 0x48;
 
 // 02h and 03h, which say a run of sectors in AL.
 pub fn is_sectors(f: u8) -> bool
-    ensures* { λ r. ⌜ r ≡ isSectors f ⌝ }
+    ensures { result ≡ is_sectors f }
 {
     logic::or(f == READ_SECTORS, f == WRITE_SECTORS)
 }
 
 // 03h and 43h, which write the drive.
 pub fn is_write(f: u8) -> bool
-    ensures* { λ r. ⌜ r ≡ isWrite f ⌝ }
+    ensures { result ≡ is_write f }
 {
     logic::or(f == WRITE_SECTORS, f == EXTENDED_WRITE)
 }
@@ -132,19 +132,19 @@ pub fn is_write(f: u8) -> bool
 
 // AH.
 pub fn function_of(r: Registers) -> u8
-    ensures* { λ f. ⌜ f ≡ ah r ⌝ }
+    ensures { result ≡ ah r }
 {
     (r.ax / 256) as u8
 }
 
 fn al(r: Registers) -> u8
-    ensures* { λ n. ⌜ n ≡ al r ⌝ }
+    ensures { result ≡ al r }
 {
     (r.ax % 256) as u8
 }
 
 pub fn dl(r: Registers) -> u8
-    ensures* { λ n. ⌜ n ≡ dl r ⌝ }
+    ensures { result ≡ dl r }
 {
     (r.dx % 256) as u8
 }
@@ -154,7 +154,7 @@ pub fn dl(r: Registers) -> u8
 // Sets carry, AH and AL; the other registers stay as given. Every answer goes through it but the successes of 08h and 41h, which set
 // further registers.
 fn answer(carry: bool, code: u8, low: u8, r: Registers) -> Registers
-    ensures* { λ a. ⌜ a ≡ answer carry code low r ⌝ }
+    ensures { result ≡ answer carry code low r }
 {
     Registers {
         ax: 256 * (code as u16) + low as u16,
@@ -170,14 +170,14 @@ fn answer(carry: bool, code: u8, low: u8, r: Registers) -> Registers
 
 // Carry clear and AH = 0.
 pub fn succeed(r: Registers) -> Registers
-    ensures* { λ a. ⌜ a ≡ succeed r ⌝ }
+    ensures { result ≡ succeed r }
 {
     answer(false, 0, al(r), r)
 }
 
 // Carry and a code, after some blocks: AL gives them for 02h and 03h, and stays for the others.
 pub fn stop(code: u8, moved: u8, r: Registers) -> Registers
-    ensures* { λ a. ⌜ a ≡ stop code moved r ⌝ }
+    ensures { result ≡ stop code moved r }
 {
     if is_sectors(function_of(r)) {
         return answer(true, code, moved, r);
@@ -187,20 +187,20 @@ pub fn stop(code: u8, moved: u8, r: Registers) -> Registers
 
 // A refusal, which moved no block.
 pub fn refuse(code: u8, r: Registers) -> Registers
-    ensures* { λ a. ⌜ a ≡ refuse code r ⌝ }
+    ensures { result ≡ refuse code r }
 {
     stop(code, 0, r)
 }
 
 // A request withdrawn after some blocks.
 pub fn withdraw(moved: u8, r: Registers) -> Registers
-    ensures* { λ a. ⌜ a ≡ withdraw moved r ⌝ }
+    ensures { result ≡ withdraw moved r }
 {
     stop(WITHDRAWN, moved, r)
 }
 
 fn bad_code(r: Registers) -> u8
-    ensures* { λ code. ⌜ code ≡ badCode r ⌝ }
+    ensures { result ≡ bad_code r }
 {
     if is_write(function_of(r)) {
         return BAD_WRITE;
@@ -211,7 +211,7 @@ fn bad_code(r: Registers) -> u8
 // A request of n blocks that ends after some of them: all, and it succeeds, or those before a bad block. A request moves no more than a byte counts.
 pub fn ended(n: u64, moved: u64, r: Registers) -> Registers
     requires { moved < 256 }
-    ensures* { λ a. ⌜ a ≡ ended n moved r ⌝ }
+    ensures { result ≡ ended n moved r }
 {
     if moved < n {
         return stop(bad_code(r), moved as u8, r);
@@ -221,7 +221,7 @@ pub fn ended(n: u64, moved: u64, r: Registers) -> Registers
 
 // The registers that a waiting row keeps: carry clear.
 fn posted(r: Registers) -> Registers
-    ensures* { λ a. ⌜ a ≡ posted r ⌝ }
+    ensures { result ≡ posted r }
 {
     Registers {
         ax: r.ax,
@@ -241,14 +241,14 @@ fn posted(r: Registers) -> Registers
 pub const FIRST_DRIVE: u8 = 0x80;
 
 fn drive_count(b: Table) -> u8
-    ensures* { λ n. ⌜ (n ≡ driveCount b) × (n ≤ 8) ⌝ }
+    ensures { (result ≡ drive_count b) × (result ≤ 8) }
 {
     table::drive_count(b) as u8
 }
 
 // Whether the table has a drive of that number. DL below 80h is never one.
 pub fn is_drive(b: Table, n: u8) -> bool
-    ensures* { λ r. ⌜ r ≡ isDrive b n ⌝ }
+    ensures { result ≡ is_drive b n }
 {
     let end = FIRST_DRIVE + drive_count(b);
     logic::and(FIRST_DRIVE <= n, n < end)
@@ -256,7 +256,7 @@ pub fn is_drive(b: Table, n: u8) -> bool
 
 // The drive in the place of a number, which is the drive of that number where there is one: 80h is a multiple of eight.
 pub fn drive_at(b: Table, n: u8) -> Drive
-    ensures* { λ d. ⌜ (d ≡ driveIn b n) × (isDrive b n ≡ true → d ≡ driveAt b n) ⌝ }
+    ensures { (result ≡ drive_in b n) × (is_drive b n ≡ true → result ≡ drive_at b n) }
 {
     let drives = b.drives;
     let place = (n % 8) as usize;
@@ -265,7 +265,7 @@ pub fn drive_at(b: Table, n: u8) -> Drive
 
 // The bad blocks of the drive of a number; a number that is no drive's has none.
 pub fn bads_of(b: Table, n: u8) -> Bads
-    ensures* { λ l. ⌜ l ≡ badsOf b n ⌝ }
+    ensures { result ≡ bads_of b n }
 {
     if !is_drive(b, n) {
         return attached::no_bads();
@@ -286,7 +286,7 @@ const NOT_SHOWN: Shown = Shown {
 // How many of the first n slots have a table. Its callers ask for at most eight.
 fn tables_before(b: Table, n: usize) -> u8
     requires { n ≤ 8 }
-    ensures* { λ r. ⌜ (r ≡ parametersTo n b) × (r ≤ n) ⌝ }
+    ensures { (result ≡ parameters_to n b) × (result ≤ n) }
 {
     let mut count = 0u8;
     let mut i = 0;
@@ -301,14 +301,14 @@ fn tables_before(b: Table, n: usize) -> u8
 
 // How many tables there are.
 pub fn table_count(b: Table) -> u8
-    ensures* { λ r. ⌜ (r ≡ tableCount b) × (r ≤ 8) ⌝ }
+    ensures { (result ≡ table_count b) × (result ≤ 8) }
 {
     tables_before(b, 8)
 }
 
 // What a guest whose tables stand from an address on is shown of a drive that has so many of them before it.
 pub fn shown_at(address: u64, before: u8) -> Shown
-    ensures* { λ s. ⌜ s ≡ record { table = true; segment = (address + 16 * before) / 16 % 65536 } ⌝ }
+    ensures { result ≡ record { table = true; segment = (address + 16 * before) / 16 % 65536 } }
 {
     Shown {
         table: true,
@@ -318,7 +318,7 @@ pub fn shown_at(address: u64, before: u8) -> Shown
 
 // What a guest with that placement is shown of the drive of a number.
 pub fn shown_of(b: Table, placement: Placement, n: u8) -> Shown
-    ensures* { λ s. ⌜ s ≡ shownOf b placement n ⌝ }
+    ensures { result ≡ shown_of b placement n }
 {
     if !is_drive(b, n) {
         return NOT_SHOWN;
@@ -335,7 +335,7 @@ pub fn shown_of(b: Table, placement: Placement, n: u8) -> Shown
 
 // All tables, one after another in drive order, and zeros behind them.
 pub fn tables_of(b: Table) -> [u8; 128]
-    ensures* { λ r. ⌜ (r ≡ sets (replicate 128 0) 0 (tables_of b)) × (length (tables_of b) ≡ 16 * tableCount b) ⌝ }
+    ensures { (result ≡ sets (replicate 128 0) 0 (tables_of b)) × (length (tables_of b) ≡ 16 * table_count b) }
 {
     let mut out = [0u8; 128];
     let mut at: usize = 0;
@@ -355,7 +355,7 @@ pub fn tables_of(b: Table) -> [u8; 128]
 
 // start + count is above the end, a sum that does not wrap: a guest's start may be any 64-bit number.
 fn ends_past(end: u64, start: u64, count: u64) -> bool
-    ensures* { λ r. ⌜ r ≡ ltb end (start + count) ⌝ }
+    ensures { result ≡ ltb end (start + count) }
 {
     !logic::ends_by(start, count, end)
 }
@@ -370,13 +370,13 @@ pub const MOST_RUN: u8 = 128;
 
 // The buffer stands at ES:BX.
 fn sector_buffer(r: Registers) -> u64
-    ensures* { λ n. ⌜ n ≡ sectorBuffer r ⌝ }
+    ensures { result ≡ sector_buffer r }
 {
     layout::linear(r.es, r.bx) as u64
 }
 
 fn sector_job(r: Registers, start: u32) -> Job
-    ensures* { λ j. ⌜ j ≡ sectorJob r start ⌝ }
+    ensures { result ≡ sector_job r start }
 {
     Job {
         registers: posted(r),
@@ -390,7 +390,7 @@ fn sector_job(r: Registers, start: u32) -> Job
 
 // The run of AL blocks from a block of the geometry.
 fn sector_run(d: Drive, r: Registers, window: usize, start: u32) -> Outcome
-    ensures* { λ o. ⌜ o ≡ sectorRun d r window (Block start) ⌝ }
+    ensures { result ≡ sector_run d r window (Block start) }
 {
     let count = al(r) as u64;
     let end = drive::geometry_size(d);
@@ -404,7 +404,7 @@ fn sector_run(d: Drive, r: Registers, window: usize, start: u32) -> Outcome
 }
 
 fn sectors_02_03(known: bool, d: Drive, r: Registers, window: usize) -> Outcome
-    ensures* { λ o. ⌜ o ≡ sectors known d r window ⌝ }
+    ensures { result ≡ sectors known d r window }
 {
     if !known {
         return Outcome::Answered(refuse(BAD_PARAMETER, r));
@@ -430,14 +430,14 @@ fn sectors_02_03(known: bool, d: Drive, r: Registers, window: usize) -> Outcome
 
 // One less, and 0 for 0.
 fn less_one(n: u16) -> u16
-    ensures* { λ r. ⌜ r ≡ n - 1 ⌝ }
+    ensures { result ≡ n - 1 }
 {
     if n == 0 { 0 } else { n - 1 }
 }
 
 // CH and CL hold C - 1 and S; DH = H - 1; DL = the number of drives.
 fn geometry_given(d: Drive, n: u8, r: Registers) -> Registers
-    ensures* { λ a. ⌜ a ≡ geometryGiven d n r ⌝ }
+    ensures { result ≡ geometry_given d n r }
 {
     Registers {
         ax: 0,
@@ -452,7 +452,7 @@ fn geometry_given(d: Drive, n: u8, r: Registers) -> Registers
 }
 
 fn parameters_08(known: bool, count: u8, d: Drive, r: Registers) -> Outcome
-    ensures* { λ o. ⌜ o ≡ parameters known count d r ⌝ }
+    ensures { result ≡ parameters known count d r }
 {
     if !known {
         return Outcome::Answered(refuse(NO_PARAMETERS, r));
@@ -475,13 +475,13 @@ const ACCESS: u16 = 0x0001;
 const ACCESS_AND_TABLE: u16 = 0x0005;
 
 fn support(table: bool) -> u16
-    ensures* { λ n. ⌜ n ≡ pick table 0x0005 0x0001 ⌝ }
+    ensures { result ≡ pick table 0x0005 0x0001 }
 {
     if table { ACCESS_AND_TABLE } else { ACCESS }
 }
 
 fn extensions_given(shown: Shown, r: Registers) -> Registers
-    ensures* { λ a. ⌜ a ≡ extensionsGiven shown r ⌝ }
+    ensures { result ≡ extensions_given shown r }
 {
     Registers {
         ax: VERSION,
@@ -496,7 +496,7 @@ fn extensions_given(shown: Shown, r: Registers) -> Registers
 }
 
 fn extensions_41(known: bool, shown: Shown, r: Registers) -> Outcome
-    ensures* { λ o. ⌜ o ≡ extensions known shown r ⌝ }
+    ensures { result ≡ extensions known shown r }
 {
     if logic::and(known, r.bx == ASKED) {
         return Outcome::Answered(extensions_given(shown, r));
@@ -514,20 +514,20 @@ const PACKET_LENGTH: u8 = layout::PACKET_LENGTH as u8;
 
 // The packet, and the result of 48h, stand at DS:SI.
 fn packet_place(r: Registers) -> usize
-    ensures* { λ n. ⌜ n ≡ packetPlace r ⌝ }
+    ensures { result ≡ packet_place r }
 {
     layout::linear(r.ds, r.si) as usize
 }
 
 // AL of 43h: 0 and 1, or 2 where information flag bit 3 is set.
 fn verify_ok(low: u8, flags: u16) -> bool
-    ensures* { λ r. ⌜ r ≡ verifyOk low flags ⌝ }
+    ensures { result ≡ verify_ok low flags }
 {
     logic::or(low < 2, logic::and(low == 2, flags / 8 % 2 == 1))
 }
 
 fn packet_job(r: Registers, p: Packet) -> Job
-    ensures* { λ j. ⌜ j ≡ packetJob r p ⌝ }
+    ensures { result ≡ packet_job r p }
 {
     Job {
         registers: posted(r),
@@ -541,7 +541,7 @@ fn packet_job(r: Registers, p: Packet) -> Job
 
 // What 44h does, of whose blocks so many come before the first bad one.
 fn verified(good: u64, count: u16) -> Plan
-    ensures* { λ o. ⌜ o ≡ verified good count ⌝ }
+    ensures { result ≡ verified good count }
 {
     if good < count as u64 {
         return Plan::Clear(BAD_READ, good as u16);
@@ -551,7 +551,7 @@ fn verified(good: u64, count: u16) -> Plan
 
 // The tests of a packet whose size byte is good: from here a refusal sets the count word.
 fn packet_tests(d: Drive, bads: Bads, r: Registers, window: usize, p: Packet) -> Plan
-    ensures* { λ o. ⌜ o ≡ packetTests d bads r window p ⌝ }
+    ensures { result ≡ packet_tests d bads r window p }
 {
     if MOST_BLOCKS < p.count {
         return Plan::Clear(BAD_PARAMETER, 0);
@@ -577,7 +577,7 @@ fn packet_tests(d: Drive, bads: Bads, r: Registers, window: usize, p: Packet) ->
 }
 
 fn packet_read(d: Drive, bads: Bads, r: Registers, window: usize, read: PacketRead) -> Plan
-    ensures* { λ o. ⌜ o ≡ packetRead d bads r window read ⌝ }
+    ensures { result ≡ packet_read d bads r window read }
 {
     match read {
         PacketRead::Refused(code) => Plan::Refuse(code),
@@ -592,7 +592,7 @@ fn packet_read(d: Drive, bads: Bads, r: Registers, window: usize, read: PacketRe
 
 // All tests in the paper's order; the packet is read once, here.
 fn packet_plan(known: bool, d: Drive, bads: Bads, r: Registers, window: &[u8]) -> Plan
-    ensures* { λ o. ⌜ o ≡ packetPlan known d bads r window.now ⌝ }
+    ensures { result ≡ packet_plan known d bads r window.now }
 {
     if !known {
         return Plan::Refuse(BAD_PARAMETER);
@@ -606,7 +606,7 @@ fn packet_plan(known: bool, d: Drive, bads: Bads, r: Registers, window: &[u8]) -
 }
 
 fn extended_42_43_44(known: bool, d: Drive, bads: Bads, r: Registers, window: &mut [u8]) -> Outcome
-    ensures* { λ o. ⌜ (o ≡ (extended known d bads r window.old).outcome) × (window.new ≡ (extended known d bads r window.old).window) ⌝ }
+    ensures { (result ≡ (extended known d bads r window.old).outcome) × (window.new ≡ (extended known d bads r window.old).window) }
 {
     let plan = packet_plan(known, d, bads, r, window);
     match plan {
@@ -623,7 +623,7 @@ fn extended_42_43_44(known: bool, d: Drive, bads: Bads, r: Registers, window: &m
 // ---- 47h: extended seek
 
 fn seek_read(d: Drive, r: Registers, read: PacketRead) -> Outcome
-    ensures* { λ o. ⌜ o ≡ seekRead d r read ⌝ }
+    ensures { result ≡ seek_read d r read }
 {
     match read {
         PacketRead::Refused(code) => Outcome::Answered(refuse(code, r)),
@@ -640,7 +640,7 @@ fn seek_read(d: Drive, r: Registers, read: PacketRead) -> Outcome
 }
 
 fn seek_47(known: bool, d: Drive, r: Registers, window: &[u8]) -> Outcome
-    ensures* { λ o. ⌜ o ≡ seek known d r window.now ⌝ }
+    ensures { result ≡ seek known d r window.now }
 {
     if !known {
         return Outcome::Answered(refuse(BAD_PARAMETER, r));
@@ -652,7 +652,7 @@ fn seek_47(known: bool, d: Drive, r: Registers, window: &[u8]) -> Outcome
 // ---- 48h: get drive parameters, the result buffer
 
 fn result_given(given: ResultAnswer, r: Registers) -> Outcome
-    ensures* { λ o. ⌜ o ≡ resultGiven given r ⌝ }
+    ensures { result ≡ result_given given r }
 {
     match given {
         ResultAnswer::Refused(code) => Outcome::Answered(refuse(code, r)),
@@ -665,7 +665,7 @@ const NO_POINTER: u16 = 0xFFFF;
 
 // The pointer of a result: offset 0 and the table's segment, or none.
 fn pointer_of(shown: Shown) -> Pointer
-    ensures* { λ p. ⌜ p ≡ pointerOf shown ⌝ }
+    ensures { result ≡ pointer_of shown }
 {
     if shown.table {
         return Pointer {
@@ -680,7 +680,7 @@ fn pointer_of(shown: Shown) -> Pointer
 }
 
 fn result_48(known: bool, d: Drive, shown: Shown, r: Registers, window: &mut [u8]) -> Outcome
-    ensures* { λ o. ⌜ (o ≡ (result known d shown r window.old).outcome) × (window.new ≡ (result known d shown r window.old).window) ⌝ }
+    ensures { (result ≡ (result_into known d shown r window.old).outcome) × (window.new ≡ (result_into known d shown r window.old).window) }
 {
     if !known {
         return Outcome::Answered(refuse(BAD_PARAMETER, r));
@@ -697,7 +697,7 @@ fn result_48(known: bool, d: Drive, shown: Shown, r: Registers, window: &mut [u8
 // ---- every function by AH
 
 fn is_extended(f: u8) -> bool
-    ensures* { λ r. ⌜ r ≡ either (eqb f 0x42) (either (eqb f 0x43) (eqb f 0x44)) ⌝ }
+    ensures { result ≡ either (eqb f 0x42) (either (eqb f 0x43) (eqb f 0x44)) }
 {
     logic::or(
         f == EXTENDED_READ,
@@ -718,7 +718,7 @@ pub fn steps(
     r: Registers,
     window: &mut [u8],
 ) -> Outcome
-    ensures* { λ o. ⌜ (o ≡ (steps known count d bads shown r window.old).outcome) × (window.new ≡ (steps known count d bads shown r window.old).window) × (outcomeNumbers o ≡ stepsGiven known count d bads shown.table r window.old) ⌝ }
+    ensures { (result ≡ (steps known count d bads shown r window.old).outcome) × (window.new ≡ (steps known count d bads shown r window.old).window) × (outcome_numbers result ≡ steps_given known count d bads shown.table r window.old) }
 {
     let f = function_of(r);
     if is_sectors(f) {
@@ -744,7 +744,7 @@ pub fn steps(
 
 // A call begun at a whole table, by a guest with that placement: the steps over the drive that DL names, with what they write.
 pub fn begin(b: Table, placement: Placement, r: Registers, window: &mut [u8]) -> Outcome
-    ensures* { λ o. ⌜ (o ≡ (begin (fed b placement) r window.old).outcome) × (window.new ≡ (begin (fed b placement) r window.old).window) × (outcomeNumbers o ≡ beginGiven b placement.placed r window.old) ⌝ }
+    ensures { (result ≡ (begin (fed b placement) r window.old).outcome) × (window.new ≡ (begin (fed b placement) r window.old).window) × (outcome_numbers result ≡ begin_given b placement.placed r window.old) }
 {
     let n = dl(r);
     let known = is_drive(b, n);

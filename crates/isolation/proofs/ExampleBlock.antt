@@ -6,56 +6,56 @@ use mathlib.Core.List.{List}
 use native.Mathlib.Omega.{arith}
 use lib.ListN.{length, replicate}
 use Rattle.words.specs.Words.{Bytes, le, le_bytes}
-use Rattle.words.proofs.WordsLaws.{bytes-leBytes}
-use Rattle.memory.specs.Window.{windowOf}
+use Rattle.words.proofs.WordsLaws.{bytes-le_bytes}
+use Rattle.memory.specs.Window.{window_of}
 use Rattle.desk.specs.declared.Opening.{Opening}
 use Rattle.desk.specs.declared.OpenAnswer.TheVariants.{Opened}
-use Rattle.desk.specs.Calls.{openOf}
-use Rattle.image.specs.Image.{deskSize, FitsRegisters}
-use Rattle.isolation.specs.Lists.{openTable, Call, opening, run}
+use Rattle.desk.specs.Calls.{open_of}
+use Rattle.image.specs.Image.{desk_size, FitsRegisters}
+use Rattle.isolation.specs.Lists.{open_table, Call, opening, run}
 use Rattle.isolation.specs.Words.{NoneOpens}
-use Rattle.isolation.specs.DeskBlocks.{FitsCalls, stepBlock, ClaimBlock}
+use Rattle.isolation.specs.DeskBlocks.{FitsCalls, step_block, ClaimBlock}
 use Rattle.isolation.proofs.DeskBlocks.{demand-block, none-block}
-use Rattle.isolation.proofs.Trace.{calls-later, closed-later}
-use Rattle.isolation.proofs.ExampleDesk.{tableBytes, arenaLength, M, storeLength, opening as opens-table}
+use Rattle.isolation.proofs.Trace.{calls_later, closed-later}
+use Rattle.isolation.proofs.ExampleDesk.{table_bytes, arena_length, M, store_length, opening as opens-table}
 use Rattle.isolation.proofs.ExampleWrite.{saved}
 use Rattle.isolation.proofs.ExamplePlaced.{extends, points, ahead, p₀, z₀, aheads, story}
 
-bytes-table : Bytes tableBytes
+bytes-table : Bytes table_bytes
 unfolding le le_bytes
-bytes-table = bytes-leBytes 188 (le 188 tableBytes 0)
+bytes-table = bytes-le_bytes 188 (le 188 table_bytes 0)
 
 abbrev zeros : List ℕ
-zeros = replicate deskSize 0
+zeros = replicate desk_size 0
 
-module _ (a s : List ℕ) (la : length a ≡ arenaLength) (ls : length s ≡ storeLength) (held : le 2 (windowOf a 6 M) 24 ≡ 30) where
+module _ (a s : List ℕ) (la : length a ≡ arena_length) (ls : length s ≡ store_length) (held : le 2 (window_of a 6 M) 24 ≡ 30) where
   abbrev list : List Call
-  list = calls-later (p₀ a s la ls held) ahead (story a s la ls held) (z₀ a s la ls held) (aheads a s la ls held)
+  list = calls_later (p₀ a s la ls held) ahead (story a s la ls held) (z₀ a s la ls held) (aheads a s la ls held)
 
   abbrev first : Call
-  first = record { op = openTable tableBytes arenaLength storeLength; arena = a; store = s }
+  first = record { op = open_table table_bytes arena_length store_length; arena = a; store = s }
 
-  passes : (stepBlock zeros first).answer ≡ opening Opened
-  unfolding stepBlock
+  passes : (step_block zeros first).answer ≡ opening Opened
+  unfolding step_block
   passes = ap (λ (o : Opening). opening o.answer) opens-table
 
   fit : FitsCalls list
   fit =
-      (omega arith, (omega arith, (omega arith, (fits-saved, (tt, (omega arith, (omega arith, (fits-points, (fits-extends, (omega arith, (tt, tt)))))))))))
+      (omega arith, (omega arith, (omega arith, (fits_saved, (tt, (omega arith, (omega arith, (fits_points, (fits_extends, (omega arith, (tt, tt)))))))))))
     where
-      fits-saved : FitsRegisters saved
-      fits-saved = record { ax = omega arith; bx = omega arith; cx = omega arith; dx = omega arith; ds = omega arith; si = omega arith; es = omega arith }
+      fits_saved : FitsRegisters saved
+      fits_saved = record { ax = omega arith; bx = omega arith; cx = omega arith; dx = omega arith; ds = omega arith; si = omega arith; es = omega arith }
 
-      fits-points : FitsRegisters points
-      fits-points = record { ax = omega arith; bx = omega arith; cx = omega arith; dx = omega arith; ds = omega arith; si = omega arith; es = omega arith }
+      fits_points : FitsRegisters points
+      fits_points = record { ax = omega arith; bx = omega arith; cx = omega arith; dx = omega arith; ds = omega arith; si = omega arith; es = omega arith }
 
-      fits-extends : FitsRegisters extends
-      fits-extends = record { ax = omega arith; bx = omega arith; cx = omega arith; dx = omega arith; ds = omega arith; si = omega arith; es = omega arith }
+      fits_extends : FitsRegisters extends
+      fits_extends = record { ax = omega arith; bx = omega arith; cx = omega arith; dx = omega arith; ds = omega arith; si = omega arith; es = omega arith }
 
-  none : NoneOpens (run (openOf tableBytes arenaLength storeLength).desk list)
+  none : NoneOpens (run (open_of table_bytes arena_length store_length).desk list)
   none = subst (λ (o : Opening). NoneOpens (run o.desk list)) (sym opens-table) (closed-later (p₀ a s la ls held) ahead (story a s la ls held) (z₀ a s la ls held) (aheads a s la ls held))
 
-  pub example-block : ClaimBlock tableBytes (openOf tableBytes arenaLength storeLength).desk M (stepBlock zeros first).block list
-  example-block =
-      demand-block zeros tableBytes arenaLength storeLength first list refl (bytes-table, omega arith, omega arith) passes fit
-      (none-block zeros tableBytes arenaLength storeLength first list refl (bytes-table, omega arith, omega arith) passes fit none)
+  pub example_block : ClaimBlock table_bytes (open_of table_bytes arena_length store_length).desk M (step_block zeros first).block list
+  example_block =
+      demand-block zeros table_bytes arena_length store_length first list refl (bytes-table, omega arith, omega arith) passes fit
+      (none-block zeros table_bytes arena_length store_length first list refl (bytes-table, omega arith, omega arith) passes fit none)

@@ -8,32 +8,32 @@ use mathlib.Core.List.{List, [], ◌∷◌, ◌++◌}
 use native.Mathlib.Omega.{arith}
 use native.Mathlib.Decide.{ℕ_discrete}
 use lib.ListN.{length, replicate, length-replicate, length-append}
-use Rattle.logic.proofs.LogicLaws.{lt-or-le}
+use Rattle.logic.proofs.LogicLaws.{lt_or_le}
 use Rattle.words.specs.Words.{le, le_bytes}
-use Rattle.chs.specs.Chs.{inLimits}
+use Rattle.chs.specs.Chs.{in_limits}
 use Rattle.drive.specs.declared.Drive.{Drive}
-use Rattle.drive.specs.Drive.{driveOf, same, busOk, interfaceOk, geometryFits, fieldsOk, inStore, overlap, isI2o, kindOk, tailOf, zeroTail}
+use Rattle.drive.specs.Drive.{drive_of, same, bus_ok, interface_ok, geometry_fits, fields_ok, in_store, overlap, is_i2o, kind_ok, tail_of, zero_tail}
 use Rattle.table.specs.declared.Table.{Table}
-use Rattle.table.specs.Table.{zeroDrive, headerOf, headerAt, overlapsAny, refusal, parametersRefusal, recordRefusal, withRecord, recordStep, endStep, step_of, stepAt, readFrom, readTable}
+use Rattle.table.specs.Table.{zero_drive, header_of, header_at, overlaps_any, refusal, parameters_refusal, record_refusal, with_record, record_step, end_step, step_of, step_at, read_from, read_table}
 use Rattle.layout.specs.declared.Packet.{Packet}
 use Rattle.layout.specs.declared.PacketRead.TheVariants.{Whole}
-use Rattle.layout.specs.Packet.{packetLength, packetAt, readPacket}
-use Rattle.memory.specs.Window.{guests, spanLength, windowOf, withWindow}
-use Rattle.memory.proofs.WindowLaws.{span-in, length-with-window, window-with-same, window-with-other}
+use Rattle.layout.specs.Packet.{packet_length, packet_at, read_packet}
+use Rattle.memory.specs.Window.{guests, span_length, window_of, with_window}
+use Rattle.memory.proofs.WindowLaws.{span_in, length-with_window, window_with_same, window_with_other}
 use Rattle.desk.specs.declared.Desk.{Desk}
 use Rattle.desk.specs.declared.Opening.{Opening}
 use Rattle.desk.specs.declared.OpenAnswer.TheVariants.{Opened}
-use Rattle.desk.specs.Calls.{opened, openOf}
+use Rattle.desk.specs.Calls.{opened, open_of}
 use Rattle.isolation.specs.Lists.{Call, run}
 use Rattle.isolation.specs.Words.{NoneOpens}
 use Rattle.isolation.specs.Demand.{Claim}
-use Rattle.isolation.proofs.Accept.{Inv, inv-opened}
+use Rattle.isolation.proofs.Accept.{Inv, inv_opened}
 use Rattle.isolation.proofs.Theorem.{demand}
 
 -- drive 80h: 19 blocks from store block 2, 1/2/9, protected; drive 81h, of kind 2: 61 blocks from store block 24, 3/4/5, flags 8 (it
 -- can verify); each is followed by its parameters
-abbrev pub tableBytes : List ℕ
-tableBytes =
+abbrev pub table_bytes : List ℕ
+table_bytes =
     68 ∷ 0 ∷ 1 ∷ 0 ∷ 1 ∷ 0 ∷ 0 ∷ 0 ∷ 2 ∷ 0 ∷ 0 ∷ 0 ∷ 9 ∷ 0 ∷ 0 ∷ 0 ∷ 19 ∷ 0 ∷ 0 ∷ 0 ∷ 0 ∷ 0 ∷ 0 ∷ 0 ∷ 2 ∷ 0 ∷ 0 ∷ 0 ∷ 0 ∷ 0 ∷ 0 ∷ 0 ∷ 0 ∷ 0 ∷ 1 ∷ 0 ∷ 2 ∷ 0 ∷ 9 ∷ 1 ∷ 73 ∷ 83 ∷ 65 ∷ 0 ∷ 65 ∷ 84 ∷ 65 ∷ 80 ∷ 73 ∷ 0 ∷ 0 ∷ 0 ∷ 1 ∷ 2 ∷ 3 ∷ 4 ∷ 5 ∷ 6 ∷ 7 ∷ 8 ∷ 9 ∷ 10 ∷ 11 ∷ 12 ∷ 13 ∷ 14 ∷ 15 ∷ 16
     ∷ 20 ∷ 0 ∷ 4 ∷ 0 ∷ 0 ∷ 0 ∷ 41 ∷ 42 ∷ 43 ∷ 44 ∷ 45 ∷ 46 ∷ 47 ∷ 48 ∷ 49 ∷ 50 ∷ 51 ∷ 52 ∷ 53 ∷ 54
     ∷ 76 ∷ 0 ∷ 2 ∷ 0 ∷ 7 ∷ 0 ∷ 0 ∷ 0 ∷ 11 ∷ 0 ∷ 0 ∷ 0 ∷ 13 ∷ 0 ∷ 0 ∷ 0 ∷ 61 ∷ 0 ∷ 0 ∷ 0 ∷ 0 ∷ 0 ∷ 0 ∷ 0 ∷ 24 ∷ 0 ∷ 0 ∷ 0 ∷ 0 ∷ 0 ∷ 0 ∷ 0 ∷ 8 ∷ 0 ∷ 3 ∷ 0 ∷ 4 ∷ 0 ∷ 5 ∷ 0 ∷ 80 ∷ 67 ∷ 73 ∷ 0 ∷ 83 ∷ 67 ∷ 83 ∷ 73 ∷ 0 ∷ 0 ∷ 0 ∷ 0 ∷ 21 ∷ 22 ∷ 23 ∷ 24 ∷ 25 ∷ 26 ∷ 27 ∷ 28 ∷ 31 ∷ 32 ∷ 33 ∷ 34 ∷ 35 ∷ 36 ∷ 37 ∷ 38 ∷ 81 ∷ 82 ∷ 83 ∷ 84 ∷ 85 ∷ 86 ∷ 87 ∷ 88
@@ -41,15 +41,15 @@ tableBytes =
     ∷ 4 ∷ 0 ∷ 0 ∷ 0 ∷ []
 
 -- 8 windows of 8960 bytes, and five more
-abbrev pub arenaLength : ℕ
-arenaLength = 71685
+abbrev pub arena_length : ℕ
+arena_length = 71685
 
 abbrev pub M : ℕ
 M = 8960
 
 -- 90 blocks
-abbrev pub storeLength : ℕ
-storeLength = 46080
+abbrev pub store_length : ℕ
+store_length = 46080
 
 abbrev pub guarded : Drive
 guarded =
@@ -100,90 +100,90 @@ given =
     ∷ replicate 84 0
 
 abbrev pub table : Table
-table = record { drives = guarded ∷ plain ∷ replicate 6 zeroDrive; count = 2; present = true ∷ true ∷ replicate 6 false; parameters = given; counts = replicate 8 0; bad = replicate 1024 0 }
+table = record { drives = guarded ∷ plain ∷ replicate 6 zero_drive; count = 2; present = true ∷ true ∷ replicate 6 false; parameters = given; counts = replicate 8 0; bad = replicate 1024 0 }
 
 abbrev pub d₀ : Desk
-d₀ = opened table arenaLength storeLength
+d₀ = opened table arena_length store_length
 
-pub opening : openOf tableBytes arenaLength storeLength ≡ record { desk = d₀; answer = Opened }
-unfolding openOf le le_bytes inLimits driveOf same busOk interfaceOk geometryFits fieldsOk inStore overlap headerOf headerAt overlapsAny refusal parametersRefusal recordRefusal withRecord recordStep endStep step_of stepAt readFrom readTable tailOf isI2o zeroTail kindOk
+pub opening : open_of table_bytes arena_length store_length ≡ record { desk = d₀; answer = Opened }
+unfolding open_of le le_bytes in_limits drive_of same bus_ok interface_ok geometry_fits fields_ok in_store overlap header_of header_at overlaps_any refusal parameters_refusal record_refusal with_record record_step end_step step_of step_at read_from read_table tail_of is_i2o zero_tail kind_ok
 opening = refl
 
 pub inv₀ : Inv d₀
-inv₀ = subst (λ (o : Opening). Inv o.desk) opening (inv-opened tableBytes arenaLength storeLength (ap (λ (o : Opening). o.answer) opening))
+inv₀ = subst (λ (o : Opening). Inv o.desk) opening (inv_opened table_bytes arena_length store_length (ap (λ (o : Opening). o.answer) opening))
 
 -- demand 3 of a list of calls at it
-pub claimed : (calls : List Call) → NoneOpens (run d₀ calls) → Claim tableBytes d₀ M calls
+pub claimed : (calls : List Call) → NoneOpens (run d₀ calls) → Claim table_bytes d₀ M calls
 claimed calls =
-    subst (λ (o : Opening). NoneOpens (run o.desk calls) → Claim tableBytes o.desk M calls) opening
-    (demand tableBytes arenaLength storeLength calls (ap (λ (o : Opening). o.answer) opening))
+    subst (λ (o : Opening). NoneOpens (run o.desk calls) → Claim table_bytes o.desk M calls) opening
+    (demand table_bytes arena_length store_length calls (ap (λ (o : Opening). o.answer) opening))
 
 -- ---- the packet at 0001:0008 of a window
 
-pub read-packet : (w : List ℕ) (p : Packet) → length w ≡ M → packetAt w 24 ≡ p → readPacket w 24 ≡ Whole p
-unfolding readPacket
+pub read-packet : (w : List ℕ) (p : Packet) → length w ≡ M → packet_at w 24 ≡ p → read_packet w 24 ≡ Whole p
+unfolding read_packet
 read-packet w p l e = rw l (ap Whole e)
 
 -- 16 bytes there, and zeros around them
-abbrev pub windowWith : List ℕ → List ℕ
-windowWith bytes = replicate 24 0 ++ (bytes ++ replicate 8920 0)
+abbrev pub window_with : List ℕ → List ℕ
+window_with bytes = replicate 24 0 ++ (bytes ++ replicate 8920 0)
 
-length-window-with : (bytes : List ℕ) → length bytes ≡ packetLength → length (windowWith bytes) ≡ M
-length-window-with bytes e =
+length-window_with : (bytes : List ℕ) → length bytes ≡ packet_length → length (window_with bytes) ≡ M
+length-window_with bytes e =
     length-append (replicate 24 0) (bytes ++ replicate 8920 0)
     ∙ omega (arith, length-append bytes (replicate 8920 0), length-replicate {A = ℕ} 8920 0, length-replicate {A = ℕ} 24 0, e)
 
 -- ---- such an arena, each guest's packet in its window, and a store of sevens
 
-module _ (packet : ℕ → List ℕ) (whole : (g : ℕ) → length (packet g) ≡ packetLength) where
-  long : (g : ℕ) → length (windowWith (packet g)) ≡ M
-  long g = length-window-with (packet g) (whole g)
+module _ (packet : ℕ → List ℕ) (whole : (g : ℕ) → length (packet g) ≡ packet_length) where
+  long : (g : ℕ) → length (window_with (packet g)) ≡ M
+  long g = length-window_with (packet g) (whole g)
 
   -- with the windows of the first k guests
   filled : ℕ → List ℕ
-  filled zero = replicate arenaLength 0
-  filled (suc k) = withWindow (filled k) k M (windowWith (packet k))
+  filled zero = replicate arena_length 0
+  filled (suc k) = with_window (filled k) k M (window_with (packet k))
 
-  length-filled : (k : ℕ) → length (filled k) ≡ arenaLength
+  length_filled : (k : ℕ) → length (filled k) ≡ arena_length
   unfolding filled
-  length-filled zero = length-replicate {A = ℕ} arenaLength 0
-  length-filled (suc k) = length-with-window (filled k) k M (windowWith (packet k)) ∙ length-filled k
+  length_filled zero = length-replicate {A = ℕ} arena_length 0
+  length_filled (suc k) = length-with_window (filled k) k M (window_with (packet k)) ∙ length_filled k
 
-  span_filled : (k g : ℕ) → g < guests → spanLength (length (filled k)) g M ≡ M
-  span_filled k g b = ap (λ (n : ℕ). spanLength n g M) (length-filled k) ∙ (span-in arenaLength g M (omega arith) b).1
+  span_filled : (k g : ℕ) → g < guests → span_length (length (filled k)) g M ≡ M
+  span_filled k g b = ap (λ (n : ℕ). span_length n g M) (length_filled k) ∙ (span_in arena_length g M (omega arith) b).1
 
-  window-filled : (k g : ℕ) → k ≤ guests → g < k → windowOf (filled k) g M ≡ windowWith (packet g)
+  window_filled : (k g : ℕ) → k ≤ guests → g < k → window_of (filled k) g M ≡ window_with (packet g)
   unfolding filled
-  window-filled zero g l b = absurd (omega arith)
-  window-filled (suc k) g l b = by-guest (ℕ_discrete k g) (window-filled k g (omega arith))
+  window_filled zero g l b = absurd (omega arith)
+  window_filled (suc k) g l b = by_guest (ℕ_discrete k g) (window_filled k g (omega arith))
     where
       below : (k g : ℕ) → g < suc k → (k ≡ g → ⊥) → g < k
-      below k g b n = ⊎_elim (λ x. x) (λ x. absurd (n (omega arith))) (lt-or-le g k)
+      below k g b n = ⊎_elim (λ x. x) (λ x. absurd (n (omega arith))) (lt_or_le g k)
 
-      by-guest : Dec (k ≡ g) → (g < k → windowOf (filled k) g M ≡ windowWith (packet g)) → windowOf (withWindow (filled k) k M (windowWith (packet k))) g M ≡ windowWith (packet g)
-      by-guest (yes y) ih =
-          subst (λ (h : ℕ). windowOf (withWindow (filled k) k M (windowWith (packet k))) h M ≡ windowWith (packet h)) y
-          (window-with-same (filled k) k M (windowWith (packet k)) (long k ∙ sym (span_filled k k (omega arith))))
-      by-guest (no y) ih =
-          window-with-other (filled k) k g M (windowWith (packet k)) y (long k ∙ sym (span_filled k k (omega arith))) ∙ ih (below k g b y)
+      by_guest : Dec (k ≡ g) → (g < k → window_of (filled k) g M ≡ window_with (packet g)) → window_of (with_window (filled k) k M (window_with (packet k))) g M ≡ window_with (packet g)
+      by_guest (yes y) ih =
+          subst (λ (h : ℕ). window_of (with_window (filled k) k M (window_with (packet k))) h M ≡ window_with (packet h)) y
+          (window_with_same (filled k) k M (window_with (packet k)) (long k ∙ sym (span_filled k k (omega arith))))
+      by_guest (no y) ih =
+          window_with_other (filled k) k g M (window_with (packet k)) y (long k ∙ sym (span_filled k k (omega arith))) ∙ ih (below k g b y)
 
-  pub arenaOf : List ℕ
-  arenaOf = filled guests
+  pub arena_of : List ℕ
+  arena_of = filled guests
 
-  pub length-arena : length arenaOf ≡ arenaLength
-  unfolding arenaOf
-  length-arena = length-filled guests
+  pub length-arena : length arena_of ≡ arena_length
+  unfolding arena_of
+  length-arena = length_filled guests
 
-  pub window-arena : (g : ℕ) → g < guests → windowOf arenaOf g M ≡ windowWith (packet g)
-  unfolding arenaOf
-  window-arena g b = window-filled guests g (omega arith) b
+  pub window-arena : (g : ℕ) → g < guests → window_of arena_of g M ≡ window_with (packet g)
+  unfolding arena_of
+  window-arena g b = window_filled guests g (omega arith) b
 
-  pub held-arena : (g : ℕ) → g < guests → packetAt (windowOf arenaOf g M) 24 ≡ packetAt (windowWith (packet g)) 24
-  held-arena g b = ap (λ (w : List ℕ). packetAt w 24) (window-arena g b)
+  pub held-arena : (g : ℕ) → g < guests → packet_at (window_of arena_of g M) 24 ≡ packet_at (window_with (packet g)) 24
+  held-arena g b = ap (λ (w : List ℕ). packet_at w 24) (window-arena g b)
 
 pub sevens : List ℕ
-sevens = replicate storeLength 7
+sevens = replicate store_length 7
 
-pub length-sevens : length sevens ≡ storeLength
+pub length_sevens : length sevens ≡ store_length
 unfolding sevens
-length-sevens = length-replicate {A = ℕ} storeLength 7
+length_sevens = length-replicate {A = ℕ} store_length 7

@@ -7,12 +7,12 @@ use mathlib.Core.List.{List, [], ◌∷◌, ◌++◌}
 use native.Mathlib.Omega.{arith}
 use native.Mathlib.Nat.{zero-add}
 use lib.ListN.{length}
-use Rattle.logic.proofs.LogicLaws.{lt-or-le}
+use Rattle.logic.proofs.LogicLaws.{lt_or_le}
 use Rattle.words.specs.Words.{part}
-use Rattle.memory.specs.Window.{windowLength, windowOf}
-use Rattle.memory.specs.Blocks.{blockLength}
+use Rattle.memory.specs.Window.{window_length, window_of}
+use Rattle.memory.specs.Blocks.{block_length}
 use Rattle.table.specs.declared.Table.{Table}
-use Rattle.table.specs.Table.{readTable}
+use Rattle.table.specs.Table.{read_table}
 use Rattle.int13.specs.declared.Registers.{Registers}
 use Rattle.int13.specs.declared.Placement.{Placement}
 use Rattle.int13.specs.declared.Job.{Job}
@@ -20,53 +20,53 @@ use Rattle.int13.specs.declared.Outcome.{Outcome}
 use Rattle.int13.specs.declared.Outcome.TheVariants.{Waits as JobWaits}
 use Rattle.int13.specs.Answers.{ended}
 use Rattle.int13.specs.Steps.{fed, begin}
-use Rattle.int13.specs.Alone.{Memory, Served, storeBlock, moves, endedMemory, finish, servedBy, alone}
+use Rattle.int13.specs.Alone.{Memory, Served, store_block, moves, ended_memory, finish, served_by, alone}
 use Rattle.desk.specs.declared.Stage.TheVariants.{Finished}
 use Rattle.desk.specs.declared.Desk.{Desk}
 use Rattle.desk.specs.declared.CollectAnswer.TheVariants.{Given}
-use Rattle.desk.specs.Parts.{windowSize, stageAt, placementAt}
-use Rattle.desk.specs.Acceptable.{jobOk, turnBlocks}
+use Rattle.desk.specs.Parts.{window_size, stage_at, placement_at}
+use Rattle.desk.specs.Acceptable.{job_ok, turn_blocks}
 use Rattle.desk.specs.Calls.{quota}
 use Rattle.isolation.specs.Lists.{collect, Call, collected, step, run, after}
-use Rattle.isolation.specs.Words.{Kind, refused, plain, opens, answers, accepts, serves, idles, hands, withdraws, places, kind_of, NoneOpens, total, turnIn, turns, serviceIn, services, movedIn, moved, withdrawalIn, withdrawals, collects, Accepted, fullPart, Waits, Stops, Finishes, turnsEach, turnsFor, Unwritten, Left}
-use Rattle.isolation.specs.Demand.{Ends, finishing as endsFinishing, withdrawing as endsWithdrawing, Same}
-use Rattle.isolation.proofs.Turn.{dist-lt}
-use Rattle.isolation.proofs.Moves.{Alike, part-agree, moves-size, moves-none}
+use Rattle.isolation.specs.Words.{Kind, refused, plain, opens, answers, accepts, serves, idles, hands, withdraws, places, kind_of, NoneOpens, total, turn_in, turns, service_in, services, moved_in, moved, withdrawal_in, withdrawals, collects, Accepted, full_part, Waits, Stops, Finishes, turns_each, turns_for, Unwritten, Left}
+use Rattle.isolation.specs.Demand.{Ends, finishing as ends_finishing, withdrawing as ends_withdrawing, Same}
+use Rattle.isolation.proofs.Turn.{dist_lt}
+use Rattle.isolation.proofs.Moves.{Alike, part_agree, moves-size, moves-none}
 use Rattle.isolation.proofs.Endings.{now, good-end}
-use Rattle.isolation.proofs.Accept.{Inv, Ready, ready, job-ready}
-use Rattle.isolation.proofs.View.{answer, view, windowIn, window-length}
-use Rattle.isolation.proofs.Keep.{inv-step, Cleans, clean-row, cleans-step, cleans-after, Fixed, fixed-step, reached}
-use Rattle.isolation.proofs.Fate.{Fate, stays, passes, parts, ends, leaves, step-fate}
-use Rattle.isolation.proofs.Bound.{total-append, total-at, after-append, opens-front, opens-rest, opens-cons, opens-upto, full-front, Reach, near, waitFor, wait-start, Track, Course, waiting, finishing, leaving, course, track}
+use Rattle.isolation.proofs.Accept.{Inv, Ready, ready, job_ready}
+use Rattle.isolation.proofs.View.{answer, view, window_in, window-length}
+use Rattle.isolation.proofs.Keep.{inv_step, Cleans, clean_row, cleans_step, cleans_after, Fixed, fixed_step, reached}
+use Rattle.isolation.proofs.Fate.{Fate, stays, passes, parts, ends, leaves, step_fate}
+use Rattle.isolation.proofs.Bound.{total-append, total_at, after-append, opens_front, opens-rest, opens_cons, opens_upto, full_front, Reach, near, wait_for, wait_start, Track, Course, waiting, finishing, leaving, course, track}
 use Rattle.isolation.proofs.Equal.{memory, request, end_of, Mid, Ended, equal-run}
 use Rattle.isolation.proofs.Posts.{Feeds, Took, took}
-use Rattle.isolation.proofs.Finished.{still-finished, handed-over}
+use Rattle.isolation.proofs.Finished.{still_finished, handed-over}
 
 -- ---- numbers at the last call
 
-total-last : (f : Kind → ℕ) (front : List Call) (t : Call) (d : Desk) → total f (run d (front ++ t ∷ [])) ≡ total f (run d front) + f (kind_of (step (after d front) t).answer)
+total_last : (f : Kind → ℕ) (front : List Call) (t : Call) (d : Desk) → total f (run d (front ++ t ∷ [])) ≡ total f (run d front) + f (kind_of (step (after d front) t).answer)
 unfolding run
-total-last f front t d = omega (arith, total-at f front [] t d)
+total_last f front t d = omega (arith, total_at f front [] t d)
 
-total-one : (f : Kind → ℕ) (t : Call) (d : Desk) → total f (run d (t ∷ [])) ≡ f (kind_of (step d t).answer)
+total_one : (f : Kind → ℕ) (t : Call) (d : Desk) → total f (run d (t ∷ [])) ≡ f (kind_of (step d t).answer)
 unfolding run
-total-one f t d = omega arith
+total_one f t d = omega arith
 
-turn-keeps : (g : ℕ) (k : Kind) → turnIn k ≡ 1 → withdrawalIn g k ≡ 0
-turn-keeps g refused e = refl
-turn-keeps g plain e = refl
-turn-keeps g opens e = refl
-turn-keeps g (answers h) e = refl
-turn-keeps g (accepts h) e = refl
-turn-keeps g (serves h k) e = refl
-turn-keeps g idles e = refl
-turn-keeps g (hands h r) e = refl
-turn-keeps g (withdraws h) e = absurd (omega arith)
-turn-keeps g (places h address) e = refl
+turn_keeps : (g : ℕ) (k : Kind) → turn_in k ≡ 1 → withdrawal_in g k ≡ 0
+turn_keeps g refused e = refl
+turn_keeps g plain e = refl
+turn_keeps g opens e = refl
+turn_keeps g (answers h) e = refl
+turn_keeps g (accepts h) e = refl
+turn_keeps g (serves h k) e = refl
+turn_keeps g idles e = refl
+turn_keeps g (hands h r) e = refl
+turn_keeps g (withdraws h) e = absurd (omega arith)
+turn_keeps g (places h address) e = refl
 
 -- no part is above sixteen
-full-most : (n m : ℕ) {k : ℕ} → k < fullPart n m → k ≡ turnBlocks → ⊥
-full-most n m l e = omega arith
+full_most : (n m : ℕ) {k : ℕ} → k < full_part n m → k ≡ turn_blocks → ⊥
+full_most n m l e = omega arith
 
 -- ---- one request
 
@@ -78,13 +78,13 @@ module _ (d : Desk) (inv : Inv d) (cl : Cleans d) (c : Call) (g : ℕ) (r : Regi
   d₁ = (step d c).desk
 
   inv₁ : Inv d₁
-  inv₁ = inv-step d c inv n₀
+  inv₁ = inv_step d c inv n₀
 
   cl₁ : Cleans d₁
-  cl₁ = cleans-step d c inv cl n₀
+  cl₁ = cleans_step d c inv cl n₀
 
   fixed₁ : Fixed d d₁
-  fixed₁ = fixed-step d c inv n₀
+  fixed₁ = fixed_step d c inv n₀
 
   abbrev job : Job
   job = accepted.job
@@ -93,98 +93,98 @@ module _ (d : Desk) (inv : Inv d) (cl : Cleans d) (c : Call) (g : ℕ) (r : Regi
   n = job.count
 
   tracked : (mid : List Call) → NoneOpens (run d₁ mid) → Waits g n (run d₁ mid) → Track g (request job 0) d₁ mid
-  tracked mid no-open w = track mid d₁ inv₁ no-open g (request job 0) accepted.row (omega (arith, w.0)) (omega (arith, w.1)) w.2
+  tracked mid no_open w = track mid d₁ inv₁ no_open g (request job 0) accepted.row (omega (arith, w.0)) (omega (arith, w.1)) w.2
 
-  start : waitFor d₁.pointer g (request job 0) < turnsFor n
-  start = wait-start d₁.pointer g (request job 0) refl accepted.fresh.some
+  start : wait_for d₁.pointer g (request job 0) < turns_for n
+  start = wait_start d₁.pointer g (request job 0) refl accepted.fresh.some
 
-  pub bounded' : (mid : List Call) → NoneOpens (run d₁ mid) → Waits g n (run d₁ mid) → turns (run d₁ mid) < turnsFor n
-  bounded' mid no-open w = let t = tracked mid no-open w in omega (arith, t.bound, start)
+  pub bounded' : (mid : List Call) → NoneOpens (run d₁ mid) → Waits g n (run d₁ mid) → turns (run d₁ mid) < turns_for n
+  bounded' mid no_open w = let t = tracked mid no_open w in omega (arith, t.bound, start)
 
   -- before an end it waits
   before : (front rest : List Call) (t : Call) (mid : List Call) → mid ≡ front ++ t ∷ rest → NoneOpens (run d₁ mid) → Track g (request job 0) d₁ front → Waits g n (run d₁ front)
-  before front rest t mid s no-open k =
-      let o : NoneOpens (run d₁ front) = opens-front front (t ∷ rest) d₁ (subst (λ (l : List Call). NoneOpens (run d₁ l)) s no-open) in
+  before front rest t mid s no_open k =
+      let o : NoneOpens (run d₁ front) = opens_front front (t ∷ rest) d₁ (subst (λ (l : List Call). NoneOpens (run d₁ l)) s no_open) in
       let a = ready (after d₁ front) g k.now (reached front d₁ inv₁ o).inv k.here in
       let e : k.now.job.count ≡ n = ap (λ (j : Job). j.count) k.job in
       (k.kept, omega (arith, a.rest, k.moved, e), k.full)
 
-  pub finishes' : (mid : List Call) → NoneOpens (run d₁ mid) → turnsFor n ≤ turns (run d₁ mid) → Ends g n (turnsFor n) d₁ mid
-  finishes' mid no-open b = go (course mid d₁ inv₁ no-open g (request job 0) accepted.row)
+  pub finishes' : (mid : List Call) → NoneOpens (run d₁ mid) → turns_for n ≤ turns (run d₁ mid) → Ends g n (turns_for n) d₁ mid
+  finishes' mid no_open b = go (course mid d₁ inv₁ no_open g (request job 0) accepted.row)
     where
-      reached-there : (front : List Call) (t : Call) → Reach g n (0 + moved g (run d₁ front)) (kind_of (step (after d₁ front) t).answer)
+      reached_there : (front : List Call) (t : Call) → Reach g n (0 + moved g (run d₁ front)) (kind_of (step (after d₁ front) t).answer)
           → (moved g (run d₁ (front ++ t ∷ [])) ≡ n) ⊎ Stops g n (moved g (run d₁ front)) (kind_of (step (after d₁ front) t).answer)
-      reached-there front t f =
-          ⊎_elim (λ x. inl (total-last (movedIn g) front t d₁ ∙ omega (arith, x)))
+      reached_there front t f =
+          ⊎_elim (λ x. inl (total_last (moved_in g) front t d₁ ∙ omega (arith, x)))
           (λ x. inr (subst (λ (m : ℕ). Stops g n m (kind_of (step (after d₁ front) t).answer)) (zero-add (moved g (run d₁ front))) x)) f
 
-      go : Course g (request job 0) d₁ mid → Ends g n (turnsFor n) d₁ mid
+      go : Course g (request job 0) d₁ mid → Ends g n (turns_for n) d₁ mid
       go (waiting t) = absurd (omega (arith, t.bound, start))
       go (finishing front t rest s k f u) =
-          endsFinishing front t rest s
-          (record { waited = before front rest t mid s no-open k; reached = reached-there front t f })
-          (omega (arith, total-last turnIn front t d₁, u, k.bound, start))
+          ends_finishing front t rest s
+          (record { waited = before front rest t mid s no_open k; reached = reached_there front t f })
+          (omega (arith, total_last turn_in front t d₁, u, k.bound, start))
       go (leaving front t rest s k f) =
-          let z : turnIn (kind_of (step (after d₁ front) t).answer) ≡ 0 = ap turnIn f in
-          endsWithdrawing front t rest s
-          (record { waited = before front rest t mid s no-open k; gone = f })
-          (omega (arith, total-last turnIn front t d₁, z, k.bound, start))
+          let z : turn_in (kind_of (step (after d₁ front) t).answer) ≡ 0 = ap turn_in f in
+          ends_withdrawing front t rest s
+          (record { waited = before front rest t mid s no_open k; gone = f })
+          (omega (arith, total_last turn_in front t d₁, z, k.bound, start))
 
   pub within' : (mid stretch : List Call) (last : Call) → NoneOpens (run d₁ (mid ++ (stretch ++ last ∷ [])))
       → Waits g n (run d₁ (mid ++ stretch))
       → turns (run (after d₁ (mid ++ stretch)) (last ∷ [])) ≡ 1
-      → turnsEach ≤ turns (run (after d₁ mid) (stretch ++ last ∷ []))
+      → turns_each ≤ turns (run (after d₁ mid) (stretch ++ last ∷ []))
       → 0 < services g (run (after d₁ mid) (stretch ++ last ∷ []))
-  within' mid stretch last no-open w one eight =
+  within' mid stretch last no_open w one eight =
       let d₂ : Desk = after d₁ mid in
       let k : Kind = kind_of (step (after d₂ stretch) last).answer in
-      let o₁ : NoneOpens (run d₁ mid) = opens-front mid (stretch ++ last ∷ []) d₁ no-open in
-      let o₂ : NoneOpens (run d₂ (stretch ++ last ∷ [])) = opens-rest mid (stretch ++ last ∷ []) d₁ no-open in
-      let zw : withdrawals g (run d₁ mid) + withdrawals g (run d₂ stretch) ≡ 0 = sym (total-append (withdrawalIn g) mid stretch d₁) ∙ w.0 in
-      let zm : moved g (run d₁ mid) + moved g (run d₂ stretch) < n = subst (λ (m : ℕ). m < n) (total-append (movedIn g) mid stretch d₁) w.1 in
-      let t = tracked mid o₁ (omega arith, omega arith, full-front g n 0 mid stretch d₁ w.2) in
-      let one' : turnIn k ≡ 1 = sym (total-one turnIn last (after d₂ stretch)) ∙ ap (λ (x : Desk). turns (run x (last ∷ []))) (sym (after-append mid stretch d₁)) ∙ one in
-      let zl : withdrawals g (run d₂ (stretch ++ last ∷ [])) ≡ withdrawals g (run d₂ stretch) + withdrawalIn g k = total-last (withdrawalIn g) stretch last d₂ in
+      let o₁ : NoneOpens (run d₁ mid) = opens_front mid (stretch ++ last ∷ []) d₁ no_open in
+      let o₂ : NoneOpens (run d₂ (stretch ++ last ∷ [])) = opens-rest mid (stretch ++ last ∷ []) d₁ no_open in
+      let zw : withdrawals g (run d₁ mid) + withdrawals g (run d₂ stretch) ≡ 0 = sym (total-append (withdrawal_in g) mid stretch d₁) ∙ w.0 in
+      let zm : moved g (run d₁ mid) + moved g (run d₂ stretch) < n = subst (λ (m : ℕ). m < n) (total-append (moved_in g) mid stretch d₁) w.1 in
+      let t = tracked mid o₁ (omega arith, omega arith, full_front g n 0 mid stretch d₁ w.2) in
+      let one' : turn_in k ≡ 1 = sym (total_one turn_in last (after d₂ stretch)) ∙ ap (λ (x : Desk). turns (run x (last ∷ []))) (sym (after-append mid stretch d₁)) ∙ one in
+      let zl : withdrawals g (run d₂ (stretch ++ last ∷ [])) ≡ withdrawals g (run d₂ stretch) + withdrawal_in g k = total_last (withdrawal_in g) stretch last d₂ in
       ⊎_elim (λ x. x)
       (λ x. absurd (omega (
         arith,
         eight,
-        near (stretch ++ last ∷ []) d₂ (reached mid d₁ inv₁ o₁).inv o₂ g t.now t.here (omega (arith, zw, zl, turn-keeps g k one')) (omega arith),
-        dist-lt d₂.pointer g,
+        near (stretch ++ last ∷ []) d₂ (reached mid d₁ inv₁ o₁).inv o₂ g t.now t.here (omega (arith, zw, zl, turn_keeps g k one')) (omega arith),
+        dist_lt d₂.pointer g,
       )))
-      (lt-or-le 0 (services g (run d₂ (stretch ++ last ∷ []))))
+      (lt_or_le 0 (services g (run d₂ (stretch ++ last ∷ []))))
 
   -- the registers that it finishes with
-  abbrev atEnd : Registers
-  atEnd = ended n (end_of d.table job) job.registers
+  abbrev at_end : Registers
+  at_end = ended n (end_of d.table job) job.registers
 
   -- no call changes the table
   same-table : (mid : List Call) → NoneOpens (run d₁ mid) → (after d₁ mid).table ≡ d.table
-  same-table mid no-open = (reached mid d₁ inv₁ no-open).fixed.table ∙ fixed₁.table
+  same-table mid no_open = (reached mid d₁ inv₁ no_open).fixed.table ∙ fixed₁.table
 
   -- by what that turn answers
   ends_there : (mid : List Call) (last : Call) → Finishes g n d₁ mid last → Reach g n (moved g (run d₁ mid)) (kind_of (step (after d₁ mid) last).answer)
-  ends_there mid last f = ⊎_elim (λ x. inl (sym (total-last (movedIn g) mid last d₁) ∙ x)) (λ x. inr x) f.reached
+  ends_there mid last f = ⊎_elim (λ x. inl (sym (total_last (moved_in g) mid last d₁) ∙ x)) (λ x. inr x) f.reached
 
   -- the finishing turn leaves the row finished, and the numbers answered are the blocks moved
   record Over (mid : List Call) (last : Call) : Type 0 where
-    pub row : stageAt (step (after d₁ mid) last).desk g ≡ Finished atEnd
+    pub row : stage_at (step (after d₁ mid) last).desk g ≡ Finished at_end
     pub number : moved g (run d₁ (mid ++ last ∷ [])) ≡ end_of d.table job
 
   finished : (mid : List Call) (last : Call) → NoneOpens (run d₁ (mid ++ last ∷ [])) → Finishes g n d₁ mid last → Over mid last
-  finished mid last no-open f = go (step-fate d₂ inv₂ last g t.now t.here no_last.0)
+  finished mid last no_open f = go (step_fate d₂ inv₂ last g t.now t.here no_last.0)
     where
       d₂ : Desk
       d₂ = after d₁ mid
 
       o₁ : NoneOpens (run d₁ mid)
-      o₁ = opens-front mid (last ∷ []) d₁ no-open
+      o₁ = opens_front mid (last ∷ []) d₁ no_open
 
       inv₂ : Inv d₂
       inv₂ = (reached mid d₁ inv₁ o₁).inv
 
       no_last : (kind_of (step d₂ last).answer ≡ opens → ⊥) × NoneOpens (run (step d₂ last).desk [])
-      no_last = opens-cons d₂ last [] (opens-rest mid (last ∷ []) d₁ no-open)
+      no_last = opens_cons d₂ last [] (opens-rest mid (last ∷ []) d₁ no_open)
 
       t : Track g (request job 0) d₁ mid
       t = tracked mid o₁ f.waited
@@ -199,100 +199,100 @@ module _ (d : Desk) (inv : Inv d) (cl : Cleans d) (c : Call) (g : ℕ) (r : Regi
       count = ap (λ (j : Job). j.count) t.job
 
       -- a call that does not serve it does not finish it
-      unserved : movedIn g kind ≡ 0 → serviceIn g kind ≡ 0 → ⊥
+      unserved : moved_in g kind ≡ 0 → service_in g kind ≡ 0 → ⊥
       unserved m s = ⊎_elim (λ a. omega (arith, f.waited.1, a, m)) (λ a. omega (arith, a.0, s)) all
 
       -- the good blocks, by the row before it
       goods : (t.now.moved + now d₂.table t.now ≡ t.now.job.count) ⊎ (now d₂.table t.now < quota t.now)
           → t.now.moved + now d₂.table t.now ≡ end_of d₂.table t.now.job
-      goods h = sym (good-end d₂.table t.now (clean-row d₂ g t.now (cleans-after mid d₁ inv₁ cl₁ o₁) t.here) (ready d₂ g t.now inv₂ t.here).rest h)
+      goods h = sym (good-end d₂.table t.now (clean_row d₂ g t.now (cleans_after mid d₁ inv₁ cl₁ o₁) t.here) (ready d₂ g t.now inv₂ t.here).rest h)
 
       go : Fate g t.now d₂ (step d₂ last) → Over mid last
       go (stays x p k) = absurd (unserved k.moved k.service)
       go (passes x p k) = absurd (unserved k.moved k.service)
-      go (parts x h p k) = absurd (⊎_elim (λ a. omega (arith, a, k.moved, h, count, t.moved)) (λ a. full-most n (moved g (run d₁ mid)) a.1 k.moved) all)
+      go (parts x h p k) = absurd (⊎_elim (λ a. omega (arith, a, k.moved, h, count, t.moved)) (λ a. full_most n (moved g (run d₁ mid)) a.1 k.moved) all)
       go (ends x h k) =
           record {
             row =
                 x
                 ∙ ap (λ (k : ℕ). Finished (ended t.now.job.count k t.now.job.registers)) (goods h)
                 ∙ ap₂ (λ (b : Table) (j : Job). Finished (ended j.count (end_of b j) j.registers)) (same-table mid o₁) t.job;
-            number = total-last (movedIn g) mid last d₁ ∙ omega (arith, t.moved, k.moved) ∙ goods h ∙ ap₂ end_of (same-table mid o₁) t.job;
+            number = total_last (moved_in g) mid last d₁ ∙ omega (arith, t.moved, k.moved) ∙ goods h ∙ ap₂ end_of (same-table mid o₁) t.job;
           }
-      go (leaves k) = absurd (unserved (ap (movedIn g) k) (ap (serviceIn g) k))
+      go (leaves k) = absurd (unserved (ap (moved_in g) k) (ap (service_in g) k))
 
   -- ---- served alone
 
   abbrev found : Memory
-  found = memory (windowIn d c g) c.store
+  found = memory (window_in d c g) c.store
 
   abbrev lo : ℕ
-  lo = storeBlock d.table job
+  lo = store_block d.table job
 
   alone-is : (t : List ℕ) (p : Placement) → Feeds d g t p
-      → alone (fed t p) r found ≡ finish d.table (JobWaits job) (begin (fed d.table (placementAt d g)) r (windowIn d c g)).window found
+      → alone (fed t p) r found ≡ finish d.table (JobWaits job) (begin (fed d.table (placement_at d g)) r (window_in d c g)).window found
   unfolding alone
   alone-is t p e =
-      ap (λ (s : ℕ). servedBy (fed (readTable t (s / blockLength)).table p) r found) accepted.lent.store
-      ∙ ap₂ (λ (b : Table) (x : Placement). servedBy (fed b x) r found) e.table (sym e.placement)
-      ∙ ap (λ (o : Outcome). finish d.table o (begin (fed d.table (placementAt d g)) r (windowIn d c g)).window found) accepted.outcome
+      ap (λ (s : ℕ). served_by (fed (read_table t (s / block_length)).table p) r found) accepted.lent.store
+      ∙ ap₂ (λ (b : Table) (x : Placement). served_by (fed b x) r found) e.table (sym e.placement)
+      ∙ ap (λ (o : Outcome). finish d.table o (begin (fed d.table (placement_at d g)) r (window_in d c g)).window found) accepted.outcome
 
-  mid₀ : Mid lo d₁ g job 0 found (windowIn d c g) c.store
+  mid₀ : Mid lo d₁ g job 0 found (window_in d c g) c.store
   mid₀ =
       record {
         here = accepted.row;
-        first = ap (λ (b : Table). storeBlock b job) fixed₁.table;
+        first = ap (λ (b : Table). store_block b job) fixed₁.table;
         alike = subst (λ (m : Memory). Alike lo n found m) (sym (moves-none job lo 0 found)) (record { window = refl; length = refl; named = λ i h k. refl });
-        window = window-length d c g accepted.below accepted.lent ∙ ap windowLength (sym fixed₁.arena);
+        window = window-length d c g accepted.below accepted.lent ∙ ap window_length (sym fixed₁.arena);
         store = accepted.lent.store ∙ sym fixed₁.store;
       }
 
-  room : Ready d.table (windowSize d) d.store (request job 0)
+  room : Ready d.table (window_size d) d.store (request job 0)
   room =
-      job-ready d.table (windowSize d) d.store (request job 0) inv.table
-      (ap (λ (m : ℕ). jobOk d.table m job) (sym (window-length d c g accepted.below accepted.lent)) ∙ accepted.fresh.ok)
+      job_ready d.table (window_size d) d.store (request job 0) inv.table
+      (ap (λ (m : ℕ). job_ok d.table m job) (sym (window-length d c g accepted.below accepted.lent)) ∙ accepted.fresh.ok)
       accepted.fresh.some refl
 
   pub equal' : (t : List ℕ) (p : Placement) → Feeds d g t p → (mid : List Call) (last : Call) → NoneOpens (run d₁ (mid ++ last ∷ []))
       → Finishes g n d₁ mid last
-      → Left (windowSize d) g (windowOf (step d c).arena g (windowSize d)) (step d c).store (run d₁ (mid ++ last ∷ []))
+      → Left (window_size d) g (window_of (step d c).arena g (window_size d)) (step d c).store (run d₁ (mid ++ last ∷ []))
       → Unwritten g lo n (run d₁ (mid ++ last ∷ []))
-      → Same (windowSize d) g lo n (step (after d₁ mid) last) (alone (fed t p) r found)
-  equal' t p te mid last no-open f l u =
-      let l₁ : Left (windowSize d) g (windowIn d c g) c.store (run d₁ (mid ++ last ∷ []))
-      = subst (λ (s : List ℕ). Left (windowSize d) g (windowIn d c g) s (run d₁ (mid ++ last ∷ []))) accepted.store
-      (subst (λ (a : List ℕ). Left (windowSize d) g (windowOf a g (windowSize d)) (step d c).store (run d₁ (mid ++ last ∷ []))) accepted.arena l) in
-      let l₂ : Left (windowSize d₁) g (windowIn d c g) c.store (run d₁ (mid ++ last ∷ []))
-      = subst (λ (a : ℕ). Left (windowLength a) g (windowIn d c g) c.store (run d₁ (mid ++ last ∷ []))) (sym fixed₁.arena) l₁ in
+      → Same (window_size d) g lo n (step (after d₁ mid) last) (alone (fed t p) r found)
+  equal' t p te mid last no_open f l u =
+      let l₁ : Left (window_size d) g (window_in d c g) c.store (run d₁ (mid ++ last ∷ []))
+      = subst (λ (s : List ℕ). Left (window_size d) g (window_in d c g) s (run d₁ (mid ++ last ∷ []))) accepted.store
+      (subst (λ (a : List ℕ). Left (window_size d) g (window_of a g (window_size d)) (step d c).store (run d₁ (mid ++ last ∷ []))) accepted.arena l) in
+      let l₂ : Left (window_size d₁) g (window_in d c g) c.store (run d₁ (mid ++ last ∷ []))
+      = subst (λ (a : ℕ). Left (window_length a) g (window_in d c g) c.store (run d₁ (mid ++ last ∷ []))) (sym fixed₁.arena) l₁ in
       let e : Ended lo (after d₁ mid) g job found (step (after d₁ mid) last)
-      = equal-run lo mid last d₁ inv₁ cl₁ no-open g job 0 found (windowIn d c g) c.store mid₀ f.waited.0 (omega (arith, f.waited.1)) f.waited.2
+      = equal-run lo mid last d₁ inv₁ cl₁ no_open g job 0 found (window_in d c g) c.store mid₀ f.waited.0 (omega (arith, f.waited.1)) f.waited.2
       (subst (λ (m : ℕ). Reach g n m (kind_of (step (after d₁ mid) last).answer)) (sym (zero-add (moved g (run d₁ mid)))) (ends_there mid last f)) l₂ u in
-      let fx = (reached mid d₁ inv₁ (opens-front mid (last ∷ []) d₁ no-open)).fixed in
-      let size : windowSize (after d₁ mid) ≡ windowSize d = ap windowLength (fx.arena ∙ fixed₁.arena) in
+      let fx = (reached mid d₁ inv₁ (opens_front mid (last ∷ []) d₁ no_open)).fixed in
+      let size : window_size (after d₁ mid) ≡ window_size d = ap window_length (fx.arena ∙ fixed₁.arena) in
       let al = alone-is t p te in
-      let same = same-table mid (opens-front mid (last ∷ []) d₁ no-open) in
+      let same = same-table mid (opens_front mid (last ∷ []) d₁ no_open) in
       let k : ℕ = end_of d.table job in
-      let alike : Alike lo n (memory (windowOf (step (after d₁ mid) last).arena g (windowSize (after d₁ mid))) (step (after d₁ mid) last).store) (endedMemory job k (moves job lo 0 k found))
-      = subst (λ (b : Table). Alike lo n (memory (windowOf (step (after d₁ mid) last).arena g (windowSize (after d₁ mid))) (step (after d₁ mid) last).store)
-      (endedMemory job (end_of b job) (moves job lo 0 (end_of b job) found))) same e.alike in
+      let alike : Alike lo n (memory (window_of (step (after d₁ mid) last).arena g (window_size (after d₁ mid))) (step (after d₁ mid) last).store) (ended_memory job k (moves job lo 0 k found))
+      = subst (λ (b : Table). Alike lo n (memory (window_of (step (after d₁ mid) last).arena g (window_size (after d₁ mid))) (step (after d₁ mid) last).store)
+      (ended_memory job (end_of b job) (moves job lo 0 (end_of b job) found))) same e.alike in
       let len : length (step (after d₁ mid) last).store ≡ d.store
       = alike.length ∙ (moves-size job lo 0 k found).store ∙ accepted.lent.store in
       record {
         registers = e.registers ∙ ap (λ (b : Table). Finished (ended n (end_of b job) job.registers)) same ∙ ap (λ (x : Served). Finished x.registers) (sym al);
-        window = ap (λ (m : ℕ). windowOf (step (after d₁ mid) last).arena g m) (sym size) ∙ alike.window ∙ ap (λ (x : Served). x.memory.window) (sym al);
+        window = ap (λ (m : ℕ). window_of (step (after d₁ mid) last).arena g m) (sym size) ∙ alike.window ∙ ap (λ (x : Served). x.memory.window) (sym al);
         named = λ b h.
-            part-agree lo n (blockLength * b) blockLength (step (after d₁ mid) last).store (moves job lo 0 k found).store
+            part_agree lo n (block_length * b) block_length (step (after d₁ mid) last).store (moves job lo 0 k found).store
             (omega (arith, h.0)) (omega (arith, h.1)) (omega (arith, room.range, len)) alike.length alike.named
-            ∙ ap (λ (x : Served). part blockLength x.memory.store (blockLength * b)) (sym al);
+            ∙ ap (λ (x : Served). part block_length x.memory.store (block_length * b)) (sym al);
       }
 
   pub finished' : (t : List ℕ) (p : Placement) → Feeds d g t p → (mid : List Call) (last : Call) → NoneOpens (run d₁ (mid ++ last ∷ []))
-      → Finishes g n d₁ mid last → stageAt (step (after d₁ mid) last).desk g ≡ Finished (alone (fed t p) r found).registers
-  finished' t p te mid last no-open f = (finished mid last no-open f).row ∙ ap (λ (x : Served). Finished x.registers) (sym (alone-is t p te))
+      → Finishes g n d₁ mid last → stage_at (step (after d₁ mid) last).desk g ≡ Finished (alone (fed t p) r found).registers
+  finished' t p te mid last no_open f = (finished mid last no_open f).row ∙ ap (λ (x : Served). Finished x.registers) (sym (alone-is t p te))
 
   pub counted' : (mid : List Call) (last : Call) → NoneOpens (run d₁ (mid ++ last ∷ [])) → Finishes g n d₁ mid last
       → moved g (run d₁ (mid ++ last ∷ [])) ≡ end_of d.table job
-  counted' mid last no-open f = (finished mid last no-open f).number
+  counted' mid last no_open f = (finished mid last no_open f).number
 
   pub handed' : (t : List ℕ) (p : Placement) → Feeds d g t p → (mid after₁ : List Call) (last x : Call)
       → NoneOpens (run d₁ (mid ++ last ∷ (after₁ ++ x ∷ [])))
@@ -301,14 +301,14 @@ module _ (d : Desk) (inv : Inv d) (cl : Cleans d) (c : Call) (g : ℕ) (r : Regi
       → x.op ≡ collect g
       → (kind_of (step (after (step (after d₁ mid) last).desk after₁) x).answer ≡ refused → ⊥)
       → (step (after (step (after d₁ mid) last).desk after₁) x).answer ≡ collected g (Given (alone (fed t p) r found).registers)
-  handed' t p te mid after₁ last x no-open f z op u =
+  handed' t p te mid after₁ last x no_open f z op u =
       let d₂ : Desk = (step (after d₁ mid) last).desk in
-      let o₁ : NoneOpens (run d₁ mid) = opens-front mid (last ∷ (after₁ ++ x ∷ [])) d₁ no-open in
-      let o₂ = opens-cons (after d₁ mid) last (after₁ ++ x ∷ []) (opens-rest mid (last ∷ (after₁ ++ x ∷ [])) d₁ no-open) in
-      let o₃ : NoneOpens (run d₂ after₁) = opens-front after₁ (x ∷ []) d₂ o₂.1 in
-      let o₄ = opens-cons (after d₂ after₁) x [] (opens-rest after₁ (x ∷ []) d₂ o₂.1) in
-      let inv₂ : Inv d₂ = inv-step (after d₁ mid) last (reached mid d₁ inv₁ o₁).inv o₂.0 in
-      let e : stageAt (after d₂ after₁) g ≡ Finished atEnd
-      = still-finished after₁ d₂ inv₂ o₃ g atEnd (finished mid last (opens-upto mid (after₁ ++ x ∷ []) last d₁ no-open) f).row z in
-      handed-over (after d₂ after₁) (reached after₁ d₂ inv₂ o₃).inv x g atEnd o₄.0 e op u
+      let o₁ : NoneOpens (run d₁ mid) = opens_front mid (last ∷ (after₁ ++ x ∷ [])) d₁ no_open in
+      let o₂ = opens_cons (after d₁ mid) last (after₁ ++ x ∷ []) (opens-rest mid (last ∷ (after₁ ++ x ∷ [])) d₁ no_open) in
+      let o₃ : NoneOpens (run d₂ after₁) = opens_front after₁ (x ∷ []) d₂ o₂.1 in
+      let o₄ = opens_cons (after d₂ after₁) x [] (opens-rest after₁ (x ∷ []) d₂ o₂.1) in
+      let inv₂ : Inv d₂ = inv_step (after d₁ mid) last (reached mid d₁ inv₁ o₁).inv o₂.0 in
+      let e : stage_at (after d₂ after₁) g ≡ Finished at_end
+      = still_finished after₁ d₂ inv₂ o₃ g at_end (finished mid last (opens_upto mid (after₁ ++ x ∷ []) last d₁ no_open) f).row z in
+      handed-over (after d₂ after₁) (reached after₁ d₂ inv₂ o₃).inv x g at_end o₄.0 e op u
       ∙ ap (λ (s : Served). collected g (Given s.registers)) (sym (alone-is t p te))

@@ -2,13 +2,13 @@
 -- Assumes nothing.
 use mathlib.Core.Path.{refl, ap, ap₂}
 use mathlib.Core.List.{List, [], ◌∷◌}
-use Rattle.isolation.specs.DeskBlocks.{OutBlock, stepBlock, EventBlock, eventBlock, runBlock}
-use Rattle.isolation.specs.Strays.{own, other, runLent, Strays}
+use Rattle.isolation.specs.DeskBlocks.{OutBlock, step_block, EventBlock, event_block, run_block}
+use Rattle.isolation.specs.Strays.{own, other, run_lent, Strays}
 use Rattle.isolation.proofs.DeskBlocks.{other-size}
 
 pub strays : Strays
-unfolding runLent runBlock
+unfolding run_lent run_block
 strays b [] n = refl
-strays b (own c ∷ cs) n = ap (λ (es : List EventBlock). eventBlock b c ∷ es) (strays (stepBlock b c).block cs n)
+strays b (own c ∷ cs) n = ap (λ (es : List EventBlock). event_block b c ∷ es) (strays (step_block b c).block cs n)
 strays b (other x c ∷ cs) n =
     ap₂ (λ (o : OutBlock) (es : List EventBlock). record { block = x; call = c; out = o } ∷ es) (other-size x c n.0) (strays b cs n.1)

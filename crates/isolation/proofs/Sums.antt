@@ -11,22 +11,22 @@ use lib.Dec.{ltb}
 use borrow.Author.Tests.{ltb-true}
 use Rattle.logic.proofs.LogicLaws.{impossible}
 use Rattle.words.specs.Words.{le, le_bytes}
-use Rattle.chs.specs.Chs.{inLimits, isValid, block_of, blockNumbers}
+use Rattle.chs.specs.Chs.{in_limits, is_valid, block_of, block_numbers}
 use Rattle.drive.specs.declared.Drive.{Drive}
-use Rattle.drive.specs.Drive.{driveOf, same, pci, ata, busOk, interfaceOk, geometryFits, fieldsOk, inStore, overlap, isI2o, kindOk, tailOf, zeroTail}
-use Rattle.attached.specs.Bad.{held_of, isBad, good}
-use Rattle.layout.specs.ResultBuffer.{returnedSize, parameterBytes, blockBytes, interfaceBytes, pathBytes, sum, wholeResult, resultBytes, resultAnswer, padded, wideInterfaceBytes, widePathBytes, summedBytes}
-use Rattle.memory.specs.Window.{guests, windowLength, windowOf}
+use Rattle.drive.specs.Drive.{drive_of, same, pci, ata, bus_ok, interface_ok, geometry_fits, fields_ok, in_store, overlap, is_i2o, kind_ok, tail_of, zero_tail}
+use Rattle.attached.specs.Bad.{held_of, is_bad, good}
+use Rattle.layout.specs.ResultBuffer.{returned_size, parameter_bytes, block_bytes, interface_bytes, path_bytes, sum, whole_result, result_bytes, result_answer, padded, wide_interface_bytes, wide_path_bytes, summed_bytes}
+use Rattle.memory.specs.Window.{guests, window_length, window_of}
 use Rattle.table.specs.declared.Table.{Table}
-use Rattle.table.specs.Table.{zeroDrive, headerOf, headerAt, overlapsAny, refusal, recordRefusal, withRecord, recordStep, endStep, step_of, stepAt, readFrom, readTable}
+use Rattle.table.specs.Table.{zero_drive, header_of, header_at, overlaps_any, refusal, record_refusal, with_record, record_step, end_step, step_of, step_at, read_from, read_table}
 use Rattle.int13.specs.declared.Registers.{Registers}
 use Rattle.int13.specs.declared.Placement.{Placement}
-use Rattle.int13.specs.Placement.{noPlacement}
+use Rattle.int13.specs.Placement.{no_placement}
 use Rattle.int13.specs.declared.Job.{Job}
 use Rattle.int13.specs.declared.Outcome.{Outcome}
 use Rattle.int13.specs.declared.Outcome.TheVariants.{Answered, Waits}
-use Rattle.int13.specs.Answers.{ah, posted as postedRegisters}
-use Rattle.int13.specs.Steps.{Checked, unchanged, isDrive, badsOf, sectors, parameters, result, fed, shownOf, steps, begin}
+use Rattle.int13.specs.Answers.{ah, posted as posted_registers}
+use Rattle.int13.specs.Steps.{Checked, unchanged, is_drive, bads_of, sectors, parameters, result_into, fed, shown_of, steps, begin}
 use Rattle.desk.specs.declared.Stage.{Stage}
 use Rattle.desk.specs.declared.Stage.TheVariants.{Vacant, Waiting, Finished}
 use Rattle.desk.specs.declared.Desk.{Desk}
@@ -36,15 +36,15 @@ use Rattle.desk.specs.declared.Next.TheVariants.{Guest, Nobody}
 use Rattle.desk.specs.declared.OpenAnswer.TheVariants.{Opened}
 use Rattle.desk.specs.declared.TurnAnswer.{TurnAnswer}
 use Rattle.desk.specs.declared.TurnAnswer.TheVariants.{Served, Idle, Refused as TurnRefused}
-use Rattle.desk.specs.Parts.{windowSize, stageAt, withStage, withPointer, placementAt}
-use Rattle.desk.specs.Calls.{Done, isLent, opened, openOf, firstWaiting, movesNow, stageAfter, serveStage, turnNext, turn_of}
-use Rattle.desk.specs.Numbers.{turnNumbers}
+use Rattle.desk.specs.Parts.{window_size, stage_at, with_stage, with_pointer, placement_at}
+use Rattle.desk.specs.Calls.{Done, is_lent, opened, open_of, first_waiting, moves_now, stage_after, serve_stage, turn_next, turn_of}
+use Rattle.desk.specs.Numbers.{turn_numbers}
 use Rattle.isolation.specs.Lists.{post, turn, Call, turned, Out, step, after}
 use Rattle.isolation.specs.Words.{opens, kind_of}
-use Rattle.isolation.proofs.Accept.{Inv, inv-accept, inv-opened}
-use Rattle.isolation.proofs.Keep.{inv-step, Fixed, fixed-step}
+use Rattle.isolation.proofs.Accept.{Inv, inv_accept, inv_opened}
+use Rattle.isolation.proofs.Keep.{inv_step, Fixed, fixed_step}
 use Rattle.isolation.proofs.Equal.{request}
-use Rattle.isolation.proofs.Trace.{call, place, Line, waiting, serving, Holds, Sized, lent, window-lent, step_line, sized-line}
+use Rattle.isolation.proofs.Trace.{call, place, Line, waiting, serving, Holds, Sized, lent, window_lent, step_line, sized_line}
 
 abbrev pub flat : List (List ℕ) → List ℕ
 flat [] = []
@@ -53,7 +53,7 @@ flat (l ∷ ls) = l ++ flat ls
 -- ---- P1 to P5 with C 1024, H 16, S 63
 
 abbrev pub block : ℕ → ℕ → ℕ → List ℕ
-block c h s = blockNumbers (block_of (record { c = 1024; h = 16; s = 63 }) (record { cylinder = c; head = h; sector = s }))
+block c h s = block_numbers (block_of (record { c = 1024; h = 16; s = 63 }) (record { cylinder = c; head = h; sector = s }))
 
 -- ---- P6 to P8: the steps
 
@@ -62,18 +62,18 @@ abbrev pub asking : ℕ → Registers
 asking ax = record { ax = ax; bx = 0x1111; cx = 0x2222; dx = 0x3380; ds = 1; si = 8; es = 0x4444; carry = true }
 
 -- AH, CX and DH that are answered
-abbrev pub geometryIn : Outcome → List ℕ
-geometryIn (Answered r) = ah r ∷ r.cx ∷ r.dx / 256 ∷ []
-geometryIn (Waits j) = []
+abbrev pub geometry_in : Outcome → List ℕ
+geometry_in (Answered r) = ah r ∷ r.cx ∷ r.dx / 256 ∷ []
+geometry_in (Waits j) = []
 
-abbrev pub parametersOf : Table → List ℕ
-parametersOf b = geometryIn (begin (fed b noPlacement) (asking 0x0800) []).outcome
+abbrev pub parameters_of : Table → List ℕ
+parameters_of b = geometry_in (begin (fed b no_placement) (asking 0x0800) []).outcome
 
 -- P6: a table of one drive with C 1024, H 255, S 63
 abbrev pub wide : Table
 wide =
     record {
-      drives = record { cylinders = 0; heads = 0; sectors = 0; blocks = 16450560; first = 0; flags = 0; c = 1024; h = 255; s = 63; protection = 0; bus = pci; interface = ata; path = replicate 8 0; device = replicate 8 0; kind = 1; tail = replicate 8 0 } ∷ replicate 7 zeroDrive;
+      drives = record { cylinders = 0; heads = 0; sectors = 0; blocks = 16450560; first = 0; flags = 0; c = 1024; h = 255; s = 63; protection = 0; bus = pci; interface = ata; path = replicate 8 0; device = replicate 8 0; kind = 1; tail = replicate 8 0 } ∷ replicate 7 zero_drive;
       count = 1;
       present = replicate 8 false;
       parameters = replicate 112 0;
@@ -82,8 +82,8 @@ wide =
     }
 
 -- P7: the table of document 01, in the store of its example
-abbrev pub tableBytes : List ℕ
-tableBytes =
+abbrev pub table_bytes : List ℕ
+table_bytes =
     68 ∷ 0 ∷ 1 ∷ 0 ∷ 2 ∷ 0 ∷ 0 ∷ 0 ∷ 16 ∷ 0 ∷ 0 ∷ 0 ∷ 63 ∷ 0 ∷ 0 ∷ 0 ∷ 0 ∷ 8 ∷ 0 ∷ 0 ∷ 0 ∷ 0 ∷ 0 ∷ 0
     ∷ 0 ∷ 0 ∷ 0 ∷ 0 ∷ 0 ∷ 0 ∷ 0 ∷ 0
     ∷ 2 ∷ 0 ∷ 2 ∷ 0 ∷ 16 ∷ 0 ∷ 63 ∷ 0 ∷ 80 ∷ 67 ∷ 73 ∷ 0 ∷ 65 ∷ 84 ∷ 65 ∷ 0 ∷ 0 ∷ 0 ∷ 0 ∷ 0 ∷ 0 ∷ 31 ∷ 1 ∷ 0 ∷ 0 ∷ 0 ∷ 0 ∷ 0
@@ -91,11 +91,11 @@ tableBytes =
     ∷ 4 ∷ 0 ∷ 0 ∷ 0 ∷ []
 
 abbrev pub table : Table
-table = (readTable tableBytes 4294967296).table
+table = (read_table table_bytes 4294967296).table
 
 -- 48h with a buffer at 0001:0008 that says a size
 abbrev pub result_of : ℕ → Checked
-result_of asked = begin (fed table noPlacement) (asking 0x4800) (replicate 24 0 ++ (le_bytes 2 asked ++ replicate 72 0))
+result_of asked = begin (fed table no_placement) (asking 0x4800) (replicate 24 0 ++ (le_bytes 2 asked ++ replicate 72 0))
 
 abbrev pub code_in : Outcome → ℕ
 code_in (Answered r) = ah r
@@ -107,11 +107,11 @@ size asked = code_in (result_of asked).outcome ∷ le 2 (result_of asked).window
 
 -- ---- P9 and P10: turns at desks that were opened and posted to
 
-abbrev pub arenaLength : ℕ
-arenaLength = 163840
+abbrev pub arena_length : ℕ
+arena_length = 163840
 
-abbrev pub storeLength : ℕ
-storeLength = 1048576
+abbrev pub store_length : ℕ
+store_length = 1048576
 
 -- 02h, 40 sectors from 0/0/1 of drive 80h
 abbrev pub reads : Registers
@@ -126,7 +126,7 @@ module _ (a s : ℕ → List ℕ) where
   turning i = call turn (a i) (s i)
 
   abbrev pub start : Desk
-  start = (openOf tableBytes arenaLength storeLength).desk
+  start = (open_of table_bytes arena_length store_length).desk
 
   -- P9: pointer 0, guests 2 and 5 waiting with 40 blocks each
   abbrev pub p9 : Desk
@@ -138,9 +138,9 @@ module _ (a s : ℕ → List ℕ) where
       (posting 0 0 ∷ turning 1 ∷ posting 2 1 ∷ posting 3 2 ∷ posting 4 3 ∷ posting 5 4 ∷ posting 6 5 ∷ posting 7 6 ∷ posting 8 7 ∷ [])
 
   -- the numbers of k turns
-  abbrev pub turnsOf : ℕ → Desk → List (List ℕ)
-  turnsOf zero d = []
-  turnsOf (suc k) d = turnNumbers (turn_of d (a k) (s k)).answer ∷ turnsOf k (turn_of d (a k) (s k)).desk
+  abbrev pub turns_of : ℕ → Desk → List (List ℕ)
+  turns_of zero d = []
+  turns_of (suc k) d = turn_numbers (turn_of d (a k) (s k)).answer ∷ turns_of k (turn_of d (a k) (s k)).desk
 
 -- ---- the opening and the posts, in detail
 
@@ -165,10 +165,10 @@ drive =
       tail = replicate 8 0;
     }
 
-abbrev tableRead : Table
-tableRead =
+abbrev table_read : Table
+table_read =
     record {
-      drives = drive ∷ replicate 7 zeroDrive;
+      drives = drive ∷ replicate 7 zero_drive;
       count = 1;
       present = replicate 8 false;
       parameters = replicate 112 0;
@@ -177,68 +177,68 @@ tableRead =
     }
 
 abbrev d₀ : Desk
-d₀ = opened tableRead arenaLength storeLength
+d₀ = opened table_read arena_length store_length
 
-opening : openOf tableBytes arenaLength storeLength ≡ record { desk = d₀; answer = Opened }
-unfolding openOf le le_bytes inLimits driveOf same busOk interfaceOk geometryFits fieldsOk inStore overlap headerOf headerAt overlapsAny refusal recordRefusal withRecord recordStep endStep step_of stepAt readFrom readTable tailOf isI2o zeroTail kindOk
+opening : open_of table_bytes arena_length store_length ≡ record { desk = d₀; answer = Opened }
+unfolding open_of le le_bytes in_limits drive_of same bus_ok interface_ok geometry_fits fields_ok in_store overlap header_of header_at overlaps_any refusal record_refusal with_record record_step end_step step_of step_at read_from read_table tail_of is_i2o zero_tail kind_ok
 opening = refl
 
 inv₀ : Inv d₀
-inv₀ = subst (λ (o : Opening). Inv o.desk) opening (inv-opened tableBytes arenaLength storeLength (ap (λ (o : Opening). o.answer) opening))
+inv₀ = subst (λ (o : Opening). Inv o.desk) opening (inv_opened table_bytes arena_length store_length (ap (λ (o : Opening). o.answer) opening))
 
 abbrev job : Job
-job = record { registers = postedRegisters reads; drive = 0x80; start = 0; count = 40; buffer = 0; packet = 0 }
+job = record { registers = posted_registers reads; drive = 0x80; start = 0; count = 40; buffer = 0; packet = 0 }
 
 abbrev waits : Stage
 waits = Waiting (request job 0)
 
 sectors-reads : (n : ℕ) → n ≡ 20480 → sectors true drive reads n ≡ Waits job
-unfolding sectors block_of inLimits isValid
+unfolding sectors block_of in_limits is_valid
 sectors-reads n e = rw e
 
-check-reads : (p : Placement) (w : List ℕ) → length w ≡ 20480 → begin (fed tableRead p) reads w ≡ unchanged w (Waits job)
-unfolding begin steps isDrive
-check-reads p w e = ap (unchanged w) (sectors-reads (length w) e)
+check_reads : (p : Placement) (w : List ℕ) → length w ≡ 20480 → begin (fed table_read p) reads w ≡ unchanged w (Waits job)
+unfolding begin steps is_drive
+check_reads p w e = ap (unchanged w) (sectors-reads (length w) e)
 
 -- ---- a turn's answer and the desk that it leaves are not of the arena's and the store's bytes
 
 abbrev bare : Desk → Done TurnAnswer
-bare d = turnNext d (firstWaiting d.rows guests d.pointer) [] []
+bare d = turn_next d (first_waiting d.rows guests d.pointer) [] []
 
-abbrev bareTurns : ℕ → Desk → List (List ℕ)
-bareTurns zero d = []
-bareTurns (suc k) d = turnNumbers (bare d).answer ∷ bareTurns k (bare d).desk
+abbrev bare_turns : ℕ → Desk → List (List ℕ)
+bare_turns zero d = []
+bare_turns (suc k) d = turn_numbers (bare d).answer ∷ bare_turns k (bare d).desk
 
 record Alike (o p : Done TurnAnswer) : Type 0 where
   pub answer : o.answer ≡ p.answer
   pub desk : o.desk ≡ p.desk
 
-stage-bare : (d : Desk) (g : ℕ) (x : Stage) (arena store : List ℕ) → Alike (serveStage d g x arena store) (serveStage d g x [] [])
-stage-bare d g Vacant arena store = record { answer = refl; desk = refl }
-stage-bare d g (Waiting q) arena store = record { answer = refl; desk = refl }
-stage-bare d g (Finished r) arena store = record { answer = refl; desk = refl }
+stage_bare : (d : Desk) (g : ℕ) (x : Stage) (arena store : List ℕ) → Alike (serve_stage d g x arena store) (serve_stage d g x [] [])
+stage_bare d g Vacant arena store = record { answer = refl; desk = refl }
+stage_bare d g (Waiting q) arena store = record { answer = refl; desk = refl }
+stage_bare d g (Finished r) arena store = record { answer = refl; desk = refl }
 
-next-bare : (d : Desk) (n : Next) (arena store : List ℕ) → Alike (turnNext d n arena store) (turnNext d n [] [])
+next-bare : (d : Desk) (n : Next) (arena store : List ℕ) → Alike (turn_next d n arena store) (turn_next d n [] [])
 next-bare d Nobody arena store = record { answer = refl; desk = refl }
-next-bare d (Guest g) arena store = stage-bare d g (stageAt d g) arena store
+next-bare d (Guest g) arena store = stage_bare d g (stage_at d g) arena store
 
-turn-bare : (d : Desk) → Inv d → (arena store : List ℕ) → isLent d arena store ≡ true → Alike (turn_of d arena store) (bare d)
+turn-bare : (d : Desk) → Inv d → (arena store : List ℕ) → is_lent d arena store ≡ true → Alike (turn_of d arena store) (bare d)
 unfolding turn_of
-turn-bare d inv arena store l = rw (inv-accept d inv, l) (next-bare d (firstWaiting d.rows guests d.pointer) arena store)
+turn-bare d inv arena store l = rw (inv_accept d inv, l) (next-bare d (first_waiting d.rows guests d.pointer) arena store)
 
-turn-no-opening : (x : TurnAnswer) → kind_of (turned x) ≡ opens → ⊥
-turn-no-opening (Served g k) e = impossible cc
-turn-no-opening Idle e = impossible cc
-turn-no-opening (TurnRefused n) e = impossible cc
+turn_no_opening : (x : TurnAnswer) → kind_of (turned x) ≡ opens → ⊥
+turn_no_opening (Served g k) e = impossible cc
+turn_no_opening Idle e = impossible cc
+turn_no_opening (TurnRefused n) e = impossible cc
 
-turn-inv : (d : Desk) → Inv d → (arena store : List ℕ) → Inv (turn_of d arena store).desk
+turn_inv : (d : Desk) → Inv d → (arena store : List ℕ) → Inv (turn_of d arena store).desk
 unfolding step
-turn-inv d inv arena store = inv-step d (call turn arena store) inv (turn-no-opening (turn_of d arena store).answer)
+turn_inv d inv arena store = inv_step d (call turn arena store) inv (turn_no_opening (turn_of d arena store).answer)
 
 -- the lengths and the table stay
-fixed-turn : (d : Desk) (arena store : List ℕ) → Inv d → Fixed d (turn_of d arena store).desk
+fixed_turn : (d : Desk) (arena store : List ℕ) → Inv d → Fixed d (turn_of d arena store).desk
 unfolding step
-fixed-turn d arena store inv = fixed-step d (call turn arena store) inv (turn-no-opening (turn_of d arena store).answer)
+fixed_turn d arena store inv = fixed_step d (call turn arena store) inv (turn_no_opening (turn_of d arena store).answer)
 
 -- ---- the desks
 
@@ -247,9 +247,9 @@ rows_of stages pointer =
     record {
       rows = map (λ x. record { stage = x }) stages;
       pointer = pointer;
-      table = tableRead;
-      arena = arenaLength;
-      store = storeLength;
+      table = table_read;
+      arena = arena_length;
+      store = store_length;
       placed = replicate 8 false;
       addresses = replicate 8 0;
     }
@@ -260,29 +260,29 @@ at9 = rows_of (Vacant ∷ Vacant ∷ waits ∷ Vacant ∷ Vacant ∷ waits ∷ V
 abbrev at10 : Desk
 at10 = rows_of (Waiting (request job 16) ∷ replicate 7 waits) 1
 
-module _ (a s : ℕ → List ℕ) (la : (i : ℕ) → length (a i) ≡ arenaLength) (ls : (i : ℕ) → length (s i) ≡ storeLength) where
+module _ (a s : ℕ → List ℕ) (la : (i : ℕ) → length (a i) ≡ arena_length) (ls : (i : ℕ) → length (s i) ≡ store_length) where
   -- an acceptable desk of the opening's lengths
   record At (d : Desk) : Type 0 where
     pub inv : Inv d
-    pub arena : d.arena ≡ arenaLength
-    pub store : d.store ≡ storeLength
-    pub table : d.table ≡ tableRead
+    pub arena : d.arena ≡ arena_length
+    pub store : d.store ≡ store_length
+    pub table : d.table ≡ table_read
 
   at₀ : At d₀
   at₀ = record { inv = inv₀; arena = refl; store = refl; table = refl }
 
-  sized-at : (d : Desk) (i : ℕ) → At d → Sized (place d (a i) (s i))
-  sized-at d i t = record { inv = t.inv; arena = la i ∙ sym t.arena; store = ls i ∙ sym t.store }
+  sized_at : (d : Desk) (i : ℕ) → At d → Sized (place d (a i) (s i))
+  sized_at d i t = record { inv = t.inv; arena = la i ∙ sym t.arena; store = ls i ∙ sym t.store }
 
-  as-bare : (k : ℕ) (d : Desk) → At d → turnsOf a s k d ≡ bareTurns k d
-  as-bare zero d t = refl
-  as-bare (suc k) d t =
+  as_bare : (k : ℕ) (d : Desk) → At d → turns_of a s k d ≡ bare_turns k d
+  as_bare zero d t = refl
+  as_bare (suc k) d t =
       let b = turn-bare d t.inv (a k) (s k) (lent d (a k) (s k) (la k ∙ sym t.arena) (ls k ∙ sym t.store)) in
-      let f = fixed-turn d (a k) (s k) t.inv in
+      let f = fixed_turn d (a k) (s k) t.inv in
       let u : At (turn_of d (a k) (s k)).desk
-      = record { inv = turn-inv d t.inv (a k) (s k); arena = f.arena ∙ t.arena; store = f.store ∙ t.store; table = f.table ∙ t.table } in
-      ap (λ (l : List (List ℕ)). turnNumbers (turn_of d (a k) (s k)).answer ∷ l) (as-bare k (turn_of d (a k) (s k)).desk u)
-      ∙ ap₂ (λ (x : TurnAnswer) (y : Desk). turnNumbers x ∷ bareTurns k y) b.answer b.desk
+      = record { inv = turn_inv d t.inv (a k) (s k); arena = f.arena ∙ t.arena; store = f.store ∙ t.store; table = f.table ∙ t.table } in
+      ap (λ (l : List (List ℕ)). turn_numbers (turn_of d (a k) (s k)).answer ∷ l) (as_bare k (turn_of d (a k) (s k)).desk u)
+      ∙ ap₂ (λ (x : TurnAnswer) (y : Desk). turn_numbers x ∷ bare_turns k y) b.answer b.desk
 
   -- the guests of a list post one after the other, the calls numbered from i
   abbrev postings : ℕ → List ℕ → List Call
@@ -291,18 +291,18 @@ module _ (a s : ℕ → List ℕ) (la : (i : ℕ) → length (a i) ≡ arenaLeng
 
   abbrev asked : Desk → List ℕ → Desk
   asked d [] = d
-  asked d (g ∷ gs) = asked (withStage d g waits) gs
+  asked d (g ∷ gs) = asked (with_stage d g waits) gs
 
   abbrev Free : Desk → List ℕ → Type 0
   Free d [] = Unit
-  Free d (g ∷ gs) = ((ltb g guests ≡ true) × (stageAt d g ≡ Vacant)) × Free (withStage d g waits) gs
+  Free d (g ∷ gs) = ((ltb g guests ≡ true) × (stage_at d g ≡ Vacant)) × Free (with_stage d g waits) gs
 
-  holds : (d : Desk) (i g : ℕ) → At d → (ltb g guests ≡ true) × (stageAt d g ≡ Vacant) → Holds (place d (a i) (s i)) (waiting g reads job)
+  holds : (d : Desk) (i g : ℕ) → At d → (ltb g guests ≡ true) × (stage_at d g ≡ Vacant) → Holds (place d (a i) (s i)) (waiting g reads job)
   holds d i g t f = (
     f.0,
     f.1,
-    subst (λ (x : Table). begin (fed x (placementAt d g)) reads (windowOf (a i) g (windowSize d)) ≡ unchanged (windowOf (a i) g (windowSize d)) (Waits job)) (sym t.table)
-        (check-reads (placementAt d g) (windowOf (a i) g (windowSize d)) (window-lent d (a i) g (la i ∙ sym t.arena) (ltb-true g guests f.0) ∙ ap windowLength t.arena)),
+    subst (λ (x : Table). begin (fed x (placement_at d g)) reads (window_of (a i) g (window_size d)) ≡ unchanged (window_of (a i) g (window_size d)) (Waits job)) (sym t.table)
+        (check_reads (placement_at d g) (window_of (a i) g (window_size d)) (window_lent d (a i) g (la i ∙ sym t.arena) (ltb-true g guests f.0) ∙ ap window_length t.arena)),
   )
 
   all-post : (gs : List ℕ) (i : ℕ) (d : Desk) → At d → Free d gs → (after d (postings i gs) ≡ asked d gs) × At (asked d gs)
@@ -310,10 +310,10 @@ module _ (a s : ℕ → List ℕ) (la : (i : ℕ) → length (a i) ≡ arenaLeng
   all-post [] i d t f = (refl, t)
   all-post (g ∷ gs) i d t f =
       let h = holds d i g t f.0 in
-      let u : At (withStage d g waits)
-      = record { inv = (sized-line (place d (a i) (s i)) (waiting g reads job) (sized-at d i t) h).inv; arena = t.arena; store = t.store; table = t.table } in
-      let r = all-post gs (i + 1) (withStage d g waits) u f.1 in
-      (ap (λ (o : Out). after o.desk (postings (i + 1) gs)) (step_line (place d (a i) (s i)) (sized-at d i t) (waiting g reads job) h) ∙ r.0, r.1)
+      let u : At (with_stage d g waits)
+      = record { inv = (sized_line (place d (a i) (s i)) (waiting g reads job) (sized_at d i t) h).inv; arena = t.arena; store = t.store; table = t.table } in
+      let r = all-post gs (i + 1) (with_stage d g waits) u f.1 in
+      (ap (λ (o : Out). after o.desk (postings (i + 1) gs)) (step_line (place d (a i) (s i)) (sized_at d i t) (waiting g reads job) h) ∙ r.0, r.1)
 
   from_start : (cs : List Call) → after (start a s) cs ≡ after d₀ cs
   from_start cs = ap (λ (o : Opening). after o.desk cs) opening
@@ -323,10 +323,10 @@ module _ (a s : ℕ → List ℕ) (la : (i : ℕ) → length (a i) ≡ arenaLeng
 
   -- guest 0 waits, is served once, and then the others wait
   abbrev t₁ : Desk
-  t₁ = withStage d₀ 0 waits
+  t₁ = with_stage d₀ 0 waits
 
   abbrev t₂ : Desk
-  t₂ = withPointer (withStage t₁ 0 (Waiting (request job 16))) 1
+  t₂ = with_pointer (with_stage t₁ 0 (Waiting (request job 16))) 1
 
   abbrev serves₀ : Line
   serves₀ = serving 0 (request job 0) 16 (Waiting (request job 16))
@@ -335,11 +335,11 @@ module _ (a s : ℕ → List ℕ) (la : (i : ℕ) → length (a i) ≡ arenaLeng
   one = (all-post (0 ∷ []) 0 d₀ at₀ ((refl, refl), tt)).1
 
   served : Holds (place t₁ (a 1) (s 1)) serves₀
-  unfolding firstWaiting movesNow badsOf isDrive good isBad held_of stageAfter
+  unfolding first_waiting moves_now bads_of is_drive good is_bad held_of stage_after
   served = (refl, refl, refl, refl)
 
   at₂ : At t₂
-  at₂ = record { inv = (sized-line (place t₁ (a 1) (s 1)) serves₀ (sized-at t₁ 1 one) served).inv; arena = refl; store = refl; table = refl }
+  at₂ = record { inv = (sized_line (place t₁ (a 1) (s 1)) serves₀ (sized_at t₁ 1 one) served).inv; arena = refl; store = refl; table = refl }
 
   abbrev others : List ℕ
   others = 1 ∷ 2 ∷ 3 ∷ 4 ∷ 5 ∷ 6 ∷ 7 ∷ []
@@ -349,24 +349,24 @@ module _ (a s : ℕ → List ℕ) (la : (i : ℕ) → length (a i) ≡ arenaLeng
       all-post others 2 t₂ at₂
       ((refl, refl), ((refl, refl), ((refl, refl), ((refl, refl), ((refl, refl), ((refl, refl), ((refl, refl), tt)))))))
 
-  p10-is : p10 a s ≡ at10
+  p10_is : p10 a s ≡ at10
   unfolding after
-  p10-is =
+  p10_is =
       from_start (posting a s 0 0 ∷ turning a s 1 ∷ postings 2 others)
       ∙ ap (λ (o : Out). after o.desk (turning a s 1 ∷ postings 2 others))
-      (step_line (place d₀ (a 0) (s 0)) (sized-at d₀ 0 at₀) (waiting 0 reads job) (holds d₀ 0 0 at₀ (refl, refl)))
-      ∙ ap (λ (o : Out). after o.desk (postings 2 others)) (step_line (place t₁ (a 1) (s 1)) (sized-at t₁ 1 one) serves₀ served)
+      (step_line (place d₀ (a 0) (s 0)) (sized_at d₀ 0 at₀) (waiting 0 reads job) (holds d₀ 0 0 at₀ (refl, refl)))
+      ∙ ap (λ (o : Out). after o.desk (postings 2 others)) (step_line (place t₁ (a 1) (s 1)) (sized_at t₁ 1 one) serves₀ served)
       ∙ seven.0
 
-  p9-turns : flat (turnsOf a s 6 (p9 a s)) ≡ 0 ∷ 2 ∷ 16 ∷ 0 ∷ 5 ∷ 16 ∷ 0 ∷ 2 ∷ 16 ∷ 0 ∷ 5 ∷ 16 ∷ 0 ∷ 2 ∷ 8 ∷ 0 ∷ 5 ∷ 8 ∷ []
-  unfolding firstWaiting movesNow badsOf isDrive good isBad held_of stageAfter turnNumbers
-  p9-turns =
-      ap (λ (d : Desk). flat (turnsOf a s 6 d)) (from_start (postings 0 (2 ∷ 5 ∷ [])) ∙ two.0) ∙ ap flat (as-bare 6 at9 two.1)
+  p9_turns : flat (turns_of a s 6 (p9 a s)) ≡ 0 ∷ 2 ∷ 16 ∷ 0 ∷ 5 ∷ 16 ∷ 0 ∷ 2 ∷ 16 ∷ 0 ∷ 5 ∷ 16 ∷ 0 ∷ 2 ∷ 8 ∷ 0 ∷ 5 ∷ 8 ∷ []
+  unfolding first_waiting moves_now bads_of is_drive good is_bad held_of stage_after turn_numbers
+  p9_turns =
+      ap (λ (d : Desk). flat (turns_of a s 6 d)) (from_start (postings 0 (2 ∷ 5 ∷ [])) ∙ two.0) ∙ ap flat (as_bare 6 at9 two.1)
 
-  p10-turns : flat (turnsOf a s 8 (p10 a s))
+  p10_turns : flat (turns_of a s 8 (p10 a s))
       ≡ 0 ∷ 1 ∷ 16 ∷ 0 ∷ 2 ∷ 16 ∷ 0 ∷ 3 ∷ 16 ∷ 0 ∷ 4 ∷ 16 ∷ 0 ∷ 5 ∷ 16 ∷ 0 ∷ 6 ∷ 16 ∷ 0 ∷ 7 ∷ 16 ∷ 0 ∷ 0 ∷ 16 ∷ []
-  unfolding firstWaiting movesNow badsOf isDrive good isBad held_of stageAfter turnNumbers
-  p10-turns = ap (λ (d : Desk). flat (turnsOf a s 8 d)) p10-is ∙ ap flat (as-bare 8 at10 seven.1)
+  unfolding first_waiting moves_now bads_of is_drive good is_bad held_of stage_after turn_numbers
+  p10_turns = ap (λ (d : Desk). flat (turns_of a s 8 d)) p10_is ∙ ap flat (as_bare 8 at10 seven.1)
 
   -- ---- the sums, one statement over one list: code and value of each
 
@@ -377,11 +377,11 @@ module _ (a s : ℕ → List ℕ) (la : (i : ℕ) → length (a i) ≡ arenaLeng
       ∷ block 1 0 1
       ∷ block 1023 15 63
       ∷ block 0 0 0
-      ∷ parametersOf wide
-      ∷ (parametersOf table ++ (get_or (result_of 66).window (24 + 65) 0 ∷ []))
+      ∷ parameters_of wide
+      ∷ (parameters_of table ++ (get_or (result_of 66).window (24 + 65) 0 ∷ []))
       ∷ flat (map size (25 ∷ 26 ∷ 29 ∷ 30 ∷ 65 ∷ 66 ∷ 65535 ∷ []))
-      ∷ flat (turnsOf a s 6 (p9 a s))
-      ∷ flat (turnsOf a s 8 (p10 a s))
+      ∷ flat (turns_of a s 6 (p9 a s))
+      ∷ flat (turns_of a s 8 (p10 a s))
       ∷ []
       ≡ (0 ∷ 0 ∷ [])
       ∷ (0 ∷ 63 ∷ [])
@@ -394,7 +394,7 @@ module _ (a s : ℕ → List ℕ) (la : (i : ℕ) → length (a i) ≡ arenaLeng
       ∷ (0 ∷ 2 ∷ 16 ∷ 0 ∷ 5 ∷ 16 ∷ 0 ∷ 2 ∷ 16 ∷ 0 ∷ 5 ∷ 16 ∷ 0 ∷ 2 ∷ 8 ∷ 0 ∷ 5 ∷ 8 ∷ [])
       ∷ (0 ∷ 1 ∷ 16 ∷ 0 ∷ 2 ∷ 16 ∷ 0 ∷ 3 ∷ 16 ∷ 0 ∷ 4 ∷ 16 ∷ 0 ∷ 5 ∷ 16 ∷ 0 ∷ 6 ∷ 16 ∷ 0 ∷ 7 ∷ 16 ∷ 0 ∷ 0 ∷ 16 ∷ [])
       ∷ []
-  unfolding blockNumbers block_of inLimits isValid le le_bytes driveOf same busOk interfaceOk geometryFits fieldsOk inStore overlap headerOf headerAt overlapsAny refusal recordRefusal withRecord recordStep endStep step_of stepAt readFrom readTable isDrive badsOf shownOf parameters result steps begin resultAnswer returnedSize resultBytes wholeResult parameterBytes blockBytes interfaceBytes pathBytes sum tailOf isI2o zeroTail kindOk padded wideInterfaceBytes widePathBytes summedBytes
+  unfolding block_numbers block_of in_limits is_valid le le_bytes drive_of same bus_ok interface_ok geometry_fits fields_ok in_store overlap header_of header_at overlaps_any refusal record_refusal with_record record_step end_step step_of step_at read_from read_table is_drive bads_of shown_of parameters result_into steps begin result_answer returned_size result_bytes whole_result parameter_bytes block_bytes interface_bytes path_bytes sum tail_of is_i2o zero_tail kind_ok padded wide_interface_bytes wide_path_bytes summed_bytes
   sums =
       ap₂ (λ (x y : List ℕ).
       block 0 0 1
@@ -402,9 +402,9 @@ module _ (a s : ℕ → List ℕ) (la : (i : ℕ) → length (a i) ≡ arenaLeng
       ∷ block 1 0 1
       ∷ block 1023 15 63
       ∷ block 0 0 0
-      ∷ parametersOf wide
-      ∷ (parametersOf table ++ (get_or (result_of 66).window (24 + 65) 0 ∷ []))
+      ∷ parameters_of wide
+      ∷ (parameters_of table ++ (get_or (result_of 66).window (24 + 65) 0 ∷ []))
       ∷ flat (map size (25 ∷ 26 ∷ 29 ∷ 30 ∷ 65 ∷ 66 ∷ 65535 ∷ []))
       ∷ x
       ∷ y
-      ∷ []) p9-turns p10-turns
+      ∷ []) p9_turns p10_turns

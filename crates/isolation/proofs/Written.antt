@@ -7,20 +7,20 @@ use lib.ListN.{length, drop}
 use borrow.Author.Tests.{le-ltb}
 use Rattle.words.specs.Words.{Bytes}
 use Rattle.table.specs.declared.Written.TheVariants.{Bytes as WrittenBytes}
-use Rattle.table.specs.Table.{table_of, writeAnswer, writeOut}
+use Rattle.table.specs.Table.{table_of, write_answer, write_out}
 use Rattle.table.proofs.WriteRead.{write-read-table}
-use Rattle.memory.specs.Blocks.{blockLength}
+use Rattle.memory.specs.Blocks.{block_length}
 use Rattle.desk.specs.declared.Desk.{Desk}
 use Rattle.desk.specs.declared.OpenAnswer.TheVariants.{Opened}
-use Rattle.desk.specs.Calls.{openOf, written_of, writtenOut}
-use Rattle.isolation.proofs.Accept.{opened-desk, opened-table, inv-opened, inv-accept}
+use Rattle.desk.specs.Calls.{open_of, written_of, written_out}
+use Rattle.isolation.proofs.Accept.{opened-desk, opened-table, inv_opened, inv_accept}
 
 -- open, then write: the bytes of the table, and past them the buffer as it was
-pub written_back : (t : List ℕ) (arena store : ℕ) (out : List ℕ) → Bytes t → (openOf t arena store).answer ≡ Opened → length t ≤ length out
-    → (written_of (openOf t arena store).desk (length out) ≡ WrittenBytes (length t)) × (writtenOut (openOf t arena store).desk out ≡ t ++ drop (length t) out)
-unfolding written_of writtenOut writeAnswer writeOut
+pub written_back : (t : List ℕ) (arena store : ℕ) (out : List ℕ) → Bytes t → (open_of t arena store).answer ≡ Opened → length t ≤ length out
+    → (written_of (open_of t arena store).desk (length out) ≡ WrittenBytes (length t)) × (written_out (open_of t arena store).desk out ≡ t ++ drop (length t) out)
+unfolding written_of written_out write_answer write_out
 written_back t arena store out b e h =
-    let d : Desk = (openOf t arena store).desk in
-    let good = inv-accept d (inv-opened t arena store e) in
-    let bytes : table_of d.table ≡ t = ap (λ (x : Desk). table_of x.table) (opened-desk t arena store e) ∙ write-read-table t (store / blockLength) b (opened-table t arena store e) in
+    let d : Desk = (open_of t arena store).desk in
+    let good = inv_accept d (inv_opened t arena store e) in
+    let bytes : table_of d.table ≡ t = ap (λ (x : Desk). table_of x.table) (opened-desk t arena store e) ∙ write-read-table t (store / block_length) b (opened-table t arena store e) in
     (rw (good, bytes, le-ltb (length out) (length t) h), rw (good, bytes, le-ltb (length out) (length t) h))

@@ -11,14 +11,14 @@ use Rattle.desk.specs.declared.TurnAnswer.{TurnAnswer}
 use Rattle.desk.specs.declared.CollectAnswer.{CollectAnswer}
 use Rattle.desk.specs.declared.WithdrawAnswer.{WithdrawAnswer}
 use Rattle.desk.specs.declared.PlaceAnswer.{PlaceAnswer}
-use Rattle.desk.specs.Calls.{Done, openOf, written_of, writtenOut, post_of, turn_of, collectOf, withdrawOf, place_of}
+use Rattle.desk.specs.Calls.{Done, open_of, written_of, written_out, post_of, turn_of, collect_of, withdraw_of, place_of}
 
 -- ---- "The words of demand 3", one call of the list
 
 -- "Posts, turns, collects, withdrawals, table writes, refused openings and any call at the desk that a change request adds [...], with any
 -- arguments": an opening takes table bytes, arena length and store length; a table write its buffer; placing (2026-01) a guest and an address
 pub data Op : Type 0 where
-  openTable : List ℕ → ℕ → ℕ → Op
+  open_table : List ℕ → ℕ → ℕ → Op
   post : ℕ → Registers → Op
   turn : Op
   collect : ℕ → Op
@@ -51,9 +51,9 @@ pub record Out : Type 0 where
   pub store : List ℕ
 
 -- an opening that passed leaves its own desk; "Refused, it changes nothing"
-abbrev pub openedDesk : Desk → Desk → OpenAnswer → Desk
-openedDesk d new Opened = new
-openedDesk d new (OpenRefused n at) = d
+abbrev pub opened_desk : Desk → Desk → OpenAnswer → Desk
+opened_desk d new Opened = new
+opened_desk d new (OpenRefused n at) = d
 
 -- a desk call's result, its answer among those of the list
 abbrev pub out_of : {A : Type 0} → (A → Answer) → Done A → Out
@@ -61,13 +61,13 @@ out_of f o = record { desk = o.desk; answer = f o.answer; arena = o.arena; store
 
 -- each call is the desk's own; an opening and a table write leave arena and store, and a table write the desk too
 abbrev pub step_of : Desk → Op → List ℕ → List ℕ → Out
-step_of d (openTable t a s) arena store =
-    record { desk = openedDesk d (openOf t a s).desk (openOf t a s).answer; answer = opening (openOf t a s).answer; arena = arena; store = store }
+step_of d (open_table t a s) arena store =
+    record { desk = opened_desk d (open_of t a s).desk (open_of t a s).answer; answer = opening (open_of t a s).answer; arena = arena; store = store }
 step_of d (post g r) arena store = out_of (posted g) (post_of d g r arena store)
 step_of d turn arena store = out_of turned (turn_of d arena store)
-step_of d (collect g) arena store = out_of (collected g) (collectOf d g arena store)
-step_of d (withdraw g) arena store = out_of (withdrawn g) (withdrawOf d g arena store)
-step_of d (write out) arena store = record { desk = d; answer = written (written_of d (length out)) (writtenOut d out); arena = arena; store = store }
+step_of d (collect g) arena store = out_of (collected g) (collect_of d g arena store)
+step_of d (withdraw g) arena store = out_of (withdrawn g) (withdraw_of d g arena store)
+step_of d (write out) arena store = record { desk = d; answer = written (written_of d (length out)) (written_out d out); arena = arena; store = store }
 step_of d (place g address) arena store = out_of (placed g address) (place_of d g address arena store)
 
 -- what a call leaves at a desk

@@ -5,19 +5,19 @@ use Rattle.words.specs.Words.{Bytes}
 use Rattle.table.specs.declared.Written.TheVariants.{Bytes as WrittenBytes}
 use Rattle.table.specs.Table.{table_of}
 use Rattle.desk.specs.declared.OpenAnswer.TheVariants.{Opened}
-use Rattle.desk.specs.Calls.{opened, openOf, written_of, writtenOut}
-use Rattle.image.specs.Image.{deskOf, accepted}
+use Rattle.desk.specs.Calls.{opened, open_of, written_of, written_out}
+use Rattle.image.specs.Image.{desk_of, accepted}
 
 -- ---- "Calls the host makes", write and open, at a block that is accepted, whoever made it
 
 -- a buffer with room gets the table's bytes, and past them stays; an opening of those bytes with the block's store length passes for every
 -- arena length, and its desk has the block's table
 pub record Reopened (b : List ℕ) : Type 0 where
-  pub written : (out : List ℕ) → length (table_of (deskOf b).table) ≤ length out
-      → (written_of (deskOf b) (length out) ≡ WrittenBytes (length (table_of (deskOf b).table)))
-      × (writtenOut (deskOf b) out ≡ table_of (deskOf b).table ++ drop (length (table_of (deskOf b).table)) out)
-  pub again : (arena : ℕ) → openOf (table_of (deskOf b).table) arena (deskOf b).store
-      ≡ record { desk = opened (deskOf b).table arena (deskOf b).store; answer = Opened }
+  pub written : (out : List ℕ) → length (table_of (desk_of b).table) ≤ length out
+      → (written_of (desk_of b) (length out) ≡ WrittenBytes (length (table_of (desk_of b).table)))
+      × (written_out (desk_of b) out ≡ table_of (desk_of b).table ++ drop (length (table_of (desk_of b).table)) out)
+  pub again : (arena : ℕ) → open_of (table_of (desk_of b).table) arena (desk_of b).store
+      ≡ record { desk = opened (desk_of b).table arena (desk_of b).store; answer = Opened }
 
 -- for every such block
 abbrev pub ReopenedAll : Type 0

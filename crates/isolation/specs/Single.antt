@@ -14,9 +14,9 @@ use Rattle.desk.specs.declared.Stage.TheVariants.{Waiting}
 use Rattle.desk.specs.declared.Desk.{Desk}
 use Rattle.desk.specs.declared.TurnAnswer.{TurnAnswer}
 use Rattle.desk.specs.declared.TurnAnswer.TheVariants.{Served}
-use Rattle.desk.specs.Parts.{stageAt}
+use Rattle.desk.specs.Parts.{stage_at}
 use Rattle.desk.specs.Acceptable.{accept}
-use Rattle.desk.specs.Calls.{Done, isLent, turn_of}
+use Rattle.desk.specs.Calls.{Done, is_lent, turn_of}
 
 -- ---- "Numbers given back", registers not named; "Calls the host makes", turn
 
@@ -43,5 +43,5 @@ pub record Single : Type 0 where
   pub finished : (n moved : ℕ) (r : Registers) → SameSegments r (ended n moved r)
   pub withdrawn : (n : ℕ) (r : Registers) → SameSegments r (withdraw n r)
   -- idle cannot occur while a request waits: a turn that is not refused then serves one
-  pub served : (d : Desk) (arena store : List ℕ) (g : ℕ) (q : Request) → accept d ≡ true → isLent d arena store ≡ true → g < guests
-      → stageAt d g ≡ Waiting q → Serves (turn_of d arena store).answer
+  pub served : (d : Desk) (arena store : List ℕ) (g : ℕ) (q : Request) → accept d ≡ true → is_lent d arena store ≡ true → g < guests
+      → stage_at d g ≡ Waiting q → Serves (turn_of d arena store).answer

@@ -1,9 +1,9 @@
 -- Calls at a desk block among which some are lent another slice of bytes in its place.
 -- Assumes nothing.
 use Rattle.std.specs.Prelude.{ℕ, ◌≡◌, List, [], ◌∷◌, length}
-use Rattle.image.specs.Image.{deskSize}
+use Rattle.image.specs.Image.{desk_size}
 use Rattle.isolation.specs.Lists.{Call}
-use Rattle.isolation.specs.DeskBlocks.{left25, stepBlock, EventBlock, eventBlock, runBlock}
+use Rattle.isolation.specs.DeskBlocks.{left25, step_block, EventBlock, event_block, run_block}
 
 -- ---- "Calls the host makes", a desk block of another size
 
@@ -13,16 +13,16 @@ pub data Lends : Type 0 where
   other : List ℕ → Call → Lends
 
 -- the calls one after the other; one that is lent another slice leaves its own slice, and the desk's block as it was
-unfoldable pub runLent : List ℕ → List Lends → List EventBlock
-runLent b [] = []
-runLent b (own c ∷ cs) = eventBlock b c ∷ runLent (stepBlock b c).block cs
-runLent b (other x c ∷ cs) = eventBlock x c ∷ runLent b cs
+unfoldable pub run_lent : List ℕ → List Lends → List EventBlock
+run_lent b [] = []
+run_lent b (own c ∷ cs) = event_block b c ∷ run_lent (step_block b c).block cs
+run_lent b (other x c ∷ cs) = event_block x c ∷ run_lent b cs
 
 -- each slice that is not the desk's block has another length
 abbrev pub OtherSizes : List Lends → Type 0
 OtherSizes [] = Unit
 OtherSizes (own c ∷ cs) = OtherSizes cs
-OtherSizes (other x c ∷ cs) = (length x ≡ deskSize → ⊥) × OtherSizes cs
+OtherSizes (other x c ∷ cs) = (length x ≡ desk_size → ⊥) × OtherSizes cs
 
 -- the list with those calls struck
 abbrev pub struck : List Lends → List Call
@@ -44,4 +44,4 @@ among (other x c ∷ cs) es = event25 x c ∷ among cs es
 -- Calls that are lent a slice of another length may stand in a list: each is 25 and changes nothing, and the others go as if it had not been
 -- made. So demand 3 of the struck list is demand 3 of the list.
 abbrev pub Strays : Type 0
-Strays = (b : List ℕ) (cs : List Lends) → OtherSizes cs → runLent b cs ≡ among cs (runBlock b (struck cs))
+Strays = (b : List ℕ) (cs : List Lends) → OtherSizes cs → run_lent b cs ≡ among cs (run_block b (struck cs))

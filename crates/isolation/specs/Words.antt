@@ -2,14 +2,14 @@
 -- Assumes nothing.
 use Rattle.std.specs.Prelude.{ℕ, zero, suc, ◌+◌, ◌-◌, ◌*◌, ◌/◌, ◌≤◌, ◌<◌, min, ◌≡◌, ◌⊎◌, true, List, [], ◌∷◌, ◌++◌, eqb}
 use Rattle.logic.specs.Logic.{pick}
-use Rattle.memory.specs.Window.{guests, windowOf}
+use Rattle.memory.specs.Window.{guests, window_of}
 use Rattle.table.specs.declared.Table.{Table}
 use Rattle.table.specs.declared.Written.TheVariants.{Bytes, Refused as WriteRefused}
 use Rattle.int13.specs.declared.Registers.{Registers}
-use Rattle.int13.specs.Answers.{ah, isWrite}
+use Rattle.int13.specs.Answers.{ah, is_write}
 use Rattle.int13.specs.declared.Placement.{Placement}
-use Rattle.int13.specs.Placement.{noPlacement, placed_at}
-use Rattle.int13.specs.Alone.{storeBlock}
+use Rattle.int13.specs.Placement.{no_placement, placed_at}
+use Rattle.int13.specs.Alone.{store_block}
 use Rattle.desk.specs.declared.Request.{Request}
 use Rattle.desk.specs.declared.Stage.TheVariants.{Waiting}
 use Rattle.desk.specs.declared.Desk.{Desk}
@@ -19,8 +19,8 @@ use Rattle.desk.specs.declared.TurnAnswer.TheVariants.{Served, Idle, Refused as 
 use Rattle.desk.specs.declared.CollectAnswer.TheVariants.{Given as CollectGiven, Refused as CollectRefused}
 use Rattle.desk.specs.declared.WithdrawAnswer.TheVariants.{Given as WithdrawGiven, Refused as WithdrawRefused}
 use Rattle.desk.specs.declared.PlaceAnswer.TheVariants.{Placed, Refused as PlaceRefused}
-use Rattle.desk.specs.Parts.{stageAt}
-use Rattle.desk.specs.Acceptable.{turnBlocks as partLength}
+use Rattle.desk.specs.Parts.{stage_at}
+use Rattle.desk.specs.Acceptable.{turn_blocks as part_length}
 use Rattle.isolation.specs.Lists.{post, Call, Answer, opening, posted, turned, collected, withdrawn, written, placed, step, Event, run, after}
 
 -- ---- "The words of demand 3", the answers; each later word is a clause for each of these
@@ -66,42 +66,42 @@ kind_of (placed g address Placed) = places g address
 kind_of (placed g address (PlaceRefused n)) = refused
 
 -- of one call of the list
-abbrev pub kindIn : Event → Kind
-kindIn e = kind_of e.out.answer
+abbrev pub kind_in : Event → Kind
+kind_in e = kind_of e.out.answer
 
 -- the house number of a refusal, else 0; a refused opening's is a table's number
-abbrev pub houseNumber : Answer → ℕ
-houseNumber (opening x) = 0
-houseNumber (posted g (PostAnswered r)) = 0
-houseNumber (posted g PostWaits) = 0
-houseNumber (posted g (PostRefused n)) = n
-houseNumber (turned (Served g k)) = 0
-houseNumber (turned Idle) = 0
-houseNumber (turned (TurnRefused n)) = n
-houseNumber (collected g (CollectGiven r)) = 0
-houseNumber (collected g (CollectRefused n)) = n
-houseNumber (withdrawn g (WithdrawGiven r)) = 0
-houseNumber (withdrawn g (WithdrawRefused n)) = n
-houseNumber (written (Bytes n) out) = 0
-houseNumber (written (WriteRefused n) out) = n
-houseNumber (placed g address Placed) = 0
-houseNumber (placed g address (PlaceRefused n)) = n
+abbrev pub house_number : Answer → ℕ
+house_number (opening x) = 0
+house_number (posted g (PostAnswered r)) = 0
+house_number (posted g PostWaits) = 0
+house_number (posted g (PostRefused n)) = n
+house_number (turned (Served g k)) = 0
+house_number (turned Idle) = 0
+house_number (turned (TurnRefused n)) = n
+house_number (collected g (CollectGiven r)) = 0
+house_number (collected g (CollectRefused n)) = n
+house_number (withdrawn g (WithdrawGiven r)) = 0
+house_number (withdrawn g (WithdrawRefused n)) = n
+house_number (written (Bytes n) out) = 0
+house_number (written (WriteRefused n) out) = n
+house_number (placed g address Placed) = 0
+house_number (placed g address (PlaceRefused n)) = n
 
 -- "The list begins at an opening that passed, and the next one that passes ends it": each opening in the list is refused
 abbrev pub NoneOpens : List Event → Type 0
 NoneOpens [] = Unit
-NoneOpens (e ∷ es) = (kindIn e ≡ opens → ⊥) × NoneOpens es
+NoneOpens (e ∷ es) = (kind_in e ≡ opens → ⊥) × NoneOpens es
 
 -- ---- "The words of demand 3", numbers over a list of calls
 
 -- the sum over the list of what each answer counts for
 abbrev pub total : (Kind → ℕ) → List Event → ℕ
 total f [] = 0
-total f (e ∷ es) = f (kindIn e) + total f es
+total f (e ∷ es) = f (kind_in e) + total f es
 
 -- k where the guests are the same
-abbrev pub ifSame : ℕ → ℕ → ℕ → ℕ
-ifSame h g k = pick (eqb h g) k 0
+abbrev pub if_same : ℕ → ℕ → ℕ → ℕ
+if_same h g k = pick (eqb h g) k 0
 
 -- what one answer counts for: a turn not refused; a post, turn or withdrawal without a house number; of one guest a service, the blocks
 -- moved, a withdrawal and a collect; and a desk that is another afterwards
@@ -127,83 +127,83 @@ marks g plain = line 0 0 0 0 0 0 0
 marks g opens = line 0 0 0 0 0 0 1
 marks g (answers h) = line 0 1 0 0 0 0 0
 marks g (accepts h) = line 0 1 0 0 0 0 1
-marks g (serves h k) = line 1 1 (ifSame h g 1) (ifSame h g k) 0 0 1
+marks g (serves h k) = line 1 1 (if_same h g 1) (if_same h g k) 0 0 1
 marks g idles = line 1 1 0 0 0 0 0
-marks g (hands h r) = line 0 0 0 0 0 (ifSame h g 1) 1
-marks g (withdraws h) = line 0 1 0 0 (ifSame h g 1) 0 1
+marks g (hands h r) = line 0 0 0 0 0 (if_same h g 1) 1
+marks g (withdraws h) = line 0 1 0 0 (if_same h g 1) 0 1
 marks g (places h address) = line 0 0 0 0 0 0 1
 
 -- turns not refused, of whatever guest: 8 is none
-abbrev pub turnIn : Kind → ℕ
-turnIn k = (marks guests k).turn
+abbrev pub turn_in : Kind → ℕ
+turn_in k = (marks guests k).turn
 
 -- posts, turns and withdrawals without a house number
-abbrev pub touchIn : Kind → ℕ
-touchIn k = (marks guests k).touch
+abbrev pub touch_in : Kind → ℕ
+touch_in k = (marks guests k).touch
 
 -- turns that serve g
-abbrev pub serviceIn : ℕ → Kind → ℕ
-serviceIn g k = (marks g k).service
+abbrev pub service_in : ℕ → Kind → ℕ
+service_in g k = (marks g k).service
 
 -- the number that a turn answers for g
-abbrev pub movedIn : ℕ → Kind → ℕ
-movedIn g k = (marks g k).moved
+abbrev pub moved_in : ℕ → Kind → ℕ
+moved_in g k = (marks g k).moved
 
 -- withdrawals of g not refused
-abbrev pub withdrawalIn : ℕ → Kind → ℕ
-withdrawalIn g k = (marks g k).withdrawal
+abbrev pub withdrawal_in : ℕ → Kind → ℕ
+withdrawal_in g k = (marks g k).withdrawal
 
 -- collects of g not refused
-abbrev pub collectIn : ℕ → Kind → ℕ
-collectIn g k = (marks g k).collect
+abbrev pub collect_in : ℕ → Kind → ℕ
+collect_in g k = (marks g k).collect
 
 -- answers after which the desk is another
-abbrev pub deskIn : Kind → ℕ
-deskIn k = (marks guests k).desk
+abbrev pub desk_in : Kind → ℕ
+desk_in k = (marks guests k).desk
 
 -- how many turns of the list were not refused
 abbrev pub turns : List Event → ℕ
-turns = total turnIn
+turns = total turn_in
 
 -- how many served g
 abbrev pub services : ℕ → List Event → ℕ
-services g = total (serviceIn g)
+services g = total (service_in g)
 
 -- "the numbers so answered"
 abbrev pub moved : ℕ → List Event → ℕ
-moved g = total (movedIn g)
+moved g = total (moved_in g)
 
 -- how many withdrawals of g were not refused
 abbrev pub withdrawals : ℕ → List Event → ℕ
-withdrawals g = total (withdrawalIn g)
+withdrawals g = total (withdrawal_in g)
 
 -- how many collects of g were not refused
 abbrev pub collects : ℕ → List Event → ℕ
-collects g = total (collectIn g)
+collects g = total (collect_in g)
 
 -- ---- document 02, 2026-01: a guest's placement, told from the calls and not from the desk
 
 -- after an answer, where it was p before
-abbrev pub placedBy : ℕ → Kind → Placement → Placement
-placedBy g refused p = p
-placedBy g plain p = p
-placedBy g opens p = noPlacement
-placedBy g (answers h) p = p
-placedBy g (accepts h) p = p
-placedBy g (serves h k) p = p
-placedBy g idles p = p
-placedBy g (hands h r) p = p
-placedBy g (withdraws h) p = p
-placedBy g (places h address) p = pick (eqb h g) (placed_at address) p
+abbrev pub placed_by : ℕ → Kind → Placement → Placement
+placed_by g refused p = p
+placed_by g plain p = p
+placed_by g opens p = no_placement
+placed_by g (answers h) p = p
+placed_by g (accepts h) p = p
+placed_by g (serves h k) p = p
+placed_by g idles p = p
+placed_by g (hands h r) p = p
+placed_by g (withdraws h) p = p
+placed_by g (places h address) p = pick (eqb h g) (placed_at address) p
 
 -- after the answers of a list
-abbrev pub placementAfter : ℕ → Placement → List Event → Placement
-placementAfter g p [] = p
-placementAfter g p (e ∷ es) = placementAfter g (placedBy g (kindIn e) p) es
+abbrev pub placement_after : ℕ → Placement → List Event → Placement
+placement_after g p [] = p
+placement_after g p (e ∷ es) = placement_after g (placed_by g (kind_in e) p) es
 
 -- "until opened or placed anew": the last placement of g that was not refused in a list that begins at an opening, if there is one
-abbrev pub placementIn : ℕ → List Event → Placement
-placementIn g es = placementAfter g noPlacement es
+abbrev pub placement_in : ℕ → List Event → Placement
+placement_in g es = placement_after g no_placement es
 
 -- ---- "The words of demand 3", a request, by the calls since its acceptance
 
@@ -213,13 +213,13 @@ pub record Accepted (d : Desk) (c : Call) (g : ℕ) (r : Registers) : Type 0 whe
   pub waits : (step d c).answer ≡ posted g PostWaits
 
 -- the number that a turn answers where it meets no bad block, m of n blocks being moved: sixteen, or what remains if fewer
-abbrev pub fullPart : ℕ → ℕ → ℕ
-fullPart n m = min partLength (n - m)
+abbrev pub full_part : ℕ → ℕ → ℕ
+full_part n m = min part_length (n - m)
 
 -- each turn that served g answered that number, from m blocks moved on: none of them met a bad block
 abbrev pub Full : ℕ → ℕ → ℕ → List Event → Type 0
 Full g n m [] = Unit
-Full g n m (e ∷ es) = (serviceIn g (kindIn e) ≡ 1 → movedIn g (kindIn e) ≡ fullPart n m) × Full g n (m + movedIn g (kindIn e)) es
+Full g n m (e ∷ es) = (service_in g (kind_in e) ≡ 1 → moved_in g (kind_in e) ≡ full_part n m) × Full g n (m + moved_in g (kind_in e)) es
 
 -- "It finishes at the turn where the numbers so answered reach n, [...] or is withdrawn by a withdrawal not refused; until then it waits." It
 -- finishes at a bad block too ("now include these endings", 2026-04): the turn there answers fewer than it would
@@ -228,7 +228,7 @@ Waits g n es = (withdrawals g es ≡ 0) × (moved g es < n) × Full g n 0 es
 
 -- a turn that serves g and answers fewer: it met a bad block, m blocks of n being moved before
 abbrev pub Stops : ℕ → ℕ → ℕ → Kind → Type 0
-Stops g n m k = (serviceIn g k ≡ 1) × (movedIn g k < fullPart n m)
+Stops g n m k = (service_in g k ≡ 1) × (moved_in g k < full_part n m)
 
 -- t is the finishing turn: the request waits up to it, and there the numbers answered reach n, or it stops at a bad block
 pub record Finishes (g n : ℕ) (d : Desk) (front : List Call) (t : Call) : Type 0 where
@@ -241,12 +241,12 @@ pub record Withdraws (g n : ℕ) (d : Desk) (front : List Call) (t : Call) : Typ
   pub gone : kind_of (step (after d front) t).answer ≡ withdraws g
 
 -- "any eight successive turns", and the eight for each part
-abbrev pub turnsEach : ℕ
-turnsEach = 8
+abbrev pub turns_each : ℕ
+turns_each = 8
 
 -- 8 x ceil(n / 16)
-abbrev pub turnsFor : ℕ → ℕ
-turnsFor n = turnsEach * ((n + 15) / partLength)
+abbrev pub turns_for : ℕ → ℕ
+turns_for n = turns_each * ((n + 15) / part_length)
 
 -- ---- "The words of demand 3", the blocks, the arena and the store
 
@@ -256,22 +256,22 @@ Named first n b = (first ≤ b) × (b < first + n)
 
 -- a turn that serves the waiting request q and answers k moves data to store block b
 abbrev pub Writes : Table → Request → ℕ → ℕ → Type 0
-Writes table q k b = (isWrite (ah q.job.registers) ≡ true) × Named (storeBlock table q.job + q.moved) k b
+Writes table q k b = (is_write (ah q.job.registers) ≡ true) × Named (store_block table q.job + q.moved) k b
 
 -- "Another guest writes one when a turn serving that guest moves data to it while the request waits": none does
 abbrev pub Unwritten : ℕ → ℕ → ℕ → List Event → Type 0
 Unwritten g first n [] = Unit
 Unwritten g first n (e ∷ es) =
-    ((h k b : ℕ) (q : Request) → kindIn e ≡ serves h k → (h ≡ g → ⊥) → stageAt e.desk h ≡ Waiting q → Writes e.desk.table q k b → Named first n b → ⊥)
+    ((h k b : ℕ) (q : Request) → kind_in e ≡ serves h k → (h ≡ g → ⊥) → stage_at e.desk h ≡ Waiting q → Writes e.desk.table q k b → Named first n b → ⊥)
     × Unwritten g first n es
 
 -- by whether the call counts
 abbrev pub LeftIf : ℕ → ℕ → ℕ → List ℕ → List ℕ → Event → Type 0 → Type 0 → Type 0
 LeftIf zero m g w s e skip go = skip
-LeftIf (suc k) m g w s e skip go = (windowOf e.call.arena g m ≡ w) × (e.call.store ≡ s) × go
+LeftIf (suc k) m g w s e skip go = (window_of e.call.arena g m ≡ w) × (e.call.store ≡ s) × go
 
 -- "each post, turn and withdrawal without a house number finds the window of the request's guest and the store as the one before left them",
 -- w and s at first; m is the windows' length
 abbrev pub Left : ℕ → ℕ → List ℕ → List ℕ → List Event → Type 0
 Left m g w s [] = Unit
-Left m g w s (e ∷ es) = LeftIf (touchIn (kindIn e)) m g w s e (Left m g w s es) (Left m g (windowOf e.out.arena g m) e.out.store es)
+Left m g w s (e ∷ es) = LeftIf (touch_in (kind_in e)) m g w s e (Left m g w s es) (Left m g (window_of e.out.arena g m) e.out.store es)

@@ -16,18 +16,18 @@ linear segment offset = 16 * segment + offset
 -- ---- "Numbers given back"
 
 -- AH 01h: unknown function or drive; bad parameter as listed
-abbrev pub badParameter : ℕ
-badParameter = 0x01
+abbrev pub bad_parameter : ℕ
+bad_parameter = 0x01
 
 -- ---- "Steps of each function", 42h, 43h and 44h: the packet
 
 -- 16 packet bytes
-abbrev pub packetLength : ℕ
-packetLength = 16
+abbrev pub packet_length : ℕ
+packet_length = 16
 
 -- byte 0 size, byte 1 ignored, word 2 count, words 4 and 6 offset and segment of the buffer, qword 8 start
-unfoldable pub packetAt : List ℕ → ℕ → Packet
-packetAt window at = record {
+unfoldable pub packet_at : List ℕ → ℕ → Packet
+packet_at window at = record {
   size = get_or window at 0;
   count = le 2 window (at + 2);
   buffer = linear (le 2 window (at + 6)) (le 2 window (at + 4));
@@ -35,19 +35,19 @@ packetAt window at = record {
 }
 
 -- 16 packet bytes at DS:SI inside the window, else 01h; the sum never wraps
-unfoldable pub readPacket : List ℕ → ℕ → PacketRead
-readPacket window at = pick (leb (at + packetLength) (length window)) (Whole (packetAt window at)) (Refused badParameter)
+unfoldable pub read_packet : List ℕ → ℕ → PacketRead
+read_packet window at = pick (leb (at + packet_length) (length window)) (Whole (packet_at window at)) (Refused bad_parameter)
 
 -- ---- "Forms we want to see": the answer as numbers, 0 and the values in the packet's order, or the code
 
 -- size, count, buffer, start
-unfoldable pub packetNumbers : PacketRead → List ℕ
-packetNumbers (Whole p) = 0 ∷ p.size ∷ p.count ∷ p.buffer ∷ p.start ∷ []
-packetNumbers (Refused code) = code ∷ []
+unfoldable pub packet_numbers : PacketRead → List ℕ
+packet_numbers (Whole p) = 0 ∷ p.size ∷ p.count ∷ p.buffer ∷ p.start ∷ []
+packet_numbers (Refused code) = code ∷ []
 
 -- the numbers for a place of a window, by the paper's offsets; the buffer is 16 times segment plus offset
-unfoldable pub packetGiven : List ℕ → ℕ → List ℕ
-packetGiven window at =
+unfoldable pub packet_given : List ℕ → ℕ → List ℕ
+packet_given window at =
     pick (leb (at + 16) (length window))
     (0 ∷ get_or window at 0 ∷ le 2 window (at + 2) ∷ (16 * le 2 window (at + 6) + le 2 window (at + 4)) ∷ le 8 window (at + 8) ∷ [])
     (0x01 ∷ [])

@@ -2,10 +2,10 @@
 // parameter table that it may point at, which the desk writes.
 ghost use Rattle.std.specs.Prelude.{◌≡◌, ◌+◌, ◌-◌, ◌%◌, ◌≤◌, ◌<◌, length, set};
 ghost use Rattle.std.proofs.lemmas.List.Edits.{sets};
-ghost use Rattle.layout.specs.Packet.{linear, packetLength, packetAt, readPacket, packetNumbers, packetGiven};
-ghost use Rattle.layout.specs.ParameterTable.{driveFlags, parameterTable};
+ghost use Rattle.layout.specs.Packet.{linear, packet_length, packet_at, read_packet, packet_numbers, packet_given};
+ghost use Rattle.layout.specs.ParameterTable.{drive_flags, parameter_table};
 ghost use Rattle.words.specs.Words.{part};
-ghost use Rattle.layout.specs.ResultBuffer.{pathSize, wideSize, returnedSize, flagsShown, parameterBytes, blockBytes, interfaceBytes, pathBytes, paddedByte, padded, wideInterfaceBytes, widePathBytes, sum, checksum, wholeResult, resultAnswer, resultOut, resultNumbers, sizeGiven};
+ghost use Rattle.layout.specs.ResultBuffer.{path_size, wide_size, returned_size, flags_shown, parameter_bytes, block_bytes, interface_bytes, path_bytes, padded_byte, padded, wide_interface_bytes, wide_path_bytes, sum, checksum, whole_result, result_answer, result_out, result_numbers, size_given};
 
 use drive::Drive;
 
@@ -22,7 +22,7 @@ pub fn linear(segment: u16, offset: u16) -> u32
 }
 
 // A packet's fields in the paper's order.
-#[derive(Drop)]
+#[derive(Clone, Copy)]
 pub struct Packet {
     // byte 0 as the guest gave it, not yet tested
     pub size: u8,
@@ -33,7 +33,7 @@ pub struct Packet {
     pub start: u64,
 }
 
-#[derive(Drop)]
+#[derive(Clone, Copy)]
 pub enum PacketRead {
     Whole(Packet),
     Refused(u8),
@@ -43,8 +43,8 @@ pub const PACKET_LENGTH: u64 = 16;
 
 // The fields of a packet that is wholly inside the window.
 fn packet_at(window: &[u8], at: usize) -> Packet
-    requires { at + packetLength ≤ length window.now }
-    ensures { result ≡ packetAt window.now at }
+    requires { at + packet_length ≤ length window.now }
+    ensures { result ≡ packet_at window.now at }
 {
     let offset = words::get16(window, at + 4);
     let segment = words::get16(window, at + 6);
@@ -58,7 +58,7 @@ fn packet_at(window: &[u8], at: usize) -> Packet
 
 // The packet at a place of the window, which may be any number. Refused with 01h: a packet that is not wholly inside.
 pub fn read_packet(window: &[u8], at: usize) -> PacketRead
-    ensures { (result ≡ readPacket window.now at) × (packetNumbers result ≡ packetGiven window.now at) }
+    ensures { (result ≡ read_packet window.now at) × (packet_numbers result ≡ packet_given window.now at) }
 {
     if logic::ends_by(at as u64, PACKET_LENGTH, window.len() as u64) {
         return PacketRead::Whole(packet_at(window, at));
@@ -69,7 +69,7 @@ pub fn read_packet(window: &[u8], at: usize) -> PacketRead
 // ---- the bytes of the result buffer
 
 // Where bytes 26 to 29 of a result point, as the two words that stand there.
-#[derive(Drop)]
+#[derive(Clone, Copy)]
 pub struct Pointer {
     pub offset: u16,
     pub segment: u16,
@@ -96,7 +96,7 @@ const PADDING: u8 = 0x20;
 
 // The returned size for a size asked of at least 26. There are no 66 bytes of a drive of type I2O: it gets 30.
 fn returned_size(d: Drive, asked: u16) -> u16
-    ensures { result ≡ returnedSize d asked }
+    ensures { result ≡ returned_size d asked }
 {
     if asked < POINTER_SIZE {
         return LEAST_SIZE;
@@ -115,7 +115,7 @@ fn returned_size(d: Drive, asked: u16) -> u16
 
 // The information flags that 48h shows: without bit 2, removable, bits 4 to 6 mean nothing and are zero.
 fn flags_shown(d: Drive) -> u16
-    ensures { result ≡ flagsShown d }
+    ensures { result ≡ flags_shown d }
 {
     let flags = d.flags;
     if flags / 4 % 2 == 1 {
@@ -127,8 +127,8 @@ fn flags_shown(d: Drive) -> u16
 // The four runs of a result are written in a buffer of 66 bytes, which `narrow_of` makes, or of 74, which `wide_of` makes; each has an interface
 // and paths of its own.
 fn put_geometry(d: Drive, n: u16, out: &mut [u8])
-    requires { pathSize ≤ length out.old }
-    ensures { out.new ≡ sets out.old 0 (parameterBytes d n) }
+    requires { path_size ≤ length out.old }
+    ensures { out.new ≡ sets out.old 0 (parameter_bytes d n) }
 {
     words::store16(out, 0, n);
     words::store16(out, 2, flags_shown(d));
@@ -138,8 +138,8 @@ fn put_geometry(d: Drive, n: u16, out: &mut [u8])
 }
 
 fn put_blocks(d: Drive, p: Pointer, out: &mut [u8])
-    requires { pathSize ≤ length out.old }
-    ensures { out.new ≡ sets out.old 16 (blockBytes d p) }
+    requires { path_size ≤ length out.old }
+    ensures { out.new ≡ sets out.old 16 (block_bytes d p) }
 {
     words::store64(out, 16, d.blocks);
     words::store16(out, 24, BLOCK_LENGTH);
@@ -149,8 +149,8 @@ fn put_blocks(d: Drive, p: Pointer, out: &mut [u8])
 
 // The length is a byte with three zeros after it: one dword.
 fn put_interface(d: Drive, out: &mut [u8])
-    requires { pathSize ≤ length out.old }
-    ensures { out.new ≡ sets out.old 30 (interfaceBytes d) }
+    requires { path_size ≤ length out.old }
+    ensures { out.new ≡ sets out.old 30 (interface_bytes d) }
 {
     let bus = d.bus;
     let interface = d.interface;
@@ -161,8 +161,8 @@ fn put_interface(d: Drive, out: &mut [u8])
 }
 
 fn put_paths(d: Drive, out: &mut [u8])
-    requires { pathSize ≤ length out.old }
-    ensures { out.new ≡ sets out.old 48 (pathBytes d) }
+    requires { path_size ≤ length out.old }
+    ensures { out.new ≡ sets out.old 48 (path_bytes d) }
 {
     let path = d.path;
     let device = d.device;
@@ -172,7 +172,7 @@ fn put_paths(d: Drive, out: &mut [u8])
 }
 
 fn padded_byte(x: u8) -> u8
-    ensures { result ≡ paddedByte x }
+    ensures { result ≡ padded_byte x }
 {
     if x == 0 { PADDING } else { x }
 }
@@ -190,8 +190,8 @@ fn put_padded(out: &mut [u8], at: usize, name: &[u8])
 }
 
 fn put_wide_interface(d: Drive, out: &mut [u8])
-    requires { wideSize ≤ length out.old }
-    ensures { out.new ≡ sets out.old 30 (wideInterfaceBytes d) }
+    requires { wide_size ≤ length out.old }
+    ensures { out.new ≡ sets out.old 30 (wide_interface_bytes d) }
 {
     let bus = d.bus;
     let interface = d.interface;
@@ -202,8 +202,8 @@ fn put_wide_interface(d: Drive, out: &mut [u8])
 }
 
 fn put_wide_paths(d: Drive, out: &mut [u8])
-    requires { wideSize ≤ length out.old }
-    ensures { out.new ≡ sets out.old 48 (widePathBytes d) }
+    requires { wide_size ≤ length out.old }
+    ensures { out.new ≡ sets out.old 48 (wide_path_bytes d) }
 {
     let path = d.path;
     let device = d.device;
@@ -245,8 +245,8 @@ fn put_checksum(out: &mut [u8], last: usize)
 
 // All 66 bytes, with the returned size n.
 fn narrow_of(d: Drive, p: Pointer, n: u16) -> [u8; 66]
-    requires { n ≤ pathSize }
-    ensures { result ≡ wholeResult d p n }
+    requires { n ≤ path_size }
+    ensures { result ≡ whole_result d p n }
 {
     let mut r = [0u8; 66];
     put_geometry(d, n, &mut r);
@@ -259,7 +259,7 @@ fn narrow_of(d: Drive, p: Pointer, n: u16) -> [u8; 66]
 
 // All 74 bytes of the longer result.
 fn wide_of(d: Drive, p: Pointer) -> [u8; 74]
-    ensures { result ≡ wholeResult d p wideSize }
+    ensures { result ≡ whole_result d p wide_size }
 {
     let mut r = [0u8; 74];
     put_geometry(d, WIDE_SIZE, &mut r);
@@ -272,7 +272,7 @@ fn wide_of(d: Drive, p: Pointer) -> [u8; 74]
 
 // ---- the answer of 48h
 
-#[derive(Drop)]
+#[derive(Clone, Copy)]
 pub enum ResultAnswer {
     // the returned size
     Written(u16),
@@ -282,7 +282,7 @@ pub enum ResultAnswer {
 // The result for a drive, a pointer and the size asked; out is the window from DS:SI to its end. Refused with 01h, out unchanged: a size below
 // 26, or too little room for the returned size. Bytes past the returned size stay.
 pub fn write_result(d: Drive, p: Pointer, asked: u16, out: &mut [u8]) -> ResultAnswer
-    ensures { (result ≡ resultAnswer d asked (length out.old)) × (out.new ≡ resultOut d p asked out.old) × (resultNumbers result ≡ sizeGiven d asked (length out.old)) }
+    ensures { (result ≡ result_answer d asked (length out.old)) × (out.new ≡ result_out d p asked out.old) × (result_numbers result ≡ size_given d asked (length out.old)) }
 {
     if asked < LEAST_SIZE {
         return ResultAnswer::Refused(BAD_PARAMETER);
@@ -312,14 +312,14 @@ const REVISION: u8 = 0x11;
 
 // Bits 7 and 5 set, the others as given.
 fn drive_flags(x: u8) -> u8
-    ensures { result ≡ driveFlags x }
+    ensures { result ≡ drive_flags x }
 {
     x % 32 + 32 + x / 64 % 2 * 64 + 128
 }
 
 // All sixteen bytes, of the fourteen that a drive's record gives.
 pub fn parameter_table(p: [u8; 14]) -> [u8; 16]
-    ensures { result ≡ parameterTable p }
+    ensures { result ≡ parameter_table p }
 {
     let mut r = [0u8; 16];
     words::store(&mut r, 0, &p);

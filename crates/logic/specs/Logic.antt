@@ -27,6 +27,6 @@ all_below zero f = true
 all_below (suc n) f = both (f n) (all_below n f)
 
 -- the test holds of some number below n
-abbrev pub someBelow : ℕ → (ℕ → Bool) → Bool
-someBelow zero f = false
-someBelow (suc n) f = either (f n) (someBelow n f)
+abbrev pub some_below : ℕ → (ℕ → Bool) → Bool
+some_below zero f = false
+some_below (suc n) f = either (f n) (some_below n f)

@@ -54,13 +54,13 @@ sets-part k l at h =
     rw (sets-eq (part k l at) l at i, n, ← take-add at k l) (take-append-drop (at + k) l)
 
 -- of two runs at one place the second stays
-pub sets-twice : (l : List ℕ) (at : ℕ) (v w : List ℕ) → length v ≡ length w → at + length w ≤ length l → sets (sets l at v) at w ≡ sets l at w
-sets-twice l at v w e h =
+pub sets_twice : (l : List ℕ) (at : ℕ) (v w : List ℕ) → length v ≡ length w → at + length w ≤ length l → sets (sets l at v) at w ≡ sets l at w
+sets_twice l at v w e h =
     let i : at + length w ≤ length (sets l at v) = rw length-sets h in
     rw (sets-eq w (sets l at v) at i, sets-eq w l at h, take-sets at l at v (omega arith), drop-sets (at + length w) l at v (omega arith))
 
 -- a part that was lent comes back
-pub sets-lent : (l : List ℕ) (at k : ℕ) (v : List ℕ) → length v ≡ k → at + k ≤ length l → take at l ++ (v ++ drop k (drop at l)) ≡ sets l at v
-sets-lent l at k v e h =
+pub sets_lent : (l : List ℕ) (at k : ℕ) (v : List ℕ) → length v ≡ k → at + k ≤ length l → take at l ++ (v ++ drop k (drop at l)) ≡ sets l at v
+sets_lent l at k v e h =
     let i : at + length v ≤ length l = omega arith in
     rw (sets-eq v l at i, drop-drop, e) (sym (append_assoc (take at l) v (drop (at + k) l)))

@@ -5,7 +5,7 @@ use mathlib.Core.Path.{◌≡◌, refl}
 use mathlib.Core.List.{List, [], ◌∷◌, ◌++◌, map}
 use Prim.Native.Nat.{ℕ, zero, suc}
 use lib.ListN.{replicate}
-use Rattle.memory.specs.Window.{windowLength, spanStart, spanLength, windowOf, withWindow}
+use Rattle.memory.specs.Window.{window_length, span_start, span_length, window_of, with_window}
 use Rattle.memory.specs.Blocks.{blocks}
 
 -- the arenas: none, below eight bytes, one byte a guest, one short of a packet, a packet a guest, and 4096 with 7 odd bytes
@@ -13,17 +13,17 @@ abbrev arenas : List ℕ
 arenas = 0 ∷ 7 ∷ 8 ∷ 127 ∷ 128 ∷ 4103 ∷ []
 
 -- M of each arena, as document 01's floor of the eighth part
-pub lengths : map windowLength arenas ≡ 0 ∷ 0 ∷ 1 ∷ 15 ∷ 16 ∷ 512 ∷ []
+pub lengths : map window_length arenas ≡ 0 ∷ 0 ∷ 1 ∷ 15 ∷ 16 ∷ 512 ∷ []
 lengths = refl
 
 -- start and length of the window of M bytes for the first guest and the last; for a length one too large; for guest 8, and guest 2^64 - 1
 abbrev spans : ℕ → List ℕ
 spans n =
-    let m = windowLength n in
-    spanStart n 0 m ∷ spanLength n 0 m ∷ spanStart n 7 m ∷ spanLength n 7 m
-    ∷ spanStart n 7 (suc m) ∷ spanLength n 7 (suc m)
-    ∷ spanStart n 8 m ∷ spanLength n 8 m
-    ∷ spanStart n 18446744073709551615 m ∷ spanLength n 18446744073709551615 m ∷ []
+    let m = window_length n in
+    span_start n 0 m ∷ span_length n 0 m ∷ span_start n 7 m ∷ span_length n 7 m
+    ∷ span_start n 7 (suc m) ∷ span_length n 7 (suc m)
+    ∷ span_start n 8 m ∷ span_length n 8 m
+    ∷ span_start n 18446744073709551615 m ∷ span_length n 18446744073709551615 m ∷ []
 
 --   arena 0: guest 0 at 0 for 0, guest 7 at 0 for 0, and the empty part at 0 three times
 --   arena 7: the same
@@ -38,7 +38,7 @@ pub windows : map spans arenas
     ∷ (0 ∷ 15 ∷ 105 ∷ 15 ∷ 0 ∷ 0 ∷ 0 ∷ 0 ∷ 0 ∷ 0 ∷ [])
     ∷ (0 ∷ 16 ∷ 112 ∷ 16 ∷ 0 ∷ 0 ∷ 0 ∷ 0 ∷ 0 ∷ 0 ∷ [])
     ∷ (0 ∷ 512 ∷ 3584 ∷ 512 ∷ 0 ∷ 0 ∷ 0 ∷ 0 ∷ 0 ∷ 0 ∷ []) ∷ []
-unfolding spanStart spanLength
+unfolding span_start span_length
 windows = refl
 
 -- ---- one window
@@ -49,16 +49,16 @@ up_from zero v = []
 up_from (suc n) v = v ∷ up_from n (suc v)
 
 -- an arena of 26 bytes, M 3: guest 2's three bytes, guest 3's two where windows of two are asked for, guest 5's; a length above M, no guest
-pub window_bytes : windowOf (up_from 26 100) 2 3 ∷ windowOf (up_from 26 100) 3 2 ∷ windowOf (up_from 26 100) 5 3
-    ∷ windowOf (up_from 26 100) 2 4 ∷ windowOf (up_from 26 100) 8 3 ∷ []
+pub window_bytes : window_of (up_from 26 100) 2 3 ∷ window_of (up_from 26 100) 3 2 ∷ window_of (up_from 26 100) 5 3
+    ∷ window_of (up_from 26 100) 2 4 ∷ window_of (up_from 26 100) 8 3 ∷ []
     ≡ (106 ∷ 107 ∷ 108 ∷ []) ∷ (106 ∷ 107 ∷ []) ∷ (115 ∷ 116 ∷ 117 ∷ []) ∷ [] ∷ [] ∷ []
-unfolding spanStart spanLength
+unfolding span_start span_length
 window_bytes = refl
 
 -- an arena of 17 bytes: guest 5's window of two is written, and no other byte
-pub window-written : withWindow (up_from 17 100) 5 2 (7 ∷ 8 ∷ [])
+pub window-written : with_window (up_from 17 100) 5 2 (7 ∷ 8 ∷ [])
     ≡ 100 ∷ 101 ∷ 102 ∷ 103 ∷ 104 ∷ 105 ∷ 106 ∷ 107 ∷ 108 ∷ 109 ∷ 7 ∷ 8 ∷ 112 ∷ 113 ∷ 114 ∷ 115 ∷ 116 ∷ []
-unfolding spanStart
+unfolding span_start
 window-written = refl
 
 -- ---- blocks

@@ -10,25 +10,25 @@ abbrev pub guests : ℕ
 guests = 8
 
 -- M, for an arena of n bytes; the n % 8 bytes at its end belong to nobody
-abbrev pub windowLength : ℕ → ℕ
-windowLength n = n / guests
+abbrev pub window_length : ℕ → ℕ
+window_length n = n / guests
 
 -- "by guest number and window length" ("Forms we want to see"): a length above M and a guest of 8 or more have the empty part at 0
-abbrev pub hasWindow : ℕ → ℕ → ℕ → Bool
-hasWindow n guest m = both (leb m (windowLength n)) (ltb guest guests)
+abbrev pub has_window : ℕ → ℕ → ℕ → Bool
+has_window n guest m = both (leb m (window_length n)) (ltb guest guests)
 
 -- where the window of m bytes starts in an arena of n, and how long it is
-unfoldable pub spanStart : ℕ → ℕ → ℕ → ℕ
-spanStart n guest m = pick (hasWindow n guest m) (guest * m) 0
+unfoldable pub span_start : ℕ → ℕ → ℕ → ℕ
+span_start n guest m = pick (has_window n guest m) (guest * m) 0
 
 -- how long the window is: m, or 0 where there is none
-unfoldable pub spanLength : ℕ → ℕ → ℕ → ℕ
-spanLength n guest m = pick (hasWindow n guest m) m 0
+unfoldable pub span_length : ℕ → ℕ → ℕ → ℕ
+span_length n guest m = pick (has_window n guest m) m 0
 
 -- the bytes of a guest's window
-abbrev pub windowOf : List ℕ → ℕ → ℕ → List ℕ
-windowOf arena guest m = part (spanLength (length arena) guest m) arena (spanStart (length arena) guest m)
+abbrev pub window_of : List ℕ → ℕ → ℕ → List ℕ
+window_of arena guest m = part (span_length (length arena) guest m) arena (span_start (length arena) guest m)
 
 -- the arena with other bytes, as many, in a guest's window
-abbrev pub withWindow : List ℕ → ℕ → ℕ → List ℕ → List ℕ
-withWindow arena guest m bytes = sets arena (spanStart (length arena) guest m) bytes
+abbrev pub with_window : List ℕ → ℕ → ℕ → List ℕ → List ℕ
+with_window arena guest m bytes = sets arena (span_start (length arena) guest m) bytes

@@ -4,8 +4,8 @@
 ghost use Rattle.std.specs.Prelude.{◌≡◌, ◌+◌, ◌*◌, ◌≤◌, length};
 ghost use Rattle.std.proofs.lemmas.List.Edits.{sets};
 ghost use Rattle.words.specs.Words.{le_bytes};
-ghost use Rattle.memory.specs.Window.{windowLength, spanStart, spanLength, windowOf, withWindow};
-ghost use Rattle.memory.specs.Blocks.{blockLength, blocks};
+ghost use Rattle.memory.specs.Window.{window_length, span_start, span_length, window_of, with_window};
+ghost use Rattle.memory.specs.Blocks.{block_length, blocks};
 
 // Guests are 0 to 7.
 pub const GUESTS: usize = 8;
@@ -14,7 +14,7 @@ pub const GUESTS: usize = 8;
 pub const BLOCK_LENGTH: usize = 512;
 
 // Where a window lies in the arena: the bytes from start up to, not including, end.
-#[derive(Drop)]
+#[derive(Clone, Copy)]
 pub struct Span {
     pub start: usize,
     pub end: usize,
@@ -22,7 +22,7 @@ pub struct Span {
 
 // M, the length of each window of an arena of n bytes.
 pub fn window_length(n: usize) -> usize
-    ensures { result ≡ windowLength n }
+    ensures { result ≡ window_length n }
 {
     n / GUESTS
 }
@@ -30,7 +30,7 @@ pub fn window_length(n: usize) -> usize
 // The place of a guest's window of m bytes in an arena of n: the empty part at 0 where m is above M or the guest is 8 or more.
 // The product is made only after m has passed, so it cannot wrap. That the end lies in the arena follows from the rest.
 pub fn span_of(n: usize, guest: usize, m: usize) -> Span
-    ensures { (result.start ≡ spanStart n guest m) × (result.end ≡ spanStart n guest m + spanLength n guest m) × (result.end ≤ n) }
+    ensures { (result.start ≡ span_start n guest m) × (result.end ≡ span_start n guest m + span_length n guest m) × (result.end ≤ n) }
 {
     if window_length(n) < m {
         return Span { start: 0, end: 0 };
@@ -49,7 +49,7 @@ pub fn span_of(n: usize, guest: usize, m: usize) -> Span
 
 // To be written.
 pub fn window<'a>(arena: &'a mut [u8], guest: usize, m: usize) -> &'a mut [u8]
-    ensures { (result.now ≡ windowOf arena.old guest m) × (result.ref_ptr ≡ (arena.entry.ref_ptr.0, arena.entry.ref_ptr.1 + spanStart (length arena.old) guest m)) }
+    ensures { (result.now ≡ window_of arena.old guest m) × (result.ref_ptr ≡ (arena.entry.ref_ptr.0, arena.entry.ref_ptr.1 + span_start (length arena.old) guest m)) }
 {
     let s = span_of(arena.len(), guest, m);
     let start = s.start;
@@ -59,7 +59,7 @@ pub fn window<'a>(arena: &'a mut [u8], guest: usize, m: usize) -> &'a mut [u8]
 
 // To be read.
 pub fn window_shared<'a>(arena: &'a [u8], guest: usize, m: usize) -> &'a [u8]
-    ensures { (result.now ≡ windowOf arena.now guest m) × (result.ref_ptr ≡ (arena.entry.ref_ptr.0, arena.entry.ref_ptr.1 + spanStart (length arena.now) guest m)) }
+    ensures { (result.now ≡ window_of arena.now guest m) × (result.ref_ptr ≡ (arena.entry.ref_ptr.0, arena.entry.ref_ptr.1 + span_start (length arena.now) guest m)) }
 {
     let s = span_of(arena.len(), guest, m);
     let start = s.start;
@@ -90,7 +90,7 @@ fn lay(dst: &mut [u8], at: usize, a: &[u8])
 
 // One run of 512 × k bytes. Its callers are load and save, which ask for the same ranges.
 fn copy(dst: &mut [u8], at: usize, src: &[u8], from: usize, k: usize)
-    requires { (at + blockLength * k ≤ length dst.old) × (from + blockLength * k ≤ length src.now) }
+    requires { (at + block_length * k ≤ length dst.old) × (from + block_length * k ≤ length src.now) }
     ensures { dst.new ≡ blocks dst.old at src.now from k }
 {
     let end = from + BLOCK_LENGTH * k;
@@ -108,8 +108,8 @@ pub fn load(
     from: usize,
     k: usize,
 )
-    requires { (at + blockLength * k ≤ spanLength (length arena.old) guest m) × (from + blockLength * k ≤ length store.now) }
-    ensures { arena.new ≡ withWindow arena.old guest m (blocks (windowOf arena.old guest m) at store.now from k) }
+    requires { (at + block_length * k ≤ span_length (length arena.old) guest m) × (from + block_length * k ≤ length store.now) }
+    ensures { arena.new ≡ with_window arena.old guest m (blocks (window_of arena.old guest m) at store.now from k) }
 {
     let s = span_of(arena.len(), guest, m);
     let start = s.start;
@@ -119,8 +119,8 @@ pub fn load(
 
 // A write: k blocks at place at of the guest's window go to the store, from byte to. The same tests as for a read.
 pub fn save(arena: &[u8], guest: usize, m: usize, at: usize, store: &mut [u8], to: usize, k: usize)
-    requires { (at + blockLength * k ≤ spanLength (length arena.now) guest m) × (to + blockLength * k ≤ length store.old) }
-    ensures { store.new ≡ blocks store.old to (windowOf arena.now guest m) at k }
+    requires { (at + block_length * k ≤ span_length (length arena.now) guest m) × (to + block_length * k ≤ length store.old) }
+    ensures { store.new ≡ blocks store.old to (window_of arena.now guest m) at k }
 {
     let s = span_of(arena.len(), guest, m);
     let start = s.start;
@@ -130,8 +130,8 @@ pub fn save(arena: &[u8], guest: usize, m: usize, at: usize, store: &mut [u8], t
 
 // Bytes laid at a place of the guest's window, as its parameter tables. The desk has tested that they lie in the window (26).
 pub fn put_bytes_in(arena: &mut [u8], guest: usize, m: usize, at: usize, bytes: &[u8])
-    requires { at + length bytes.now ≤ spanLength (length arena.old) guest m }
-    ensures { arena.new ≡ withWindow arena.old guest m (sets (windowOf arena.old guest m) at bytes.now) }
+    requires { at + length bytes.now ≤ span_length (length arena.old) guest m }
+    ensures { arena.new ≡ with_window arena.old guest m (sets (window_of arena.old guest m) at bytes.now) }
 {
     let s = span_of(arena.len(), guest, m);
     let start = s.start;
@@ -141,8 +141,8 @@ pub fn put_bytes_in(arena: &mut [u8], guest: usize, m: usize, at: usize, bytes: 
 
 // A word laid at a place of the guest's window, as the packet's count. The desk has tested that the packet lies in the window (01h).
 pub fn put_word_in(arena: &mut [u8], guest: usize, m: usize, at: usize, x: u16)
-    requires { at + 2 ≤ spanLength (length arena.old) guest m }
-    ensures { arena.new ≡ withWindow arena.old guest m (sets (windowOf arena.old guest m) at (le_bytes 2 x)) }
+    requires { at + 2 ≤ span_length (length arena.old) guest m }
+    ensures { arena.new ≡ with_window arena.old guest m (sets (window_of arena.old guest m) at (le_bytes 2 x)) }
 {
     let s = span_of(arena.len(), guest, m);
     let start = s.start;

@@ -10,16 +10,16 @@ use lib.Seq.{sets, take_all}
 use lib.Dec.{eqb}
 use borrow.Author.Tests.{le-ltb}
 use Rattle.logic.specs.Logic.{both, all_below}
-use Rattle.logic.proofs.LogicLaws.{all-front}
+use Rattle.logic.proofs.LogicLaws.{all_front}
 use Rattle.words.specs.Words.{le, le_bytes, part}
-use Rattle.words.proofs.WordsLaws.{sets-append, sets-whole, length-leBytes}
+use Rattle.words.proofs.WordsLaws.{sets-append, sets-whole, length-le_bytes}
 use Rattle.drive.specs.Drive.{same}
 use Rattle.table.specs.declared.Table.{Table}
 use Rattle.table.specs.declared.Reading.{Reading}
-use Rattle.table.specs.Table.{endRecord, recordsOf, bytes_of, drivesOf, nextPlace, table_of, writeOut, readTable}
+use Rattle.table.specs.Table.{end_record, records_of, bytes_of, drives_of, next_place, table_of, write_out, read_table}
 use Rattle.feed.specs.declared.Course.{Course}
 use Rattle.feed.specs.declared.Feed.{Feed}
-use Rattle.reader.specs.Reader.{courseNumber, refusalNumber, headBytes, tableBytes, image, courseAt, readReader}
+use Rattle.reader.specs.Reader.{course_number, refusal_number, head_bytes, table_bytes, image, course_at, read_reader}
 
 -- ---- what bytes say
 
@@ -34,87 +34,87 @@ end-past {n} s l e h =
 
 -- the reader, from what the code read
 pub decode_is : {t : Reading} {store filled : ℕ} {held : List ℕ} {course : Course} (end : ℕ) (b : List ℕ) → store ≡ le 8 b 16 → part (end - 174) b 174 ≡ part (le 8 b 32) b 174
-    → t ≡ readTable (part (end - 174) b 174) store → held ≡ part 134 b 40 → filled ≡ le 8 b 24 → course ≡ courseAt b
-    → ◌≡◌ {A = Feed} (record { table = t.table; store = store; held = held; filled = filled; course = course }) (readReader b)
-unfolding readReader
+    → t ≡ read_table (part (end - 174) b 174) store → held ≡ part 134 b 40 → filled ≡ le 8 b 24 → course ≡ course_at b
+    → ◌≡◌ {A = Feed} (record { table = t.table; store = store; held = held; filled = filled; course = course }) (read_reader b)
+unfolding read_reader
 decode_is end b s p t h f c = rw (t, p, s, h, f, c)
 
 -- ---- what is laid out
 
-length-end : length endRecord ≡ 4
+length-end : length end_record ≡ 4
 unfolding le_bytes
 length-end = refl
 
 -- the length of a table, which ends with the end record
-pub length-table : (b : Table) → length (table_of b) ≡ nextPlace b + 4
-unfolding table_of bytes_of nextPlace
+pub length-table : (b : Table) → length (table_of b) ≡ next_place b + 4
+unfolding table_of bytes_of next_place
 length-table b =
-    let records = recordsOf (length (drivesOf b)) b in
-    length-append records endRecord ∙ ap (λ (k : ℕ). length records + k) length-end
+    let records = records_of (length (drives_of b)) b in
+    length-append records end_record ∙ ap (λ (k : ℕ). length records + k) length-end
 
-pub table_fits : {m : ℕ} (b : Table) → m ≡ nextPlace b → m + 4 ≤ 1844 → (m + 4 ≡ length (table_of b)) × (length (table_of b) ≤ 1844)
+pub table_fits : {m : ℕ} (b : Table) → m ≡ next_place b → m + 4 ≤ 1844 → (m + 4 ≡ length (table_of b)) × (length (table_of b) ≤ 1844)
 table_fits b e h = (omega (arith, length-table b), omega (arith, length-table b))
 
 -- the five words
-head-stores : (s : List ℕ) (f : Feed) → sets s 0 (headBytes f)
-    ≡ sets (sets (sets (sets (sets s 0 (le_bytes 8 (courseNumber f.course))) 8 (le_bytes 8 (refusalNumber f.course))) 16 (le_bytes 8 f.store)) 24 (le_bytes 8 f.filled))
+head_stores : (s : List ℕ) (f : Feed) → sets s 0 (head_bytes f)
+    ≡ sets (sets (sets (sets (sets s 0 (le_bytes 8 (course_number f.course))) 8 (le_bytes 8 (refusal_number f.course))) 16 (le_bytes 8 f.store)) 24 (le_bytes 8 f.filled))
     32 (le_bytes 8 (length (table_of f.table)))
-head-stores s f = simp (sets-append, length-leBytes)
+head_stores s f = simp (sets-append, length-le_bytes)
 
-pub head-laid : {o₁ o₂ o₃ o₄ o₅ : List ℕ} {course refusal whole : ℕ} (s : List ℕ) (f : Feed)
-    → course ≡ courseNumber f.course → refusal ≡ refusalNumber f.course → whole ≡ length (table_of f.table)
+pub head_laid : {o₁ o₂ o₃ o₄ o₅ : List ℕ} {course refusal whole : ℕ} (s : List ℕ) (f : Feed)
+    → course ≡ course_number f.course → refusal ≡ refusal_number f.course → whole ≡ length (table_of f.table)
     → o₁ ≡ sets s 0 (le_bytes 8 course) → o₂ ≡ sets o₁ 8 (le_bytes 8 refusal) → o₃ ≡ sets o₂ 16 (le_bytes 8 f.store)
-    → o₄ ≡ sets o₃ 24 (le_bytes 8 f.filled) → o₅ ≡ sets o₄ 32 (le_bytes 8 whole) → o₅ ≡ sets s 0 (headBytes f)
-head-laid s f c r w e₁ e₂ e₃ e₄ e₅ = rw (e₅, e₄, e₃, e₂, e₁, c, r, w) (sym (head-stores s f))
+    → o₄ ≡ sets o₃ 24 (le_bytes 8 f.filled) → o₅ ≡ sets o₄ 32 (le_bytes 8 whole) → o₅ ≡ sets s 0 (head_bytes f)
+head_laid s f c r w e₁ e₂ e₃ e₄ e₅ = rw (e₅, e₄, e₃, e₂, e₁, c, r, w) (sym (head_stores s f))
 
-pub length-head : (f : Feed) → length (headBytes f) ≡ 40
-length-head f = simp (length-append, length-leBytes)
+pub length_head : (f : Feed) → length (head_bytes f) ≡ 40
+length_head f = simp (length-append, length-le_bytes)
 
 -- zeros
 abbrev zeros : ℕ → List ℕ
 zeros n = replicate n 0
 
-drop-zeros : (n m : ℕ) → drop n (zeros m) ≡ zeros (m - n)
-drop-zeros zero m = let e : m - 0 ≡ m = omega arith in rw e
-drop-zeros (suc n) zero = let e : 0 - suc n ≡ 0 = omega arith in rw e
-drop-zeros (suc n) (suc m) = let e : suc m - suc n ≡ m - n = omega arith in rw e (drop-zeros n m)
+drop_zeros : (n m : ℕ) → drop n (zeros m) ≡ zeros (m - n)
+drop_zeros zero m = let e : m - 0 ≡ m = omega arith in rw e
+drop_zeros (suc n) zero = let e : 0 - suc n ≡ 0 = omega arith in rw e
+drop_zeros (suc n) (suc m) = let e : suc m - suc n ≡ m - n = omega arith in rw e (drop_zeros n m)
 
 -- the table, written over zeros
-pub table-laid : {t o : List ℕ} (s : List ℕ) (f : Feed) → length (table_of f.table) ≤ 1844 → t ≡ writeOut f.table (replicate 1844 0) → o ≡ sets s 174 t
-    → o ≡ sets s 174 (tableBytes f)
-unfolding writeOut
+pub table-laid : {t o : List ℕ} (s : List ℕ) (f : Feed) → length (table_of f.table) ≤ 1844 → t ≡ write_out f.table (replicate 1844 0) → o ≡ sets s 174 t
+    → o ≡ sets s 174 (table_bytes f)
+unfolding write_out
 table-laid s f h e w =
     let n = length (table_of f.table) in
-    let r : writeOut f.table (zeros 1844) ≡ tableBytes f = rw (length-replicate {A = ℕ} 1844 0, le-ltb 1844 n h, drop-zeros n 1844) in
+    let r : write_out f.table (zeros 1844) ≡ table_bytes f = rw (length-replicate {A = ℕ} 1844 0, le-ltb 1844 n h, drop_zeros n 1844) in
     w ∙ ap (sets s 174) (e ∙ r)
 
-pub length-tableBytes : (f : Feed) → length (table_of f.table) ≤ 1844 → length (tableBytes f) ≡ 1844
-length-tableBytes f h =
+pub length-table_bytes : (f : Feed) → length (table_of f.table) ≤ 1844 → length (table_bytes f) ≡ 1844
+length-table_bytes f h =
     let n = length (table_of f.table) in
     length-append (table_of f.table) (zeros (1844 - n)) ∙ omega (arith, length-replicate {A = ℕ} (1844 - n) 0)
 
 pub length-image : (f : Feed) → length f.held ≡ 134 → length (table_of f.table) ≤ 1844 → length (image f) ≡ 2018
 unfolding image
 length-image f l h =
-    length-append (headBytes f) (f.held ++ tableBytes f) ∙ omega (arith, length-head f, length-append f.held (tableBytes f), l, length-tableBytes f h)
+    length-append (head_bytes f) (f.held ++ table_bytes f) ∙ omega (arith, length_head f, length-append f.held (table_bytes f), l, length-table_bytes f h)
 
 -- the three parts are the image
-image-stores : (s : List ℕ) (f : Feed) → length f.held ≡ 134 → sets s 0 (image f) ≡ sets (sets (sets s 0 (headBytes f)) 40 f.held) 174 (tableBytes f)
+image_stores : (s : List ℕ) (f : Feed) → length f.held ≡ 134 → sets s 0 (image f) ≡ sets (sets (sets s 0 (head_bytes f)) 40 f.held) 174 (table_bytes f)
 unfolding image
-image-stores s f m =
+image_stores s f m =
     rw (
-      sets-append s 0 (headBytes f) (f.held ++ tableBytes f),
-      length-head f,
+      sets-append s 0 (head_bytes f) (f.held ++ table_bytes f),
+      length_head f,
       zero-add,
-      sets-append (sets s 0 (headBytes f)) 40 f.held (tableBytes f),
+      sets-append (sets s 0 (head_bytes f)) 40 f.held (table_bytes f),
       m,
     )
 
 pub image-laid : {o₁ o₂ o₃ : List ℕ} (s : List ℕ) (f : Feed) → length s ≡ 2018 → length f.held ≡ 134 → length (table_of f.table) ≤ 1844
-    → o₁ ≡ sets s 0 (headBytes f) → o₂ ≡ sets o₁ 40 f.held → o₃ ≡ sets o₂ 174 (tableBytes f) → o₃ ≡ image f
+    → o₁ ≡ sets s 0 (head_bytes f) → o₂ ≡ sets o₁ 40 f.held → o₃ ≡ sets o₂ 174 (table_bytes f) → o₃ ≡ image f
 image-laid s f l m h e₁ e₂ e₃ =
     let w : sets s 0 (image f) ≡ image f = sets-whole s (image f) (l ∙ sym (length-image f m h)) in
-    rw (e₃, e₂, e₁) (sym (image-stores s f m) ∙ w)
+    rw (e₃, e₂, e₁) (sym (image_stores s f m) ∙ w)
 
 -- ---- two slices, byte by byte
 
@@ -126,4 +126,4 @@ same-all zero (x ∷ a) b p q = absurd (omega arith)
 same-all (suc n) [] b p q = absurd (omega arith)
 same-all (suc n) (x ∷ a) [] p q = absurd (omega arith)
 same-all (suc n) (x ∷ a) (y ∷ b) p q =
-    ap (both (eqb x y)) (same-all n a b (omega arith) (omega arith)) ∙ sym (all-front n (λ i. eqb (get_or (x ∷ a) i 0) (get_or (y ∷ b) i 0)))
+    ap (both (eqb x y)) (same-all n a b (omega arith) (omega arith)) ∙ sym (all_front n (λ i. eqb (get_or (x ∷ a) i 0) (get_or (y ∷ b) i 0)))

@@ -10,30 +10,30 @@ use lib.Seq.{length-sets}
 use Rattle.words.specs.Words.{Bytes, part}
 use Rattle.words.proofs.WordsLaws.{bytes-part}
 use Rattle.drive.specs.declared.Drive.{Drive}
-use Rattle.drive.specs.Drive.{Fits, driveOf}
-use Rattle.drive.proofs.DriveLaws.{arrays-drive, fits-drive}
-use Rattle.attached.specs.Parameters.{number_in, parametersIn}
+use Rattle.drive.specs.Drive.{Fits, drive_of}
+use Rattle.drive.proofs.DriveLaws.{arrays_drive, fits-drive}
+use Rattle.attached.specs.Parameters.{number_in, parameters_in}
 use Rattle.attached.specs.declared.Bads.{Bads}
-use Rattle.attached.specs.Bad.{badsIn}
-use Rattle.attached.proofs.AttachedLaws.{length-parametersIn}
+use Rattle.attached.specs.Bad.{bads_in}
+use Rattle.attached.proofs.AttachedLaws.{length-parameters_in}
 use Rattle.table.specs.declared.Table.{Table}
 use Rattle.table.specs.declared.Stepped.{Stepped}
-use Rattle.table.specs.Table.{emptyTable, more, withParameters, withBads, mostRecords, readTable, stepAt, table_of, isSound}
+use Rattle.table.specs.Table.{empty_table, more, with_parameters, with_bads, most_records, read_table, step_at, table_of, is_sound}
 use Rattle.table.specs.Demand2.{Widths}
-use Rattle.table.proofs.TableLaws.{refusal-room, length_whole, bads-whole, read_keeps, stepAt-cases, drive-bytes}
-use Rattle.table.proofs.Slots.{badsIn-listed}
-use Rattle.table.proofs.Sound.{each_more, So, so-empty, so-more, so-bads, so-attach, so-good, read-so}
+use Rattle.table.proofs.TableLaws.{refusal-room, length_whole, bads_whole, read_keeps, step_at-cases, drive-bytes}
+use Rattle.table.proofs.Slots.{bads_in-listed}
+use Rattle.table.proofs.Sound.{each_more, So, so_empty, so_more, so_bads, so_attach, so_good, read_so}
 use Rattle.table.proofs.ReadWrite.{read-written}
 use Rattle.table.proofs.Places.{place-most}
 use Rattle.reader.proofs.ReaderLaws.{length-table}
 
 -- ---- the widths
 
-widths-empty : Widths emptyTable
-widths-empty = record { eight = refl; marks = refl; bytes = refl; counts = refl; lists = refl; each = λ i h. absurd (omega arith) }
+widths_empty : Widths empty_table
+widths_empty = record { eight = refl; marks = refl; bytes = refl; counts = refl; lists = refl; each = λ i h. absurd (omega arith) }
 
-widths-more : (b : Table) (d : Drive) → Widths b → b.count < 8 → Fits d → Widths (more b d)
-widths-more b d w room f =
+widths_more : (b : Table) (d : Drive) → Widths b → b.count < 8 → Fits d → Widths (more b d)
+widths_more b d w room f =
     record {
       eight = length-set b.drives b.count d ∙ w.eight;
       marks = w.marks;
@@ -43,8 +43,8 @@ widths-more b d w room f =
       each = each_more Fits b d w.eight room w.each f;
     }
 
-widths-attach : (b : Table) (i : ℕ) (p : List ℕ) → Widths b → Widths (withParameters b i p)
-widths-attach b i p w =
+widths_attach : (b : Table) (i : ℕ) (p : List ℕ) → Widths b → Widths (with_parameters b i p)
+widths_attach b i p w =
     record {
       eight = w.eight;
       marks = length-set b.present i true ∙ w.marks;
@@ -54,8 +54,8 @@ widths-attach b i p w =
       each = w.each;
     }
 
-widths-bads : (b : Table) (i : ℕ) (l : Bads) → Widths b → Widths (withBads b i l)
-widths-bads b i l w =
+widths_bads : (b : Table) (i : ℕ) (l : Bads) → Widths b → Widths (with_bads b i l)
+widths_bads b i l w =
     record {
       eight = w.eight;
       marks = w.marks;
@@ -66,54 +66,54 @@ widths-bads b i l w =
     }
 
 -- bytes are read into the widths
-pub read-widths : (t : List ℕ) (store : ℕ) → Bytes t → Widths (readTable t store).table
-unfolding readTable
-read-widths t store h =
+pub read_widths : (t : List ℕ) (store : ℕ) → Bytes t → Widths (read_table t store).table
+unfolding read_table
+read_widths t store h =
     let r = read_keeps (λ at. Widths) t store
-    (λ at n b w l z. widths-more b (driveOf (part n t at)) w (refusal-room b.count b.drives (driveOf (part n t at)) store z)
+    (λ at n b w l z. widths_more b (drive_of (part n t at)) w (refusal-room b.count b.drives (drive_of (part n t at)) store z)
     (fits-drive (part n t at) (bytes-part n t at h) (drive-bytes l).whole))
-    (λ at n b w l z. widths-bads b (number_in (part n t at)) (badsIn (part n t at)) w)
-    (λ at b w l z. widths-attach b (number_in (part 20 t at)) (parametersIn (part 20 t at)) w)
-    mostRecords 0 emptyTable widths-empty in
+    (λ at n b w l z. widths_bads b (number_in (part n t at)) (bads_in (part n t at)) w)
+    (λ at b w l z. widths_attach b (number_in (part 20 t at)) (parameters_in (part 20 t at)) w)
+    most_records 0 empty_table widths_empty in
     r.1.0
 
 -- ---- the rules
 
 -- a table that obeys them is what a reading makes of its bytes
-so-of : (b : Table) (store : ℕ) → Widths b → isSound b store ≡ true → So store b
-so-of b store w e = rw (read-written b store w e) at (read-so (table_of b) store)
+so_of : (b : Table) (store : ℕ) → Widths b → is_sound b store ≡ true → So store b
+so_of b store w e = rw (read-written b store w e) at (read_so (table_of b) store)
 
 -- and as long as the block has room for
-pub table-most : (b : Table) (store : ℕ) → Widths b → isSound b store ≡ true → length (table_of b) ≤ 1844
-table-most b store w e = omega (arith, length-table b, place-most store b (so-of b store w e))
+pub table-most : (b : Table) (store : ℕ) → Widths b → is_sound b store ≡ true → length (table_of b) ≤ 1844
+table-most b store w e = omega (arith, length-table b, place-most store b (so_of b store w e))
 
 -- ---- one step
 
 -- a step keeps the widths and the rules
-pub step_keeps : (t : List ℕ) (at : ℕ) (b : Table) (store : ℕ) → Bytes t → Widths b → isSound b store ≡ true
-    → Widths (stepAt t at b store).table × (isSound (stepAt t at b store).table store ≡ true)
+pub step_keeps : (t : List ℕ) (at : ℕ) (b : Table) (store : ℕ) → Bytes t → Widths b → is_sound b store ≡ true
+    → Widths (step_at t at b store).table × (is_sound (step_at t at b store).table store ≡ true)
 step_keeps t at b store h w e =
-    let s = so-of b store w e in
-    stepAt-cases (λ (r : Stepped). Widths r.table × (isSound r.table store ≡ true)) t at b store
+    let s = so_of b store w e in
+    step_at-cases (λ (r : Stepped). Widths r.table × (is_sound r.table store ≡ true)) t at b store
     (λ n p. (w, e))
     (λ l m. (w, e))
     (λ n l z.
     let whole = (drive-bytes l).whole in
-    let d = driveOf (part n t at) in (
-      widths-more b d w (refusal-room b.count b.drives d store z) (fits-drive (part n t at) (bytes-part n t at h) whole),
-      (so-good store (more b d) (so-more store b d s (arrays-drive (part n t at) whole) z)).sound,
+    let d = drive_of (part n t at) in (
+      widths_more b d w (refusal-room b.count b.drives d store z) (fits-drive (part n t at) (bytes-part n t at h) whole),
+      (so_good store (more b d) (so_more store b d s (arrays_drive (part n t at) whole) z)).sound,
     ))
     (λ n l z.
-    let w' = bads-whole t at 3 n l refl in
+    let w' = bads_whole t at 3 n l refl in
     let i = number_in (part n t at) in
-    let k = badsIn (part n t at) in
-    (widths-bads b i k w, (so-good store (withBads b i k) (so-bads store b i k s (badsIn-listed (part n t at) (rw w'.0 w'.4)) z)).sound))
+    let k = bads_in (part n t at) in
+    (widths_bads b i k w, (so_good store (with_bads b i k) (so_bads store b i k s (bads_in-listed (part n t at) (rw w'.0 w'.4)) z)).sound))
     (λ l z.
     let i = number_in (part 20 t at) in
-    let p = parametersIn (part 20 t at) in
-    let n = length-parametersIn (part 20 t at) (omega (arith, length_whole t at 4 20 l)) in
-    (widths-attach b i p w, (so-good store (withParameters b i p) (so-attach store b i p s n z)).sound))
+    let p = parameters_in (part 20 t at) in
+    let n = length-parameters_in (part 20 t at) (omega (arith, length_whole t at 4 20 l)) in
+    (widths_attach b i p w, (so_good store (with_parameters b i p) (so_attach store b i p s n z)).sound))
 
 -- the table with no drive
-pub empty-keeps : (store : ℕ) → Widths emptyTable × (isSound emptyTable store ≡ true)
-empty-keeps store = (widths-empty, (so-good store emptyTable (so-empty store)).sound)
+pub empty_keeps : (store : ℕ) → Widths empty_table × (is_sound empty_table store ≡ true)
+empty_keeps store = (widths_empty, (so_good store empty_table (so_empty store)).sound)

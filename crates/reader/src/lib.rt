@@ -4,9 +4,9 @@ ghost use Rattle.std.specs.Prelude.{◌≡◌, ◌-◌, ◌≤◌, length};
 ghost use Rattle.std.proofs.lemmas.List.Edits.{sets};
 ghost use Rattle.words.specs.Words.{le, part};
 ghost use Rattle.drive.specs.Drive.{same};
-ghost use Rattle.table.specs.Table.{longestRecord, longestTable, table_of};
+ghost use Rattle.table.specs.Table.{longest_record, longest_table, table_of};
 ghost use Rattle.feed.specs.declared.Course.TheVariants.{Reading};
-ghost use Rattle.reader.specs.Reader.{courseNumber, refusalNumber, headBytes, tableBytes, image, held_at, table_at, readerSize, courseAt, readReader, isCut, restZero, courseOk, accept, accepted, laid};
+ghost use Rattle.reader.specs.Reader.{course_number, refusal_number, head_bytes, table_bytes, image, held_at, table_at, reader_size, course_at, read_reader, is_cut, rest_zero, course_ok, accept, accepted, laid};
 
 use feed::{Course, Feed};
 use table::Step;
@@ -36,8 +36,8 @@ const MOST_REFUSAL: u8 = 9;
 // ---- what bytes say. Every place is inside a block of the right size, which `acceptable` has tested.
 
 fn course_at(b: &[u8]) -> Course
-    requires { length b.now ≡ readerSize }
-    ensures { result ≡ courseAt b.now }
+    requires { length b.now ≡ reader_size }
+    ensures { result ≡ course_at b.now }
 {
     let number = words::get64(b, COURSE);
     if number == 0 {
@@ -53,8 +53,8 @@ fn course_at(b: &[u8]) -> Course
 }
 
 fn held_at(b: &[u8]) -> [u8; table::LONGEST_RECORD]
-    requires { length b.now ≡ readerSize }
-    ensures { result ≡ part longestRecord b.now held_at }
+    requires { length b.now ≡ reader_size }
+    ensures { result ≡ part longest_record b.now held_at }
 {
     let from = HELD;
     let end = TABLE;
@@ -65,8 +65,8 @@ fn held_at(b: &[u8]) -> [u8; table::LONGEST_RECORD]
 
 // The end of the table; a length that the block has no room for is that of all that is there.
 fn table_end(b: &[u8]) -> usize
-    requires { length b.now ≡ readerSize }
-    ensures { (table_at ≤ result) × (result ≤ readerSize) × (part (result - table_at) b.now table_at ≡ part (le 8 b.now 32) b.now table_at) }
+    requires { length b.now ≡ reader_size }
+    ensures { (table_at ≤ result) × (result ≤ reader_size) × (part (result - table_at) b.now table_at ≡ part (le 8 b.now 32) b.now table_at) }
 {
     let n = words::get64(b, LENGTH);
     if n <= table::LONGEST_TABLE as u64 {
@@ -77,8 +77,8 @@ fn table_end(b: &[u8]) -> usize
 
 // The reader that a block of the right size says.
 pub fn decode(b: &[u8]) -> Feed
-    requires { length b.now ≡ readerSize }
-    ensures { result ≡ readReader b.now }
+    requires { length b.now ≡ reader_size }
+    ensures { result ≡ read_reader b.now }
 {
     let store = words::get64(b, STORE);
     let from = TABLE;
@@ -97,7 +97,7 @@ pub fn decode(b: &[u8]) -> Feed
 // ---- the words of a reader, laid out
 
 fn course_number(c: Course) -> u64
-    ensures { result ≡ courseNumber c }
+    ensures { result ≡ course_number c }
 {
     match c {
         Course::Reading => 0,
@@ -108,7 +108,7 @@ fn course_number(c: Course) -> u64
 }
 
 fn refusal_number(c: Course) -> u64
-    ensures { result ≡ refusalNumber c }
+    ensures { result ≡ refusal_number c }
 {
     match c {
         Course::Reading => 0,
@@ -120,8 +120,8 @@ fn refusal_number(c: Course) -> u64
 
 // `lay` has found the length of the table.
 fn put_head(f: Feed, whole: usize, out: &mut [u8])
-    requires { (length out.old ≡ readerSize) × (whole ≡ length (table_of f.table)) }
-    ensures { out.new ≡ sets out.old 0 (headBytes f) }
+    requires { (length out.old ≡ reader_size) × (whole ≡ length (table_of f.table)) }
+    ensures { out.new ≡ sets out.old 0 (head_bytes f) }
 {
     let course = f.course;
     words::store64(out, COURSE, course_number(course));
@@ -133,8 +133,8 @@ fn put_head(f: Feed, whole: usize, out: &mut [u8])
 
 // The drives so far as a table, and zeros behind it. `lay` has found that there is room.
 fn put_table(f: Feed, out: &mut [u8])
-    requires { (length out.old ≡ readerSize) × (length (table_of f.table) ≤ longestTable) }
-    ensures { out.new ≡ sets out.old table_at (tableBytes f) }
+    requires { (length out.old ≡ reader_size) × (length (table_of f.table) ≤ longest_table) }
+    ensures { out.new ≡ sets out.old table_at (table_bytes f) }
 {
     let b = f.table;
     let mut t = [0u8; table::LONGEST_TABLE];
@@ -144,7 +144,7 @@ fn put_table(f: Feed, out: &mut [u8])
 
 // Lays a reader out in a block of its size.
 fn lay(f: Feed, out: &mut [u8])
-    requires { length out.old ≡ readerSize }
+    requires { length out.old ≡ reader_size }
     ensures { out.new ≡ image f }
 {
     let b = f.table;
@@ -167,7 +167,7 @@ pub fn encode(f: Feed, block: &mut [u8])
 // ---- which blocks are accepted
 
 fn is_cut(s: Step) -> bool
-    ensures { result ≡ isCut s }
+    ensures { result ≡ is_cut s }
 {
     match s {
         Step::Next(_) => false,
@@ -178,7 +178,7 @@ fn is_cut(s: Step) -> bool
 
 // The bytes past the first n are zero.
 fn rest_zero(held: [u8; table::LONGEST_RECORD], n: usize) -> bool
-    ensures { result ≡ restZero held n }
+    ensures { result ≡ rest_zero held n }
 {
     let mut zero = true;
     let mut j = 0;
@@ -191,7 +191,7 @@ fn rest_zero(held: [u8; table::LONGEST_RECORD], n: usize) -> bool
 
 // What is held is a proper beginning of a record.
 fn held_ok(f: Feed) -> bool
-    ensures { result ≡ courseOk Reading f }
+    ensures { result ≡ course_ok Reading f }
 {
     let n = f.filled;
     if table::LONGEST_RECORD <= n {
@@ -205,7 +205,7 @@ fn held_ok(f: Feed) -> bool
 }
 
 fn course_ok(f: Feed) -> bool
-    ensures { result ≡ courseOk f.course f }
+    ensures { result ≡ course_ok f.course f }
 {
     let course = f.course;
     let empty = f.filled == 0;
@@ -229,7 +229,7 @@ fn obeys(f: Feed) -> bool
 
 // Two slices of a block's length have the same bytes.
 fn are_same(a: &[u8], b: &[u8]) -> bool
-    requires { (length a.now ≡ readerSize) × (length b.now ≡ readerSize) }
+    requires { (length a.now ≡ reader_size) × (length b.now ≡ reader_size) }
     ensures { result ≡ same a.now b.now }
 {
     let mut i = 0;
@@ -244,7 +244,7 @@ fn are_same(a: &[u8], b: &[u8]) -> bool
 
 // Whether a block of the right size has the bytes that its reader is laid out in.
 fn is_image(b: &[u8], f: Feed) -> bool
-    requires { length b.now ≡ readerSize }
+    requires { length b.now ≡ reader_size }
     ensures { result ≡ same b.now (image f) }
 {
     let mut again = [0u8; SIZE];

@@ -12,21 +12,21 @@ use lib.Seq.{sets, sets-eq, length-sets, length-take-le, ext_get_or, get_or-take
 use lib.Dec.{ltb, eqb}
 use borrow.Author.Tests.{lt-ltb, ltb-true, eq-eqb, eqb-true}
 use Rattle.logic.specs.Logic.{pick, all_below}
-use Rattle.logic.proofs.LogicLaws.{lt-or-le, all-at, all-intro, pick-cases}
+use Rattle.logic.proofs.LogicLaws.{lt_or_le, all_at, all_intro, pick-cases}
 use Rattle.words.specs.Words.{part}
 use Rattle.attached.specs.declared.Bads.{Bads}
-use Rattle.attached.specs.Bad.{badCount, badLengthOk, badsIn, noBads, zeroPast, badsOk}
-use Rattle.attached.proofs.BadLaws.{badLengthOk-true, bads-ext, badsIn-count, length-badsIn, badsIn-zeroPast, badsOk-true, badsOk-zero, no-bads}
+use Rattle.attached.specs.Bad.{bad_count, bad_length_ok, bads_in, no_bads, zero_past, bads_ok}
+use Rattle.attached.proofs.BadLaws.{bad_length_ok_true, bads_ext, bads_in-count, length-bads_in, bads_in-zero_past, bads_ok_true, bads_ok-zero, no-bads}
 use Rattle.table.specs.declared.Table.{Table}
-use Rattle.table.specs.Table.{noDrive, emptyTable, hasParameters, parametersAt, withParameters, badsAt, withBads, slotBytes, slotRecords, attachedAt, listed_at, parametersTo}
-use Rattle.table.proofs.TableLaws.{length-listPart}
+use Rattle.table.specs.Table.{no_drive, empty_table, has_parameters, parameters_at, with_parameters, bads_at, with_bads, slot_bytes, slot_records, attached_at, listed_at, parameters_to}
+use Rattle.table.proofs.TableLaws.{length_list_part}
 
 -- ---- runs of stores
 
 -- a byte before or after a run stays
-getD-before : (l : List ℕ) (at : ℕ) (v : List ℕ) (j : ℕ) → j < at → get_or (sets l at v) j 0 ≡ get_or l j 0
-getD-before l at [] j h = refl
-getD-before l at (x ∷ v) j h = getD-before (set l at x) (suc at) v j (omega arith) ∙ get_or-set_other l at j x 0 (λ e. omega arith)
+get_d_before : (l : List ℕ) (at : ℕ) (v : List ℕ) (j : ℕ) → j < at → get_or (sets l at v) j 0 ≡ get_or l j 0
+get_d_before l at [] j h = refl
+get_d_before l at (x ∷ v) j h = get_d_before (set l at x) (suc at) v j (omega arith) ∙ get_or-set_other l at j x 0 (λ e. omega arith)
 
 get_d_after : (l : List ℕ) (at : ℕ) (v : List ℕ) (j : ℕ) → at + length v ≤ j → get_or (sets l at v) j 0 ≡ get_or l j 0
 get_d_after l at [] j h = refl
@@ -35,8 +35,8 @@ get_d_after l at (x ∷ v) j h = get_d_after (set l at x) (suc at) v j (omega ar
 -- and so do the bytes of every other slot
 pub bytes-other : (l : List ℕ) (i : ℕ) (p : List ℕ) (k j : ℕ) → length p ≡ 14 → k ≢ i → j < 14 → get_or (sets l (14 * i) p) (14 * k + j) 0 ≡ get_or l (14 * k + j) 0
 bytes-other l i p k j n e h =
-    ⊎_elim (λ (x : k < i). getD-before l (14 * i) p (14 * k + j) (omega arith))
-    (λ (x : i ≤ k). ⊎_elim (λ (y : i < k). get_d_after l (14 * i) p (14 * k + j) (omega arith)) (λ (y : k ≤ i). absurd (e (omega arith))) (lt-or-le i k)) (lt-or-le k i)
+    ⊎_elim (λ (x : k < i). get_d_before l (14 * i) p (14 * k + j) (omega arith))
+    (λ (x : i ≤ k). ⊎_elim (λ (y : i < k). get_d_after l (14 * i) p (14 * k + j) (omega arith)) (λ (y : k ≤ i). absurd (e (omega arith))) (lt_or_le i k)) (lt_or_le k i)
 
 -- parts whose bytes are the same
 part_ext : (n : ℕ) (l m : List ℕ) (at : ℕ) → length l ≡ length m → ((j : ℕ) → j < n → get_or l (at + j) 0 ≡ get_or m (at + j) 0) → part n l at ≡ part n m at
@@ -58,7 +58,7 @@ run-same n l at p given all =
 run-other : (n : ℕ) (l : List ℕ) (at : ℕ) (p : List ℕ) (place : ℕ) → (place + n ≤ at) ⊎ (at + length p ≤ place) → part n (sets l at p) place ≡ part n l place
 run-other n l at p place h =
     part_ext n (sets l at p) l place (length-sets l at p)
-    (λ j q. ⊎_elim (λ x. getD-before l at p (place + j) (omega arith)) (λ x. get_d_after l at p (place + j) (omega arith)) h)
+    (λ j q. ⊎_elim (λ x. get_d_before l at p (place + j) (omega arith)) (λ x. get_d_after l at p (place + j) (omega arith)) h)
 
 -- a byte of a slot's part
 pub byte_of : (l : List ℕ) (i j : ℕ) → j < 14 → get_or (part 14 l (14 * i)) j 0 ≡ get_or l (14 * i + j) 0
@@ -71,56 +71,56 @@ bytes_same l i p j given all h q = sym (byte_of (sets l (14 * i) p) i j q) ∙ a
 
 module _ (b : Table) (i : ℕ) (p : List ℕ) (given : length p ≡ 14) where
   -- the slot itself has them
-  pub marked : length b.present ≡ 8 → i < 8 → hasParameters (withParameters b i p) i ≡ true
+  pub marked : length b.present ≡ 8 → i < 8 → has_parameters (with_parameters b i p) i ≡ true
   marked l h = get_or-set_same b.present i true false (omega arith)
 
-  pub parameters-same : length b.parameters ≡ 112 → i < 8 → parametersAt (withParameters b i p) i ≡ p
+  pub parameters-same : length b.parameters ≡ 112 → i < 8 → parameters_at (with_parameters b i p) i ≡ p
   parameters-same l h = run-same 14 b.parameters (14 * i) p given (omega arith)
 
   -- every other slot is as it was
   module _ (k : ℕ) (other : k ≢ i) where
-    pub marked_other : hasParameters (withParameters b i p) k ≡ hasParameters b k
+    pub marked_other : has_parameters (with_parameters b i p) k ≡ has_parameters b k
     marked_other = get_or-set_other b.present i k true false other
 
-    pub parameters-other : parametersAt (withParameters b i p) k ≡ parametersAt b k
+    pub parameters-other : parameters_at (with_parameters b i p) k ≡ parameters_at b k
     parameters-other =
         part_ext 14 (sets b.parameters (14 * i) p) b.parameters (14 * k) (length-sets b.parameters (14 * i) p)
         (λ j h. bytes-other b.parameters i p k j given other h)
 
-    pub slot-other : slotRecords (withParameters b i p) k ≡ slotRecords b k
-    slot-other = rw (marked_other, parameters-other)
+    pub slot_other : slot_records (with_parameters b i p) k ≡ slot_records b k
+    slot_other = rw (marked_other, parameters-other)
 
 -- ---- a slot after a record of bad blocks
 
 module _ (b : Table) (i : ℕ) (l : Bads) (given : length l.list ≡ 128) where
   -- the slot itself has them
-  pub bads-same : length b.counts ≡ 8 → length b.bad ≡ 1024 → i < 8 → badsAt (withBads b i l) i ≡ l
-  bads-same c m h =
-      bads-ext (badsAt (withBads b i l) i) l (get_or-set_same b.counts i l.count 0 (omega arith)) (run-same 128 b.bad (128 * i) l.list given (omega arith))
+  pub bads_same : length b.counts ≡ 8 → length b.bad ≡ 1024 → i < 8 → bads_at (with_bads b i l) i ≡ l
+  bads_same c m h =
+      bads_ext (bads_at (with_bads b i l) i) l (get_or-set_same b.counts i l.count 0 (omega arith)) (run-same 128 b.bad (128 * i) l.list given (omega arith))
 
   -- every other slot is as it was
   module _ (k : ℕ) (other : k ≢ i) where
     apart : (128 * k + 128 ≤ 128 * i) ⊎ (128 * i + length l.list ≤ 128 * k)
     apart =
         ⊎_elim (λ (x : k < i). inl (omega arith))
-        (λ (x : i ≤ k). ⊎_elim (λ (y : i < k). inr (omega arith)) (λ (y : k ≤ i). absurd (other (omega arith))) (lt-or-le i k)) (lt-or-le k i)
+        (λ (x : i ≤ k). ⊎_elim (λ (y : i < k). inr (omega arith)) (λ (y : k ≤ i). absurd (other (omega arith))) (lt_or_le i k)) (lt_or_le k i)
 
-    pub bads-other : badsAt (withBads b i l) k ≡ badsAt b k
-    bads-other =
-        bads-ext (badsAt (withBads b i l) k) (badsAt b k) (get_or-set_other b.counts i k l.count 0 other)
+    pub bads_other : bads_at (with_bads b i l) k ≡ bads_at b k
+    bads_other =
+        bads_ext (bads_at (with_bads b i l) k) (bads_at b k) (get_or-set_other b.counts i k l.count 0 other)
         (run-other 128 b.bad (128 * i) l.list (128 * k) apart)
 
-    pub bads-slot-other : slotRecords (withBads b i l) k ≡ slotRecords b k
-    bads-slot-other = ap (λ (x : Bads). slotBytes (get_or b.drives k noDrive) x (hasParameters b k) k (parametersAt b k)) bads-other
+    pub bads_slot_other : slot_records (with_bads b i l) k ≡ slot_records b k
+    bads_slot_other = ap (λ (x : Bads). slot_bytes (get_or b.drives k no_drive) x (has_parameters b k) k (parameters_at b k)) bads_other
 
 -- no slot has any at first
-pub bads-empty : (i : ℕ) → i < 8 → badsAt emptyTable i ≡ noBads
-bads-empty i h =
+pub bads_empty : (i : ℕ) → i < 8 → bads_at empty_table i ≡ no_bads
+bads_empty i h =
     let zeros : List ℕ = replicate 1024 0 in
     let few : List ℕ = replicate 128 0 in
-    bads-ext (badsAt emptyTable i) noBads (get_or-replicate 8 i 0 0 h)
-    (ext_get_or 0 (part 128 zeros (128 * i)) few (length-listPart zeros i refl h) (λ j q.
-    let m : j < 128 = omega (arith, q, length-listPart zeros i refl h) in
+    bads_ext (bads_at empty_table i) no_bads (get_or-replicate 8 i 0 0 h)
+    (ext_get_or 0 (part 128 zeros (128 * i)) few (length_list_part zeros i refl h) (λ j q.
+    let m : j < 128 = omega (arith, q, length_list_part zeros i refl h) in
     rw (get_or-take 128 (drop (128 * i) zeros) j 0 m, get_or-drop (128 * i) zeros j 0, get_or-replicate {A = ℕ} 1024 (128 * i + j) 0 0 (omega arith), get_or-replicate {A = ℕ} 128 j 0 0 m)))
 
 -- what the record of bad blocks says of its list
@@ -128,62 +128,62 @@ pub record Listed (l : Bads) : Type 0 where
   pub some : 1 ≤ l.count
   pub few : l.count ≤ 16
   pub long : length l.list ≡ 128
-  pub zeros : zeroPast l ≡ true
+  pub zeros : zero_past l ≡ true
 
-pub badsIn-listed : (r : List ℕ) → badLengthOk (length r) ≡ true → Listed (badsIn r)
-badsIn-listed r h =
-    let n : ℕ = badCount (length r) in
-    let p = badLengthOk-true (length r) h in
-    let c : (badsIn r).count ≡ n = badsIn-count r n p.2 in
-    record { some = rw c p.0; few = rw c p.1; long = length-badsIn r n p.1 p.2; zeros = badsIn-zeroPast r n p.2 }
+pub bads_in-listed : (r : List ℕ) → bad_length_ok (length r) ≡ true → Listed (bads_in r)
+bads_in-listed r h =
+    let n : ℕ = bad_count (length r) in
+    let p = bad_length_ok_true (length r) h in
+    let c : (bads_in r).count ≡ n = bads_in-count r n p.2 in
+    record { some = rw c p.0; few = rw c p.1; long = length-bads_in r n p.1 p.2; zeros = bads_in-zero_past r n p.2 }
 
 -- a slot without a block has no bad one
-pub listed-none : (b : Table) (i : ℕ) → length b.bad ≡ 1024 → i < 8 → (get_or b.drives i noDrive).blocks ≡ 0 → listed_at b i ≡ true → badsAt b i ≡ noBads
+pub listed-none : (b : Table) (i : ℕ) → length b.bad ≡ 1024 → i < 8 → (get_or b.drives i no_drive).blocks ≡ 0 → listed_at b i ≡ true → bads_at b i ≡ no_bads
 listed-none b i m h z e =
-    let k : badsOk (badsAt b i) 0 ≡ true = rw z at e in
-    no-bads (badsAt b i) (badsOk-zero (badsAt b i) k) (length-listPart b.bad i m h) (badsOk-true (badsAt b i) 0 k).2
+    let k : bads_ok (bads_at b i) 0 ≡ true = rw z at e in
+    no-bads (bads_at b i) (bads_ok-zero (bads_at b i) k) (length_list_part b.bad i m h) (bads_ok_true (bads_at b i) 0 k).2
 
 -- ---- parameters of drives only, zeros elsewhere
 
-pub attached-drive : (b : Table) (i : ℕ) → attachedAt b i ≡ true → hasParameters b i ≡ true → i < b.count
-attached-drive b i h e = ltb-true i b.count (rw e at h)
+pub attached_drive : (b : Table) (i : ℕ) → attached_at b i ≡ true → has_parameters b i ≡ true → i < b.count
+attached_drive b i h e = ltb-true i b.count (rw e at h)
 
-pub attached-zero : (b : Table) (i : ℕ) → attachedAt b i ≡ true → hasParameters b i ≡ false → (j : ℕ) → j < 14 → get_or b.parameters (14 * i + j) 0 ≡ 0
-attached-zero b i h e j l = eqb-true _ 0 (all-at 14 j (λ k. eqb (get_or b.parameters (14 * i + k) 0) 0) (rw e at h) l)
+pub attached_zero : (b : Table) (i : ℕ) → attached_at b i ≡ true → has_parameters b i ≡ false → (j : ℕ) → j < 14 → get_or b.parameters (14 * i + j) 0 ≡ 0
+attached_zero b i h e j l = eqb-true _ 0 (all_at 14 j (λ k. eqb (get_or b.parameters (14 * i + k) 0) 0) (rw e at h) l)
 
-pub attached-intro : (b : Table) (i : ℕ) → (hasParameters b i ≡ true → i < b.count) → (hasParameters b i ≡ false → (j : ℕ) → j < 14 → get_or b.parameters (14 * i + j) 0 ≡ 0)
-    → attachedAt b i ≡ true
-attached-intro b i f g =
+pub attached_intro : (b : Table) (i : ℕ) → (has_parameters b i ≡ true → i < b.count) → (has_parameters b i ≡ false → (j : ℕ) → j < 14 → get_or b.parameters (14 * i + j) 0 ≡ 0)
+    → attached_at b i ≡ true
+attached_intro b i f g =
     let zeros : ℕ → Bool = λ k. eqb (get_or b.parameters (14 * i + k) 0) 0 in
-    pick-cases (λ (x : Bool). x ≡ true) (hasParameters b i) (ltb i b.count) (all_below 14 zeros)
+    pick-cases (λ (x : Bool). x ≡ true) (has_parameters b i) (ltb i b.count) (all_below 14 zeros)
     (λ e. lt-ltb i b.count (f e))
-    (λ e. all-intro 14 zeros (λ j l. eq-eqb _ 0 (g e j l)))
+    (λ e. all_intro 14 zeros (λ j l. eq-eqb _ 0 (g e j l)))
 
 -- ---- how many records of parameters there are
 
-pub count_most : (n : ℕ) (b : Table) → parametersTo n b ≤ n
-unfolding parametersTo
+pub count_most : (n : ℕ) (b : Table) → parameters_to n b ≤ n
+unfolding parameters_to
 count_most zero b = omega arith
-count_most (suc n) b = pick-cases (λ (x : ℕ). parametersTo n b + x ≤ suc n) (hasParameters b n) 1 0 (λ e. omega (arith, count_most n b)) (λ e. omega (arith, count_most n b))
+count_most (suc n) b = pick-cases (λ (x : ℕ). parameters_to n b + x ≤ suc n) (has_parameters b n) 1 0 (λ e. omega (arith, count_most n b)) (λ e. omega (arith, count_most n b))
 
-pub count-ext : (n : ℕ) (b c : Table) → ((i : ℕ) → i < n → hasParameters b i ≡ hasParameters c i) → parametersTo n b ≡ parametersTo n c
-unfolding parametersTo
-count-ext zero b c f = refl
-count-ext (suc n) b c f = rw (f n (omega arith), count-ext n b c (λ i h. f i (omega arith)))
+pub count_ext : (n : ℕ) (b c : Table) → ((i : ℕ) → i < n → has_parameters b i ≡ has_parameters c i) → parameters_to n b ≡ parameters_to n c
+unfolding parameters_to
+count_ext zero b c f = refl
+count_ext (suc n) b c f = rw (f n (omega arith), count_ext n b c (λ i h. f i (omega arith)))
 
 -- one more
-pub count-attach : (n : ℕ) (b : Table) (i : ℕ) (p : List ℕ) → length p ≡ 14 → length b.present ≡ 8 → i < 8 → hasParameters b i ≡ false → i < n
-    → parametersTo n (withParameters b i p) ≡ parametersTo n b + 1
-unfolding parametersTo
-count-attach zero b i p given l h e q = absurd (omega arith)
-count-attach (suc n) b i p given l h e q = at (ℕ_discrete i n) (λ x. count-attach n b i p given l h e x)
+pub count_attach : (n : ℕ) (b : Table) (i : ℕ) (p : List ℕ) → length p ≡ 14 → length b.present ≡ 8 → i < 8 → has_parameters b i ≡ false → i < n
+    → parameters_to n (with_parameters b i p) ≡ parameters_to n b + 1
+unfolding parameters_to
+count_attach zero b i p given l h e q = absurd (omega arith)
+count_attach (suc n) b i p given l h e q = at (ℕ_discrete i n) (λ x. count_attach n b i p given l h e x)
   where
-    at : Dec (i ≡ n) → (i < n → parametersTo n (withParameters b i p) ≡ parametersTo n b + 1)
-        → parametersTo n (withParameters b i p) + pick (hasParameters (withParameters b i p) n) 1 0 ≡ parametersTo n b + pick (hasParameters b n) 1 0 + 1
+    at : Dec (i ≡ n) → (i < n → parameters_to n (with_parameters b i p) ≡ parameters_to n b + 1)
+        → parameters_to n (with_parameters b i p) + pick (has_parameters (with_parameters b i p) n) 1 0 ≡ parameters_to n b + pick (has_parameters b n) 1 0 + 1
     at (yes x) f =
-        let m : hasParameters (withParameters b i p) n ≡ true = rw (← x) (marked b i p given l h) in
-        let m₀ : hasParameters b n ≡ false = rw (← x) e in
-        let r = count-ext n (withParameters b i p) b (λ k y. marked_other b i p given k (λ z. omega arith)) in
+        let m : has_parameters (with_parameters b i p) n ≡ true = rw (← x) (marked b i p given l h) in
+        let m₀ : has_parameters b n ≡ false = rw (← x) e in
+        let r = count_ext n (with_parameters b i p) b (λ k y. marked_other b i p given k (λ z. omega arith)) in
         rw (m, m₀, r) (omega arith)
     at (no x) f =
         let r = f (omega (arith, q, x)) in

@@ -1,12 +1,12 @@
 // The drive table: a cursor that reads one record, a reader that holds its bytes, the whole table, and the writer.
 ghost use Rattle.std.specs.Prelude.{◌≡◌, ◌+◌, ◌-◌, ◌*◌, ◌^◌, ◌≤◌, ◌<◌, min, length, get_or, ltb, eqb, not, true, false};
 ghost use Rattle.std.proofs.lemmas.List.Edits.{sets};
-ghost use Rattle.drive.specs.Drive.{isDriveKind, driveLength, recordOf, fieldsOk, inStore};
+ghost use Rattle.drive.specs.Drive.{is_drive_kind, drive_length, record_of, fields_ok, in_store};
 ghost use Rattle.words.specs.Words.{le, part};
 ghost use Rattle.logic.specs.Logic.{pick, both, either, all_below};
-ghost use Rattle.attached.specs.Parameters.{parametersKind};
-ghost use Rattle.attached.specs.Bad.{badKind, listPlace, listLength, badLength, held_of, listOk};
-ghost use Rattle.table.specs.Table.{notLast, badField, isKind, lengthOk, headerAt, isUnfinished, overlapsAny, refusal, more, parametersAt, withParameters, badsAt, badsRefusal, withBads, endStep, recordStep, stepAt, placeAfter, Advances, begun, zeroDrive, emptyTable, reading, endAnswer, Reads, badsRecord, slotBytes, recordsOf, endLength, endRecord, drivesOf, nextPlace, longestTable, table_of, writeAnswer, writeOut, writtenNumbers, writeNumbers, soundTo, blankTo, attachedTo, listedTo, isSound, overlapRuns, overlapsRun, refusalAmong};
+ghost use Rattle.attached.specs.Parameters.{parameters_kind};
+ghost use Rattle.attached.specs.Bad.{bad_kind, list_place, list_length, bad_length, held_of, list_ok};
+ghost use Rattle.table.specs.Table.{not_last, bad_field, is_kind, length_ok, header_at, is_unfinished, overlaps_any, refusal, more, parameters_at, with_parameters, bads_at, bads_refusal, with_bads, end_step, record_step, step_at, place_after, Advances, begun, zero_drive, empty_table, reading, end_answer, Reads, bads_record, slot_bytes, records_of, end_length, end_record, drives_of, next_place, longest_table, table_of, write_answer, write_out, written_numbers, write_numbers, sound_to, blank_to, attached_to, listed_to, is_sound, overlap_runs, overlaps_run, refusal_among};
 
 use attached::Bads;
 use drive::Drive;
@@ -63,7 +63,7 @@ const LONGEST_SLOT: usize = drive::WIDE_LENGTH as usize
 // The drives in table order; the first `count` slots are in use. Where a slot has a record of parameters, `present` says so, and its fourteen
 // bytes stand from 14 times the slot's number on, as the record has them; else they are zero. Where it has a record of bad blocks, `counts` says
 // how many they are, and their numbers stand from 128 times the slot's number on, as the record has them, and zeros behind them; else it is 0.
-#[derive(Drop)]
+#[derive(Clone, Copy)]
 pub struct Table {
     pub drives: [Drive; 8],
     pub count: usize,
@@ -74,21 +74,21 @@ pub struct Table {
 }
 
 // What the first four bytes of a record and the bytes left say: a whole record of a kind and a length, or its refusal.
-#[derive(Drop)]
+#[derive(Clone, Copy)]
 enum Header {
     Whole(u16, usize),
     Bad(u8),
 }
 
 // What one record is: go on at the next place, the end of the table, or refusal number and place.
-#[derive(Drop)]
+#[derive(Clone, Copy)]
 pub enum Step {
     Next(usize),
     Done,
     Refused(u8, usize),
 }
 
-#[derive(Drop)]
+#[derive(Clone, Copy)]
 pub struct Stepped {
     pub step: Step,
     pub table: Table,
@@ -96,28 +96,28 @@ pub struct Stepped {
 
 // Where a reading stands: the place of the next record, what the record before it was, and the drives so far. At the end of the table
 // and at a refusal the place stays.
-#[derive(Drop)]
+#[derive(Clone, Copy)]
 pub struct Cursor {
     pub at: usize,
     pub step: Step,
     pub table: Table,
 }
 
-#[derive(Drop)]
+#[derive(Clone, Copy)]
 pub enum Answer {
     Accepted,
     Refused(u8, usize),
 }
 
 // What a whole table is, with the drives that were taken.
-#[derive(Drop)]
+#[derive(Clone, Copy)]
 pub struct Reading {
     pub answer: Answer,
     pub table: Table,
 }
 
 // How many bytes were written, or the house number.
-#[derive(Drop)]
+#[derive(Clone, Copy)]
 pub enum Written {
     Bytes(usize),
     Refused(u8),
@@ -133,7 +133,7 @@ fn bytes_left(n: usize, at: usize) -> usize
 
 // A drive's kind is tested first here and below: most records are drives, and the tests of one kind become one.
 fn is_kind(kind: u16) -> bool
-    ensures { result ≡ isKind kind }
+    ensures { result ≡ is_kind kind }
 {
     if drive::is_drive_kind(kind) {
         return true;
@@ -143,7 +143,7 @@ fn is_kind(kind: u16) -> bool
 
 // The kinds of records that belong to a drive.
 fn is_attached(kind: u16) -> bool
-    ensures { result ≡ either (eqb kind badKind) (eqb kind parametersKind) }
+    ensures { result ≡ either (eqb kind bad_kind) (eqb kind parameters_kind) }
 {
     logic::or(
         kind == attached::BAD_KIND,
@@ -153,7 +153,7 @@ fn is_attached(kind: u16) -> bool
 
 // The length for the kind.
 fn length_ok(kind: u16, size: u16) -> bool
-    ensures { result ≡ lengthOk kind size }
+    ensures { result ≡ length_ok kind size }
 {
     if drive::is_drive_kind(kind) {
         return size == drive::length_of(kind);
@@ -171,7 +171,7 @@ fn length_ok(kind: u16, size: u16) -> bool
 }
 
 fn header_at(t: &[u8], at: usize) -> Header
-    ensures { result ≡ headerAt t.now at }
+    ensures { result ≡ header_at t.now at }
 {
     let left = bytes_left(t.len(), at);
     if left < HEADER_LENGTH {
@@ -194,7 +194,7 @@ fn header_at(t: &[u8], at: usize) -> Header
 
 // The bytes are an unfinished record: cut off, and nothing else is wrong with it so far.
 pub fn is_unfinished(t: &[u8]) -> bool
-    ensures { result ≡ isUnfinished t.now }
+    ensures { result ≡ is_unfinished t.now }
 {
     let h = header_at(t, 0);
     match h {
@@ -207,7 +207,7 @@ pub fn is_unfinished(t: &[u8]) -> bool
 
 // Two runs of blocks share one. Tested by differences, as drives are.
 fn runs_overlap(first: u64, blocks: u64, other: u64, others: u64) -> bool
-    ensures { result ≡ overlapRuns first blocks other others }
+    ensures { result ≡ overlap_runs first blocks other others }
 {
     if first <= other {
         other - first < blocks
@@ -219,7 +219,7 @@ fn runs_overlap(first: u64, blocks: u64, other: u64, others: u64) -> bool
 // d overlaps one of n runs. Numbers are lent where drives would be copied, which is most of what a reading costs.
 fn overlaps_run(d: Drive, firsts: &[u64; 8], sizes: &[u64; 8], n: usize) -> bool
     requires { n ≤ 8 }
-    ensures { result ≡ overlapsRun n firsts.now sizes.now d }
+    ensures { result ≡ overlaps_run n firsts.now sizes.now d }
 {
     let mut found = false;
     let mut i = 0;
@@ -232,7 +232,7 @@ fn overlaps_run(d: Drive, firsts: &[u64; 8], sizes: &[u64; 8], n: usize) -> bool
 
 // The refusal of a drive among n runs, or 0.
 fn refusal_among(d: Drive, store: u64, firsts: &[u64; 8], sizes: &[u64; 8], n: usize) -> u8
-    ensures { result ≡ refusalAmong n firsts.now sizes.now d store }
+    ensures { result ≡ refusal_among n firsts.now sizes.now d store }
 {
     if MOST_DRIVES <= n {
         return NINTH_DRIVE;
@@ -304,7 +304,7 @@ fn with_bytes(bytes: [u8; 112], i: usize, p: [u8; 14]) -> [u8; 112]
 // The drives so far with parameters for a slot.
 fn with_parameters(b: Table, i: usize, p: [u8; 14]) -> Table
     requires { i < 8 }
-    ensures { result ≡ withParameters b i p }
+    ensures { result ≡ with_parameters b i p }
 {
     let bytes = b.parameters;
     let laid = with_bytes(bytes, i, p);
@@ -329,7 +329,7 @@ fn bytes_at(bytes: &[u8], i: usize) -> [u8; 14]
 // The fourteen bytes of a slot, one of the eight.
 pub fn parameters_at(b: Table, i: usize) -> [u8; 14]
     requires { i < 8 }
-    ensures { result ≡ parametersAt b i }
+    ensures { result ≡ parameters_at b i }
 {
     let bytes = b.parameters;
     bytes_at(&bytes, i)
@@ -350,7 +350,7 @@ fn bads_in_slot(n: u8, bad: &[u8], i: usize) -> Bads
 // The bad blocks of a slot, one of the eight.
 pub fn bads_at(b: Table, i: usize) -> Bads
     requires { i < 8 }
-    ensures { result ≡ badsAt b i }
+    ensures { result ≡ bads_at b i }
 {
     let counts = b.counts;
     let bad = b.bad;
@@ -359,7 +359,7 @@ pub fn bads_at(b: Table, i: usize) -> Bads
 
 // The refusal of a list for the last drive read, which has so many bad blocks already and so many blocks, or 0.
 fn list_refusal(count: u8, l: Bads, blocks: u64) -> u8
-    ensures { result ≡ pick (eqb count 0) (pick (listOk l blocks) 0 badField) notLast }
+    ensures { result ≡ pick (eqb count 0) (pick (list_ok l blocks) 0 bad_field) not_last }
 {
     if count != 0 {
         return NOT_LAST;
@@ -372,7 +372,7 @@ fn list_refusal(count: u8, l: Bads, blocks: u64) -> u8
 
 // The refusal of a record of bad blocks, by the number of its drive, or 0.
 fn bads_refusal(b: Table, number: u16, l: Bads) -> u8
-    ensures { result ≡ badsRefusal b number l }
+    ensures { result ≡ bads_refusal b number l }
 {
     let present = b.present;
     if !names_last(b.count, present, number) {
@@ -396,7 +396,7 @@ fn put_list(bad: &mut [u8; 1024], i: usize, list: &[u8; 128])
 // The drives so far with bad blocks for a slot.
 fn with_bads(b: Table, i: usize, l: Bads) -> Table
     requires { i < 8 }
-    ensures { result ≡ withBads b i l }
+    ensures { result ≡ with_bads b i l }
 {
     let list = l.list;
     let mut next = b;
@@ -410,7 +410,7 @@ fn with_bads(b: Table, i: usize, l: Bads) -> Table
 // The end record at a place; `step_at` has seen its four bytes.
 fn end_step(t: &[u8], at: usize, b: Table) -> Stepped
     requires { at + 4 ≤ length t.now }
-    ensures { result ≡ endStep t.now at b }
+    ensures { result ≡ end_step t.now at b }
 {
     let next = at + END_LENGTH as usize;
     if next < t.len() {
@@ -427,8 +427,8 @@ fn end_step(t: &[u8], at: usize, b: Table) -> Stepped
 
 // The bytes of a drive's record, which begins at a place; `step_at` has seen that they are there and hands on no others.
 fn drive_step(r: &[u8], at: usize, b: Table, store: u64) -> Stepped
-    requires { (length r.now ≡ driveLength (le 2 r.now 2)) × (isDriveKind (le 2 r.now 2) ≡ true) × (at + length r.now < 2 ^ 64) }
-    ensures { result ≡ recordStep (le 2 r.now 2) (length r.now) r.now b at store }
+    requires { (length r.now ≡ drive_length (le 2 r.now 2)) × (is_drive_kind (le 2 r.now 2) ≡ true) × (at + length r.now < 2 ^ 64) }
+    ensures { result ≡ record_step (le 2 r.now 2) (length r.now) r.now b at store }
 {
     let d = drive::decode(r);
     let n = refusal_of(b, d, store);
@@ -447,7 +447,7 @@ fn drive_step(r: &[u8], at: usize, b: Table, store: u64) -> Stepped
 // The bytes of a record of parameters, likewise.
 fn parameters_step(r: &[u8], at: usize, b: Table, store: u64) -> Stepped
     requires { (length r.now ≡ 20) × (at + 20 < 2 ^ 64) }
-    ensures { result ≡ recordStep parametersKind 20 r.now b at store }
+    ensures { result ≡ record_step parameters_kind 20 r.now b at store }
 {
     let number = attached::number_in(r);
     let present = b.present;
@@ -465,8 +465,8 @@ fn parameters_step(r: &[u8], at: usize, b: Table, store: u64) -> Stepped
 
 // The bytes of a record of bad blocks, likewise.
 fn bads_step(r: &[u8], at: usize, b: Table, store: u64) -> Stepped
-    requires { (listPlace ≤ length r.now) × (length r.now ≤ listPlace + listLength) × (at + length r.now < 2 ^ 64) }
-    ensures { result ≡ recordStep badKind (length r.now) r.now b at store }
+    requires { (list_place ≤ length r.now) × (length r.now ≤ list_place + list_length) × (at + length r.now < 2 ^ 64) }
+    ensures { result ≡ record_step bad_kind (length r.now) r.now b at store }
 {
     let number = attached::number_in(r);
     let l = attached::bads_in(r);
@@ -485,7 +485,7 @@ fn bads_step(r: &[u8], at: usize, b: Table, store: u64) -> Stepped
 
 // The record at a place, given the drives before it and the store's number of blocks.
 fn step_at(t: &[u8], at: usize, b: Table, store: u64) -> Stepped
-    ensures { result ≡ stepAt t.now at b store }
+    ensures { result ≡ step_at t.now at b store }
 {
     let h = header_at(t, at);
     match h {
@@ -512,7 +512,7 @@ fn step_at(t: &[u8], at: usize, b: Table, store: u64) -> Stepped
 
 // The place after a record that began at `at`.
 fn place_after(s: Step, at: usize) -> usize
-    ensures { result ≡ placeAfter s at }
+    ensures { result ≡ place_after s at }
 {
     match s {
         Step::Next(next) => next,
@@ -540,7 +540,7 @@ pub fn advance(t: &[u8], c: Cursor, store: u64) -> Cursor
 // ---- the reader that holds its bytes
 
 // The bytes of a table, and where their reading stands.
-#[derive(Drop)]
+#[derive(Clone, Copy)]
 pub struct Reader<'a> {
     pub bytes: &'a [u8],
     pub cursor: Cursor,
@@ -576,7 +576,7 @@ pub fn record_at(t: &[u8], c: Cursor, store: u64) -> Cursor
 // ---- the whole table
 
 fn zero_drive() -> Drive
-    ensures { result ≡ zeroDrive }
+    ensures { result ≡ zero_drive }
 {
     Drive {
         cylinders: 0,
@@ -600,7 +600,7 @@ fn zero_drive() -> Drive
 
 // The table with no drive.
 pub fn empty_table() -> Table
-    ensures { result ≡ emptyTable }
+    ensures { result ≡ empty_table }
 {
     let d = zero_drive();
     Table {
@@ -632,7 +632,7 @@ fn ended(answer: Answer, b: Table) -> Reading
 
 // The answer at the end record, whose four bytes end at a place of n.
 fn end_answer(next: usize, n: usize) -> Answer
-    ensures { result ≡ endAnswer next n }
+    ensures { result ≡ end_answer next n }
 {
     if next < n {
         return Answer::Refused(BYTE_FOLLOWS, next);
@@ -721,7 +721,7 @@ fn held(count: usize) -> usize
 
 // The length of the record of n bad blocks; with none there is no record.
 fn bads_length(n: u8) -> usize
-    ensures { (result ≡ pick (eqb n 0) 0 (badLength (held_of n))) × (result ≤ 134) }
+    ensures { (result ≡ pick (eqb n 0) 0 (bad_length (held_of n))) × (result ≤ 134) }
 {
     if n == 0 {
         return 0;
@@ -731,7 +731,7 @@ fn bads_length(n: u8) -> usize
 
 // The length of the records of a slot behind its drive's, by its number of bad blocks and whether it has parameters.
 pub fn attached_length(n: u8, present: bool) -> usize
-    ensures { (result ≡ pick (eqb n 0) 0 (badLength (held_of n)) + pick present 20 0) × (result ≤ 154) }
+    ensures { (result ≡ pick (eqb n 0) 0 (bad_length (held_of n)) + pick present 20 0) × (result ≤ 154) }
 {
     let bads = bads_length(n);
     if present {
@@ -743,7 +743,7 @@ pub fn attached_length(n: u8, present: bool) -> usize
 // The length of the records of the first n slots. `write_table` asks for at most eight.
 fn records_length(b: Table, n: usize) -> usize
     requires { n ≤ 8 }
-    ensures { (result ≡ length (recordsOf n b)) × (result ≤ 230 * n) }
+    ensures { (result ≡ length (records_of n b)) × (result ≤ 230 * n) }
 {
     let mut total: usize = 0;
     let mut i = 0;
@@ -759,15 +759,15 @@ fn records_length(b: Table, n: usize) -> usize
 
 // Where the next record begins, behind those of a table's drives.
 pub fn next_place(b: Table) -> usize
-    ensures { (result ≡ nextPlace b) × (result + endLength ≤ longestTable) }
+    ensures { (result ≡ next_place b) × (result + end_length ≤ longest_table) }
 {
     records_length(b, held(b.count))
 }
 
 // The record of bad blocks of slot i, where it has any, laid from a place on; the place behind it.
 fn put_bads(l: Bads, i: usize, out: &mut [u8], at: usize) -> usize
-    requires { (length l.list ≡ 128) × (i < 8) × (at + length (badsRecord i l) ≤ length out.old) }
-    ensures { (out.new ≡ sets out.old at (badsRecord i l)) × (result ≡ at + length (badsRecord i l)) }
+    requires { (length l.list ≡ 128) × (i < 8) × (at + length (bads_record i l) ≤ length out.old) }
+    ensures { (out.new ≡ sets out.old at (bads_record i l)) × (result ≡ at + length (bads_record i l)) }
 {
     if l.count == 0 {
         return at;
@@ -787,8 +787,8 @@ pub fn put_slot(
     out: &mut [u8],
     at: usize,
 ) -> usize
-    requires { (length l.list ≡ 128) × (length bytes.now ≡ 112) × (i < 8) × (at + length (slotBytes d l present i (part 14 bytes.now (14 * i))) ≤ length out.old) }
-    ensures { (out.new ≡ sets out.old at (slotBytes d l present i (part 14 bytes.now (14 * i)))) × (result ≡ at + length (slotBytes d l present i (part 14 bytes.now (14 * i)))) }
+    requires { (length l.list ≡ 128) × (length bytes.now ≡ 112) × (i < 8) × (at + length (slot_bytes d l present i (part 14 bytes.now (14 * i))) ≤ length out.old) }
+    ensures { (out.new ≡ sets out.old at (slot_bytes d l present i (part 14 bytes.now (14 * i)))) × (result ≡ at + length (slot_bytes d l present i (part 14 bytes.now (14 * i)))) }
 {
     drive::put_record(d, out, at);
     let behind = put_bads(l, i, out, at + drive::record_length(d));
@@ -802,8 +802,8 @@ pub fn put_slot(
 
 // The records of the first n slots, laid at the start of a buffer that `write_table` has found long enough.
 fn put_records(b: Table, n: usize, out: &mut [u8])
-    requires { (n ≤ 8) × (length (recordsOf n b) ≤ length out.old) }
-    ensures { out.new ≡ sets out.old 0 (recordsOf n b) }
+    requires { (n ≤ 8) × (length (records_of n b) ≤ length out.old) }
+    ensures { out.new ≡ sets out.old 0 (records_of n b) }
 {
     let bytes = b.parameters;
     let mut at: usize = 0;
@@ -820,7 +820,7 @@ fn put_records(b: Table, n: usize, out: &mut [u8])
 // The end record, laid at a place; `write_table` has found room for it.
 pub fn put_end(out: &mut [u8], at: usize)
     requires { at + 4 ≤ length out.old }
-    ensures { out.new ≡ sets out.old at endRecord }
+    ensures { out.new ≡ sets out.old at end_record }
 {
     words::store16(out, at, END_LENGTH);
     words::store16(out, at + 2, END_KIND);
@@ -828,7 +828,7 @@ pub fn put_end(out: &mut [u8], at: usize)
 
 // Lays the table's drives out as a table again.
 pub fn write_table(b: Table, out: &mut [u8]) -> Written
-    ensures { (result ≡ writeAnswer b (length out.old)) × (out.new ≡ writeOut b out.old) × (writtenNumbers result ≡ writeNumbers b (length out.old)) }
+    ensures { (result ≡ write_answer b (length out.old)) × (out.new ≡ write_out b out.old) × (written_numbers result ≡ write_numbers b (length out.old)) }
 {
     let n = held(b.count);
     let end = records_length(b, n);
@@ -845,14 +845,14 @@ pub fn write_table(b: Table, out: &mut [u8]) -> Written
 
 // How many drives a table holds.
 pub fn drive_count(b: Table) -> usize
-    ensures { result ≡ length (drivesOf b) }
+    ensures { result ≡ length (drives_of b) }
 {
     held(b.count)
 }
 
 // The fields obey their rules, and the drive ends inside the store.
 pub fn obeys(d: Drive, store: u64) -> bool
-    ensures { result ≡ both (fieldsOk d) (inStore d store) }
+    ensures { result ≡ both (fields_ok d) (in_store d store) }
 {
     logic::and(drive::fields_ok(d), drive::in_store(d, store))
 }
@@ -861,7 +861,7 @@ pub fn obeys(d: Drive, store: u64) -> bool
 // would copy the eight drives for each of them.
 fn sound_to(n: usize, drives: [Drive; 8], store: u64) -> bool
     requires { n ≤ 8 }
-    ensures { result ≡ soundTo n drives store }
+    ensures { result ≡ sound_to n drives store }
 {
     let mut sound = true;
     let mut i = 0;
@@ -902,7 +902,7 @@ fn slot_ok(present: bool, drive: bool, zero: bool) -> bool
 
 // Slots past the count are blank.
 fn blank_past(b: Table) -> bool
-    ensures { result ≡ blankTo 8 b.drives b.count }
+    ensures { result ≡ blank_to 8 b.drives b.count }
 {
     let drives = b.drives;
     let count = b.count;
@@ -918,7 +918,7 @@ fn blank_past(b: Table) -> bool
 
 // Slots without parameters have zeros for them, and only slots with a drive have any.
 fn attached_to(b: Table) -> bool
-    ensures { result ≡ attachedTo 8 b }
+    ensures { result ≡ attached_to 8 b }
 {
     let present = b.present;
     let bytes = b.parameters;
@@ -935,7 +935,7 @@ fn attached_to(b: Table) -> bool
 
 // Bad blocks of its drive in each slot, in ascending order, and zeros behind them.
 fn listed_to(b: Table) -> bool
-    ensures { result ≡ listedTo 8 b }
+    ensures { result ≡ listed_to 8 b }
 {
     let drives = b.drives;
     let mut good = true;
@@ -951,7 +951,7 @@ fn listed_to(b: Table) -> bool
 // At most eight drives, each of which the reader would take after those before it, blank slots past them, and parameters and bad blocks of
 // drives only.
 pub fn is_sound(b: Table, store: u64) -> bool
-    ensures { result ≡ isSound b store }
+    ensures { result ≡ is_sound b store }
 {
     let n = b.count;
     if MOST_DRIVES < n {

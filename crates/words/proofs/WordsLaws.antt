@@ -29,26 +29,26 @@ le_split j (suc k) s at =
     (omega (arith, mul-add (256 ^ j) (le k s (at + j)) (256 ^ k * get_or s (at + j + k) 0), mul_assoc (256 ^ j) (256 ^ k) (get_or s (at + j + k) 0)))
 
 -- a word fits its width
-pub le-lt : (k : ℕ) (s : List ℕ) (at : ℕ) → Bytes s → le k s at < 256 ^ k
+pub le_lt : (k : ℕ) (s : List ℕ) (at : ℕ) → Bytes s → le k s at < 256 ^ k
 unfolding le
-le-lt zero s at h = omega arith
-le-lt (suc k) s at h =
+le_lt zero s at h = omega arith
+le_lt (suc k) s at h =
     let b : get_or s (at + k) 0 ≤ 255 = omega (arith, h (at + k)) in
-    rw pow-suc (omega (arith, le-lt k s at h, mul-le-mul_left (256 ^ k) b))
+    rw pow-suc (omega (arith, le_lt k s at h, mul-le-mul_left (256 ^ k) b))
 
 -- only the k bytes count
-pub le-ext : (k : ℕ) (s t : List ℕ) (a b : ℕ) → ((i : ℕ) → i < k → get_or s (a + i) 0 ≡ get_or t (b + i) 0) → le k s a ≡ le k t b
+pub le_ext : (k : ℕ) (s t : List ℕ) (a b : ℕ) → ((i : ℕ) → i < k → get_or s (a + i) 0 ≡ get_or t (b + i) 0) → le k s a ≡ le k t b
 unfolding le
-le-ext zero s t a b h = refl
-le-ext (suc k) s t a b h = rw (le-ext k s t a b (λ i l. h i (omega arith)), h k (omega arith))
+le_ext zero s t a b h = refl
+le_ext (suc k) s t a b h = rw (le_ext k s t a b (λ i l. h i (omega arith)), h k (omega arith))
 
 le-zero : (s : List ℕ) (at : ℕ) → le 0 s at ≡ 0
 unfolding le
 le-zero s at = refl
 
-le-one : (s : List ℕ) (at : ℕ) → le 1 s at ≡ get_or s at 0
+le_one : (s : List ℕ) (at : ℕ) → le 1 s at ≡ get_or s at 0
 unfolding le
-le-one s at = rw add-zero (omega arith)
+le_one s at = rw add-zero (omega arith)
 
 le_low : (m : ℕ) (s : List ℕ) (at : ℕ) → Bytes s → le (suc m) s at % 256 ≡ get_or s at 0
 unfolding le
@@ -57,15 +57,15 @@ le_low m s at h =
     rw (e, add-mul-mod_self_left, mod-eq_of_lt (h at))
 
 -- byte i of a word that was read
-le-digit : (i m : ℕ) (s : List ℕ) (at : ℕ) → Bytes s → le (i + suc m) s at / 256 ^ i % 256 ≡ get_or s (at + i) 0
-le-digit i m s at h =
-    rw (le_split i (suc m) s at, add-mul-div_left (le i s at) (le (suc m) s (at + i)) (pos i), div-eq_of_lt (le-lt i s at h), zero-add)
+le_digit : (i m : ℕ) (s : List ℕ) (at : ℕ) → Bytes s → le (i + suc m) s at / 256 ^ i % 256 ≡ get_or s (at + i) 0
+le_digit i m s at h =
+    rw (le_split i (suc m) s at, add-mul-div_left (le i s at) (le (suc m) s (at + i)) (pos i), div-eq_of_lt (le_lt i s at h), zero-add)
     (le_low m s (at + i) h)
 
 digit : (k i : ℕ) (a : List ℕ) (at : ℕ) → Bytes a → i < k → le k a at / 256 ^ i % 256 ≡ get_or a (at + i) 0
 digit k i a at h l =
     let e : i + suc (k - suc i) ≡ k = omega arith in
-    rw e at (le-digit i (k - suc i) a at h)
+    rw e at (le_digit i (k - suc i) a at h)
 
 -- equal words are equal bytes
 pub same_bytes : (k : ℕ) (a b : List ℕ) → length a ≡ k → length b ≡ k → Bytes a → Bytes b → le k a 0 ≡ le k b 0 → a ≡ b
@@ -76,48 +76,48 @@ same_bytes k a b la lb ha hb e =
 
 -- ---- the bytes of a number
 
-pub length-leBytes : (k v : ℕ) → length (le_bytes k v) ≡ k
+pub length-le_bytes : (k v : ℕ) → length (le_bytes k v) ≡ k
 unfolding le_bytes
-length-leBytes zero v = refl
-length-leBytes (suc k) v = ap suc (length-leBytes k (v / 256))
+length-le_bytes zero v = refl
+length-le_bytes (suc k) v = ap suc (length-le_bytes k (v / 256))
 
-leBytes-low : (k v : ℕ) → le_bytes k (v % 256 ^ k) ≡ le_bytes k v
+le_bytes-low : (k v : ℕ) → le_bytes k (v % 256 ^ k) ≡ le_bytes k v
 unfolding le_bytes
-leBytes-low zero v = refl
-leBytes-low (suc k) v =
+le_bytes-low zero v = refl
+le_bytes-low (suc k) v =
     let m : 0 < 256 = omega arith in
-    rw (pow-suc 256 k, mod-mul v {m = 256 ^ k} {c = 256} (pos k) m, digits_mod (v / 256 % 256 ^ k) (mod-lt v m), digits_div (v / 256 % 256 ^ k) (mod-lt v m), leBytes-low k (v / 256))
+    rw (pow-suc 256 k, mod-mul v {m = 256 ^ k} {c = 256} (pos k) m, digits_mod (v / 256 % 256 ^ k) (mod-lt v m), digits_div (v / 256 % 256 ^ k) (mod-lt v m), le_bytes-low k (v / 256))
 
-pub leBytes-append : (j k v : ℕ) → le_bytes (j + k) v ≡ le_bytes j v ++ le_bytes k (v / 256 ^ j)
+pub le_bytes-append : (j k v : ℕ) → le_bytes (j + k) v ≡ le_bytes j v ++ le_bytes k (v / 256 ^ j)
 unfolding le_bytes
-leBytes-append zero k v = rw (zero-add, div-one)
-leBytes-append (suc j) k v =
-    rw (suc-add, leBytes-append j k (v / 256), div-div-eq-div-mul v 256 (256 ^ j), ← pow-succ' 256 j)
+le_bytes-append zero k v = rw (zero-add, div-one)
+le_bytes-append (suc j) k v =
+    rw (suc-add, le_bytes-append j k (v / 256), div-div-eq-div-mul v 256 (256 ^ j), ← pow-succ' 256 j)
 
-leBytes-split : (j k v : ℕ) → le_bytes (j + k) v ≡ le_bytes j (v % 256 ^ j) ++ le_bytes k (v / 256 ^ j)
-leBytes-split j k v = rw leBytes-low (leBytes-append j k v)
+le_bytes-split : (j k v : ℕ) → le_bytes (j + k) v ≡ le_bytes j (v % 256 ^ j) ++ le_bytes k (v / 256 ^ j)
+le_bytes-split j k v = rw le_bytes-low (le_bytes-append j k v)
 
 -- read of what was written
-le-leBytes : (k v : ℕ) → le k (le_bytes k v) 0 ≡ v % 256 ^ k
+le-le_bytes : (k v : ℕ) → le k (le_bytes k v) 0 ≡ v % 256 ^ k
 unfolding le_bytes
-le-leBytes zero v = le-zero (le_bytes 0 v) 0 ∙ sym (mod-one v)
-le-leBytes (suc k) v =
+le-le_bytes zero v = le-zero (le_bytes 0 v) 0 ∙ sym (mod-one v)
+le-le_bytes (suc k) v =
     let m : 0 < 256 = omega arith in
     let x : List ℕ = v % 256 ∷ le_bytes k (v / 256) in
     let e : le (suc k) x 0 ≡ le 1 x 0 + 256 ^ 1 * le k x 1 = rw one-add at (le_split 1 k x 0) in
-    let f : le k x 1 ≡ le k (le_bytes k (v / 256)) 0 = le-ext k x (le_bytes k (v / 256)) 1 0 (λ i h. rw (one-add, zero-add)) in
-    let g : le 1 x 0 ≡ v % 256 = le-one x 0 in
-    rw (e, f, g, le-leBytes k (v / 256), pow-suc 256 k, mod-mul v {m = 256 ^ k} {c = 256} (pos k) m) (omega arith)
+    let f : le k x 1 ≡ le k (le_bytes k (v / 256)) 0 = le_ext k x (le_bytes k (v / 256)) 1 0 (λ i h. rw (one-add, zero-add)) in
+    let g : le 1 x 0 ≡ v % 256 = le_one x 0 in
+    rw (e, f, g, le-le_bytes k (v / 256), pow-suc 256 k, mod-mul v {m = 256 ^ k} {c = 256} (pos k) m) (omega arith)
 
 pub read-write : (k v : ℕ) → v < 256 ^ k → le k (le_bytes k v) 0 ≡ v
-read-write k v h = le-leBytes k v ∙ mod-eq_of_lt h
+read-write k v h = le-le_bytes k v ∙ mod-eq_of_lt h
 
 -- the bytes of a number are bytes
-pub bytes-leBytes : (k v : ℕ) → Bytes (le_bytes k v)
+pub bytes-le_bytes : (k v : ℕ) → Bytes (le_bytes k v)
 unfolding le_bytes
-bytes-leBytes zero v i = omega arith
-bytes-leBytes (suc k) v zero = mod-lt v (omega arith)
-bytes-leBytes (suc k) v (suc i) = bytes-leBytes k (v / 256) i
+bytes-le_bytes zero v i = omega arith
+bytes-le_bytes (suc k) v zero = mod-lt v (omega arith)
+bytes-le_bytes (suc k) v (suc i) = bytes-le_bytes k (v / 256) i
 
 pub bytes-part : (k : ℕ) (s : List ℕ) (at : ℕ) → Bytes s → Bytes (part k s at)
 bytes-part k s at h i = by_place (ltb i k) refl
@@ -135,9 +135,9 @@ pub write_read : (k : ℕ) (s : List ℕ) (at : ℕ) → Bytes s → at + k ≤ 
 write_read k s at h l =
     let p : k ≤ length (drop at s) = simp length-drop (omega arith) in
     let byte : (i : ℕ) → i < k → get_or (part k s at) i 0 ≡ get_or s (at + i) 0 = λ i q. rw (get_or-take, get_or-drop) in
-    same_bytes k (le_bytes k (le k s at)) (part k s at) (length-leBytes k (le k s at)) (length-take-le k (drop at s) p)
-    (bytes-leBytes k (le k s at)) (bytes-part k s at h)
-    (read-write k (le k s at) (le-lt k s at h) ∙ le-ext k s (part k s at) at 0 (λ i q. rw zero-add (sym (byte i q))))
+    same_bytes k (le_bytes k (le k s at)) (part k s at) (length-le_bytes k (le k s at)) (length-take-le k (drop at s) p)
+    (bytes-le_bytes k (le k s at)) (bytes-part k s at h)
+    (read-write k (le k s at) (le_lt k s at h) ∙ le_ext k s (part k s at) at 0 (λ i q. rw zero-add (sym (byte i q))))
 
 -- ---- runs of stores
 
@@ -147,9 +147,9 @@ sets-append s at [] b = rw add-zero
 sets-append s at (x ∷ a) b = rw (sets-append (set s at x) (suc at) a b, suc-add, ← add-suc)
 
 -- the stores of a word's halves are the store of the word
-pub sets-two : {o₁ o₂ : List ℕ} (j k : ℕ) (s : List ℕ) (at v : ℕ)
+pub sets_two : {o₁ o₂ : List ℕ} (j k : ℕ) (s : List ℕ) (at v : ℕ)
     → o₁ ≡ sets s at (le_bytes j (v % 256 ^ j)) → o₂ ≡ sets o₁ (at + j) (le_bytes k (v / 256 ^ j)) → o₂ ≡ sets s at (le_bytes (j + k) v)
-sets-two j k s at v e₁ e₂ = rw (e₂, e₁, leBytes-split, sets-append, length-leBytes)
+sets_two j k s at v e₁ e₂ = rw (e₂, e₁, le_bytes-split, sets-append, length-le_bytes)
 
 -- one store more
 pub sets_more : (s : List ℕ) (at : ℕ) (a : List ℕ) (i : ℕ) → i < length a → set (sets s at (take i a)) (at + i) (get_or a i 0) ≡ sets s at (take (i + 1) a)
@@ -158,13 +158,13 @@ sets_more s at a i h =
     rw (add-one, take-suc a i 0 h, sets-append, l)
 
 -- stores from the start leave what was stored, and then the rest
-pub sets-front : (s a : List ℕ) → length a ≤ length s → sets s 0 a ≡ a ++ drop (length a) s
-sets-front s a h = rw (sets-eq a s 0 (omega arith), zero-add)
+pub sets_front : (s a : List ℕ) → length a ≤ length s → sets s 0 a ≡ a ++ drop (length a) s
+sets_front s a h = rw (sets-eq a s 0 (omega arith), zero-add)
 
 pub sets-whole : (s a : List ℕ) → length s ≡ length a → sets s 0 a ≡ a
 sets-whole s a h =
     let l : length s ≤ length a = omega arith in
-    rw (sets-front s a (omega arith), drop_of_length-le s l) (append-nil a)
+    rw (sets_front s a (omega arith), drop_of_length-le s l) (append-nil a)
 
 -- ---- a part, written out byte by byte
 
@@ -172,9 +172,9 @@ abbrev pub list_from : ℕ → ℕ → List ℕ → ℕ → List ℕ
 list_from zero i s at = []
 list_from (suc k) i s at = get_or s (at + i) 0 ∷ list_from k (suc i) s at
 
-pub part-list : (k i : ℕ) (s : List ℕ) (at : ℕ) → at + i + k ≤ length s → part k s (at + i) ≡ list_from k i s at
-part-list zero i s at h = refl
-part-list (suc k) i s at h =
+pub part_list : (k i : ℕ) (s : List ℕ) (at : ℕ) → at + i + k ≤ length s → part k s (at + i) ≡ list_from k i s at
+part_list zero i s at h = refl
+part_list (suc k) i s at h =
     let l : at + i < length s = omega arith in
     let h' : at + suc i + k ≤ length s = omega arith in
-    rw (drop-cons s (at + i) 0 l, ← add-suc at i, part-list k (suc i) s at h')
+    rw (drop-cons s (at + i) 0 l, ← add-suc at i, part_list k (suc i) s at h')

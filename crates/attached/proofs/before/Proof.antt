@@ -13,5 +13,5 @@ returns-2 c = let a = c.before.before.args in sym (before-within a.x a.from a.k 
 returns-3 : tie.Need-returns-3
 returns-3 c = let a = c.before.before.args in sym (before-past a.x a.from a.k (omega arith))
 
-pub before-spec : {M : Type 1} → statement M
-before-spec = tie.close (tie.spec returns returns-2 returns-3)
+pub before_spec : {M : Type 1} → statement M
+before_spec = tie.close (tie.spec returns returns-2 returns-3)

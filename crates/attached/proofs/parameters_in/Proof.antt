@@ -1,8 +1,8 @@
 use mathlib.Core.Path.{◌≡◌, refl, sym, ◌∙◌}
 use lib.ListN.{replicate}
-use Rattle.attached.specs.Parameters.{parametersIn}
+use Rattle.attached.specs.Parameters.{parameters_in}
 use Rattle.words.proofs.WordsLaws.{sets-whole}
-use Rattle.attached.proofs.AttachedLaws.{length-parametersIn}
+use Rattle.attached.proofs.AttachedLaws.{length-parameters_in}
 use borrow.Author.Rules.{rules}
 use Rattle.attached.proofs.parameters_in.Statement.{statement}
 use Rattle.attached.proofs.parameters_in.Tie as tie
@@ -10,10 +10,10 @@ use Rattle.attached.proofs.parameters_in.Tie as tie
 returns : tie.Need-returns
 returns c =
     let a = c.before.before.before.before.before in
-    c.before.store.ensures ∙ sets-whole (replicate 14 0) (parametersIn a.args.r.now) (sym (length-parametersIn a.args.r.now a.requires))
+    c.before.store.ensures ∙ sets-whole (replicate 14 0) (parameters_in a.args.r.now) (sym (length-parameters_in a.args.r.now a.requires))
 
-pub parameters-in-spec : {M : Type 1} → statement M
-parameters-in-spec =
+pub parameters_in_spec : {M : Type 1} → statement M
+parameters_in_spec =
     tie.close
     (tie.spec
     (search rules)

@@ -4,7 +4,7 @@ use Prim.Native.Nat.{◌*◌}
 use mathlib.Core.Path.{◌≡◌, sym}
 use lib.ListN.{length}
 use lib.Seq.{length-take-le}
-use Rattle.attached.proofs.BadLaws.{bad-stores}
+use Rattle.attached.proofs.BadLaws.{bad_stores}
 use Rattle.attached.proofs.put_bads.Statement.{statement}
 use Rattle.attached.proofs.put_bads.Tie as tie
 
@@ -22,8 +22,8 @@ aggregate c =
     let h = c.before.before.before.before.before.before.before.before.before.before.before.before.before.before in
     sym (length-take-le (8 * h.held.result) h.before.before.before.args.l.list (omega (arith, whole h, h.held.ensures.1)))
 
-store-requires : tie.Need-store-requires
-store-requires c κs =
+store_requires : tie.Need-store-requires
+store_requires c κs =
     let h = c.before.before.before.before.before.before.before.before.before.before.before.before.before.before in
     let s = h.before.before.before in
     let n = length-take-le (8 * h.held.result) s.args.l.list (omega (arith, whole h, h.held.ensures.1)) in
@@ -33,11 +33,11 @@ returns : tie.Need-returns
 returns c =
     let h = c.before.before.before.before.before.before.before.before.before.before.before.before.before.before.before.before.before in
     let a = h.before.before.before.args in
-    bad-stores a.out.now a.at a.number a.l h.held.ensures.0 c.before.before.before.before.before.before.before.before.before.before.before.before.before.before.before.store16.ensures c.before.before.before.before.before.before.before.before.before.before.before.store162.ensures
+    bad_stores a.out.now a.at a.number a.l h.held.ensures.0 c.before.before.before.before.before.before.before.before.before.before.before.before.before.before.before.store16.ensures c.before.before.before.before.before.before.before.before.before.before.before.store162.ensures
     c.before.before.before.before.before.before.before.store163.ensures c.before.before.store.ensures
 
-pub put-bads-spec : {M : Type 1} → statement M
-put-bads-spec =
+pub put_bads_spec : {M : Type 1} → statement M
+put_bads_spec =
     tie.close
     (tie.spec
     (search rules)
@@ -52,6 +52,6 @@ put-bads-spec =
     (search rules)
     share
     aggregate
-    store-requires
+    store_requires
     (search rules)
     returns)

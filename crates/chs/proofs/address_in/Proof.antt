@@ -5,5 +5,5 @@ use Rattle.chs.proofs.address_in.Tie as tie
 returns : tie.Need-returns
 returns c = rw c.before.before.unpack.ensures
 
-pub address-in-spec : {M : Type 1} → statement M
-address-in-spec = tie.close (tie.spec (search rules) (search rules) (search rules) (search rules) returns)
+pub address_in_spec : {M : Type 1} → statement M
+address_in_spec = tie.close (tie.spec (search rules) (search rules) (search rules) (search rules) returns)

@@ -1,13 +1,13 @@
-use Rattle.chs.specs.Chs.{isValid}
+use Rattle.chs.specs.Chs.{is_valid}
 use borrow.Author.Rules.{rules}
 use Rattle.chs.proofs.is_valid.Statement.{statement}
 use Rattle.chs.proofs.is_valid.Tie as tie
 
 returns : tie.Need-returns
-unfolding isValid
+unfolding is_valid
 returns c = rw (c.and2.ensures, c.before.and.ensures, c.before.before.in-range.ensures)
 
-pub is-valid-spec : {M : Type 1} → statement M
-is-valid-spec =
+pub is_valid_spec : {M : Type 1} → statement M
+is_valid_spec =
     tie.close
     (tie.spec (search rules) (search rules) (search rules) (search rules) (search rules) returns)

@@ -1,34 +1,34 @@
 use native.Mathlib.Omega.{arith}
-use Rattle.chs.proofs.ChsLaws.{isValid-true, tracks-high, track-below, size-high, number-below}
+use Rattle.chs.proofs.ChsLaws.{is_valid_true, tracks_high, track_below, size-high, number-below}
 use borrow.Author.Rules.{rules}
 use Rattle.chs.proofs.number.Statement.{statement}
 use Rattle.chs.proofs.number.Tie as tie
 
-mul-result : tie.Need-overflow-mul-result
-mul-result c =
+mul_result : tie.Need-overflow-mul-result
+mul_result c =
     let s = c.before.before in
-    omega (arith, track-below s.args.g s.args.a (isValid-true _ _ s.requires.1), tracks-high s.args.g s.requires.0)
+    omega (arith, track_below s.args.g s.args.a (is_valid_true _ _ s.requires.1), tracks_high s.args.g s.requires.0)
 
-add-result : tie.Need-overflow-add-result
-add-result c =
+add_result : tie.Need-overflow-add-result
+add_result c =
     let s = c.before.before.before in
-    omega (arith, track-below s.args.g s.args.a (isValid-true _ _ s.requires.1), tracks-high s.args.g s.requires.0)
+    omega (arith, track_below s.args.g s.args.a (is_valid_true _ _ s.requires.1), tracks_high s.args.g s.requires.0)
 
-mul-result-2 : tie.Need-overflow-mul-result-2
-mul-result-2 c =
+mul_result_2 : tie.Need-overflow-mul-result-2
+mul_result_2 c =
     let s = c.before.before.before.before in
-    let valid = isValid-true _ _ s.requires.1 in
-    omega (arith, valid.sector-pos, number-below s.args.g s.args.a valid, size-high s.args.g s.requires.0)
+    let valid = is_valid_true _ _ s.requires.1 in
+    omega (arith, valid.sector_pos, number-below s.args.g s.args.a valid, size-high s.args.g s.requires.0)
 
-add-result-2 : tie.Need-overflow-add-result-2
-add-result-2 c =
+add_result_2 : tie.Need-overflow-add-result-2
+add_result_2 c =
     let s = c.before.before.before.before.before in
-    let valid = isValid-true _ _ s.requires.1 in
-    omega (arith, valid.sector-pos, number-below s.args.g s.args.a valid, size-high s.args.g s.requires.0)
+    let valid = is_valid_true _ _ s.requires.1 in
+    omega (arith, valid.sector_pos, number-below s.args.g s.args.a valid, size-high s.args.g s.requires.0)
 
-sub-result : tie.Need-overflow-sub-result
-sub-result c = let s = c.before.before.before.before.before in omega (arith, (isValid-true s.args.g s.args.a s.requires.1).sector-pos)
+sub_result : tie.Need-overflow-sub-result
+sub_result c = let s = c.before.before.before.before.before in omega (arith, (is_valid_true s.args.g s.args.a s.requires.1).sector_pos)
 
-pub number-spec : {M : Type 1} → statement M
-number-spec =
-    tie.close (tie.spec mul-result add-result mul-result-2 add-result-2 sub-result (search rules))
+pub number_spec : {M : Type 1} → statement M
+number_spec =
+    tie.close (tie.spec mul_result add_result mul_result_2 add_result_2 sub_result (search rules))

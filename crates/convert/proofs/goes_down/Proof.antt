@@ -1,38 +1,38 @@
 use mathlib.Core.Path.{sym, ◌∙◌}
 use borrow.Author.Tests.{eq-eqb, ne_eqb, not-true, not-false}
-use Rattle.convert.specs.Convert.{soundRecord, downOk}
+use Rattle.convert.specs.Convert.{sound_record, down_ok}
 use Rattle.convert.proofs.ConvertLaws.{decodable}
 use borrow.Author.Rules.{rules}
 use Rattle.convert.proofs.goes_down.Statement.{statement}
 use Rattle.convert.proofs.goes_down.Tie as tie
 
 returns : tie.Need-returns
-unfolding downOk
+unfolding down_ok
 returns c = rw (ne_eqb _ _ c.if1.true)
 
 returns-2 : tie.Need-returns-2
-unfolding downOk soundRecord
+unfolding down_ok sound_record
 returns-2 c = rw (eq-eqb _ _ c.before.before.if1.false, sym c.before.is-record.ensures ∙ not-true _ c.if2.true)
 
-decode-requires : tie.Need-decode-requires
-decode-requires c κs = decodable 2 _ (sym c.before.is-record.ensures ∙ not-false _ c.if2.false)
+decode_requires : tie.Need-decode-requires
+decode_requires c κs = decodable 2 _ (sym c.before.is-record.ensures ∙ not-false _ c.if2.false)
 
 returns-3 : tie.Need-returns-3
-unfolding downOk soundRecord
+unfolding down_ok sound_record
 returns-3 c =
     let d = c.before.before.before.before.before in
     let s = d.before in
     rw (c.and2.ensures, c.before.and.ensures, c.before.before.is-i2o.ensures, c.before.before.before.zero-tail.ensures, c.before.before.before.before.fields-ok.ensures, d.decode.ensures, eq-eqb _ _ s.before.before.if1.false, sym s.before.is-record.ensures ∙ not-false _ s.if2.false)
 
-pub goes-down-spec : {M : Type 1} → statement M
-goes-down-spec =
+pub goes_down_spec : {M : Type 1} → statement M
+goes_down_spec =
     tie.close
     (tie.spec
     (search rules)
     returns
     (λ c κs. tt)
     returns-2
-    decode-requires
+    decode_requires
     (λ c κs. tt)
     (λ c κs. tt)
     (λ c κs. tt)

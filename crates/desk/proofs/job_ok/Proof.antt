@@ -2,7 +2,7 @@ use mathlib.Core.Path.{◌∙◌, sym}
 use borrow.Author.Rules.{rules}
 use borrow.Author.Tests.{not-true, not-false}
 use native.Mathlib.Omega.{arith}
-use Rattle.desk.proofs.AcceptableLaws.{count_most, job-count, job-tests}
+use Rattle.desk.proofs.AcceptableLaws.{count_most, job_count, job_tests}
 use Rattle.desk.proofs.job_ok.Statement.{statement}
 use Rattle.desk.proofs.job_ok.Tie as tie
 
@@ -10,11 +10,11 @@ returns : tie.Need-returns
 returns c =
     let s = c.before.before.before.before.args in
     let count = c.before in
-    job-count s.d s.m s.j count.before.before.Function-of.ensures count.before.is-sectors.ensures count.count-ok.ensures (not-true _ c.if1.true)
+    job_count s.d s.m s.j count.before.before.Function-of.ensures count.before.is-sectors.ensures count.count-ok.ensures (not-true _ c.if1.true)
 
 -- at most 128 blocks
-mul-ends-by : tie.Need-overflow-mul-ends-by
-mul-ends-by c =
+mul-ends_by : tie.Need-overflow-mul-ends-by
+mul-ends_by c =
     let count = c.before.before.before.before.before.before.before in
     omega (arith, count_most count.before.is-sectors.result count.before.before.before.args.j.count (sym count.count-ok.ensures ∙ not-false _ c.before.before.before.before.before.before.if1.false))
 
@@ -25,7 +25,7 @@ returns-2 c =
     let counted = free.before.before.before.before.before in
     let sector = counted.before.before in
     let s = sector.before.before.args in
-    job-tests s.d s.m s.j
+    job_tests s.d s.m s.j
     sector.before.Function-of.ensures
     sector.is-sectors.ensures
     counted.before.count-ok.ensures
@@ -43,8 +43,8 @@ returns-2 c =
     c.before.and4.ensures
     c.and5.ensures
 
-pub job-ok-spec : {M : Type 1} → statement M
-job-ok-spec =
+pub job_ok_spec : {M : Type 1} → statement M
+job_ok_spec =
     tie.close
     (tie.spec
     (search rules)
@@ -56,7 +56,7 @@ job-ok-spec =
     (search rules)
     (search rules)
     (search rules)
-    mul-ends-by
+    mul-ends_by
     (search rules)
     (search rules)
     (search rules)

@@ -8,5 +8,5 @@ returns c = rw c.if1.true
 returns-2 : tie.Need-returns-2
 returns-2 c = rw c.before.if1.false c.ends_by.ensures
 
-pub packet-ok-spec : {M : Type 1} → statement M
-packet-ok-spec = tie.close (tie.spec returns (search rules) returns-2)
+pub packet_ok_spec : {M : Type 1} → statement M
+packet_ok_spec = tie.close (tie.spec returns (search rules) returns-2)

@@ -8,5 +8,5 @@ returns c = rw c.before.if1.true c.Place-ok.ensures
 returns-2 : tie.Need-returns-2
 returns-2 c = rw c.before.if1.false
 
-pub placement-ok-spec : {M : Type 1} → statement M
-placement-ok-spec = tie.close (tie.spec (search rules) returns returns-2)
+pub placement_ok_spec : {M : Type 1} → statement M
+placement_ok_spec = tie.close (tie.spec (search rules) returns returns-2)

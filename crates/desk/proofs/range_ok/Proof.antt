@@ -8,8 +8,8 @@ returns c = rw (c.before.before.before.if1.true, c.and.ensures, c.before.ends-by
 returns-2 : tie.Need-returns-2
 returns-2 c = rw (c.before.if1.false, c.and2.ensures, c.before.before.ends_by.ensures)
 
-pub range-ok-spec : {M : Type 1} → statement M
-range-ok-spec =
+pub range_ok_spec : {M : Type 1} → statement M
+range_ok_spec =
     tie.close
     (tie.spec
     (search rules)

@@ -18,5 +18,5 @@ returns c =
     let l : length a ≡ 4 = search rules in
     ap (λ (n : ℕ). eqb n 0) c.value4.ensures ∙ named 4 a (replicate 4 0) l refl (λ i. (f i).fits) refl
 
-pub blank4-spec : {M : Type 1} → statement M
-blank4-spec = tie.close (tie.spec (λ c κs. tt) returns)
+pub blank4_spec : {M : Type 1} → statement M
+blank4_spec = tie.close (tie.spec (λ c κs. tt) returns)

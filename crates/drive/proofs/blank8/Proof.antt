@@ -18,5 +18,5 @@ returns c =
     let l : length a ≡ 8 = search rules in
     ap (λ (n : ℕ). eqb n 0) c.value8.ensures ∙ named 8 a (replicate 8 0) l refl (λ i. (f i).fits) refl
 
-pub blank8-spec : {M : Type 1} → statement M
-blank8-spec = tie.close (tie.spec (λ c κs. tt) returns)
+pub blank8_spec : {M : Type 1} → statement M
+blank8_spec = tie.close (tie.spec (λ c κs. tt) returns)

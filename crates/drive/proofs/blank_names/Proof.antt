@@ -8,8 +8,8 @@ returns c =
     let n = c.before.before.before.before.before in
     rw (c.and4.ensures, c.before.and3.ensures, c.before.before.and2.ensures, c.before.before.before.and.ensures, c.before.before.before.before.zero-tail.ensures, n.blank83.ensures, n.before.blank82.ensures, n.before.before.blank8.ensures, n.before.before.before.blank4.ensures)
 
-pub blank-names-spec : {M : Type 1} → statement M
-blank-names-spec =
+pub blank-names_spec : {M : Type 1} → statement M
+blank-names_spec =
     tie.close
     (tie.spec
     (λ c κs. tt)

@@ -4,19 +4,19 @@ use mir.Val.{Fits}
 use mir.Syntax.{w8}
 use lib.ListN.{get_or, length}
 use Rattle.words.specs.Words.{le}
-use Rattle.drive.specs.Drive.{busOk, isa, pci}
+use Rattle.drive.specs.Drive.{bus_ok, isa, pci}
 use Rattle.drive.proofs.DriveLaws.{named}
 use borrow.Author.Rules.{rules}
 use Rattle.drive.proofs.bus_ok.Statement.{statement}
 use Rattle.drive.proofs.bus_ok.Tie as tie
 
 returns : tie.Need-returns
-unfolding busOk le
+unfolding bus_ok le
 returns c =
     let b = c.before.before.args.b in
     let f : (i : ℕ) → Fits w8 (get_or b i 0) = λ i. search rules in
     let l : length b ≡ 4 = search rules in
     c.or.ensures ∙ rw (c.before.value4.ensures, named 4 b isa l refl (λ i. (f i).fits) refl, named 4 b pci l refl (λ i. (f i).fits) refl)
 
-pub bus-ok-spec : {M : Type 1} → statement M
-bus-ok-spec = tie.close (tie.spec (λ c κs. tt) (λ c κs. tt) returns)
+pub bus_ok_spec : {M : Type 1} → statement M
+bus_ok_spec = tie.close (tie.spec (λ c κs. tt) (λ c κs. tt) returns)

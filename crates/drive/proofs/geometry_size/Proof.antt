@@ -5,15 +5,15 @@ use borrow.Author.Rules.{rules}
 use Rattle.drive.proofs.geometry_size.Statement.{statement}
 use Rattle.drive.proofs.geometry_size.Tie as tie
 
-mul-result : tie.Need-overflow-mul-result
-mul-result c =
+mul_result : tie.Need-overflow-mul-result
+mul_result c =
     let d = c.before.before.args.d in
     let x : d.c ≤ 65535 = search rules in
     let y : d.h ≤ 65535 = search rules in
     omega (arith, mul-le-mul {n₂ = 65535} {m₂ = 65535} x y)
 
-mul-result-2 : tie.Need-overflow-mul-result-2
-mul-result-2 c =
+mul_result_2 : tie.Need-overflow-mul-result-2
+mul_result_2 c =
     let d = c.before.before.before.args.d in
     let x : d.c ≤ 65535 = search rules in
     let y : d.h ≤ 65535 = search rules in
@@ -23,6 +23,6 @@ mul-result-2 c =
 returns : tie.Need-returns
 returns c = search rules
 
-pub geometry-size-spec : {M : Type 1} → statement M
-geometry-size-spec =
-    tie.close (tie.spec (search rules) (search rules) mul-result (search rules) mul-result-2 returns)
+pub geometry_size_spec : {M : Type 1} → statement M
+geometry_size_spec =
+    tie.close (tie.spec (search rules) (search rules) mul_result (search rules) mul_result_2 returns)

@@ -7,14 +7,14 @@ use mir.Syntax.{w8}
 use lib.ListN.{get_or, length}
 use lib.Dec.{eqb}
 use Rattle.words.specs.Words.{le}
-use Rattle.drive.specs.Drive.{interfaceOk, same, ata, atapi, scsi, usb, ieee1394, fibre}
+use Rattle.drive.specs.Drive.{interface_ok, same, ata, atapi, scsi, usb, ieee1394, fibre}
 use Rattle.drive.proofs.DriveLaws.{named, all_bytes}
 use borrow.Author.Rules.{rules}
 use Rattle.drive.proofs.interface_ok.Statement.{statement}
 use Rattle.drive.proofs.interface_ok.Tie as tie
 
 returns : tie.Need-returns
-unfolding interfaceOk le
+unfolding interface_ok le
 returns c =
     let b = c.before.before.before.before.before.before.args.b in
     let f : (i : ℕ) → Fits w8 (get_or b i 0) = λ i. search rules in
@@ -23,8 +23,8 @@ returns c =
     let v = c.before.before.before.before.before.value8.ensures in
     c.or5.ensures ∙ rw (c.before.or4.ensures, c.before.before.or3.ensures, c.before.before.before.or2.ensures, c.before.before.before.before.or.ensures, v, n ata refl refl, n atapi refl refl, n scsi refl refl, n usb refl refl, n ieee1394 refl refl, n fibre refl refl)
 
-pub interface-ok-spec : {M : Type 1} → statement M
-interface-ok-spec =
+pub interface_ok_spec : {M : Type 1} → statement M
+interface_ok_spec =
     tie.close
     (tie.spec
     (λ c κs. tt)

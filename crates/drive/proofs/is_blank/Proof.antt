@@ -1,11 +1,11 @@
-use Rattle.drive.specs.Drive.{isBlank}
+use Rattle.drive.specs.Drive.{is_blank}
 use Rattle.drive.proofs.is_blank.Statement.{statement}
 use Rattle.drive.proofs.is_blank.Tie as tie
 
 returns : tie.Need-returns
-unfolding isBlank
+unfolding is_blank
 returns c = cc
 
-pub is-blank-spec : {M : Type 1} → statement M
-is-blank-spec =
+pub is-blank_spec : {M : Type 1} → statement M
+is-blank_spec =
     tie.close (tie.spec (λ c κs. tt) (λ c κs. tt) (λ c κs. tt) returns)

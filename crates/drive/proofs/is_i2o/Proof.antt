@@ -5,19 +5,19 @@ use mir.Syntax.{w8}
 use lib.ListN.{get_or, length}
 use lib.Dec.{eqb}
 use Rattle.words.specs.Words.{le}
-use Rattle.drive.specs.Drive.{isI2o, i2o}
+use Rattle.drive.specs.Drive.{is_i2o, i2o}
 use Rattle.drive.proofs.DriveLaws.{named}
 use borrow.Author.Rules.{rules}
 use Rattle.drive.proofs.is_i2o.Statement.{statement}
 use Rattle.drive.proofs.is_i2o.Tie as tie
 
 returns : tie.Need-returns
-unfolding isI2o le
+unfolding is_i2o le
 returns c =
     let a = c.before.before.args.d.interface in
     let f : (i : ℕ) → Fits w8 (get_or a i 0) = λ i. search rules in
     let l : length a ≡ 8 = search rules in
     ap (λ (n : ℕ). eqb n 5190217) c.value8.ensures ∙ named 8 a i2o l refl (λ i. (f i).fits) refl
 
-pub is-i2o-spec : {M : Type 1} → statement M
-is-i2o-spec = tie.close (tie.spec (λ c κs. tt) returns)
+pub is-i2o_spec : {M : Type 1} → statement M
+is-i2o_spec = tie.close (tie.spec (λ c κs. tt) returns)

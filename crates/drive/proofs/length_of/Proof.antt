@@ -8,5 +8,5 @@ returns c = rw (eq-eqb _ 2 c.if1.true)
 returns-2 : tie.Need-returns-2
 returns-2 c = rw (ne_eqb _ 2 c.if1.false)
 
-pub length-of-spec : {M : Type 1} → statement M
-length-of-spec = tie.close (tie.spec returns returns-2)
+pub length_of_spec : {M : Type 1} → statement M
+length_of_spec = tie.close (tie.spec returns returns-2)

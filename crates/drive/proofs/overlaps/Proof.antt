@@ -12,5 +12,5 @@ returns-2 : tie.Need-returns-2
 unfolding overlap
 returns-2 c = overlap-after _ _ _ _ c.before.before.before.if1.false
 
-pub overlaps-spec : {M : Type 1} → statement M
-overlaps-spec = tie.close (tie.spec (search rules) returns returns-2)
+pub overlaps_spec : {M : Type 1} → statement M
+overlaps_spec = tie.close (tie.spec (search rules) returns returns-2)

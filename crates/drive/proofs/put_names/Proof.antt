@@ -1,4 +1,4 @@
-use Rattle.drive.proofs.DriveLaws.{Arrays, name-stores}
+use Rattle.drive.proofs.DriveLaws.{Arrays, name_stores}
 use borrow.Author.Rules.{rules}
 use Rattle.drive.proofs.put_names.Statement.{statement}
 use Rattle.drive.proofs.put_names.Tie as tie
@@ -16,10 +16,10 @@ returns c =
     let s₂ = s₃.before.before.before.before.before.before.before.before in
     let s₁ = s₂.before.before.before.before in
     let b = s₁.before.before.before in
-    rw (s₆.store83.ensures, s₅.store82.ensures, s₄.store8.ensures, s₃.store4.ensures, s₂.put-byte2.ensures, s₁.put_byte.ensures, name-stores b.args.out.now b.args.d (arrays b))
+    rw (s₆.store83.ensures, s₅.store82.ensures, s₄.store8.ensures, s₃.store4.ensures, s₂.put-byte2.ensures, s₁.put_byte.ensures, name_stores b.args.out.now b.args.d (arrays b))
 
-pub put-names-spec : {M : Type 1} → statement M
-put-names-spec =
+pub put_names_spec : {M : Type 1} → statement M
+put_names_spec =
     tie.close
     (tie.spec
     (search rules)

@@ -7,5 +7,5 @@ use Rattle.drive.proofs.record_length.Tie as tie
 returns : tie.Need-returns
 returns c = (c.length-of.ensures ∙ sym (length-record c.before.args.d record { bus = search rules; interface = search rules; path = search rules; device = search rules; tail = search rules }), c.length-of.ensures, rw c.length-of.ensures (length_most c.before.args.d.kind))
 
-pub record-length-spec : {M : Type 1} → statement M
-record-length-spec = tie.close (tie.spec (λ c κs. tt) (search rules) returns)
+pub record-length_spec : {M : Type 1} → statement M
+record-length_spec = tie.close (tie.spec (λ c κs. tt) (search rules) returns)

@@ -3,13 +3,13 @@ use mathlib.Core.List.{List}
 use Prim.Native.Nat.{ℕ, ◌-◌}
 use native.Mathlib.Omega.{arith}
 use lib.ListN.{length, take, drop}
-use Rattle.memory.specs.Window.{windowLength, spanLength}
-use Rattle.memory.proofs.WindowLaws.{with-window-lent, length-window}
+use Rattle.memory.specs.Window.{window_length, span_length}
+use Rattle.memory.proofs.WindowLaws.{with_window_lent, length-window}
 use Rattle.table.specs.declared.Table.{Table}
 use Rattle.int13.specs.declared.Placement.{Placement}
 use Rattle.int13.specs.Steps.{fed, begin}
-use Rattle.desk.specs.Parts.{ownWindow, withOwn, placementAt}
-use Rattle.image.specs.Image.{readDesk}
+use Rattle.desk.specs.Parts.{own_window, with_own, placement_at}
+use Rattle.image.specs.Image.{read_desk}
 use borrow.Author.Rules.{rules}
 use Rattle.exports.proofs.begun.Statement.{statement}
 use Rattle.exports.proofs.begun.Tie as tie
@@ -18,19 +18,19 @@ returns : tie.Need-returns
 returns c =
     let a = c.before.before.before.before.before.before.before.before.args in
     let arena : List ℕ = a.arena.now in
-    let t : Table = (readDesk a.desk.now).table in
-    let p : Placement = placementAt (readDesk a.desk.now) a.guest in
-    let own : ℕ = windowLength (length arena) in
+    let t : Table = (read_desk a.desk.now).table in
+    let p : Placement = placement_at (read_desk a.desk.now) a.guest in
+    let own : ℕ = window_length (length arena) in
     let o = c.before.before.before.before.Span-of in
     let m = c.before.before.before.before.before.window-length.ensures in
-    let e : o.result.end - o.result.start ≡ spanLength (length arena) a.guest c.before.before.before.before.before.window-length.result = omega arith in
-    let part : take (o.result.end - o.result.start) (drop o.result.start arena) ≡ ownWindow arena a.guest = rw (e, o.ensures.0, m) in
+    let e : o.result.end - o.result.start ≡ span_length (length arena) a.guest c.before.before.before.before.before.window-length.result = omega arith in
+    let part : take (o.result.end - o.result.start) (drop o.result.start arena) ≡ own_window arena a.guest = rw (e, o.ensures.0, m) in
     let k = c.before.before.steps-at in
-    let n : length k.new.1.1.1.0 ≡ spanLength (length arena) a.guest own = k.auto.1.1.1.0 ∙ ap length part ∙ length-window arena a.guest own in
-    (k.ensures.0 ∙ ap (λ (x : List ℕ). (begin (fed t p) a.r x).outcome) part, rw (e, o.ensures.0, m) (with-window-lent arena a.guest own k.new.1.1.1.0 n ∙ ap (withOwn arena a.guest) (k.ensures.1 ∙ ap (λ (x : List ℕ). (begin (fed t p) a.r x).window) part)))
+    let n : length k.new.1.1.1.0 ≡ span_length (length arena) a.guest own = k.auto.1.1.1.0 ∙ ap length part ∙ length-window arena a.guest own in
+    (k.ensures.0 ∙ ap (λ (x : List ℕ). (begin (fed t p) a.r x).outcome) part, rw (e, o.ensures.0, m) (with_window_lent arena a.guest own k.new.1.1.1.0 n ∙ ap (with_own arena a.guest) (k.ensures.1 ∙ ap (λ (x : List ℕ). (begin (fed t p) a.r x).window) part)))
 
-pub begun-spec : {M : Type 1} → statement M
-begun-spec =
+pub begun_spec : {M : Type 1} → statement M
+begun_spec =
     tie.close
     (tie.spec
     (search rules)

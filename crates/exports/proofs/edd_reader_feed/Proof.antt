@@ -12,8 +12,8 @@ returns c =
     let s = c.before.before.before.before.before in
     none-fed s.args.reader.now c.before.acceptable.ensures (not-true _ c.if1.true) s.args.bytes.now s.args.place.now
 
-decode-requires : tie.Need-decode-requires
-decode-requires c κs =
+decode_requires : tie.Need-decode-requires
+decode_requires c κs =
     let i = c.before in
     let s = i.before.before.before.before.before in
     reader-size s.args.reader.now (sym i.before.acceptable.ensures ∙ not-false _ i.if1.false)
@@ -26,14 +26,14 @@ returns-2 c =
     let s = i.before.before.before.before.before in
     fed s.args.reader.now i.before.acceptable.ensures (not-false _ i.if1.false) t.before.decode.ensures s.args.bytes.now s.args.place.now t.take.ensures e.encode.ensures c.say.ensures
 
-pub edd-reader-feed-spec : {M : Type 1} → statement M
-edd-reader-feed-spec =
+pub edd_reader_feed_spec : {M : Type 1} → statement M
+edd_reader_feed_spec =
     tie.close
     (tie.spec
     (λ c κs. tt)
     (search rules)
     returns
-    decode-requires
+    decode_requires
     (λ c κs. tt)
     (λ c κs. tt)
     (λ c κs. tt)

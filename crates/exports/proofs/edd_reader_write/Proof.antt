@@ -3,7 +3,7 @@ use mathlib.Core.Bool.{true}
 use mathlib.Core.List.{List}
 use borrow.Author.Tests.{not-true, not-false}
 use Rattle.reader.specs.Reader.{accepted}
-use Rattle.exports.proofs.Readers.{reader-size, none_written, wrote, wrote-more, wrote-refused, wrote-table}
+use Rattle.exports.proofs.Readers.{reader-size, none_written, wrote, wrote_more, wrote_refused, wrote_table}
 use borrow.Author.Rules.{rules}
 use Rattle.exports.proofs.edd_reader_write.Statement.{statement}
 use Rattle.exports.proofs.edd_reader_write.Tie as tie
@@ -13,8 +13,8 @@ returns c =
     let a = c.before.before.before.before.args in
     none_written a.reader.now c.before.acceptable.ensures (not-true _ c.if1.true) a.out.now a.written.now
 
-decode-requires : tie.Need-decode-requires
-decode-requires c κs =
+decode_requires : tie.Need-decode-requires
+decode_requires c κs =
     let a = c.before.before.before.before.args in
     reader-size a.reader.now (sym c.before.acceptable.ensures ∙ not-false _ c.if1.false)
 
@@ -24,7 +24,7 @@ returns-2 c =
     let i = w.before.before.before in
     let a = i.before.before.before.before.args in
     wrote a.reader.now i.before.acceptable.ensures (not-false _ i.if1.false) w.before.before.decode.ensures a.out.now a.written.now w.answer.ensures
-    (wrote-more _ a.out.now a.written.now c.enum_told.given.1)
+    (wrote_more _ a.out.now a.written.now c.enum_told.given.1)
 
 returns-3 : tie.Need-returns-3
 returns-3 c =
@@ -32,7 +32,7 @@ returns-3 c =
     let i = w.before.before.before in
     let a = i.before.before.before.before.args in
     wrote a.reader.now i.before.acceptable.ensures (not-false _ i.if1.false) w.before.before.decode.ensures a.out.now a.written.now w.answer.ensures
-    (wrote-refused _ a.out.now a.written.now c.before.answer2.given.1)
+    (wrote_refused _ a.out.now a.written.now c.before.answer2.given.1)
 
 returns-4 : tie.Need-returns-4
 returns-4 c =
@@ -42,15 +42,15 @@ returns-4 c =
     let i = w.before.before.before in
     let a = i.before.before.before.before.args in
     wrote a.reader.now i.before.acceptable.ensures (not-false _ i.if1.false) w.before.before.decode.ensures a.out.now a.written.now w.answer.ensures
-    (wrote-table _ a.out.now a.written.now t.enum-told2.given.1 o.write-out.ensures.0 o.write-out.ensures.1)
+    (wrote_table _ a.out.now a.written.now t.enum-told2.given.1 o.write-out.ensures.0 o.write-out.ensures.1)
 
-pub edd-reader-write-spec : {M : Type 1} → statement M
-edd-reader-write-spec =
+pub edd_reader_write_spec : {M : Type 1} → statement M
+edd_reader_write_spec =
     tie.close
     (tie.spec
     (λ c κs. tt)
     returns
-    decode-requires
+    decode_requires
     (λ c κs. tt)
     (search rules)
     (search rules)

@@ -1,7 +1,7 @@
 use native.Mathlib.Omega.{arith}
 use mathlib.Core.Path.{◌≡◌}
 use Prim.Native.Nat.{ℕ, ◌+◌, ◌-◌}
-use Rattle.exports.specs.Exports.{windowCall}
+use Rattle.exports.specs.Exports.{window_call}
 use borrow.Author.Rules.{rules}
 use Rattle.exports.proofs.edd_window.Statement.{statement}
 use Rattle.exports.proofs.edd_window.Tie as tie
@@ -10,8 +10,8 @@ rest : (a b : ℕ) → a + b - a ≡ b
 rest a b = omega arith
 
 returns : tie.Need-returns
-unfolding windowCall
+unfolding window_call
 returns c = rw (c.before.Span-of.ensures.0, c.before.Span-of.ensures.1, c.before.before.window-length.ensures, rest)
 
-pub edd-window-spec : {M : Type 1} → statement M
-edd-window-spec = tie.close (tie.spec (search rules) (search rules) (search rules) returns)
+pub edd_window_spec : {M : Type 1} → statement M
+edd_window_spec = tie.close (tie.spec (search rules) (search rules) (search rules) returns)

@@ -5,5 +5,5 @@ use Rattle.exports.proofs.hand.Tie as tie
 returns : tie.Need-returns
 returns c = rw c.bit.ensures
 
-pub hand-spec : {M : Type 1} → statement M
-hand-spec = tie.close (tie.spec (search rules) returns)
+pub hand_spec : {M : Type 1} → statement M
+hand_spec = tie.close (tie.spec (search rules) returns)

@@ -5,10 +5,10 @@ use Rattle.logic.specs.Logic.{pick}
 use Rattle.table.specs.declared.Table.{Table}
 use Rattle.int13.specs.declared.Placement.{Placement}
 use Rattle.int13.specs.Answers.{dl}
-use Rattle.int13.specs.Steps.{Checked, firstDrive, isDrive, driveAt, badsOf, shownOf}
+use Rattle.int13.specs.Steps.{Checked, first_drive, is_drive, drive_at, bads_of, shown_of}
 use Rattle.int13.proofs.StepsLaws.{begin-steps}
-use Rattle.desk.specs.Parts.{placementAt}
-use Rattle.image.specs.Image.{readDesk}
+use Rattle.desk.specs.Parts.{placement_at}
+use Rattle.image.specs.Image.{read_desk}
 use borrow.Author.Rules.{rules}
 use Rattle.exports.proofs.steps_at.Statement.{statement}
 use Rattle.exports.proofs.steps_at.Tie as tie
@@ -21,16 +21,16 @@ returns c =
     let known = drive.before.before in
     let named = known.before in
     let a = named.before.before.before.args in
-    let t : Table = (readDesk a.desk.now).table in
-    let p : Placement = placementAt (readDesk a.desk.now) a.guest in
+    let t : Table = (read_desk a.desk.now).table in
+    let p : Placement = placement_at (read_desk a.desk.now) a.guest in
     let n = named.dl.ensures in
-    let s = begin-steps t p a.r a.window.now (known.is-drive.ensures ∙ ap (isDrive t) n) drive.before.count_of.ensures.0
-    (λ k. drive.drive-named.ensures ∙ ap (λ (m : ℕ). driveAt t (pick (isDrive t m) m firstDrive)) n ∙ ap (λ (x : Bool). driveAt t (pick x (dl a.r) firstDrive)) k)
-    (bads.bads-of.ensures ∙ ap (badsOf t) n) (shown.Shown-of.ensures ∙ ap (shownOf t p) n) in
+    let s = begin-steps t p a.r a.window.now (known.is-drive.ensures ∙ ap (is_drive t) n) drive.before.count_of.ensures.0
+    (λ k. drive.drive-named.ensures ∙ ap (λ (m : ℕ). drive_at t (pick (is_drive t m) m first_drive)) n ∙ ap (λ (x : Bool). drive_at t (pick x (dl a.r) first_drive)) k)
+    (bads.bads-of.ensures ∙ ap (bads_of t) n) (shown.Shown-of.ensures ∙ ap (shown_of t p) n) in
     (c.before.before.steps.ensures.0 ∙ ap (λ (x : Checked). x.outcome) s, c.before.before.steps.ensures.1 ∙ ap (λ (x : Checked). x.window) s)
 
-pub steps-at-spec : {M : Type 1} → statement M
-steps-at-spec =
+pub steps_at_spec : {M : Type 1} → statement M
+steps_at_spec =
     tie.close
     (tie.spec
     (search rules)

@@ -27,8 +27,8 @@ returns-4 c = let a = c.before.before.args in byte-accepted a.f a.x c.enum-told3
 returns-5 : tie.Need-returns-5
 returns-5 c = let a = c.before.before.args in byte-refused a.f a.x c.enum-told4.given.1
 
-pub byte-spec : {M : Type 1} → statement M
-byte-spec =
+pub byte_spec : {M : Type 1} → statement M
+byte_spec =
     tie.close
     (tie.spec
     (search rules)

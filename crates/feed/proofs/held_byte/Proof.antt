@@ -4,8 +4,8 @@ use Rattle.feed.proofs.FeedLaws.{held_next, held-done, held_cut, held-refused}
 use Rattle.feed.proofs.held_byte.Statement.{statement}
 use Rattle.feed.proofs.held_byte.Tie as tie
 
-begun-requires : tie.Need-begun-requires
-begun-requires c κs = let h = c.before.before in rw h.holding.ensures (omega (arith, h.before.requires))
+begun_requires : tie.Need-begun-requires
+begun_requires c κs = let h = c.before.before in rw h.holding.ensures (omega (arith, h.before.requires))
 
 returns : tie.Need-returns
 returns c =
@@ -31,12 +31,12 @@ returns-4 c =
     let h = k.before.before.before in
     held-refused h.before.args.f h.before.args.x h.holding.ensures k.begun.ensures c.before.before.before.step.given.1 c.before.if1.false c.cleared3.ensures
 
-pub held-byte-spec : {M : Type 1} → statement M
-held-byte-spec =
+pub held-byte_spec : {M : Type 1} → statement M
+held-byte_spec =
     tie.close
     (tie.spec
     (search rules)
-    begun-requires
+    begun_requires
     (search rules)
     (λ c κs. tt)
     (search rules)

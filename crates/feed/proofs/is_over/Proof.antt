@@ -19,8 +19,8 @@ returns-4 : tie.Need-returns-4
 unfolding is_over
 returns-4 c = rw c.enum-told4.given.1
 
-pub is-over-spec : {M : Type 1} → statement M
-is-over-spec =
+pub is-over_spec : {M : Type 1} → statement M
+is-over_spec =
     tie.close
     (tie.spec
     (search rules)

@@ -4,7 +4,7 @@ use native.Mathlib.Omega.{arith}
 use lib.ListN.{length, set, length-set}
 use lib.Seq.{length-take-le}
 use borrow.Author.Rules.{rules}
-use Rattle.feed.proofs.FeedLaws.{open-found, open_full}
+use Rattle.feed.proofs.FeedLaws.{open_found, open_full}
 use Rattle.feed.proofs.leaves_open.Statement.{statement}
 use Rattle.feed.proofs.leaves_open.Tie as tie
 
@@ -17,23 +17,23 @@ inside c =
 returns : tie.Need-returns
 returns c = let a = c.before.args in open_full a.held a.n a.x c.if1.true
 
-slice-aggregate-is-unfinished : tie.Need-slice-aggregate-is-unfinished
-slice-aggregate-is-unfinished c = sym (length-take-le _ _ (inside c.before))
+slice_aggregate_is_unfinished : tie.Need-slice-aggregate-is-unfinished
+slice_aggregate_is_unfinished c = sym (length-take-le _ _ (inside c.before))
 
 returns-2 : tie.Need-returns-2
 returns-2 c =
     let e = c.before.before in
     let a = e.before.args in
-    open-found a.held a.n a.x (omega (arith, e.if1.false)) c.is-unfinished.ensures
+    open_found a.held a.n a.x (omega (arith, e.if1.false)) c.is-unfinished.ensures
 
-pub leaves-open-spec : {M : Type 1} → statement M
-leaves-open-spec =
+pub leaves-open_spec : {M : Type 1} → statement M
+leaves-open_spec =
     tie.close
     (tie.spec
     returns
     (search rules)
     (search rules)
     inside
-    slice-aggregate-is-unfinished
+    slice_aggregate_is_unfinished
     (λ c κs. tt)
     returns-2)

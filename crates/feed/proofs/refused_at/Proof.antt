@@ -9,5 +9,5 @@ returns c = let p = c.before in place-behind p.before.args.b p.next_place.ensure
 returns-2 : tie.Need-returns-2
 returns-2 c = let p = c.before in place-record p.before.args.b p.next_place.ensures.0 c.if1.false
 
-pub refused-at-spec : {M : Type 1} → statement M
-refused-at-spec = tie.close (tie.spec (λ c κs. tt) (search rules) (search rules) returns returns-2)
+pub refused_at_spec : {M : Type 1} → statement M
+refused_at_spec = tie.close (tie.spec (λ c κs. tt) (search rules) (search rules) returns returns-2)

@@ -1,5 +1,5 @@
 use mathlib.Core.Path.{◌∙◌}
-use Rattle.feed.specs.Feed.{staysOpen}
+use Rattle.feed.specs.Feed.{stays_open}
 use borrow.Author.Rules.{rules}
 use Rattle.feed.proofs.stays_open.Statement.{statement}
 use Rattle.feed.proofs.stays_open.Tie as tie
@@ -8,19 +8,19 @@ returns : tie.Need-returns
 returns c = rw c.before.enum_told.given.1 c.leaves-open.ensures
 
 returns-2 : tie.Need-returns-2
-unfolding staysOpen
+unfolding stays_open
 returns-2 c = rw c.enum-told2.given.1
 
 returns-3 : tie.Need-returns-3
-unfolding staysOpen
+unfolding stays_open
 returns-3 c = rw c.enum-told3.given.1
 
 returns-4 : tie.Need-returns-4
-unfolding staysOpen
+unfolding stays_open
 returns-4 c = rw c.enum-told4.given.1
 
-pub stays-open-spec : {M : Type 1} → statement M
-stays-open-spec =
+pub stays-open_spec : {M : Type 1} → statement M
+stays-open_spec =
     tie.close
     (tie.spec
     (search rules)

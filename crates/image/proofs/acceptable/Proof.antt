@@ -1,5 +1,5 @@
 use native.Mathlib.Omega.{arith}
-use Rattle.image.proofs.Judged.{judged-size, judged-pointer, judged-table, judged-rows, judged-more}
+use Rattle.image.proofs.Judged.{judged-size, judged-pointer, judged-table, judged_rows, judged-more}
 use borrow.Author.Tests.{not-true, not-false}
 use borrow.Author.Rules.{rules}
 use Rattle.words.specs.Words.{Bytes}
@@ -27,7 +27,7 @@ returns-4 c =
     let r = c.before in
     let t = r.before.before in
     let s = t.before.before.before.before in
-    judged-rows _ (bytes s.before) s.if1.false t.before.before.before.get64.ensures t.before.before.if2.false
+    judged_rows _ (bytes s.before) s.if1.false t.before.before.before.get64.ensures t.before.before.if2.false
     t.before.table-good.ensures (not-false _ t.if3.false) r.before.get642.ensures r.rows-good.ensures (not-true _ c.if4.true)
 
 returns-5 : tie.Need-returns-5
@@ -38,8 +38,8 @@ returns-5 c =
     judged-more _ (bytes s.before) s.if1.false t.before.before.before.get64.ensures t.before.before.if2.false
     t.before.table-good.ensures (not-false _ t.if3.false) r.before.get642.ensures r.rows-good.ensures (not-false _ c.before.if4.false) c.more-good.ensures
 
-pub acceptable-spec : {M : Type 1} → statement M
-acceptable-spec =
+pub acceptable_spec : {M : Type 1} → statement M
+acceptable_spec =
     tie.close
     (tie.spec
     returns

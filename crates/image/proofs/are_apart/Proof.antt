@@ -12,5 +12,5 @@ returns-2 : tie.Need-returns-2
 unfolding apart
 returns-2 c = rw (lt-leb _ _ c.before.if1.false) c.ends-by2.ensures
 
-pub are-apart-spec : {M : Type 1} → statement M
-are-apart-spec = tie.close (tie.spec (search rules) returns (search rules) returns-2)
+pub are_apart_spec : {M : Type 1} → statement M
+are_apart_spec = tie.close (tie.spec (search rules) returns (search rules) returns-2)

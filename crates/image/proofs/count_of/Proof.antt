@@ -10,5 +10,5 @@ returns c = let h = count_of c.before.before.before.args.b.now in omega (arith, 
 returns-2 : tie.Need-returns-2
 returns-2 c = let h = count_of c.before.before.before.args.b.now in omega (arith, h)
 
-pub count-of-spec : {M : Type 1} → statement M
-count-of-spec = tie.close (tie.spec (search rules) (search rules) returns returns-2)
+pub count_of_spec : {M : Type 1} → statement M
+count_of_spec = tie.close (tie.spec (search rules) (search rules) returns returns-2)

@@ -1,12 +1,12 @@
 use lib.ListN.{get_or}
 use Prim.Native.Nat.{◌+◌}
-use Rattle.image.specs.Image.{readDrive}
+use Rattle.image.specs.Image.{read_drive}
 use borrow.Author.Rules.{rules}
 use Rattle.image.proofs.drive_at.Statement.{statement}
 use Rattle.image.proofs.drive_at.Tie as tie
 
 returns : tie.Need-returns
-unfolding readDrive
+unfolding read_drive
 returns c =
     let g = c.before.before in
     let h = g.before.before.before.before.before.before in
@@ -31,8 +31,8 @@ returns c =
       tail = c.load84.ensures j;
     }
 
-pub drive-at-spec : {M : Type 1} → statement M
-drive-at-spec =
+pub drive_at_spec : {M : Type 1} → statement M
+drive_at_spec =
     tie.close
     (tie.spec
     (search rules)

@@ -1,4 +1,4 @@
-use Rattle.image.specs.Image.{deskSize, laid}
+use Rattle.image.specs.Image.{desk_size, laid}
 use borrow.Author.Tests.{eq-eqb, ne_eqb}
 use borrow.Author.Rules.{rules}
 use Rattle.image.proofs.encode.Statement.{statement}
@@ -6,11 +6,11 @@ use Rattle.image.proofs.encode.Tie as tie
 
 returns : tie.Need-returns
 unfolding laid
-returns c = rw (eq-eqb _ deskSize c.before.before.before.before.if1.true, c.before.before.lay.ensures)
+returns c = rw (eq-eqb _ desk_size c.before.before.before.before.if1.true, c.before.before.lay.ensures)
 
 returns-2 : tie.Need-returns-2
 unfolding laid
-returns-2 c = rw (ne_eqb _ deskSize c.if1.false)
+returns-2 c = rw (ne_eqb _ desk_size c.if1.false)
 
-pub encode-spec : {M : Type 1} → statement M
-encode-spec = tie.close (tie.spec (search rules) (search rules) returns returns-2)
+pub encode_spec : {M : Type 1} → statement M
+encode_spec = tie.close (tie.spec (search rules) (search rules) returns returns-2)

@@ -8,41 +8,41 @@ use Rattle.image.specs.Judged.{follows, ascending}
 use Rattle.image.proofs.is_ascending.Statement.{statement}
 use Rattle.image.proofs.is_ascending.Tie as tie
 
-abbrev invariant-loop : tie.invariant-loop
-invariant-loop b n good₀ i₀ good i = (i ≤ n - 1) × (good ≡ all_below i (λ k. follows b k))
+abbrev invariant_loop : tie.invariant_loop
+invariant_loop b n good₀ i₀ good i = (i ≤ n - 1) × (good ≡ all_below i (λ k. follows b k))
 
-abbrev decreases-loop : tie.decreases-loop
-decreases-loop b n good₀ i₀ good i = n - i
+abbrev decreases_loop : tie.decreases_loop
+decreases_loop b n good₀ i₀ good i = n - i
 
-loop-holds : tie.Need-loop-init invariant-loop decreases-loop
-loop-holds c = (search rules, refl)
+loop_holds : tie.Need-loop-init invariant_loop decreases_loop
+loop_holds c = (search rules, refl)
 
-loop-again : tie.Need-loop-preserved invariant-loop decreases-loop
-loop-again c =
+loop_again : tie.Need-loop-preserved invariant_loop decreases_loop
+loop_again c =
     let l = c.before.before.before in
     let b = l.before.before.args.b.now in (
       search rules,
       all_more l.loop.i (λ k. follows b k) l.loop.invariant.1 c.and.ensures c.before.next-follows.ensures,
     )
 
-returns : tie.Need-returns invariant-loop decreases-loop
+returns : tie.Need-returns invariant_loop decreases_loop
 unfolding ascending
 returns c =
     let l = c.before in
     let e : l.loop.i ≡ l.before.before.args.n - 1 = omega arith in
     rw (← e) l.loop.invariant.1
 
-pub is-ascending-spec : {M : Type 1} → statement M
-is-ascending-spec =
+pub is-ascending_spec : {M : Type 1} → statement M
+is-ascending_spec =
     tie.close
     (tie.spec
-    invariant-loop
-    decreases-loop
-    loop-holds
+    invariant_loop
+    decreases_loop
+    loop_holds
     (search rules)
     (search rules)
     (search rules)
     (search rules)
     (search rules)
-    loop-again
+    loop_again
     returns)

@@ -6,5 +6,5 @@ use Rattle.image.proofs.is_drive.Tie as tie
 returns : tie.Need-returns
 returns c = let s = c.before.before.before in known s.args.b.now s.args.n _ _ c.before.count_of.ensures.0 c.and.ensures
 
-pub is-drive-spec : {M : Type 1} → statement M
-is-drive-spec = tie.close (tie.spec (search rules) (search rules) (search rules) returns)
+pub is-drive_spec : {M : Type 1} → statement M
+is-drive_spec = tie.close (tie.spec (search rules) (search rules) (search rules) returns)

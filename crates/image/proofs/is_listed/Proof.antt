@@ -8,5 +8,5 @@ returns c =
     let s = c.before.before.before.before in
     listed_of s.args.b.now s.args.i s.requires.1 c.before.before.bads-in.ensures c.before.blocks-in.ensures c.bads-ok.ensures
 
-pub is-listed-spec : {M : Type 1} → statement M
-is-listed-spec = tie.close (tie.spec (search rules) (search rules) (search rules) returns)
+pub is-listed_spec : {M : Type 1} → statement M
+is-listed_spec = tie.close (tie.spec (search rules) (search rules) (search rules) returns)

@@ -11,8 +11,8 @@ returns c =
     let s = c.before.before.before.before.before in
     c.before.store.ensures ∙ sets-whole _ _ (sym (length_part 1024 s.args.b.now 2896 (omega (arith, s.requires))))
 
-pub lists-of-spec : {M : Type 1} → statement M
-lists-of-spec =
+pub lists_of_spec : {M : Type 1} → statement M
+lists_of_spec =
     tie.close
     (tie.spec
     (search rules)

@@ -11,8 +11,8 @@ returns c =
     let s = c.before.before.before.before.before in
     c.before.store.ensures ∙ sets-whole _ _ (sym (length_part 112 s.args.b.now 2720 (omega (arith, s.requires))))
 
-pub parameters-of-spec : {M : Type 1} → statement M
-parameters-of-spec =
+pub parameters_of_spec : {M : Type 1} → statement M
+parameters_of_spec =
     tie.close
     (tie.spec
     (search rules)

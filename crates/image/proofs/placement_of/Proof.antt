@@ -8,7 +8,7 @@ returns c =
     let s = c.before.before.before in
     placement-at s.args.b.now s.args.guest s.requires.1 c.before.mark-at.ensures c.get64.ensures
 
-pub placement-of-spec : {M : Type 1} → statement M
-placement-of-spec =
+pub placement_of_spec : {M : Type 1} → statement M
+placement_of_spec =
     tie.close
     (tie.spec (search rules) (search rules) (search rules) (search rules) (search rules) (search rules) returns)

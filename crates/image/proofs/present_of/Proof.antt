@@ -15,8 +15,8 @@ returns c =
       c.before.before.before.before.before.before.before.mark-at.ensures,
     )
 
-pub present-of-spec : {M : Type 1} → statement M
-present-of-spec =
+pub present_of_spec : {M : Type 1} → statement M
+present_of_spec =
     tie.close
     (tie.spec
     (search rules)

@@ -1,8 +1,8 @@
 use Rattle.image.proofs.Fields.{listed-is}
-use Rattle.image.proofs.Fill.{bads-laid}
+use Rattle.image.proofs.Fill.{bads_laid}
 use Rattle.image.specs.Image.{flat}
 use Rattle.words.specs.Words.{Bytes}
-use Rattle.logic.proofs.LogicLaws.{length-mapped}
+use Rattle.logic.proofs.LogicLaws.{length_mapped}
 use Prim.Native.Nat.{ℕ}
 use native.Mathlib.Omega.{arith}
 use mathlib.Core.Path.{◌≡◌, refl, ap, ◌∙◌}
@@ -17,14 +17,14 @@ returns : tie.Need-returns
 returns c =
     let s = c.before.before.before.before.before.before.before.before.before.before.before in
     let a = s.args in
-    let l : length a.t2 ≡ 8 = search (rules, length-mapped) in
+    let l : length a.t2 ≡ 8 = search (rules, length_mapped) in
     let bytes : Bytes a.bad.now = λ i. omega (arith, c.before.before.before.before.before.before.before.before.before.shared-slice-known.given i) in
     let w = listed-is (λ k. get_or a.t2 k 0) a.t2 8 0 l (λ k q. refl) in
-    bads-laid a.out.now 2832 a.t2 a.bad.now l bytes s.requires.1
+    bads_laid a.out.now 2832 a.t2 a.bad.now l bytes s.requires.1
     (c.before.before.before.before.before.before.put-words.ensures ∙ ap (λ (x : List ℕ). sets a.out.now 2832 (flat x)) w) c.before.before.store.ensures
 
-pub put-bads-spec : {M : Type 1} → statement M
-put-bads-spec =
+pub put_bads_spec : {M : Type 1} → statement M
+put_bads_spec =
     tie.close
     (tie.spec
     (search rules)

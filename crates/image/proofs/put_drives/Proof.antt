@@ -1,5 +1,5 @@
 use Rattle.image.proofs.Fill.{part-more, length-drive}
-use Rattle.image.specs.Image.{each, flat, driveWords, slot_at, deskSize}
+use Rattle.image.specs.Image.{each, flat, drive_words, slot_at, desk_size}
 use borrow.Author.Rules.{rules}
 use native.Mathlib.Omega.{arith}
 use lib.Seq.{sets, length-sets, take_all}
@@ -9,18 +9,18 @@ use Prim.Native.Nat.{◌≤◌, ◌-◌}
 use Rattle.image.proofs.put_drives.Statement.{statement}
 use Rattle.image.proofs.put_drives.Tie as tie
 
-abbrev invariant-loop : tie.invariant-loop
-invariant-loop out₀ drives k₀ out k = (k ≤ 8) × (length out ≡ deskSize) × (out ≡ sets out₀ (slot_at 0) (flat (each driveWords (take k drives))))
+abbrev invariant_loop : tie.invariant_loop
+invariant_loop out₀ drives k₀ out k = (k ≤ 8) × (length out ≡ desk_size) × (out ≡ sets out₀ (slot_at 0) (flat (each drive_words (take k drives))))
 
-abbrev decreases-loop : tie.decreases-loop
-decreases-loop out₀ drives k₀ out k = 8 - k
+abbrev decreases_loop : tie.decreases_loop
+decreases_loop out₀ drives k₀ out k = 8 - k
 
-loop-holds : tie.Need-loop-init invariant-loop decreases-loop
+loop_holds : tie.Need-loop-init invariant_loop decreases_loop
 unfolding each
-loop-holds c = (search rules, search rules, refl)
+loop_holds c = (search rules, search rules, refl)
 
-loop-again : tie.Need-loop-preserved invariant-loop decreases-loop
-loop-again c =
+loop_again : tie.Need-loop-preserved invariant_loop decreases_loop
+loop_again c =
     let h = c.before.before.before.before.before.before.before.before in
     let a = h.before.before.args in
     let l : length a.t2 ≡ 8 = search rules in
@@ -28,23 +28,23 @@ loop-again c =
       search rules,
       ap length e ∙ rw length-sets h.loop.invariant.1,
       e ∙ rw (h.loop.invariant.2, c.before.before.before.before.before.drive-words.ensures)
-          (part-more driveWords 16 length-drive a.out.now (slot_at 0) (slot_at h.loop.k) a.t2 h.loop.k _ (omega arith) (omega arith)),
+          (part-more drive_words 16 length-drive a.out.now (slot_at 0) (slot_at h.loop.k) a.t2 h.loop.k _ (omega arith) (omega arith)),
     )
 
-returns : tie.Need-returns invariant-loop decreases-loop
+returns : tie.Need-returns invariant_loop decreases_loop
 returns c =
     let h = c.before in
     let a = h.before.before.args in
     let l : length a.t2 ≡ 8 = search rules in
-    h.loop.invariant.2 ∙ ap (λ l. sets a.out.now (slot_at 0) (flat (each driveWords l))) (take_all h.loop.k a.t2 (omega arith))
+    h.loop.invariant.2 ∙ ap (λ l. sets a.out.now (slot_at 0) (flat (each drive_words l))) (take_all h.loop.k a.t2 (omega arith))
 
-pub put-drives-spec : {M : Type 1} → statement M
-put-drives-spec =
+pub put_drives_spec : {M : Type 1} → statement M
+put_drives_spec =
     tie.close
     (tie.spec
-    invariant-loop
-    decreases-loop
-    loop-holds
+    invariant_loop
+    decreases_loop
+    loop_holds
     (search rules)
     (search rules)
     (search rules)
@@ -54,6 +54,6 @@ put-drives-spec =
     (search rules)
     (search rules)
     (search rules)
-    loop-again
+    loop_again
     (search rules)
     returns)

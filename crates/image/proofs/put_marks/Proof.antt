@@ -1,11 +1,11 @@
 use Rattle.image.proofs.Fields.{marks-listed}
-use Rattle.image.specs.Image.{flat, marksWords}
+use Rattle.image.specs.Image.{flat, marks_words}
 use lib.Seq.{sets}
 use lib.ListN.{length}
 use mathlib.Core.Path.{◌≡◌, ap, ◌∙◌}
 use mathlib.Core.List.{List}
 use Prim.Native.Nat.{ℕ}
-use Rattle.logic.proofs.LogicLaws.{length-mapped}
+use Rattle.logic.proofs.LogicLaws.{length_mapped}
 use borrow.Author.Rules.{rules}
 use Rattle.image.proofs.put_marks.Statement.{statement}
 use Rattle.image.proofs.put_marks.Tie as tie
@@ -13,7 +13,7 @@ use Rattle.image.proofs.put_marks.Tie as tie
 returns : tie.Need-returns
 returns c =
     let a = c.before.before.before.before.before.before.before.before.before.before.before.before.before.before.args in
-    let l : length a.t3 ≡ 8 = search (rules, length-mapped) in
+    let l : length a.t3 ≡ 8 = search (rules, length_mapped) in
     let b = c.before.before.before.before.before in
     rw (← marks-listed a.t3 8 l) (c.before.before.put-words.ensures ∙ rw (
       b.bit8.ensures,
@@ -26,8 +26,8 @@ returns c =
       b.before.before.before.before.before.before.before.bit.ensures,
     ))
 
-pub put-marks-spec : {M : Type 1} → statement M
-put-marks-spec =
+pub put_marks_spec : {M : Type 1} → statement M
+put_marks_spec =
     tie.close
     (tie.spec
     (search rules)

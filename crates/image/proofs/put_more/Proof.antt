@@ -12,23 +12,23 @@ eight c = (search rules, search rules, search rules)
 long : (c : tie.Start) → let b = c.args.d.table in (length b.parameters ≡ 112) × (length b.bad ≡ 1024)
 long c = (search rules, search rules)
 
-put-words-requires : tie.Need-put-words-requires
-put-words-requires c κs = let l = eight c.before.before.before.before.before.before.before.before.before.before.before.before.before.before in rw l.1 (search rules)
+put_words_requires : tie.Need-put-words-requires
+put_words_requires c κs = let l = eight c.before.before.before.before.before.before.before.before.before.before.before.before.before.before in rw l.1 (search rules)
 
-put-given-count : tie.Need-slice-aggregate-put-given
-put-given-count c =
+put_given-count : tie.Need-slice-aggregate-put-given
+put_given-count c =
     sym (long c.before.before.before.before.before.before.before.before.before.before.before.before.before.before.before.before.before.before.before.before.before.before.before).0
 
-put-given-requires : tie.Need-put-given-requires
-put-given-requires c κs =
+put_given_requires : tie.Need-put-given-requires
+put_given_requires c κs =
     (search rules, (long c.before.before.before.before.before.before.before.before.before.before.before.before.before.before.before.before.before.before.before.before.before.before.before).0)
 
-put-bads-count : tie.Need-slice-aggregate-put-bads
-put-bads-count c =
+put_bads-count : tie.Need-slice-aggregate-put-bads
+put_bads-count c =
     sym (long c.before.before.before.before.before.before.before.before.before.before.before.before.before.before.before.before.before.before.before.before.before.before.before.before.before.before.before.before).1
 
-put-bads-requires : tie.Need-put-bads-requires
-put-bads-requires c κs =
+put_bads_requires : tie.Need-put-bads-requires
+put_bads_requires c κs =
     (search rules, (long c.before.before.before.before.before.before.before.before.before.before.before.before.before.before.before.before.before.before.before.before.before.before.before.before.before.before.before.before).1)
 
 returns : tie.Need-returns
@@ -43,17 +43,17 @@ returns c =
     ∙ rw (given.put-given.ensures, marks.put-marks2.ensures, addresses.put-words.ensures, placed.put-marks.ensures)
     (more-laid s.args.out.now 2528 s.args.d l.0 l.1 l.2)
 
-pub put-more-spec : {M : Type 1} → statement M
-put-more-spec =
+pub put_more_spec : {M : Type 1} → statement M
+put_more_spec =
     tie.close
     (tie.spec
     (search rules)
     (λ c. search rules)
-    put-words-requires
+    put_words_requires
     (search rules)
-    put-given-count
-    put-given-requires
-    put-bads-count
-    put-bads-requires
+    put_given-count
+    put_given_requires
+    put_bads-count
+    put_bads_requires
     (λ c. search rules)
     returns)

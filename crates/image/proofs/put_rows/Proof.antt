@@ -1,5 +1,5 @@
-use Rattle.image.proofs.Fill.{part-more, length-row}
-use Rattle.image.specs.Image.{each, flat, rowWords, row_at, deskSize}
+use Rattle.image.proofs.Fill.{part-more, length_row}
+use Rattle.image.specs.Image.{each, flat, row_words, row_at, desk_size}
 use borrow.Author.Rules.{rules}
 use native.Mathlib.Omega.{arith}
 use lib.Seq.{sets, length-sets, take_all}
@@ -9,18 +9,18 @@ use Prim.Native.Nat.{◌≤◌, ◌-◌}
 use Rattle.image.proofs.put_rows.Statement.{statement}
 use Rattle.image.proofs.put_rows.Tie as tie
 
-abbrev invariant-loop : tie.invariant-loop
-invariant-loop out₀ rows k₀ out k = (k ≤ 8) × (length out ≡ deskSize) × (out ≡ sets out₀ (row_at 0) (flat (each rowWords (take k rows))))
+abbrev invariant_loop : tie.invariant_loop
+invariant_loop out₀ rows k₀ out k = (k ≤ 8) × (length out ≡ desk_size) × (out ≡ sets out₀ (row_at 0) (flat (each row_words (take k rows))))
 
-abbrev decreases-loop : tie.decreases-loop
-decreases-loop out₀ rows k₀ out k = 8 - k
+abbrev decreases_loop : tie.decreases_loop
+decreases_loop out₀ rows k₀ out k = 8 - k
 
-loop-holds : tie.Need-loop-init invariant-loop decreases-loop
+loop_holds : tie.Need-loop-init invariant_loop decreases_loop
 unfolding each
-loop-holds c = (search rules, search rules, refl)
+loop_holds c = (search rules, search rules, refl)
 
-loop-again : tie.Need-loop-preserved invariant-loop decreases-loop
-loop-again c =
+loop_again : tie.Need-loop-preserved invariant_loop decreases_loop
+loop_again c =
     let h = c.before.before.before.before.before.before.before.before in
     let a = h.before.before.args in
     let l : length a.t2 ≡ 8 = search rules in
@@ -28,23 +28,23 @@ loop-again c =
       search rules,
       ap length e ∙ rw length-sets h.loop.invariant.1,
       e ∙ rw (h.loop.invariant.2, c.before.before.before.before.before.stage-words.ensures)
-          (part-more rowWords 23 length-row a.out.now (row_at 0) (row_at h.loop.k) a.t2 h.loop.k _ (omega arith) (omega arith)),
+          (part-more row_words 23 length_row a.out.now (row_at 0) (row_at h.loop.k) a.t2 h.loop.k _ (omega arith) (omega arith)),
     )
 
-returns : tie.Need-returns invariant-loop decreases-loop
+returns : tie.Need-returns invariant_loop decreases_loop
 returns c =
     let h = c.before in
     let a = h.before.before.args in
     let l : length a.t2 ≡ 8 = search rules in
-    h.loop.invariant.2 ∙ ap (λ l. sets a.out.now (row_at 0) (flat (each rowWords l))) (take_all h.loop.k a.t2 (omega arith))
+    h.loop.invariant.2 ∙ ap (λ l. sets a.out.now (row_at 0) (flat (each row_words l))) (take_all h.loop.k a.t2 (omega arith))
 
-pub put-rows-spec : {M : Type 1} → statement M
-put-rows-spec =
+pub put_rows_spec : {M : Type 1} → statement M
+put_rows_spec =
     tie.close
     (tie.spec
-    invariant-loop
-    decreases-loop
-    loop-holds
+    invariant_loop
+    decreases_loop
+    loop_holds
     (search rules)
     (search rules)
     (search rules)
@@ -53,6 +53,6 @@ put-rows-spec =
     (search rules)
     (search rules)
     (search rules)
-    loop-again
+    loop_again
     (search rules)
     returns)

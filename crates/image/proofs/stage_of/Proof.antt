@@ -9,5 +9,5 @@ returns c =
     let s = c.before.before in
     c.Stage-at.ensures ∙ sym (row_of s.args.b.now s.args.guest s.requires.1)
 
-pub stage-of-spec : {M : Type 1} → statement M
-stage-of-spec = tie.close (tie.spec (search rules) (search rules) returns)
+pub stage_of_spec : {M : Type 1} → statement M
+stage_of_spec = tie.close (tie.spec (search rules) (search rules) returns)

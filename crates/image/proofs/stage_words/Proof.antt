@@ -11,8 +11,8 @@ returns-2 c = rw c.before.before.s.given.1 c.waiting-words.ensures
 returns-3 : tie.Need-returns-3
 returns-3 c = rw c.before.before.s2.given.1 c.finished-words.ensures
 
-pub stage-words-spec : {M : Type 1} → statement M
-stage-words-spec =
+pub stage_words_spec : {M : Type 1} → statement M
+stage_words_spec =
     tie.close
     (tie.spec
     (search rules)

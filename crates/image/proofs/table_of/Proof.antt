@@ -1,10 +1,10 @@
-use Rattle.image.specs.Image.{readDesk}
+use Rattle.image.specs.Image.{read_desk}
 use borrow.Author.Rules.{rules}
 use Rattle.image.proofs.table_of.Statement.{statement}
 use Rattle.image.proofs.table_of.Tie as tie
 
 returns : tie.Need-returns
-unfolding readDesk
+unfolding read_desk
 returns c =
     let d = c.before.before.before.before.before in
     rw (
@@ -23,8 +23,8 @@ returns c =
       d.before.before.before.before.before.before.before.drive-in.ensures,
     )
 
-pub table-of-spec : {M : Type 1} → statement M
-table-of-spec =
+pub table_of_spec : {M : Type 1} → statement M
+table_of_spec =
     tie.close
     (tie.spec
     (search rules)

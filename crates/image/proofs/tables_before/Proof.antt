@@ -4,24 +4,24 @@ use Prim.Native.Nat.{ℕ, ◌+◌, ◌-◌, ◌≤◌, ◌<◌}
 use native.Mathlib.Nat.{add-zero}
 use mathlib.Core.Path.{◌≡◌, refl, sym, ap, ◌∙◌}
 use mathlib.Core.Logic.{⊎_elim}
-use Rattle.table.specs.Table.{parametersTo}
-use Rattle.image.specs.Image.{readDesk}
+use Rattle.table.specs.Table.{parameters_to}
+use Rattle.image.specs.Image.{read_desk}
 use Rattle.image.proofs.Fields.{count-more}
 use Rattle.image.proofs.tables_before.Statement.{statement}
 use Rattle.image.proofs.tables_before.Tie as tie
 
-abbrev invariant-loop : tie.invariant-loop
-invariant-loop b n count₀ i₀ count i = (i ≤ n) × (count ≤ i) × (count ≡ parametersTo i (readDesk b).table)
+abbrev invariant_loop : tie.invariant_loop
+invariant_loop b n count₀ i₀ count i = (i ≤ n) × (count ≤ i) × (count ≡ parameters_to i (read_desk b).table)
 
-abbrev decreases-loop : tie.decreases-loop
-decreases-loop b n count₀ i₀ count i = n - i
+abbrev decreases_loop : tie.decreases_loop
+decreases_loop b n count₀ i₀ count i = n - i
 
-loop-holds : tie.Need-loop-init invariant-loop decreases-loop
-unfolding parametersTo
-loop-holds c = (search rules, search rules, refl)
+loop_holds : tie.Need-loop-init invariant_loop decreases_loop
+unfolding parameters_to
+loop_holds c = (search rules, search rules, refl)
 
-loop-again : tie.Need-loop-preserved invariant-loop decreases-loop
-loop-again c =
+loop_again : tie.Need-loop-preserved invariant_loop decreases_loop
+loop_again c =
     let m = c.before in
     let l = m.before.before in
     let s = l.before.before in
@@ -42,24 +42,24 @@ loop-again c =
     ))
     c.if1.branch
 
-returns : tie.Need-returns invariant-loop decreases-loop
+returns : tie.Need-returns invariant_loop decreases_loop
 returns c =
     let l = c.before in
     let e : l.loop.i ≡ l.before.before.args.n = omega arith in
     (rw (← e) l.loop.invariant.2, omega (arith, l.loop.invariant.1))
 
-pub tables-before-spec : {M : Type 1} → statement M
-tables-before-spec =
+pub tables-before_spec : {M : Type 1} → statement M
+tables-before_spec =
     tie.close
     (tie.spec
-    invariant-loop
-    decreases-loop
-    loop-holds
+    invariant_loop
+    decreases_loop
+    loop_holds
     (search rules)
     (search rules)
     (search rules)
     (search rules)
     (search rules)
     (search rules)
-    loop-again
+    loop_again
     returns)

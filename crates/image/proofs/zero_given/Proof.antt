@@ -13,5 +13,5 @@ returns c =
     let zero : ℕ → Bool = λ w. eqb w 0 in
     zero-given a.b.now a.at (ap zero c.before.before.get64.ensures) (ap zero c.before.get642.ensures) c.and.ensures
 
-pub zero-given-spec : {M : Type 1} → statement M
-zero-given-spec = tie.close (tie.spec (search rules) (search rules) (search rules) (search rules) returns)
+pub zero-given_spec : {M : Type 1} → statement M
+zero-given_spec = tie.close (tie.spec (search rules) (search rules) (search rules) (search rules) returns)

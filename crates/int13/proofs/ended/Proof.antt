@@ -12,5 +12,5 @@ returns-2 : tie.Need-returns-2
 unfolding ended
 returns-2 c = rw (le-ltb _ _ c.before.if1.false) c.succeed.ensures
 
-pub ended-spec : {M : Type 1} → statement M
-ended-spec = tie.close (tie.spec (search rules) (search rules) (search rules) returns (search rules) returns-2)
+pub ended_spec : {M : Type 1} → statement M
+ended_spec = tie.close (tie.spec (search rules) (search rules) (search rules) returns (search rules) returns-2)

@@ -9,5 +9,5 @@ returns c =
     let a = c.before.args in
     rw c.ends_by.ensures (not-leb (a.start + a.count) a.end)
 
-pub ends-past-spec : {M : Type 1} → statement M
-ends-past-spec = tie.close (tie.spec (search rules) returns)
+pub ends_past_spec : {M : Type 1} → statement M
+ends_past_spec = tie.close (tie.spec (search rules) returns)

@@ -12,8 +12,8 @@ returns-2 : tie.Need-returns-2
 unfolding extensions
 returns-2 c = rw (sym c.before.before.and.ensures ∙ c.before.if1.false, c.refuse.ensures)
 
-pub extensions-41-spec : {M : Type 1} → statement M
-extensions-41-spec =
+pub extensions_41_spec : {M : Type 1} → statement M
+extensions_41_spec =
     tie.close
     (tie.spec
     (search rules)

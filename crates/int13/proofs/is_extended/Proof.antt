@@ -5,5 +5,5 @@ use Rattle.int13.proofs.is_extended.Tie as tie
 returns : tie.Need-returns
 returns c = rw (c.or2.ensures, c.before.or.ensures)
 
-pub is-extended-spec : {M : Type 1} → statement M
-is-extended-spec = tie.close (tie.spec (search rules) (search rules) returns)
+pub is-extended_spec : {M : Type 1} → statement M
+is-extended_spec = tie.close (tie.spec (search rules) (search rules) returns)

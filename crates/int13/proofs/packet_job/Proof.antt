@@ -5,6 +5,6 @@ use Rattle.int13.proofs.packet_job.Tie as tie
 returns : tie.Need-returns
 returns c = rw (c.before.before.before.before.posted.ensures, c.before.before.before.dl.ensures, c.packet-place.ensures)
 
-pub packet-job-spec : {M : Type 1} → statement M
-packet-job-spec =
+pub packet_job_spec : {M : Type 1} → statement M
+packet_job_spec =
     tie.close (tie.spec (search rules) (search rules) (search rules) (search rules) (search rules) returns)

@@ -12,7 +12,7 @@ returns-2 c = rw c.before.read.given.1
 returns-3 : tie.Need-returns-3
 returns-3 c = rw (c.before.before.before.before.read2.given.1, le-ltb _ _ c.before.if1.false) c.packet-tests.ensures
 
-pub packet-read-spec : {M : Type 1} → statement M
-packet-read-spec =
+pub packet-read_spec : {M : Type 1} → statement M
+packet-read_spec =
     tie.close
     (tie.spec (search rules) (search rules) returns (search rules) returns-2 returns-3)

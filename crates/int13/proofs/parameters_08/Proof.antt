@@ -12,8 +12,8 @@ returns-2 : tie.Need-returns-2
 unfolding parameters
 returns-2 c = rw (not-false c.before.before.args.known c.before.if1.false, c.geometry-given.ensures)
 
-pub parameters-08-spec : {M : Type 1} → statement M
-parameters-08-spec =
+pub parameters_08_spec : {M : Type 1} → statement M
+parameters_08_spec =
     tie.close
     (tie.spec
     (search rules)

@@ -8,8 +8,8 @@ returns c = rw (c.before.before.given.given.1, c.refuse.ensures)
 returns-2 : tie.Need-returns-2
 returns-2 c = rw (c.before.before.given2.given.1, c.succeed.ensures)
 
-pub result-given-spec : {M : Type 1} → statement M
-result-given-spec =
+pub result_given_spec : {M : Type 1} → statement M
+result_given_spec =
     tie.close
     (tie.spec
     (search rules)

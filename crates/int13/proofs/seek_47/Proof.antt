@@ -12,8 +12,8 @@ returns-2 : tie.Need-returns-2
 unfolding seek
 returns-2 c = rw (not-false c.before.before.before.before.before.args.known c.before.before.before.if1.false, c.seek-read.ensures, c.before.read-packet.ensures.0, c.before.before.packet-place.ensures)
 
-pub seek-47-spec : {M : Type 1} → statement M
-seek-47-spec =
+pub seek_47_spec : {M : Type 1} → statement M
+seek_47_spec =
     tie.close
     (tie.spec
     (search rules)

@@ -15,8 +15,8 @@ returns-3 c = rw (c.before.before.read.given.1, c.refuse.ensures)
 returns-4 : tie.Need-returns-4
 returns-4 c = rw (c.before.before.before.before.before.before.before.read2.given.1, le-ltb _ _ c.before.before.before.before.if1.false, lt-leb _ _ c.before.if2.false, c.succeed.ensures)
 
-pub seek-read-spec : {M : Type 1} → statement M
-seek-read-spec =
+pub seek-read_spec : {M : Type 1} → statement M
+seek-read_spec =
     tie.close
     (tie.spec
     (search rules)

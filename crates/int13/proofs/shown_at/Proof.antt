@@ -12,5 +12,5 @@ returns c =
     let e : (a.address + 16 * a.before) / 16 ≡ a.address / 16 + a.before = omega arith in
     rw e
 
-pub shown-at-spec : {M : Type 1} → statement M
-shown-at-spec = tie.close (tie.spec (search rules) (search rules) returns)
+pub shown_at_spec : {M : Type 1} → statement M
+shown_at_spec = tie.close (tie.spec (search rules) (search rules) returns)

@@ -5,5 +5,5 @@ use Rattle.int13.proofs.succeed.Tie as tie
 returns : tie.Need-returns
 returns c = rw (c.answer.ensures, c.before.al.ensures)
 
-pub succeed-spec : {M : Type 1} → statement M
-succeed-spec = tie.close (tie.spec (search rules) (search rules) returns)
+pub succeed_spec : {M : Type 1} → statement M
+succeed_spec = tie.close (tie.spec (search rules) (search rules) returns)

@@ -12,5 +12,5 @@ returns-2 : tie.Need-returns-2
 unfolding verified
 returns-2 c = rw (le-ltb _ _ c.if1.false)
 
-pub verified-spec : {M : Type 1} → statement M
-verified-spec = tie.close (tie.spec (search rules) returns returns-2)
+pub verified_spec : {M : Type 1} → statement M
+verified_spec = tie.close (tie.spec (search rules) returns returns-2)

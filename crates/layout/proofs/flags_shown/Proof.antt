@@ -9,5 +9,5 @@ returns c = simp (eq-eqb _ _ c.if1.true)
 returns-2 : tie.Need-returns-2
 returns-2 c = simp (ne_eqb _ _ c.if1.false)
 
-pub flags-shown-spec : {M : Type 1} → statement M
-flags-shown-spec = tie.close (tie.spec returns (search rules) (search rules) returns-2)
+pub flags-shown_spec : {M : Type 1} → statement M
+flags-shown_spec = tie.close (tie.spec returns (search rules) (search rules) returns-2)

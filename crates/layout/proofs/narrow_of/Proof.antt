@@ -1,5 +1,5 @@
 use Rattle.drive.proofs.DriveLaws.{Arrays}
-use Rattle.layout.proofs.ResultBufferLaws.{narrow-stores}
+use Rattle.layout.proofs.ResultBufferLaws.{narrow_stores}
 use borrow.Author.Rules.{rules}
 use Rattle.layout.proofs.narrow_of.Statement.{statement}
 use Rattle.layout.proofs.narrow_of.Tie as tie
@@ -11,11 +11,11 @@ arrays s = record { bus = search rules; interface = search rules; path = search 
 returns : tie.Need-returns
 returns c =
     let b = c.before.before.before.before.before.before.before.before.before.before.before.before.before.before.before in
-    narrow-stores b.args.d b.args.p b.args.n
+    narrow_stores b.args.d b.args.p b.args.n
     (arrays b) b.requires c.before.before.before.before.before.before.before.before.before.before.before.before.before.put-geometry.ensures c.before.before.before.before.before.before.before.before.before.before.put-blocks.ensures c.before.before.before.before.before.before.before.put-interface.ensures c.before.before.before.before.put-paths.ensures c.before.put-checksum.ensures
 
-pub narrow-of-spec : {M : Type 1} → statement M
-narrow-of-spec =
+pub narrow_of_spec : {M : Type 1} → statement M
+narrow_of_spec =
     tie.close
     (tie.spec
     (search rules)

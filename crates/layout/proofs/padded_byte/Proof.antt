@@ -8,5 +8,5 @@ returns c = rw (eq-eqb _ 0 c.if1.true)
 returns-2 : tie.Need-returns-2
 returns-2 c = rw (ne_eqb _ 0 c.if1.false)
 
-pub padded-byte-spec : {M : Type 1} → statement M
-padded-byte-spec = tie.close (tie.spec returns returns-2)
+pub padded-byte_spec : {M : Type 1} → statement M
+padded-byte_spec = tie.close (tie.spec returns returns-2)

@@ -9,48 +9,48 @@ use Rattle.layout.proofs.ResultBufferLaws.{length-padded, padded-more}
 use Rattle.layout.proofs.put_padded.Statement.{statement}
 use Rattle.layout.proofs.put_padded.Tie as tie
 
-abbrev invariant-loop : tie.invariant-loop
-invariant-loop out₀ at name i₀ out i = (i ≤ length name) × (out ≡ sets out₀ at (take i (padded name)))
+abbrev invariant_loop : tie.invariant_loop
+invariant_loop out₀ at name i₀ out i = (i ≤ length name) × (out ≡ sets out₀ at (take i (padded name)))
 
-abbrev decreases-loop : tie.decreases-loop
-decreases-loop out₀ at name i₀ out i = length name - i
+abbrev decreases_loop : tie.decreases_loop
+decreases_loop out₀ at name i₀ out i = length name - i
 
-slice-write-out : tie.Need-slice-write-out invariant-loop decreases-loop
-slice-write-out c =
+slice_write_out : tie.Need-slice-write-out invariant_loop decreases_loop
+slice_write_out c =
     let h = c.before.before.before in
     let a = c.before.before.before.before.before.before.args in
     omega (arith, ap length h.loop.invariant.1 ∙ length-sets a.out.now a.at (take h.loop.i (padded a.name.now)))
 
-loop-again : tie.Need-loop-preserved invariant-loop decreases-loop
-loop-again c =
+loop_again : tie.Need-loop-preserved invariant_loop decreases_loop
+loop_again c =
     let h = c.before.before.before in
     let a = c.before.before.before.before.before.before.args in
     (omega arith, rw (h.loop.invariant.1, c.padded-byte.ensures) (padded-more a.out.now a.at a.name.now h.loop.i c.before.before.loop-test.true))
 
-same_length : tie.Need-same-length invariant-loop decreases-loop
+same_length : tie.Need-same-length invariant_loop decreases_loop
 same_length c =
     let a = c.before.before.before.before.args in
     ap length c.before.loop.invariant.1 ∙ length-sets a.out.now a.at (take c.before.loop.i (padded a.name.now))
 
-returns : tie.Need-returns invariant-loop decreases-loop
+returns : tie.Need-returns invariant_loop decreases_loop
 returns c =
     let h = c.before in
     let a = c.before.before.before.before.args in
     h.loop.invariant.1 ∙ ap (sets a.out.now a.at) (take_all h.loop.i (padded a.name.now) (omega (arith, length-padded a.name.now)))
 
-pub put-padded-spec : {M : Type 1} → statement M
-put-padded-spec =
+pub put_padded_spec : {M : Type 1} → statement M
+put_padded_spec =
     tie.close
     (tie.spec
-    invariant-loop
-    decreases-loop
+    invariant_loop
+    decreases_loop
     (search rules)
     (λ c. omega arith)
     (λ c κs. tt)
     (λ c. omega arith)
-    slice-write-out
+    slice_write_out
     (λ c. omega arith)
     (λ c. omega arith)
-    loop-again
+    loop_again
     same_length
     returns)

@@ -1,6 +1,6 @@
 use native.Mathlib.Omega.{arith}
 use Rattle.drive.proofs.DriveLaws.{Arrays}
-use Rattle.layout.proofs.ResultBufferLaws.{path-stores}
+use Rattle.layout.proofs.ResultBufferLaws.{path_stores}
 use borrow.Author.Rules.{rules}
 use Rattle.layout.proofs.put_paths.Statement.{statement}
 use Rattle.layout.proofs.put_paths.Tie as tie
@@ -13,11 +13,11 @@ returns : tie.Need-returns
 returns c =
     let b = c.before.before.before.before.before.before.before.before.before.before.before.before.before.before.before in
     let a = b.args in
-    path-stores a.out.now a.d (arrays b).path (arrays b).device
+    path_stores a.out.now a.d (arrays b).path (arrays b).device
     c.before.before.before.before.before.before.before.before.before.before.store8.ensures c.before.before.before.before.before.before.store82.ensures c.before.before.put_byte.ensures
 
-pub put-paths-spec : {M : Type 1} → statement M
-put-paths-spec =
+pub put_paths_spec : {M : Type 1} → statement M
+put_paths_spec =
     tie.close (tie.spec
     (λ c κs. omega arith)
     (λ c κs. omega arith)

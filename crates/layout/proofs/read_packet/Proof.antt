@@ -1,25 +1,25 @@
 use mathlib.Core.Path.{sym, ◌∙◌}
 use borrow.Author.Rules.{rules}
 use borrow.Author.Tests.{leb-true}
-use Rattle.layout.specs.Packet.{readPacket}
-use Rattle.layout.proofs.PacketLaws.{packet-answered}
+use Rattle.layout.specs.Packet.{read_packet}
+use Rattle.layout.proofs.PacketLaws.{packet_answered}
 use Rattle.layout.proofs.read_packet.Statement.{statement}
 use Rattle.layout.proofs.read_packet.Tie as tie
 
-packet-at-requires : tie.Need-packet-at-requires
-packet-at-requires c κs = leb-true _ _ (sym c.before.ends_by.ensures ∙ c.if1.true)
+packet_at_requires : tie.Need-packet-at-requires
+packet_at_requires c κs = leb-true _ _ (sym c.before.ends_by.ensures ∙ c.if1.true)
 
 returns : tie.Need-returns
-unfolding readPacket
+unfolding read_packet
 returns c =
     let a = c.before.before.before.before.args in
-    packet-answered a.window.now a.at (rw (sym c.before.before.ends_by.ensures ∙ c.before.if1.true, c.packet-at.ensures))
+    packet_answered a.window.now a.at (rw (sym c.before.before.ends_by.ensures ∙ c.before.if1.true, c.packet-at.ensures))
 
 returns-2 : tie.Need-returns-2
-unfolding readPacket
+unfolding read_packet
 returns-2 c =
     let a = c.before.before.before.args in
-    packet-answered a.window.now a.at (rw (sym c.before.ends_by.ensures ∙ c.if1.false))
+    packet_answered a.window.now a.at (rw (sym c.before.ends_by.ensures ∙ c.if1.false))
 
-pub read-packet-spec : {M : Type 1} → statement M
-read-packet-spec = tie.close (tie.spec (search rules) packet-at-requires returns returns-2)
+pub read-packet_spec : {M : Type 1} → statement M
+read-packet_spec = tie.close (tie.spec (search rules) packet_at_requires returns returns-2)

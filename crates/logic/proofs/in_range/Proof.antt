@@ -8,5 +8,5 @@ returns c = simp (lt-leb _ _ c.if1.true)
 returns-2 : tie.Need-returns-2
 returns-2 c = simp (le-leb _ _ c.if1.false)
 
-pub in-range-spec : {M : Type 1} → statement M
-in-range-spec = tie.close (tie.spec returns returns-2)
+pub in_range_spec : {M : Type 1} → statement M
+in_range_spec = tie.close (tie.spec returns returns-2)

@@ -3,9 +3,9 @@ use mathlib.Core.Path.{◌≡◌, ◌∙◌}
 use Prim.Native.Nat.{◌-◌}
 use native.Mathlib.Omega.{arith}
 use lib.ListN.{length}
-use Rattle.memory.specs.Window.{spanLength, windowOf}
+use Rattle.memory.specs.Window.{span_length, window_of}
 use Rattle.memory.specs.Blocks.{blocks}
-use Rattle.memory.proofs.WindowLaws.{length-window, with-window-lent}
+use Rattle.memory.proofs.WindowLaws.{length-window, with_window_lent}
 use Rattle.memory.proofs.BlocksLaws.{blocks-length}
 use Rattle.memory.proofs.load.Statement.{statement}
 use Rattle.memory.proofs.load.Tie as tie
@@ -14,10 +14,10 @@ returns : tie.Need-returns
 returns c =
     let a = c.before.before.before.before.before.before.before.args in
     let o = c.before.before.before.before.Span-of in
-    let w = windowOf a.arena.now a.guest a.m in
-    let e : o.result.end - o.result.start ≡ spanLength (length a.arena.now) a.guest a.m = omega arith in
+    let w = window_of a.arena.now a.guest a.m in
+    let e : o.result.end - o.result.start ≡ span_length (length a.arena.now) a.guest a.m = omega arith in
     rw (c.before.before.copy.ensures, e, o.ensures.0)
-    (with-window-lent a.arena.now a.guest a.m (blocks w a.at a.store.now a.from a.k)
+    (with_window_lent a.arena.now a.guest a.m (blocks w a.at a.store.now a.from a.k)
     (blocks-length w a.at a.store.now a.from a.k ∙ length-window a.arena.now a.guest a.m))
 
 pub load_spec : {M : Type 1} → statement M

@@ -3,7 +3,7 @@ use mathlib.Core.Path.{◌≡◌}
 use Prim.Native.Nat.{◌-◌}
 use native.Mathlib.Omega.{arith}
 use lib.ListN.{length}
-use Rattle.memory.specs.Window.{spanLength}
+use Rattle.memory.specs.Window.{span_length}
 use Rattle.memory.proofs.save.Statement.{statement}
 use Rattle.memory.proofs.save.Tie as tie
 
@@ -11,11 +11,11 @@ returns : tie.Need-returns
 returns c =
     let a = c.before.before.before.before.before.before.before.before.args in
     let o = c.before.before.before.before.before.Span-of in
-    let e : o.result.end - o.result.start ≡ spanLength (length a.arena.now) a.guest a.m = omega arith in
+    let e : o.result.end - o.result.start ≡ span_length (length a.arena.now) a.guest a.m = omega arith in
     rw (c.before.before.copy.ensures, e, o.ensures.0)
 
-pub save-spec : {M : Type 1} → statement M
-save-spec =
+pub save_spec : {M : Type 1} → statement M
+save_spec =
     tie.close
     (tie.spec
     (search rules)

@@ -4,7 +4,7 @@ use Prim.Native.Nat.{ℕ, ◌-◌}
 use native.Mathlib.Nat.{add_comm}
 use native.Mathlib.Omega.{arith}
 use lib.ListN.{length}
-use Rattle.memory.specs.Window.{spanLength}
+use Rattle.memory.specs.Window.{span_length}
 use Rattle.memory.proofs.window.Statement.{statement}
 use Rattle.memory.proofs.window.Tie as tie
 
@@ -12,9 +12,9 @@ returns : tie.Need-returns
 returns c =
     let a = c.before.before.before.args in
     let o = c.before.Span-of in
-    let e : o.result.end - o.result.start ≡ spanLength (length a.arena.now) a.guest a.m = omega arith in
+    let e : o.result.end - o.result.start ≡ span_length (length a.arena.now) a.guest a.m = omega arith in
     (rw (e, o.ensures.0), rw o.ensures.0 (ap (λ (p : ℕ). (a.arena.ptr.0, p)) (add_comm _ _)))
 
-pub window-spec : {M : Type 1} → statement M
-window-spec =
+pub window_spec : {M : Type 1} → statement M
+window_spec =
     tie.close (tie.spec (search rules) (search rules) (search rules) (search rules) returns)

@@ -18,6 +18,6 @@ returns-4 c =
     let h = c.before.before.before in
     simp (← h.before.get64.ensures, ne_eqb _ _ h.if1.false, ne_eqb _ _ c.before.before.if2.false, ne_eqb _ _ c.before.if3.false)
 
-pub course-at-spec : {M : Type 1} → statement M
-course-at-spec =
+pub course_at_spec : {M : Type 1} → statement M
+course_at_spec =
     tie.close (tie.spec (search rules) returns returns-2 returns-3 (λ c. search rules) returns-4)

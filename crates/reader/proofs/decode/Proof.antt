@@ -10,8 +10,8 @@ returns c =
     decode_is e.table-end.result e.before.before.before.args.b.now e.before.get64.ensures e.table-end.ensures.2 t.read_table.ensures.reading
     c.before.before.held_at.ensures c.before.get642.ensures c.course-at.ensures
 
-pub decode-spec : {M : Type 1} → statement M
-decode-spec =
+pub decode_spec : {M : Type 1} → statement M
+decode_spec =
     tie.close
     (tie.spec
     (search rules)

@@ -15,8 +15,8 @@ returns c =
     let l : length (part 134 b 40) ≡ 134 = length-take-le 134 (drop 40 b) (rw length-drop (omega (arith, s.requires))) in
     c.before.store.ensures ∙ sets-whole (replicate 134 0) (part 134 b 40) (sym l)
 
-pub held-at-spec : {M : Type 1} → statement M
-held-at-spec =
+pub held_at_spec : {M : Type 1} → statement M
+held_at_spec =
     tie.close
     (tie.spec
     (search rules)

@@ -9,5 +9,5 @@ returns c =
     let l = c.before.before.before in
     c.are-same.ensures ∙ ap (same l.before.before.before.args.b.now) l.lay.ensures
 
-pub is-image-spec : {M : Type 1} → statement M
-is-image-spec = tie.close (tie.spec (search rules) (search rules) (search rules) (search rules) returns)
+pub is-image_spec : {M : Type 1} → statement M
+is-image_spec = tie.close (tie.spec (search rules) (search rules) (search rules) (search rules) returns)

@@ -5,7 +5,7 @@ use mathlib.Core.Path.{◌≡◌, sym, ap}
 use lib.Seq.{length-sets}
 use Rattle.table.specs.declared.Table.{Table}
 use Rattle.table.specs.Table.{table_of}
-use Rattle.reader.specs.Reader.{headBytes}
+use Rattle.reader.specs.Reader.{head_bytes}
 use lib.ListN.{length}
 use Rattle.reader.proofs.ReaderLaws.{table_fits, image-laid}
 use Rattle.reader.proofs.lay.Statement.{statement}
@@ -22,20 +22,20 @@ drives c = c.before.before.before.before.args.f.table
 fits : (c : tie.After-next-place) → (c.next_place.result + 4 ≡ length (table_of (drives c))) × (length (table_of (drives c)) ≤ 1844)
 fits c = table_fits (drives c) c.next_place.ensures.0 c.next_place.ensures.1
 
-put-head-requires : tie.Need-put-head-requires
-put-head-requires c κs = (search rules, (fits c.before).0)
+put_head_requires : tie.Need-put-head-requires
+put_head_requires c κs = (search rules, (fits c.before).0)
 
-store-requires : tie.Need-store-requires
-store-requires c κs =
+store_requires : tie.Need-store-requires
+store_requires c κs =
     let p = c.before.before.before.before in
     let n = p.before.before in
     let s = n.before.before.before.before in
-    let e = length-sets s.args.out.now 0 (headBytes s.args.f) in
+    let e = length-sets s.args.out.now 0 (head_bytes s.args.f) in
     let g = ap length p.put-head.ensures in
     omega (arith, held s, s.requires, g, e)
 
-put-table-requires : tie.Need-put-table-requires
-put-table-requires c κs = (search rules, (fits c.before.before.before.before.before.before.before.before.before.before).1)
+put_table_requires : tie.Need-put-table-requires
+put_table_requires c κs = (search rules, (fits c.before.before.before.before.before.before.before.before.before.before).1)
 
 returns : tie.Need-returns
 returns c =
@@ -47,16 +47,16 @@ returns c =
     image-laid s.args.out.now s.args.f s.requires (held s) (fits n).1
     h.put-head.ensures w.store.ensures p.put-table.ensures
 
-pub lay-spec : {M : Type 1} → statement M
-lay-spec =
+pub lay_spec : {M : Type 1} → statement M
+lay_spec =
     tie.close
     (tie.spec
     (λ c κs. tt)
     (λ c. search rules)
     (search rules)
-    put-head-requires
+    put_head_requires
     (λ c. sym (held c.before.before.before.before.before.before.before.before.before.before))
-    store-requires
-    put-table-requires
+    store_requires
+    put_table_requires
     (search rules)
     returns)

@@ -8,5 +8,5 @@ returns c =
     let r = c.before.before in
     rw (c.and2.ensures, c.before.is-sound.ensures, r.and.ensures, r.before.course-ok.ensures, r.before.before.rest-zero.ensures)
 
-pub obeys-spec : {M : Type 1} → statement M
-obeys-spec = tie.close (tie.spec (λ c κs. tt) (λ c κs. tt) (λ c κs. tt) (λ c κs. tt) (λ c κs. tt) returns)
+pub obeys_spec : {M : Type 1} → statement M
+obeys_spec = tie.close (tie.spec (λ c κs. tt) (λ c κs. tt) (λ c κs. tt) (λ c κs. tt) (λ c κs. tt) returns)

@@ -9,8 +9,8 @@ returns c =
     let s = w.before.before.before.before in
     table-laid s.args.out.now s.args.f s.requires.1 w.write-table.ensures.1 c.before.before.store.ensures
 
-pub put-table-spec : {M : Type 1} → statement M
-put-table-spec =
+pub put_table_spec : {M : Type 1} → statement M
+put_table_spec =
     tie.close
     (tie.spec
     (search rules)

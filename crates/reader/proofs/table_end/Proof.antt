@@ -11,5 +11,5 @@ returns-2 c =
     let s = c.before.before.before in
     end-past s.args.b.now s.requires c.before.get64.ensures c.if1.false
 
-pub table-end-spec : {M : Type 1} → statement M
-table-end-spec = tie.close (tie.spec (search rules) (λ c. search rules) returns returns-2)
+pub table-end_spec : {M : Type 1} → statement M
+table-end_spec = tie.close (tie.spec (search rules) (λ c. search rules) returns returns-2)

@@ -7,5 +7,5 @@ returns c =
     let a = c.before.before.before.before.before.args in
     advanced-is a.t.now a.c a.store c.before.before.step-at.ensures c.place_after.ensures
 
-pub advance-spec : {M : Type 1} → statement M
-advance-spec = tie.close (tie.spec (λ c κs. tt) (λ c κs. tt) returns)
+pub advance_spec : {M : Type 1} → statement M
+advance_spec = tie.close (tie.spec (λ c κs. tt) (λ c κs. tt) returns)

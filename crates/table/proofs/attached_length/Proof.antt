@@ -13,6 +13,6 @@ returns-2 c =
     let l = c.before.bads-length.ensures in
     (rw c.if1.false (omega (arith, l.0)), omega (arith, l.1))
 
-pub attached-length-spec : {M : Type 1} → statement M
-attached-length-spec =
+pub attached_length_spec : {M : Type 1} → statement M
+attached_length_spec =
     tie.close (tie.spec (λ c κs. tt) (search rules) (search rules) returns returns-2)

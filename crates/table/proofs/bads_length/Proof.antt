@@ -9,5 +9,5 @@ returns c = (rw (eq-eqb c.before.args.n 0 c.if1.true), omega arith)
 returns-2 : tie.Need-returns-2
 returns-2 c = (rw (ne_eqb c.before.before.args.n 0 c.before.if1.false) c.bad-length.ensures.0, c.bad-length.ensures.1)
 
-pub bads-length-spec : {M : Type 1} → statement M
-bads-length-spec = tie.close (tie.spec returns (λ c κs. tt) returns-2)
+pub bads_length_spec : {M : Type 1} → statement M
+bads_length_spec = tie.close (tie.spec returns (λ c κs. tt) returns-2)

@@ -4,7 +4,7 @@ use Prim.Native.Nat.{◌*◌}
 use lib.ListN.{replicate}
 use Rattle.words.specs.Words.{part}
 use Rattle.words.proofs.WordsLaws.{sets-whole}
-use Rattle.table.proofs.TableLaws.{length-slotPart}
+use Rattle.table.proofs.TableLaws.{length_slot_part}
 use borrow.Author.Rules.{rules}
 use Rattle.table.proofs.bytes_at.Statement.{statement}
 use Rattle.table.proofs.bytes_at.Tie as tie
@@ -13,10 +13,10 @@ returns : tie.Need-returns
 returns c =
     let s = c.before.before.before.before.before in
     let all = s.args.bytes.now in
-    c.before.store.ensures ∙ rw add-sub_cancel_left (sets-whole (replicate 14 0) (part 14 all (14 * s.args.i)) (sym (length-slotPart all s.args.i s.requires.0 s.requires.1)))
+    c.before.store.ensures ∙ rw add-sub_cancel_left (sets-whole (replicate 14 0) (part 14 all (14 * s.args.i)) (sym (length_slot_part all s.args.i s.requires.0 s.requires.1)))
 
-pub bytes-at-spec : {M : Type 1} → statement M
-bytes-at-spec =
+pub bytes_at_spec : {M : Type 1} → statement M
+bytes_at_spec =
     tie.close
     (tie.spec
     (search rules)

@@ -7,13 +7,13 @@ use borrow.Author.Rules.{rules}
 use Rattle.table.proofs.drive_step.Statement.{statement}
 use Rattle.table.proofs.drive_step.Tie as tie
 
-decode-requires : tie.Need-decode-requires
-decode-requires c κs =
+decode_requires : tie.Need-decode-requires
+decode_requires c κs =
     let l = c.before.requires.0 in
     (rw l (length-least (le 2 c.before.args.r.now 2)), rw l (omega arith))
 
-push-requires : tie.Need-push-requires
-push-requires c κs =
+push_requires : tie.Need-push-requires
+push_requires c κs =
     let a = c.before.before.before.before.args in
     refusal-room a.b.count a.b.drives c.before.before.decode.result a.store (sym c.before.refusal-of.ensures ∙ c.if1.true)
 
@@ -28,6 +28,6 @@ returns-2 c =
     let a = c.before.before.before.before.args in
     drive-refused _ a.r.now a.at a.b a.store c.before.before.before.before.requires.1 c.before.before.decode.ensures c.before.refusal-of.ensures c.if1.false
 
-pub drive-step-spec : {M : Type 1} → statement M
-drive-step-spec =
-    tie.close (tie.spec decode-requires (λ c κs. tt) (search rules) push-requires returns returns-2)
+pub drive-step_spec : {M : Type 1} → statement M
+drive-step_spec =
+    tie.close (tie.spec decode_requires (λ c κs. tt) (search rules) push_requires returns returns-2)

@@ -32,8 +32,8 @@ returns-5 c =
     let h = header_is _ _ r.before.before.before.bytes_left.ensures r.before.get16.ensures r.get162.ensures c.before.before.before.before.is-kind.ensures c.before.before.length-ok.ensures in
     rw (h, le-ltb _ _ r.before.before.if1.false, c.before.before.before.if2.false, c.before.if3.false, le-ltb _ _ c.if4.false)
 
-pub header-at-spec : {M : Type 1} → statement M
-header-at-spec =
+pub header_at_spec : {M : Type 1} → statement M
+header_at_spec =
     tie.close
     (tie.spec
     (λ c κs. tt)

@@ -12,5 +12,5 @@ returns-2 c = let s = c.before.before in rw (eq-eqb s.before.args.count 0 s.if1.
 returns-3 : tie.Need-returns-3
 returns-3 c = let s = c.before.before in rw (eq-eqb s.before.args.count 0 s.if1.false, sym c.before.list-ok.ensures ∙ c.if2.false)
 
-pub list-refusal-spec : {M : Type 1} → statement M
-list-refusal-spec = tie.close (tie.spec returns (λ c κs. tt) returns-2 returns-3)
+pub list_refusal_spec : {M : Type 1} → statement M
+list_refusal_spec = tie.close (tie.spec returns (λ c κs. tt) returns-2 returns-3)

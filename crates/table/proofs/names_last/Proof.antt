@@ -9,5 +9,5 @@ returns c = rw (le-ltb c.before.args.number 8 c.if1.true)
 returns-2 : tie.Need-returns-2
 returns-2 c = rw (lt-ltb c.before.before.args.number 8 c.before.if1.false) c.and.ensures
 
-pub names-last-spec : {M : Type 1} → statement M
-names-last-spec = tie.close (tie.spec returns (search rules) (search rules) (λ c κs. tt) returns-2)
+pub names_last_spec : {M : Type 1} → statement M
+names_last_spec = tie.close (tie.spec returns (search rules) (search rules) (λ c κs. tt) returns-2)

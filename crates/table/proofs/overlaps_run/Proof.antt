@@ -4,42 +4,42 @@ use Prim.Native.Nat.{◌-◌, ◌≤◌}
 use mathlib.Core.Path.{◌≡◌, refl}
 use lib.ListN.{get_or}
 use Rattle.logic.proofs.LogicLaws.{some_more}
-use Rattle.table.specs.Table.{overlapRuns, overlapsRun}
+use Rattle.table.specs.Table.{overlap_runs, overlaps_run}
 use Rattle.table.proofs.overlaps_run.Statement.{statement}
 use Rattle.table.proofs.overlaps_run.Tie as tie
 
-abbrev invariant-loop : tie.invariant-loop
-invariant-loop d firsts sizes n found₀ i₀ found i = (i ≤ n) × (found ≡ overlapsRun i firsts sizes d)
+abbrev invariant_loop : tie.invariant_loop
+invariant_loop d firsts sizes n found₀ i₀ found i = (i ≤ n) × (found ≡ overlaps_run i firsts sizes d)
 
-abbrev decreases-loop : tie.decreases-loop
-decreases-loop d firsts sizes n found₀ i₀ found i = n - i
+abbrev decreases_loop : tie.decreases_loop
+decreases_loop d firsts sizes n found₀ i₀ found i = n - i
 
-loop-holds : tie.Need-loop-init invariant-loop decreases-loop
-unfolding overlapsRun
-loop-holds c = (search rules, refl)
+loop_holds : tie.Need-loop-init invariant_loop decreases_loop
+unfolding overlaps_run
+loop_holds c = (search rules, refl)
 
-loop-again : tie.Need-loop-preserved invariant-loop decreases-loop
-unfolding overlapsRun
-loop-again c =
+loop_again : tie.Need-loop-preserved invariant_loop decreases_loop
+unfolding overlaps_run
+loop_again c =
     let l = c.before.before.before.before.before in
     let a = l.before.args in (
       search rules,
-      some_more l.loop.i (λ i. overlapRuns a.d.first a.d.blocks (get_or a.firsts.now i 0) (get_or a.sizes.now i 0)) l.loop.invariant.1 c.or.ensures c.before.runs-overlap.ensures,
+      some_more l.loop.i (λ i. overlap_runs a.d.first a.d.blocks (get_or a.firsts.now i 0) (get_or a.sizes.now i 0)) l.loop.invariant.1 c.or.ensures c.before.runs-overlap.ensures,
     )
 
-returns : tie.Need-returns invariant-loop decreases-loop
+returns : tie.Need-returns invariant_loop decreases_loop
 returns c =
     let l = c.before in
     let e : l.loop.i ≡ l.before.args.n = omega arith in
     rw (← e) l.loop.invariant.1
 
-pub overlaps-run-spec : {M : Type 1} → statement M
-overlaps-run-spec =
+pub overlaps-run_spec : {M : Type 1} → statement M
+overlaps-run_spec =
     tie.close
     (tie.spec
-    invariant-loop
-    decreases-loop
-    loop-holds
+    invariant_loop
+    decreases_loop
+    loop_holds
     (search rules)
     (search rules)
     (search rules)
@@ -48,5 +48,5 @@ overlaps-run-spec =
     (λ c κs. tt)
     (search rules)
     (search rules)
-    loop-again
+    loop_again
     returns)

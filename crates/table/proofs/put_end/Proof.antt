@@ -9,5 +9,5 @@ returns c =
     let s = first.before.before.before in
     end-laid s.args.out.now s.args.at first.store16.ensures c.before.before.store162.ensures
 
-pub put-end-spec : {M : Type 1} → statement M
-put-end-spec = tie.close (tie.spec (search rules) (search rules) (search rules) (search rules) returns)
+pub put_end_spec : {M : Type 1} → statement M
+put_end_spec = tie.close (tie.spec (search rules) (search rules) (search rules) (search rules) returns)

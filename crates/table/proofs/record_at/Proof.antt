@@ -47,11 +47,11 @@ use Rattle.table.proofs.Reader.TheLaws as T'
 use Rattle.table.specs.contracts.Cursor as K
 use Rattle.table.proofs.Cursor.TheLaws as K'
 use Rattle.table.specs.contracts.Reader.new as new
-use Rattle.table.proofs.Reader.new.Symbol as new-def
+use Rattle.table.proofs.Reader.new.Symbol as new_def
 use Rattle.table.proofs.Reader.new.Symbol.{name as #table·Reader·new}
-use Rattle.table.proofs.Reader.new.Met as new-thm
+use Rattle.table.proofs.Reader.new.Met as new_thm
 use Rattle.table.specs.contracts.Reader.step as step
-use Rattle.table.proofs.Reader.step.Symbol as step-def
+use Rattle.table.proofs.Reader.step.Symbol as step_def
 use Rattle.table.proofs.Reader.step.Symbol.{name as #table·Reader·step}
 use Rattle.table.proofs.Reader.step.Met as step_thm
 use Rattle.table.specs.contracts.record_at.Key.{name as #table·record-at}
@@ -110,18 +110,18 @@ module _ {M : Type 1} {𝓤 : Ura M} (𝓛 : Logic 𝓤) (mem : Memory → SProp
   Own = (ShrSlice (named 0) κ u8).own_val s (v ∷ [])
 
   -- the call of `new`: what it is passed, what it asks, and what is known of its result
-  abbrev to-new : (New 𝓛 mem run).Ghost
-  to-new = (((κ, tt), (q, tt), tt, (s, (c, tt)), (v ∷ [], (held c ∷ [], tt))), tt)
+  abbrev to_new : (New 𝓛 mem run).Ghost
+  to_new = (((κ, tt), (q, tt), tt, (s, (c, tt)), (v ∷ [], (held c ∷ [], tt))), tt)
 
-  goes-new : ent 𝓤 (on_entry 𝓛 record-at.signature (κ, tt) (q, tt) (s, (c, (m, tt))) at) (sep 𝓤 ((New 𝓛 mem run).pre to-new) (sem 𝓛 Own))
-  goes-new =
+  goes_new : ent 𝓤 (on_entry 𝓛 record-at.signature (κ, tt) (q, tt) (s, (c, (m, tt))) at) (sep 𝓤 ((New 𝓛 mem run).pre to_new) (sem 𝓛 Own))
+  goes_new =
       qed 𝓛 ((‵ (flft κ q) ⊛ ‵ ftrue) ∷ ‵ (owns (ShrSlice (named 0) κ u8 ∷ K.the_row ∷ u64 ∷ []) (s, (c, (m, tt))) at) ∷ []) ∵
       move ! (1 ∷ []) $ fsplit ! $ move ! (1 ∷ []) $ drop ! $ use1 𝓛 (‵ Own ⊛ ‵ Own) ((shr_slice_copy 𝓛 (named 0) κ u8).twice s (v ∷ [])) $ split ! $
       nothing ! $ owned ! K.the_row (Is K.the_row) (LL.makes K.the_type K'.the_plain 𝓛) c _ isc $ fjoin ! $ move ! (1 ∷ 0 ∷ []) $ fjoin ! $
-      move ! (2 ∷ 0 ∷ []) $ use2 𝓛 (raw ((New 𝓛 mem run).pre to-new)) (qed 𝓛 ((‵ (flft κ q) ⊛ ‵ ftrue) ∷ ‵ (owns (ShrSlice (named 0) κ u8 ∷ K.the_row ∷ []) (s, (c, tt)) (v ∷ [], (held c ∷ [], tt))) ∷ []) ∵ join ! $ frame ! $ done !) $ frame ! $ done !
+      move ! (2 ∷ 0 ∷ []) $ use2 𝓛 (raw ((New 𝓛 mem run).pre to_new)) (qed 𝓛 ((‵ (flft κ q) ⊛ ‵ ftrue) ∷ ‵ (owns (ShrSlice (named 0) κ u8 ∷ K.the_row ∷ []) (s, (c, tt)) (v ∷ [], (held c ∷ [], tt))) ∷ []) ∵ join ! $ frame ! $ done !) $ frame ! $ done !
 
-  new-said : (r : Reader) → ent 𝓤 (ensured 𝓛 new.ended (new.clauses 𝓛 mem run) (κ, tt) (s, (c, tt)) tt r) (fact 𝓤 (Made s c r))
-  new-said r = ex_e 𝓤 _ (λ ws. snd∗ 𝓤 (sem 𝓛 (lasts new.ended (κ, tt) (s, (c, tt)) ws)) (fact 𝓤 (Made s c r)))
+  new_said : (r : Reader) → ent 𝓤 (ensured 𝓛 new.ended (new.clauses 𝓛 mem run) (κ, tt) (s, (c, tt)) tt r) (fact 𝓤 (Made s c r))
+  new_said r = ex_e 𝓤 _ (λ ws. snd∗ 𝓤 (sem 𝓛 (lasts new.ended (κ, tt) (s, (c, tt)) ws)) (fact 𝓤 (Made s c r)))
 
   -- the call of `step`, at the reader r with the machine value u
   abbrev to_step : Reader → Val → (StepTo 𝓛 mem run).Ghost
@@ -132,8 +132,8 @@ module _ {M : Type 1} {𝓤 : Ura M} (𝓛 : Logic 𝓤) (mem : Memory → SProp
       qed 𝓛 (‵ ((B (κ, tt)).own_val r (u ∷ [])) ∷ (‵ (flft κ q) ⊛ ‵ ftrue) ∷ []) ∵
       nothing ! $ owned ! u64 (Is u64) (uint_Makes 𝓛 w64) m _ (refl, okm) $ fjoin ! $ move ! (1 ∷ 0 ∷ []) $ fjoin ! $ move ! (1 ∷ 0 ∷ []) $ join ! $ frame ! $ done !
 
-  step-said : (r r' : Reader) → ent 𝓤 (ensured 𝓛 step.ended (step.clauses 𝓛 mem run) (κ, tt) (r, (m, tt)) tt r') (fact 𝓤 (Found r m r'))
-  step-said r r' = ex_e 𝓤 _ (λ ws. snd∗ 𝓤 (sem 𝓛 (lasts step.ended (κ, tt) (r, (m, tt)) ws)) (fact 𝓤 (Found r m r')))
+  step_said : (r r' : Reader) → ent 𝓤 (ensured 𝓛 step.ended (step.clauses 𝓛 mem run) (κ, tt) (r, (m, tt)) tt r') (fact 𝓤 (Found r m r'))
+  step_said r r' = ex_e 𝓤 _ (λ ws. snd∗ 𝓤 (sem 𝓛 (lasts step.ended (κ, tt) (r, (m, tt)) ws)) (fact 𝓤 (Found r m r')))
 
   -- what is known of the cursor of a reader that came back
   came : (r : Reader) (u : Val) → Is (B (κ, tt)) r (u ∷ []) → Is K.the_row r.cursor (held r.cursor ∷ [])
@@ -146,25 +146,25 @@ module _ {M : Type 1} {𝓤 : Ura M} (𝓛 : Logic 𝓤) (mem : Memory → SProp
       frame ! $ nothing ! $ owned ! u64 (Is u64) (uint_Makes 𝓛 w64) m _ (refl, okm) $ fjoin ! $ owned ! K.the_row (Is K.the_row) (LL.makes K.the_type K'.the_plain 𝓛) c _ isc $ fjoin ! $
       move ! (1 ∷ 0 ∷ []) $ fjoin ! $ frame ! $ owned ! K.the_row (Is K.the_row) (LL.makes K.the_type K'.the_plain 𝓛) t _ is $ done !
 
-  module _ (C : Calls 𝓤 H) (Λ : Loops 𝓤 H) (fm : FmC 𝓤 H 𝓛.laws C) (known-new : Triple 𝓤 (C #table·Reader·new) (New 𝓛 mem run)) (Known-step : Triple 𝓤 (C #table·Reader·step) (StepTo 𝓛 mem run)) where
+  module _ (C : Calls 𝓤 H) (Λ : Loops 𝓤 H) (fm : FmC 𝓤 H 𝓛.laws C) (known_new : Triple 𝓤 (C #table·Reader·new) (New 𝓛 mem run)) (Known_step : Triple 𝓤 (C #table·Reader·step) (StepTo 𝓛 mem run)) where
     walk : Is (ShrSlice (named 0) κ u8) s (v ∷ []) → ent 𝓤 (on_entry 𝓛 record-at.signature (κ, tt) (q, tt) (s, (c, (m, tt))) at) (WpFn 𝓤 H C Λ code.function (v ∷ held c ∷ vint w64 m ∷ []) Post)
     walk p =
         qed 𝓛 (raw (on_entry 𝓛 record-at.signature (κ, tt) (q, tt) (s, (c, (m, tt))) at) ∷ []) ∵ enter ! C Λ code.function (v ∷ held c ∷ vint w64 m ∷ []) _ $
         alloc1 ! (λ l₀. alloc1 ! (λ l₁. alloc1 ! (λ l₂. alloc1 ! (λ l₃. alloc1 ! (λ l₄. alloc1 ! (λ l₅. alloc0 ! $ params1 ! $
         pass1 ! (init ! 8 refl ((shr_slice_Lawful 𝓛 (named 0) κ u8).typed s (v ∷ []) p).0) $ pass1 ! (init ! 6 refl ((LL.lawful K.the_type K'.the_laws 𝓛).typed c _ isc).0) $ pass1 ! (init ! 4 refl (tt, record { fits = okm })) $ pass0 ! $
         -- `new`
-        move ! (12 ∷ []) $ use1 𝓛 (raw ((New 𝓛 mem run).pre to-new) ⊛ ‵ Own) goes-new $ split ! $
-        calls_at ! fm (New 𝓛 mem run) known-new to-new (and_then ! (load ! (from ! (stop !)) (look ! 10 refl)) (and_then ! (load ! (from ! (stop !)) (look ! 8 refl)) (no_more !))) (λ u.
+        move ! (12 ∷ []) $ use1 𝓛 (raw ((New 𝓛 mem run).pre to_new) ⊛ ‵ Own) goes_new $ split ! $
+        calls_at ! fm (New 𝓛 mem run) known_new to_new (and_then ! (load ! (from ! (stop !)) (look ! 10 refl)) (and_then ! (load ! (from ! (stop !)) (look ! 8 refl)) (no_more !))) (λ u.
         use1 𝓛 (later (some (λ (r : Reader). ((‵ (flft κ q) ⊛ ‵ ftrue) ⊛ ‵ ((B (κ, tt)).own_val r (u ∷ []))) ⊛ raw (ensured 𝓛 new.ended (new.clauses 𝓛 mem run) (κ, tt) (s, (c, tt)) tt r)))) (id⊢ 𝓤 _) $ await ! tt $ pick ! (λ r.
-        split ! $ move ! (1 ∷ []) $ use1 𝓛 (raw (fact 𝓤 (Made s c r))) (new-said r) $ heard ! (Made s c r) (λ e. split ! $ move ! (1 ∷ []) $
+        split ! $ move ! (1 ∷ []) $ use1 𝓛 (raw (fact 𝓤 (Made s c r))) (new_said r) $ heard ! (Made s c r) (λ e. split ! $ move ! (1 ∷ []) $
         -- [what the struct owns; the token; what s owns; room for _5; …; room for _4; …; _3; …; _2; …; _1; …; room for _0; …]
         peeks ! (B (κ, tt)) (Is (B (κ, tt))) (shows 𝓛 (B (κ, tt))) r (u ∷ []) (λ is.
         land ! (from ! (stop !)) (init ! 3 refl ((LL.lawful (T.the_type αᵉ) (T'.the_laws αᵉ) 𝓛).typed r _ is).0) $
         -- `step`
         use2 𝓛 (raw ((StepTo 𝓛 mem run).pre (to_step r u))) (goes_step r u) $
-        calls_at ! fm (StepTo 𝓛 mem run) Known-step (to_step r u) (and_then ! (load ! (from ! (stop !)) (look ! 2 refl)) (and_then ! (load ! (from ! (stop !)) (look ! 6 refl)) (no_more !))) (λ w.
+        calls_at ! fm (StepTo 𝓛 mem run) Known_step (to_step r u) (and_then ! (load ! (from ! (stop !)) (look ! 2 refl)) (and_then ! (load ! (from ! (stop !)) (look ! 6 refl)) (no_more !))) (λ w.
         use1 𝓛 (later (some (λ (r' : Reader). ((‵ (flft κ q) ⊛ ‵ ftrue) ⊛ ‵ ((B (κ, tt)).own_val r' (w ∷ []))) ⊛ raw (ensured 𝓛 step.ended (step.clauses 𝓛 mem run) (κ, tt) (r, (m, tt)) tt r')))) (id⊢ 𝓤 _) $ await ! tt $ pick ! (λ r'.
-        split ! $ move ! (1 ∷ []) $ use1 𝓛 (raw (fact 𝓤 (Found r m r'))) (step-said r r') $ heard ! (Found r m r') (λ f. split ! $ move ! (1 ∷ []) $
+        split ! $ move ! (1 ∷ []) $ use1 𝓛 (raw (fact 𝓤 (Found r m r'))) (step_said r r') $ heard ! (Found r m r') (λ f. split ! $ move ! (1 ∷ []) $
         -- [what the struct owns; the token; what s owns; _5; …; room for _4; …; _3; …; _2; …; _1; …; room for _0; …]
         peeks ! (B (κ, tt)) (Is (B (κ, tt))) (shows 𝓛 (B (κ, tt))) r' (w ∷ []) (λ is'.
         land ! (from ! (stop !)) (init ! 5 refl ((LL.lawful (T.the_type αᵉ) (T'.the_laws αᵉ) 𝓛).typed r' _ is').0) $
@@ -177,22 +177,22 @@ module _ {M : Type 1} {𝓤 : Ura M} (𝓛 : Logic 𝓤) (mem : Memory → SProp
 module _ {M : Type 1} {𝓤 : Ura M} (𝓛 : Logic 𝓤) (mem : Memory → SProp 𝓤) (run : Routine → Fun 𝓤) where
   open 𝓛 use {H}
 
-  record-at-walks : (C : Calls 𝓤 H) (Λ : Loops 𝓤 H) → FmC 𝓤 H 𝓛.laws C → Triple 𝓤 (C #table·Reader·new) (New 𝓛 mem run) → Triple 𝓤 (C #table·Reader·step) (StepTo 𝓛 mem run)
+  record_at_walks : (C : Calls 𝓤 H) (Λ : Loops 𝓤 H) → FmC 𝓤 H 𝓛.laws C → Triple 𝓤 (C #table·Reader·new) (New 𝓛 mem run) → Triple 𝓤 (C #table·Reader·step) (StepTo 𝓛 mem run)
       → Walks 𝓛 record-at.ended stayed (WpFn 𝓤 H C Λ code.function) (record-at.clauses 𝓛 mem run)
-  record-at-walks C Λ fm known-new Known-step = walked 𝓛 record-at.ended stayed (record-at.clauses 𝓛 mem run) (WpFn 𝓤 H C Λ code.function) (λ κs. (shr_slice_vals, (LL.vals K.the_type K'.the_laws, (uint_vals w64, tt)))) (λ κs. (shr_slice_Tells (named 0) κs.0 u8, (LL.tells K.the_type K'.the_laws, (uint_Tells w64, tt))))
-      (λ κs qs bounds a g are. via 𝓤 _ (fst∗ 𝓤 _ (emp 𝓤)) (walk 𝓛 mem run κs.0 qs.0 a.0 a.1.0 are.1.0 a.1.1.0 are.1.1.0.1 C Λ fm known-new Known-step are.0))
+  record_at_walks C Λ fm known_new Known_step = walked 𝓛 record-at.ended stayed (record-at.clauses 𝓛 mem run) (WpFn 𝓤 H C Λ code.function) (λ κs. (shr_slice_vals, (LL.vals K.the_type K'.the_laws, (uint_vals w64, tt)))) (λ κs. (shr_slice_Tells (named 0) κs.0 u8, (LL.tells K.the_type K'.the_laws, (uint_Tells w64, tt))))
+      (λ κs qs bounds a g are. via 𝓤 _ (fst∗ 𝓤 _ (emp 𝓤)) (walk 𝓛 mem run κs.0 qs.0 a.0 a.1.0 are.1.0 a.1.1.0 are.1.1.0.1 C Λ fm known_new Known_step are.0))
 
-record-at-meets : {M : Type 1} {𝓤 : Ura M} (𝓛 : Logic 𝓤) (mem : Memory → SProp 𝓤) (run : Routine → Fun 𝓤) (𝓣 : Tables 𝓤 𝓛.H)
+record_at_meets : {M : Type 1} {𝓤 : Ura M} (𝓛 : Logic 𝓤) (mem : Memory → SProp 𝓤) (run : Routine → Fun 𝓤) (𝓣 : Tables 𝓤 𝓛.H)
     → Triple 𝓤 (𝓣.C #table·Reader·new) (New 𝓛 mem run) → Triple 𝓤 (𝓣.C #table·Reader·step) (StepTo 𝓛 mem run)
     → Meets 𝓛 record-at.signature (WpFn 𝓤 𝓛.H 𝓣.C 𝓣.Λ code.function) (record-at.spec 𝓛 mem run)
-record-at-meets {𝓤 = 𝓤} 𝓛 mem run 𝓣 known-new Known-step = walk_Meets 𝓛 record-at.ended stayed (Goes-none_slice 𝓛 1 (0 ∷ []) tt (plain (λ _. u8)) yes, (Goes-none 𝓛 1 (λ _. K.the_row) yes (λ κs x f. refl), (Goes-none 𝓛 1 (λ _. u64) yes (λ κs x f. refl), tt))) (record-at.clauses 𝓛 mem run) (WpFn 𝓤 𝓛.H 𝓣.C 𝓣.Λ code.function) (WpFn-mono 𝓤 𝓛.H 𝓛.laws 𝓣 code.function)
-    (record-at-walks 𝓛 mem run 𝓣.C 𝓣.Λ (fm_of 𝓤 𝓛.H 𝓛.laws 𝓣) known-new Known-step)
+record_at_meets {𝓤 = 𝓤} 𝓛 mem run 𝓣 known_new Known_step = walk_Meets 𝓛 record-at.ended stayed (Goes-none_slice 𝓛 1 (0 ∷ []) tt (plain (λ _. u8)) yes, (Goes-none 𝓛 1 (λ _. K.the_row) yes (λ κs x f. refl), (Goes-none 𝓛 1 (λ _. u64) yes (λ κs x f. refl), tt))) (record-at.clauses 𝓛 mem run) (WpFn 𝓤 𝓛.H 𝓣.C 𝓣.Λ code.function) (WpFn-mono 𝓤 𝓛.H 𝓛.laws 𝓣 code.function)
+    (record_at_walks 𝓛 mem run 𝓣.C 𝓣.Λ (fm_of 𝓤 𝓛.H 𝓛.laws 𝓣) known_new Known_step)
 
-pub record-at-spec : {M : Type 1} → stated.statement M
+pub record_at_spec : {M : Type 1} → stated.statement M
 unfolding code.routine tables_of
-record-at-spec 𝓤 𝓛 𝓜 𝓡 =
+record_at_spec 𝓤 𝓛 𝓜 𝓡 =
     entered 𝓤 𝓛.H (triple_of 𝓛 record-at.signature (record-at.spec 𝓛 𝓜.mem 𝓡.run))
     (tables 𝓤 𝓛.H 𝓜 𝓡 code.env).C (tables 𝓤 𝓛.H 𝓜 𝓡 code.env).Λ #table·record-at code.function (code.unfolded 𝓤 𝓛.H 𝓜 𝓡)
-    (record-at-meets 𝓛 𝓜.mem 𝓡.run (tables_of 𝓤 𝓛.H 𝓜 (tables 𝓤 𝓛.H 𝓜 𝓡 code.env))
-    (cited 𝓤 𝓛.H (New 𝓛 𝓜.mem 𝓡.run) 𝓜 𝓡 code.env #table·Reader·new new-def.routine code.calls-table::Reader::new (new-thm.met 𝓤 𝓛 𝓜 𝓡))
-    (cited 𝓤 𝓛.H (StepTo 𝓛 𝓜.mem 𝓡.run) 𝓜 𝓡 code.env #table·Reader·step step-def.routine code.calls-table::Reader::step (step_thm.met 𝓤 𝓛 𝓜 𝓡)))
+    (record_at_meets 𝓛 𝓜.mem 𝓡.run (tables_of 𝓤 𝓛.H 𝓜 (tables 𝓤 𝓛.H 𝓜 𝓡 code.env))
+    (cited 𝓤 𝓛.H (New 𝓛 𝓜.mem 𝓡.run) 𝓜 𝓡 code.env #table·Reader·new new_def.routine code.calls-table::Reader::new (new_thm.met 𝓤 𝓛 𝓜 𝓡))
+    (cited 𝓤 𝓛.H (StepTo 𝓛 𝓜.mem 𝓡.run) 𝓜 𝓡 code.env #table·Reader·step step_def.routine code.calls-table::Reader::step (step_thm.met 𝓤 𝓛 𝓜 𝓡)))

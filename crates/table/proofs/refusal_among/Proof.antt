@@ -1,32 +1,32 @@
 use mathlib.Core.Path.{sym, ◌∙◌}
 use borrow.Author.Tests.{le-leb, lt-leb, not-true, not-false}
-use Rattle.table.specs.Table.{refusalAmong}
+use Rattle.table.specs.Table.{refusal_among}
 use borrow.Author.Rules.{rules}
 use Rattle.table.proofs.refusal_among.Statement.{statement}
 use Rattle.table.proofs.refusal_among.Tie as tie
 
 returns : tie.Need-returns
-unfolding refusalAmong
+unfolding refusal_among
 returns c = rw (le-leb _ _ c.if1.true)
 
 returns-2 : tie.Need-returns-2
-unfolding refusalAmong
+unfolding refusal_among
 returns-2 c = rw (lt-leb _ _ c.before.before.if1.false, sym c.before.fields-ok.ensures ∙ not-true _ c.if2.true)
 
 returns-3 : tie.Need-returns-3
-unfolding refusalAmong
+unfolding refusal_among
 returns-3 c = rw (lt-leb _ _ c.before.before.before.before.if1.false, sym c.before.before.before.fields-ok.ensures ∙ not-false _ c.before.before.if2.false, sym c.before.in-store.ensures ∙ not-true _ c.if3.true)
 
 returns-4 : tie.Need-returns-4
-unfolding refusalAmong
+unfolding refusal_among
 returns-4 c = rw (lt-leb _ _ c.before.before.before.before.before.before.if1.false, sym c.before.before.before.before.before.fields-ok.ensures ∙ not-false _ c.before.before.before.before.if2.false, sym c.before.before.before.in-store.ensures ∙ not-false _ c.before.before.if3.false, sym c.before.overlaps-run.ensures ∙ c.if4.true)
 
 returns-5 : tie.Need-returns-5
-unfolding refusalAmong
+unfolding refusal_among
 returns-5 c = rw (lt-leb _ _ c.before.before.before.before.before.before.if1.false, sym c.before.before.before.before.before.fields-ok.ensures ∙ not-false _ c.before.before.before.before.if2.false, sym c.before.before.before.in-store.ensures ∙ not-false _ c.before.before.if3.false, sym c.before.overlaps-run.ensures ∙ c.if4.false)
 
-pub refusal-among-spec : {M : Type 1} → statement M
-refusal-among-spec =
+pub refusal-among_spec : {M : Type 1} → statement M
+refusal-among_spec =
     tie.close
     (tie.spec
     returns

@@ -5,5 +5,5 @@ use Rattle.table.proofs.with_parameters.Tie as tie
 returns : tie.Need-returns
 returns c = rw c.with-bytes.ensures
 
-pub with-parameters-spec : {M : Type 1} → statement M
-with-parameters-spec = tie.close (tie.spec (search rules) (search rules) returns)
+pub with_parameters_spec : {M : Type 1} → statement M
+with_parameters_spec = tie.close (tie.spec (search rules) (search rules) returns)

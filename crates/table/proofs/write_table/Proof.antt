@@ -1,19 +1,19 @@
 use mathlib.Core.Path.{◌≡◌}
 use lib.ListN.{length}
-use Rattle.logic.proofs.LogicLaws.{length-mapped}
-use Rattle.table.proofs.TableLaws.{write-short, write_done, write-numbers}
+use Rattle.logic.proofs.LogicLaws.{length_mapped}
+use Rattle.table.proofs.TableLaws.{write_short, write_done, write-numbers}
 use borrow.Author.Rules.{rules}
 use Rattle.table.proofs.write_table.Statement.{statement}
 use Rattle.table.proofs.write_table.Tie as tie
 
 -- what the types say
 eight : (c : tie.Start) → length c.args.b.drives ≡ 8
-eight c = search (rules, length-mapped)
+eight c = search (rules, length_mapped)
 
 returns : tie.Need-returns
 returns c =
     let s = c.before.before.before.before in
-    let w = write-short s.args.b s.args.out.now _ _ (eight s) c.before.before.held.ensures c.before.records-length.ensures.0 c.if1.true in
+    let w = write_short s.args.b s.args.out.now _ _ (eight s) c.before.before.held.ensures c.before.records-length.ensures.0 c.if1.true in
     (w.0, w.1, write-numbers _ _ w.0)
 
 returns-2 : tie.Need-returns-2
@@ -25,8 +25,8 @@ returns-2 c =
     put.put-records.ensures c.before.before.put-end.ensures in
     (w.0, w.1, write-numbers _ _ w.0)
 
-pub write-table-spec : {M : Type 1} → statement M
-write-table-spec =
+pub write-table_spec : {M : Type 1} → statement M
+write-table_spec =
     tie.close
     (tie.spec
     (λ c κs. tt)

@@ -5,59 +5,59 @@ use borrow.Author.Rules.{rules}
 use Rattle.vectors.proofs.fill.Statement.{statement}
 use Rattle.vectors.proofs.fill.Tie as tie
 
-abbrev invariant-loop : tie.invariant-loop
-invariant-loop store₀ seed i₀ i-end store i = (i-end ≡ length store) × (length store ≡ length store₀)
+abbrev invariant_loop : tie.invariant_loop
+invariant_loop store₀ seed i₀ i-end store i = (i-end ≡ length store) × (length store ≡ length store₀)
 
-abbrev decreases-loop : tie.decreases-loop
-decreases-loop store₀ seed i₀ i-end store i = i-end - i
+abbrev decreases_loop : tie.decreases_loop
+decreases_loop store₀ seed i₀ i-end store i = i-end - i
 
-loop-holds : tie.Need-loop-init invariant-loop decreases-loop
-loop-holds c = search rules
+loop_holds : tie.Need-loop-init invariant_loop decreases_loop
+loop_holds c = search rules
 
-mul-store : tie.Need-overflow-mul-store invariant-loop decreases-loop
+mul-store : tie.Need-overflow-mul-store invariant_loop decreases_loop
 mul-store c = search rules
 
-add-store : tie.Need-overflow-add-store invariant-loop decreases-loop
+add-store : tie.Need-overflow-add-store invariant_loop decreases_loop
 add-store c = search rules
 
-add-store-2 : tie.Need-overflow-add-store-2 invariant-loop decreases-loop
-add-store-2 c = search rules
+add-store_2 : tie.Need-overflow-add-store-2 invariant_loop decreases_loop
+add-store_2 c = search rules
 
-cast-store : tie.Need-overflow-cast-store invariant-loop decreases-loop
-cast-store c = search rules
+cast_store : tie.Need-overflow-cast-store invariant_loop decreases_loop
+cast_store c = search rules
 
-slice-write-store : tie.Need-slice-write-store invariant-loop decreases-loop
-slice-write-store c = search rules
+slice_write_store : tie.Need-slice-write-store invariant_loop decreases_loop
+slice_write_store c = search rules
 
-add-i : tie.Need-overflow-add-i invariant-loop decreases-loop
-add-i c = search rules
+add_i : tie.Need-overflow-add-i invariant_loop decreases_loop
+add_i c = search rules
 
-loop-less : tie.Need-loop-smaller invariant-loop decreases-loop
-loop-less c = search rules
+loop_less : tie.Need-loop-smaller invariant_loop decreases_loop
+loop_less c = search rules
 
-loop-again : tie.Need-loop-preserved invariant-loop decreases-loop
-loop-again c = search rules
+loop_again : tie.Need-loop-preserved invariant_loop decreases_loop
+loop_again c = search rules
 
-same_length : tie.Need-same-length invariant-loop decreases-loop
+same_length : tie.Need-same-length invariant_loop decreases_loop
 same_length c = search rules
 
-returns : tie.Need-returns invariant-loop decreases-loop
+returns : tie.Need-returns invariant_loop decreases_loop
 returns c = search rules
 
 pub fill_spec : {M : Type 1} → statement M
 fill_spec =
     tie.close
     (tie.spec
-    invariant-loop
-    decreases-loop
-    loop-holds
+    invariant_loop
+    decreases_loop
+    loop_holds
     mul-store
     add-store
-    add-store-2
-    cast-store
-    slice-write-store
-    add-i
-    loop-less
-    loop-again
+    add-store_2
+    cast_store
+    slice_write_store
+    add_i
+    loop_less
+    loop_again
     same_length
     returns)

@@ -9,8 +9,8 @@ returns : tie.Need-returns
 unfolding le
 returns c = simp add-zero (omega arith)
 
-pub get16-spec : {M : Type 1} → statement M
-get16-spec =
+pub get16_spec : {M : Type 1} → statement M
+get16_spec =
     tie.close
     (tie.spec
     (search rules)

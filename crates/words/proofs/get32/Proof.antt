@@ -9,8 +9,8 @@ returns c =
     let a = c.before.before.before.args in
     omega (arith, le_split 2 2 a.s.now a.at)
 
-pub get32-spec : {M : Type 1} → statement M
-get32-spec =
+pub get32_spec : {M : Type 1} → statement M
+get32_spec =
     tie.close
     (tie.spec
     (search rules)

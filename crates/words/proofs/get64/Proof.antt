@@ -9,8 +9,8 @@ returns c =
     let a = c.before.before.before.args in
     omega (arith, le_split 4 4 a.s.now a.at)
 
-pub get64-spec : {M : Type 1} → statement M
-get64-spec =
+pub get64_spec : {M : Type 1} → statement M
+get64_spec =
     tie.close
     (tie.spec
     (search rules)

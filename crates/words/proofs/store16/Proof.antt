@@ -8,8 +8,8 @@ use borrow.Author.Rules.{rules}
 use Rattle.words.proofs.store16.Statement.{statement}
 use Rattle.words.proofs.store16.Tie as tie
 
-slice-write-out-2 : tie.Need-slice-write-out-2
-slice-write-out-2 c = simp length-set (omega arith)
+slice_write_out_2 : tie.Need-slice-write-out-2
+slice_write_out_2 c = simp length-set (omega arith)
 
 returns : tie.Need-returns
 unfolding le_bytes
@@ -17,7 +17,7 @@ returns c =
     let e : c.args.v / 256 % 256 ≡ c.args.v / 256 = omega arith in
     simp (e, add-one)
 
-pub store16-spec : {M : Type 1} → statement M
-store16-spec =
+pub store16_spec : {M : Type 1} → statement M
+store16_spec =
     tie.close
-    (tie.spec (search rules) (search rules) (search rules) (search rules) slice-write-out-2 (search rules) returns)
+    (tie.spec (search rules) (search rules) (search rules) (search rules) slice_write_out_2 (search rules) returns)

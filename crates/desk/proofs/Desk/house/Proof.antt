@@ -5,5 +5,5 @@ use Rattle.desk.proofs.Desk.house.Tie as tie
 returns : tie.Need-returns
 returns c = rw (c.house-number.ensures, c.before.accept.ensures, c.before.before.and.ensures)
 
-pub house-spec : {M : Type 1} → statement M
-house-spec = tie.close (tie.spec (search rules) (search rules) (search rules) returns)
+pub house_spec : {M : Type 1} → statement M
+house_spec = tie.close (tie.spec (search rules) (search rules) (search rules) returns)

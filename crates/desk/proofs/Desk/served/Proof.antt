@@ -6,5 +6,5 @@ use Rattle.desk.proofs.Desk.served.Tie as tie
 returns : tie.Need-returns
 returns c = (rw c.with-stage.ensures, refl)
 
-pub served-spec : {M : Type 1} → statement M
-served-spec = tie.close (tie.spec (search rules) (search rules) returns)
+pub served_spec : {M : Type 1} → statement M
+served_spec = tie.close (tie.spec (search rules) (search rules) returns)

@@ -43,7 +43,7 @@ use denote.Triple.Table.{entered, cited}
 use denote.Triple.Walked.{says, Stays, stay_ref, gave_slice, walk_of, AllGo, Goes-ref, Goes-gave_slice, Walks, ends_at, walked, walk_Meets}
 use denote.Signature.{plain}
 use Rattle.desk.specs.Calls.{turn_of, done as gives}
-use Rattle.desk.specs.Numbers.{turnNumbers, turnGiven}
+use Rattle.desk.specs.Numbers.{turn_numbers, turn_given}
 use Rattle.desk.specs.declared.Desk.{Desk}
 use Rattle.desk.specs.declared.Turned.{Turned}
 use Rattle.desk.specs.declared.TurnAnswer.{TurnAnswer}
@@ -54,9 +54,9 @@ use Rattle.desk.proofs.Turned.TheLaws as U'
 use Rattle.desk.specs.contracts.TurnAnswer as N
 use Rattle.desk.proofs.TurnAnswer.TheLaws as N'
 use Rattle.desk.specs.contracts.Desk.turn as turn
-use Rattle.desk.proofs.Desk.turn.Symbol as turn-def
+use Rattle.desk.proofs.Desk.turn.Symbol as turn_def
 use Rattle.desk.proofs.Desk.turn.Symbol.{name as #desk·Desk·turn}
-use Rattle.desk.proofs.Desk.turn.Met as turn-thm
+use Rattle.desk.proofs.Desk.turn.Met as turn_thm
 use Rattle.desk.specs.contracts.Desk.turn_lent.Key.{name as #desk·Desk·turn-lent}
 use Rattle.desk.specs.contracts.Desk.turn_lent as lent
 use Rattle.desk.proofs.Desk.turn_lent.Statement as stated
@@ -119,15 +119,15 @@ module _ {M : Type 1} {𝓤 : Ura M} (𝓛 : Logic 𝓤) (at_mem : Memory → SP
   abbrev passed : List Val × (List Val × (List Val × Unit {0}))
   passed = (mach h ∷ [], (s₁ ∷ [], (s₂ ∷ [], tt)))
 
-  abbrev to-turn : (Turn 𝓛 at_mem run).Ghost
-  to-turn = (((κ₁, (κ₂, tt)), (q₁, (q₂, tt)), tt, (h, (x₁, (x₂, tt))), passed), tt)
+  abbrev to_turn : (Turn 𝓛 at_mem run).Ghost
+  to_turn = (((κ₁, (κ₂, tt)), (q₁, (q₂, tt)), tt, (h, (x₁, (x₂, tt))), passed), tt)
 
-  asked : ent 𝓤 (on_entry 𝓛 turn.signature (κ₁, (κ₂, tt)) (q₁, (q₂, tt)) (h, (x₁, (x₂, tt))) passed) ((Turn 𝓛 at_mem run).pre to-turn)
+  asked : ent 𝓤 (on_entry 𝓛 turn.signature (κ₁, (κ₂, tt)) (q₁, (q₂, tt)) (h, (x₁, (x₂, tt))) passed) ((Turn 𝓛 at_mem run).pre to_turn)
   asked = qed 𝓛 ((‵ (flft κ₁ q₁) ⊛ ‵ (flft κ₂ q₂) ⊛ ‵ ftrue) ∷ ‵ (owns (R ∷ MutSlice (named 0) κ₁ u8 ∷ MutSlice (named 1) κ₂ u8 ∷ []) (h, (x₁, (x₂, tt))) passed) ∷ []) ∵ join ! $ frame ! $ done !
 
   -- what `turn` ensures, of its result and of the two last lists
   abbrev Said : Turned → List ℕ → List ℕ → Type 0
-  Said r zs us = (gives r.desk r.answer zs us ≡ turn_of h ys ts) × (turnNumbers r.answer ≡ turnGiven h ys ts)
+  Said r zs us = (gives r.desk r.answer zs us ≡ turn_of h ys ts) × (turn_numbers r.answer ≡ turn_given h ys ts)
 
   exits : (r : Turned) (zs us : List ℕ) → Said r zs us → length zs ≡ length ys → length us ≡ length ts → Is N.the_row r.answer (answered r.answer ∷ [])
       → ent 𝓤 (⋆ 𝓛 (‵ (fobs γ (R.coded.code r.desk)) ∷ ‵ (fbor κ (Body (mem R) b o γ)) ∷ ‵ (flft κ q) ∷ (‵ (flft κ₁ q₁) ⊛ ‵ (flft κ₂ q₂) ⊛ ‵ ftrue) ∷ ‵ (finally u8 γ₁ zs) ∷ ‵ (finally u8 γ₂ us) ∷ [])) (Post (answered r.answer))
@@ -165,9 +165,9 @@ module _ {M : Type 1} {𝓤 : Ura M} (𝓛 : Logic 𝓤) (at_mem : Memory → SP
         assigns ! (agg ! (and_then ! (load ! (from ! (stop !)) (look ! 11 refl)) (and_then ! (load ! (from ! (fld ! refl (stop !))) (look_in ! 21 (sub ! 1 refl (whole !)))) (no_more !)))) (from ! (stop !)) (init ! 9 refl (tt, (tt, (record { fits = room₂.0 }, tt)))) $
         -- what the callee asks is put together: what the desk, arena and store own, in that order, and then the two tokens before it
         move ! (6 ∷ 7 ∷ []) $ fjoin ! $ move ! (7 ∷ 0 ∷ []) $ fjoin ! $ move ! (2 ∷ 0 ∷ []) $ fjoin ! $ move ! (5 ∷ 0 ∷ []) $
-        use2 𝓛 (raw ((Turn 𝓛 at_mem run).pre to-turn)) asked $
+        use2 𝓛 (raw ((Turn 𝓛 at_mem run).pre to_turn)) asked $
         -- [what turn asks; the desk's cell; the open borrow; obs; auth; _9; …; _8; …; _7; …; _6; …; _5; …; _4; …; …]
-        calls_at ! fm (Turn 𝓛 at_mem run) known to-turn (and_then ! (load ! (from ! (stop !)) (look ! 15 refl)) (and_then ! (load ! (from ! (stop !)) (look ! 9 refl)) (and_then ! (load ! (from ! (stop !)) (look ! 5 refl)) (no_more !)))) (λ w.
+        calls_at ! fm (Turn 𝓛 at_mem run) known to_turn (and_then ! (load ! (from ! (stop !)) (look ! 15 refl)) (and_then ! (load ! (from ! (stop !)) (look ! 9 refl)) (and_then ! (load ! (from ! (stop !)) (look ! 5 refl)) (no_more !)))) (λ w.
         use1 𝓛 (later (some (λ (r : Turned). ((‵ (flft κ₁ q₁) ⊛ ‵ (flft κ₂ q₂) ⊛ ‵ ftrue) ⊛ ‵ ((U.the_row).own_val r (w ∷ []))) ⊛ raw (ensured 𝓛 turn.ended (turn.clauses 𝓛 at_mem run) (κ₁, (κ₂, tt)) (h, (x₁, (x₂, tt))) tt r)))) (id⊢ 𝓤 _) $ await ! tt $ pick ! (λ r.
         -- what `turn` ensures, at some last lists
         split ! $ move ! (1 ∷ []) $ use1 𝓛 (some (λ (zs : Unit {0} × (List ℕ × (List ℕ × Unit {0}))). ‵ (lasts turn.ended (κ₁, (κ₂, tt)) (h, (x₁, (x₂, tt))) zs) ⊛ raw (fact 𝓤 (Said r zs.1.0 zs.1.1.0)))) (id⊢ 𝓤 _) $ pick ! (λ zs.
@@ -189,8 +189,8 @@ module _ {M : Type 1} {𝓤 : Ura M} (𝓛 : Logic 𝓤) (at_mem : Memory → SP
 module _ {M : Type 1} {𝓤 : Ura M} (𝓛 : Logic 𝓤) (mem : Memory → SProp 𝓤) (run : Routine → Fun 𝓤) where
   open 𝓛 use {H}
 
-  lent-walks : (C : Calls 𝓤 H) (Λ : Loops 𝓤 H) → FmC 𝓤 H 𝓛.laws C → Triple 𝓤 (C #desk·Desk·turn) (Turn 𝓛 mem run) → Walks 𝓛 lent.ended stayed (WpFn 𝓤 H C Λ code.function) (lent.clauses 𝓛 mem run)
-  lent-walks C Λ fm known = walked 𝓛 lent.ended stayed (lent.clauses 𝓛 mem run) (WpFn 𝓤 H C Λ code.function) (λ κs. (mut_vals, (mut_slice_vals, (mut_slice_vals, tt))))
+  lent_walks : (C : Calls 𝓤 H) (Λ : Loops 𝓤 H) → FmC 𝓤 H 𝓛.laws C → Triple 𝓤 (C #desk·Desk·turn) (Turn 𝓛 mem run) → Walks 𝓛 lent.ended stayed (WpFn 𝓤 H C Λ code.function) (lent.clauses 𝓛 mem run)
+  lent_walks C Λ fm known = walked 𝓛 lent.ended stayed (lent.clauses 𝓛 mem run) (WpFn 𝓤 H C Λ code.function) (λ κs. (mut_vals, (mut_slice_vals, (mut_slice_vals, tt))))
       (λ κs. (mut_Tells (named 0) κs.0 D.the_row, (mut_slice_Tells (named 1) κs.1.0 u8, (mut_slice_Tells (named 2) κs.1.1.0 u8, tt))))
       (λ κs qs bounds a g are. via 𝓤 _ (fst∗ 𝓤 _ (emp 𝓤)) (walk 𝓛 mem run κs.0 κs.1.0 κs.1.1.0 qs.0 qs.1.0 qs.1.1.0 a.0.ref_ptr.0 a.0.ref_ptr.1 a.0.ghost_name a.0.now
       a.1.0.ref_ptr.0 a.1.0.ref_ptr.1 a.1.0.ghost_name a.1.0.now a.1.1.0.ref_ptr.0 a.1.1.0.ref_ptr.1 a.1.1.0.ghost_name a.1.1.0.now C Λ fm known are.1.0.0.1 are.1.1.0.0.1))
@@ -198,16 +198,16 @@ module _ {M : Type 1} {𝓤 : Ura M} (𝓛 : Logic 𝓤) (mem : Memory → SProp
   goes : AllGo 𝓛 3 (lent.signature).params (lent.ended).kept stayed
   goes = (Goes-ref 𝓛 3 0 tt (plain (λ _. D.the_row)), (Goes-gave_slice 𝓛 3 1 tt (plain (λ _. u8)), (Goes-gave_slice 𝓛 3 2 tt (plain (λ _. u8)), tt)))
 
-lent-meets : {M : Type 1} {𝓤 : Ura M} (𝓛 : Logic 𝓤) → (mem : Memory → SProp 𝓤) (run : Routine → Fun 𝓤) (𝓣 : Tables 𝓤 𝓛.H) → Triple 𝓤 (𝓣.C #desk·Desk·turn) (Turn 𝓛 mem run)
+lent_meets : {M : Type 1} {𝓤 : Ura M} (𝓛 : Logic 𝓤) → (mem : Memory → SProp 𝓤) (run : Routine → Fun 𝓤) (𝓣 : Tables 𝓤 𝓛.H) → Triple 𝓤 (𝓣.C #desk·Desk·turn) (Turn 𝓛 mem run)
     → Meets 𝓛 lent.signature (WpFn 𝓤 𝓛.H 𝓣.C 𝓣.Λ code.function) (lent.spec 𝓛 mem run)
-lent-meets {𝓤 = 𝓤} 𝓛 mem run 𝓣 known =
+lent_meets {𝓤 = 𝓤} 𝓛 mem run 𝓣 known =
     walk_Meets 𝓛 lent.ended stayed (goes 𝓛 mem run) (lent.clauses 𝓛 mem run) (WpFn 𝓤 𝓛.H 𝓣.C 𝓣.Λ code.function) (WpFn-mono 𝓤 𝓛.H 𝓛.laws 𝓣 code.function)
-    (lent-walks 𝓛 mem run 𝓣.C 𝓣.Λ (fm_of 𝓤 𝓛.H 𝓛.laws 𝓣) known)
+    (lent_walks 𝓛 mem run 𝓣.C 𝓣.Λ (fm_of 𝓤 𝓛.H 𝓛.laws 𝓣) known)
 
-pub turn-lent-spec : {M : Type 1} → stated.statement M
+pub turn_lent_spec : {M : Type 1} → stated.statement M
 unfolding code.routine tables_of
-turn-lent-spec 𝓤 𝓛 𝓜 𝓡 =
+turn_lent_spec 𝓤 𝓛 𝓜 𝓡 =
     entered 𝓤 𝓛.H (triple_of 𝓛 lent.signature (lent.spec 𝓛 𝓜.mem 𝓡.run))
     (tables 𝓤 𝓛.H 𝓜 𝓡 code.env).C (tables 𝓤 𝓛.H 𝓜 𝓡 code.env).Λ #desk·Desk·turn-lent code.function (code.unfolded 𝓤 𝓛.H 𝓜 𝓡)
-    (lent-meets 𝓛 𝓜.mem 𝓡.run (tables_of 𝓤 𝓛.H 𝓜 (tables 𝓤 𝓛.H 𝓜 𝓡 code.env))
-    (cited 𝓤 𝓛.H (Turn 𝓛 𝓜.mem 𝓡.run) 𝓜 𝓡 code.env #desk·Desk·turn turn-def.routine code.calls-desk::Desk::turn (turn-thm.met 𝓤 𝓛 𝓜 𝓡)))
+    (lent_meets 𝓛 𝓜.mem 𝓡.run (tables_of 𝓤 𝓛.H 𝓜 (tables 𝓤 𝓛.H 𝓜 𝓡 code.env))
+    (cited 𝓤 𝓛.H (Turn 𝓛 𝓜.mem 𝓡.run) 𝓜 𝓡 code.env #desk·Desk·turn turn_def.routine code.calls-desk::Desk::turn (turn_thm.met 𝓤 𝓛 𝓜 𝓡)))

@@ -9,11 +9,11 @@ use Rattle.desk.specs.declared.Request.{Request}
 use Rattle.desk.specs.declared.Stage.TheVariants.{Waiting}
 use Rattle.desk.specs.declared.Desk.{Desk}
 use Rattle.desk.specs.declared.WithdrawAnswer.TheVariants.{Given as WithdrawGiven, Refused as WithdrawRefused}
-use Rattle.desk.specs.Parts.{stageAt}
+use Rattle.desk.specs.Parts.{stage_at}
 use Rattle.desk.specs.Acceptable.{accept}
-use Rattle.desk.specs.Calls.{isLent, done, withdrawStage, withdrawOf}
-use Rattle.desk.proofs.CallsLaws.{house-refused, Passed, house-passed, withdraw-other, withdraw-waiting, Report, report-facts}
-use Rattle.desk.proofs.NumbersLaws.{withdraw-answered}
+use Rattle.desk.specs.Calls.{is_lent, done, withdraw_stage, withdraw_of}
+use Rattle.desk.proofs.CallsLaws.{house-refused, Passed, house_passed, withdraw-other, withdraw_waiting, Report, report_facts}
+use Rattle.desk.proofs.NumbersLaws.{withdraw_answered}
 use borrow.Author.Rules.{rules}
 use Rattle.desk.proofs.Desk.withdraw.Statement.{statement}
 use Rattle.desk.proofs.Desk.withdraw.Tie as tie
@@ -30,8 +30,8 @@ store c = c.before.before.before.args.store.now
 abbrev guest : tie.After-house → ℕ
 guest c = c.before.before.before.args.guest
 
-passed : (c : tie.Else1) → Passed (accept (desk c.before)) (isLent (desk c.before) (arena c.before) (store c.before)) (ltb (guest c.before) 8)
-passed c = house-passed _ _ _ c.before.house.ensures c.if1.false
+passed : (c : tie.Else1) → Passed (accept (desk c.before)) (is_lent (desk c.before) (arena c.before) (store c.before)) (ltb (guest c.before) 8)
+passed c = house_passed _ _ _ c.before.house.ensures c.if1.false
 
 below : (c : tie.Else1) → guest c.before < 8
 below c = ltb-true (guest c.before) 8 (passed c).guest
@@ -43,56 +43,56 @@ on c = c.before.before.before.before.before
 abbrev asked : tie.After-known-told → Request
 asked c = c.before.stage.given.0.0
 
-row : (c : tie.After-known-told) → stageAt (desk (on c).before) (guest (on c).before) ≡ Waiting (asked c)
+row : (c : tie.After-known-told) → stage_at (desk (on c).before) (guest (on c).before) ≡ Waiting (asked c)
 row c = sym c.before.before.before.stage-in.ensures ∙ c.before.stage.given.1
 
 facts : (c : tie.After-known-told) → Report (asked c) (guest (on c).before) (length (arena (on c).before))
-facts c = let h = (on c).before in report-facts (desk h) (arena h) (store h) (guest h) (asked c) (passed (on c)).acceptable (passed (on c)).lent (below (on c)) (row c)
+facts c = let h = (on c).before in report_facts (desk h) (arena h) (store h) (guest h) (asked c) (passed (on c)).acceptable (passed (on c)).lent (below (on c)) (row c)
 
 returns : tie.Need-returns
-unfolding withdrawOf
+unfolding withdraw_of
 returns c =
     let h = c.before in
-    withdraw-answered (desk h) (guest h) (arena h) (store h)
-    (house-refused _ _ _ (λ n. done (desk h) (WithdrawRefused n) (arena h) (store h)) (withdrawStage (desk h) (guest h) (stageAt (desk h) (guest h)) (arena h) (store h)) h.house.ensures c.if1.true)
+    withdraw_answered (desk h) (guest h) (arena h) (store h)
+    (house-refused _ _ _ (λ n. done (desk h) (WithdrawRefused n) (arena h) (store h)) (withdraw_stage (desk h) (guest h) (stage_at (desk h) (guest h)) (arena h) (store h)) h.house.ensures c.if1.true)
 
-stage-in-requires : tie.Need-stage-in-requires
-stage-in-requires c κs = below c.before
+stage_in_requires : tie.Need-stage-in-requires
+stage_in_requires c κs = below c.before
 
 returns-2 : tie.Need-returns-2
 returns-2 c =
     let t = c.before.before.before in
     let h = t.before in
-    withdraw-answered (desk h) (guest h) (arena h) (store h)
+    withdraw_answered (desk h) (guest h) (arena h) (store h)
     (withdraw-other (desk h) (guest h) (arena h) (store h) (passed t) (rw c.before.stage-in.ensures at c.match.keys2))
 
-report-moved-requires : tie.Need-report-moved-requires
-report-moved-requires c κs = let f = facts c.before in (f.guest, f.packet, omega (arith, f.moved))
+report_moved_requires : tie.Need-report-moved-requires
+report_moved_requires c κs = let f = facts c.before in (f.guest, f.packet, omega (arith, f.moved))
 
-with-stage-requires : tie.Need-with-stage-requires
-with-stage-requires c κs = (facts c.before.before.before.before).guest
+with_stage_requires : tie.Need-with-stage-requires
+with_stage_requires c κs = (facts c.before.before.before.before).guest
 
-given-back-requires : tie.Need-given-back-requires
-given-back-requires c κs = (facts c.before.before.before.before.before).moved
+given_back_requires : tie.Need-given-back-requires
+given_back_requires c κs = (facts c.before.before.before.before.before).moved
 
 returns-3 : tie.Need-returns-3
 returns-3 c =
     let w = c.before.before.before.before.before.before in
     let h = (on w).before in
-    withdraw-answered (desk h) (guest h) (arena h) (store h)
-    (withdraw-waiting (desk h) (guest h) (arena h) (store h) (passed (on w)) (asked w) (row w) c.before.with-stage.ensures (ap WithdrawGiven c.given_back.ensures) c.before.before.before.before.report-moved.ensures)
+    withdraw_answered (desk h) (guest h) (arena h) (store h)
+    (withdraw_waiting (desk h) (guest h) (arena h) (store h) (passed (on w)) (asked w) (row w) c.before.with-stage.ensures (ap WithdrawGiven c.given_back.ensures) c.before.before.before.before.report-moved.ensures)
 
-pub withdraw-spec : {M : Type 1} → statement M
-withdraw-spec =
+pub withdraw_spec : {M : Type 1} → statement M
+withdraw_spec =
     tie.close
     (tie.spec
     (search rules)
     returns
-    stage-in-requires
+    stage_in_requires
     (search rules)
     returns-2
-    report-moved-requires
-    with-stage-requires
-    given-back-requires
+    report_moved_requires
+    with_stage_requires
+    given_back_requires
     (search rules)
     returns-3)

@@ -15,8 +15,8 @@ returns-3 c = answer-accepted c.before.before.before.args.self c.enum-told3.give
 returns-4 : tie.Need-returns-4
 returns-4 c = let k = c.before.before in answer-refused k.before.before.before.args.self k.course.given.1 c.refused-at.ensures
 
-pub answer-spec : {M : Type 1} → statement M
-answer-spec =
+pub answer_spec : {M : Type 1} → statement M
+answer_spec =
     tie.close
     (tie.spec
     (search rules)

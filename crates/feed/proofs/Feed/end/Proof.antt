@@ -15,8 +15,8 @@ returns-3 c = end-accepted c.before.before.before.args.self c.enum-told3.given.1
 returns-4 : tie.Need-returns-4
 returns-4 c = end_refused c.before.before.before.args.self c.enum-told4.given.1
 
-pub end-spec : {M : Type 1} → statement M
-end-spec =
+pub end_spec : {M : Type 1} → statement M
+end_spec =
     tie.close
     (tie.spec
     (search rules)

@@ -51,9 +51,9 @@ use Rattle.table.proofs.Reader.TheLaws as T'
 use Rattle.table.specs.contracts.Cursor as K
 use Rattle.table.proofs.Cursor.TheLaws as K'
 use Rattle.table.specs.contracts.advance as advance
-use Rattle.table.proofs.advance.Symbol as advance-def
+use Rattle.table.proofs.advance.Symbol as advance_def
 use Rattle.table.proofs.advance.Symbol.{name as #table·advance}
-use Rattle.table.proofs.advance.Met as advance-thm
+use Rattle.table.proofs.advance.Met as advance_thm
 use Rattle.table.specs.contracts.Reader.step.Key.{name as #table·Reader·step}
 use Rattle.table.specs.contracts.Reader.step as step
 use Rattle.table.proofs.Reader.step.Statement as stated
@@ -182,23 +182,23 @@ module _ {M : Type 1} {𝓤 : Ura M} (𝓛 : Logic 𝓤) (mem : Memory → SProp
 module _ {M : Type 1} {𝓤 : Ura M} (𝓛 : Logic 𝓤) (mem : Memory → SProp 𝓤) (run : Routine → Fun 𝓤) where
   open 𝓛 use {H}
 
-  step-walks : (C : Calls 𝓤 H) (Λ : Loops 𝓤 H) → FmC 𝓤 H 𝓛.laws C → Triple 𝓤 (C #table·advance) (Advance 𝓛 mem run)
+  step_walks : (C : Calls 𝓤 H) (Λ : Loops 𝓤 H) → FmC 𝓤 H 𝓛.laws C → Triple 𝓤 (C #table·advance) (Advance 𝓛 mem run)
       → Walks 𝓛 step.ended stayed (WpFn 𝓤 H C Λ code.function) (step.clauses 𝓛 mem run)
-  step-walks C Λ fm known = walked 𝓛 step.ended stayed (step.clauses 𝓛 mem run) (WpFn 𝓤 H C Λ code.function)
+  step_walks C Λ fm known = walked 𝓛 step.ended stayed (step.clauses 𝓛 mem run) (WpFn 𝓤 H C Λ code.function)
       (λ κs. (LL.vals (T.the_type (named_lft 1 0 tt κs)) (T'.the_laws (named_lft 1 0 tt κs)), (uint_vals w64, tt))) (λ κs. (LL.tells (T.the_type (named_lft 1 0 tt κs)) (T'.the_laws (named_lft 1 0 tt κs)), (uint_Tells w64, tt)))
       (λ κs qs bounds a g are. via 𝓤 _ (fst∗ 𝓤 _ (emp 𝓤)) (walk 𝓛 mem run κs.0 qs.0 a.0 a.1.0 are.0 are.1.0.1 C Λ fm known ((LL.lawful (T.the_type (named_lft 1 0 tt κs)) (T'.the_laws (named_lft 1 0 tt κs)) 𝓛).typed a.0 _ are.0).0))
 
-step-meets : {M : Type 1} {𝓤 : Ura M} (𝓛 : Logic 𝓤) (mem : Memory → SProp 𝓤) (run : Routine → Fun 𝓤) (𝓣 : Tables 𝓤 𝓛.H)
+step_meets : {M : Type 1} {𝓤 : Ura M} (𝓛 : Logic 𝓤) (mem : Memory → SProp 𝓤) (run : Routine → Fun 𝓤) (𝓣 : Tables 𝓤 𝓛.H)
     → Triple 𝓤 (𝓣.C #table·advance) (Advance 𝓛 mem run)
     → Meets 𝓛 step.signature (WpFn 𝓤 𝓛.H 𝓣.C 𝓣.Λ code.function) (step.spec 𝓛 mem run)
-step-meets {𝓤 = 𝓤} 𝓛 mem run 𝓣 known =
+step_meets {𝓤 = 𝓤} 𝓛 mem run 𝓣 known =
     walk_Meets 𝓛 step.ended stayed (Goes-none 𝓛 1 B yes (λ κs x f. refl), (Goes-none 𝓛 1 (λ _. u64) yes (λ κs x f. refl), tt)) (step.clauses 𝓛 mem run) (WpFn 𝓤 𝓛.H 𝓣.C 𝓣.Λ code.function) (WpFn-mono 𝓤 𝓛.H 𝓛.laws 𝓣 code.function)
-    (step-walks 𝓛 mem run 𝓣.C 𝓣.Λ (fm_of 𝓤 𝓛.H 𝓛.laws 𝓣) known)
+    (step_walks 𝓛 mem run 𝓣.C 𝓣.Λ (fm_of 𝓤 𝓛.H 𝓛.laws 𝓣) known)
 
 pub step_spec : {M : Type 1} → stated.statement M
 unfolding code.routine tables_of
 step_spec 𝓤 𝓛 𝓜 𝓡 =
     entered 𝓤 𝓛.H (triple_of 𝓛 step.signature (step.spec 𝓛 𝓜.mem 𝓡.run))
     (tables 𝓤 𝓛.H 𝓜 𝓡 code.env).C (tables 𝓤 𝓛.H 𝓜 𝓡 code.env).Λ #table·Reader·step code.function (code.unfolded 𝓤 𝓛.H 𝓜 𝓡)
-    (step-meets 𝓛 𝓜.mem 𝓡.run (tables_of 𝓤 𝓛.H 𝓜 (tables 𝓤 𝓛.H 𝓜 𝓡 code.env))
-    (cited 𝓤 𝓛.H (Advance 𝓛 𝓜.mem 𝓡.run) 𝓜 𝓡 code.env #table·advance advance-def.routine code.calls-table::advance (advance-thm.met 𝓤 𝓛 𝓜 𝓡)))
+    (step_meets 𝓛 𝓜.mem 𝓡.run (tables_of 𝓤 𝓛.H 𝓜 (tables 𝓤 𝓛.H 𝓜 𝓡 code.env))
+    (cited 𝓤 𝓛.H (Advance 𝓛 𝓜.mem 𝓡.run) 𝓜 𝓡 code.env #table·advance advance_def.routine code.calls-table::advance (advance_thm.met 𝓤 𝓛 𝓜 𝓡)))

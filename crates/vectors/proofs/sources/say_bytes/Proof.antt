@@ -3,51 +3,51 @@ use Prim.Native.Nat.{◌≤◌, ◌-◌}
 use Rattle.vectors.proofs.sources.say_bytes.Statement.{statement}
 use Rattle.vectors.proofs.sources.say_bytes.Tie as tie
 
-abbrev invariant-loop : tie.invariant-loop
-invariant-loop out from to i₀ i = from ≤ i
+abbrev invariant_loop : tie.invariant_loop
+invariant_loop out from to i₀ i = from ≤ i
 
-abbrev decreases-loop : tie.decreases-loop
-decreases-loop out from to i₀ i = to - i
+abbrev decreases_loop : tie.decreases_loop
+decreases_loop out from to i₀ i = to - i
 
-returns : tie.Need-returns invariant-loop decreases-loop
+returns : tie.Need-returns invariant_loop decreases_loop
 returns c = search rules
 
-loop-holds : tie.Need-loop-init invariant-loop decreases-loop
-loop-holds c = search rules
+loop_holds : tie.Need-loop-init invariant_loop decreases_loop
+loop_holds c = search rules
 
-shared-slice-read-say-byte : tie.Need-shared-slice-read-say-byte invariant-loop decreases-loop
-shared-slice-read-say-byte c = search rules
+shared_slice_read_say_byte : tie.Need-shared-slice-read-say-byte invariant_loop decreases_loop
+shared_slice_read_say_byte c = search rules
 
-say-byte-requires : tie.Need-say-byte-requires invariant-loop decreases-loop
-say-byte-requires c κs = search rules
+say-byte_requires : tie.Need-say-byte-requires invariant_loop decreases_loop
+say-byte_requires c κs = search rules
 
-add-i : tie.Need-overflow-add-i invariant-loop decreases-loop
-add-i c = search rules
+add_i : tie.Need-overflow-add-i invariant_loop decreases_loop
+add_i c = search rules
 
-loop-less : tie.Need-loop-smaller invariant-loop decreases-loop
-loop-less c = search rules
+loop_less : tie.Need-loop-smaller invariant_loop decreases_loop
+loop_less c = search rules
 
-loop-again : tie.Need-loop-preserved invariant-loop decreases-loop
-loop-again c = search rules
+loop_again : tie.Need-loop-preserved invariant_loop decreases_loop
+loop_again c = search rules
 
-end-line-requires : tie.Need-end-line-requires invariant-loop decreases-loop
-end-line-requires c κs = search rules
+end-line_requires : tie.Need-end-line-requires invariant_loop decreases_loop
+end-line_requires c κs = search rules
 
-returns-2 : tie.Need-returns-2 invariant-loop decreases-loop
+returns-2 : tie.Need-returns-2 invariant_loop decreases_loop
 returns-2 c = search rules
 
-pub say-bytes-spec : {M : Type 1} → statement M
-say-bytes-spec =
+pub say-bytes_spec : {M : Type 1} → statement M
+say-bytes_spec =
     tie.close
     (tie.spec
-    invariant-loop
-    decreases-loop
+    invariant_loop
+    decreases_loop
     returns
-    loop-holds
-    shared-slice-read-say-byte
-    say-byte-requires
-    add-i
-    loop-less
-    loop-again
-    end-line-requires
+    loop_holds
+    shared_slice_read_say_byte
+    say-byte_requires
+    add_i
+    loop_less
+    loop_again
+    end-line_requires
     returns-2)
