@@ -1,0 +1,23 @@
+use borrow.Author.Rules.{rules}
+use native.Mathlib.Omega.{arith}
+use Prim.Native.Nat.{◌-◌}
+use mathlib.Core.Path.{◌≡◌, refl}
+use Rattle.desk.specs.Acceptable.{rows_ok}
+use Rattle.desk.proofs.AcceptableLaws.{rows_ok-more}
+use Rattle.desk.proofs.rows_ok.Goals as goal
+
+pub loop-i-init : goal.loop-i-init
+unfolding rows_ok
+loop-i-init c = (search rules, refl)
+
+pub loop-i-preserved : goal.loop-i-preserved
+loop-i-preserved c =
+    let h = c.before.before.before.before in
+    let a = h.args in
+    (search rules, rows_ok-more h.loop-i.i a.t1 a.b a.m h.loop-i.invariant.1 c.and-good.ensures c.stage_ok.ensures)
+
+pub returns : goal.returns
+returns c =
+    let h = c.before in
+    let e : h.loop-i.i ≡ 8 = omega arith in
+    rw (← e) h.loop-i.invariant.1

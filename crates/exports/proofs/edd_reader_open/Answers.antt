@@ -1,0 +1,15 @@
+use Rattle.reader.specs.Reader.{reader_size}
+use Rattle.exports.specs.Exports.{reader_open_call}
+use borrow.Author.Tests.{eq-eqb, ne_eqb}
+use Rattle.exports.proofs.edd_reader_open.Goals as goal
+
+pub returns-then-reader-ne-SIZE : goal.returns-then-reader-ne-SIZE
+unfolding reader_open_call
+returns-then-reader-ne-SIZE c = rw (ne_eqb _ reader_size c.if-reader-ne-SIZE.true)
+
+pub returns : goal.returns
+unfolding reader_open_call
+returns c =
+    let e = c.before.before in
+    let o = e.before.before in
+    rw (eq-eqb _ reader_size o.if-reader-ne-SIZE.false, e.encode.ensures, o.«open».ensures)

@@ -1,0 +1,6 @@
+use Rattle.image.specs.Image.{read_desk}
+use Rattle.image.proofs.is_lent.Goals as goal
+
+pub returns : goal.returns
+unfolding read_desk
+returns c = rw (c.and.ensures, c.get64-2.ensures, c.get64.ensures)

@@ -1,0 +1,32 @@
+use Rattle.image.proofs.Fill.{part-more, length-drive}
+use Rattle.image.specs.Image.{each, flat, drive_words, slot_at}
+use borrow.Author.Rules.{rules}
+use native.Mathlib.Omega.{arith}
+use lib.Seq.{sets, length-sets, take_all}
+use lib.ListN.{length}
+use mathlib.Core.Path.{◌≡◌, refl, ap, ◌∙◌}
+use Prim.Native.Nat.{◌-◌}
+use Rattle.image.proofs.put_drives.Goals as goal
+
+pub loop-k-init : goal.loop-k-init
+unfolding each
+loop-k-init c = (search rules, search rules, refl)
+
+pub loop-k-preserved : goal.loop-k-preserved
+loop-k-preserved c =
+    let h = c.before.before.before.before.before.before.before.before in
+    let a = h.args in
+    let l : length a.t2 ≡ 8 = search rules in
+    let e = c.put_words.ensures in (
+      search rules,
+      ap length e ∙ rw length-sets h.loop-k.invariant.1,
+      e ∙ rw (h.loop-k.invariant.2, c.drive_words-w.ensures)
+          (part-more drive_words 16 length-drive a.out.now (slot_at 0) (slot_at h.loop-k.k) a.t2 h.loop-k.k _ (omega arith) (omega arith)),
+    )
+
+pub returns : goal.returns
+returns c =
+    let h = c.before in
+    let a = h.args in
+    let l : length a.t2 ≡ 8 = search rules in
+    h.loop-k.invariant.2 ∙ ap (λ l. sets a.out.now (slot_at 0) (flat (each drive_words l))) (take_all h.loop-k.k a.t2 (omega arith))

@@ -1,0 +1,52 @@
+use Prim.Native.Nat.{◌+◌, ◌-◌}
+use mathlib.Core.Path.{◌≡◌, refl, ap, ◌∙◌}
+use mathlib.Core.Bool.{true, false}
+use mathlib.Core.Logic.{⊎_elim}
+use native.Mathlib.Omega.{arith}
+use lib.ListN.{length, replicate}
+use lib.Seq.{length-sets}
+use Rattle.logic.proofs.LogicLaws.{length_mapped}
+use Rattle.table.specs.Table.{parameters_to}
+use Rattle.layout.specs.ParameterTable.{parameter_table}
+use Rattle.int13.specs.Placement.{tables_to}
+use Rattle.int13.proofs.PlacementLaws.{parameters_to-most, counted, length-tables, laid_none, laid_one}
+use borrow.Author.Rules.{rules}
+use Rattle.int13.proofs.tables_of.Goals as goal
+
+pub loop-i-init : goal.loop-i-init
+unfolding parameters_to tables_to
+loop-i-init c = (omega arith, refl, refl, refl)
+
+pub store-requires : goal.store-requires
+store-requires c =
+    let h = c.before.before.before.before.before.before.before in
+    omega (arith, parameters_to-most h.loop-i.i h.args.b)
+
+pub overflow_add-at : goal.overflow_add-at
+overflow_add-at c =
+    let h = c.before.before.before.before.before.before.before.before.before in
+    omega (arith, parameters_to-most h.loop-i.i h.args.b)
+
+pub loop-i-preserved : goal.loop-i-preserved
+loop-i-preserved c =
+    let h = c.before.before.before in
+    let b = h.args.b in
+    let i = h.loop-i.i in
+    let l : length b.parameters ≡ 112 = search (rules, length_mapped) in
+    ⊎_elim
+    (λ w.
+    let table = w.2.ensures ∙ ap parameter_table w.1.ensures in
+    let laid = w.7 ∙ laid_one (replicate 128 0) b i l (omega arith) w.0.taken h.loop-i.invariant.3 h.loop-i.invariant.1 table w.5.ensures in
+    (omega arith, omega (arith, counted b i true w.0.taken, w.8), ap length laid ∙ length-sets (replicate 128 0) 0 (tables_to (i + 1) b), laid))
+    (λ w.
+    let laid = laid_none (replicate 128 0) b i w.0.left (w.1 ∙ h.loop-i.invariant.3) in
+    (omega arith, omega (arith, counted b i false w.0.left, w.2), ap length laid ∙ length-sets (replicate 128 0) 0 (tables_to (i + 1) b), laid))
+    c.if-b-i.branch
+
+pub returns : goal.returns
+returns c =
+    let h = c.before in
+    let b = h.args.b in
+    let e : h.loop-i.i ≡ 8 = omega arith in
+    let l : length b.parameters ≡ 112 = search (rules, length_mapped) in
+    (rw e at h.loop-i.invariant.3, length-tables b l)

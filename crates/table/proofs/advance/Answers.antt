@@ -1,0 +1,7 @@
+use Rattle.table.proofs.TableLaws.{advanced-is}
+use Rattle.table.proofs.advance.Goals as goal
+
+pub returns : goal.returns
+returns c =
+    let a = c.args in
+    advanced-is a.t.now a.c a.store c.step_at-r.ensures c.place_after.ensures

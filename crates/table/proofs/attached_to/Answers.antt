@@ -1,0 +1,30 @@
+use borrow.Author.Rules.{rules}
+use native.Mathlib.Omega.{arith}
+use Prim.Native.Nat.{◌-◌}
+use mathlib.Core.Path.{◌≡◌, refl, ap, ◌∙◌}
+use mathlib.Core.Bool.{false}
+use lib.ListN.{get_or}
+use lib.Dec.{ltb}
+use Rattle.logic.specs.Logic.{pick, all_below}
+use Rattle.logic.proofs.LogicLaws.{all_more}
+use Rattle.table.specs.Table.{attached_at, attached_to}
+use Rattle.table.proofs.attached_to.Goals as goal
+
+pub loop-i-init : goal.loop-i-init
+loop-i-init c = (search rules, refl)
+
+pub loop-i-preserved : goal.loop-i-preserved
+loop-i-preserved c =
+    let h = c.before.before.before.before.before in
+    let b = h.args.b in (
+      search rules,
+      all_more h.loop-i.i (attached_at b) h.loop-i.invariant.1 c.and-good.ensures
+          (c.slot_ok.ensures ∙ ap (pick (get_or b.present h.loop-i.i false) (ltb h.loop-i.i b.count)) c.zeros_at-zero.ensures),
+    )
+
+pub returns : goal.returns
+unfolding attached_to
+returns c =
+    let h = c.before in
+    let e : h.loop-i.i ≡ 8 = omega arith in
+    h.loop-i.invariant.1 ∙ ap (λ n. all_below n (attached_at h.args.b)) e

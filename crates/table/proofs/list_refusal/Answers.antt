@@ -1,0 +1,12 @@
+use mathlib.Core.Path.{sym, ◌∙◌}
+use borrow.Author.Tests.{eq-eqb, ne_eqb}
+use Rattle.table.proofs.list_refusal.Goals as goal
+
+pub returns-then-count-ne0 : goal.returns-then-count-ne0
+returns-then-count-ne0 c = rw (ne_eqb c.args.count 0 c.if-count-ne0.true)
+
+pub returns-then-list_ok : goal.returns-then-list_ok
+returns-then-list_ok c = let s = c.before.before in rw (eq-eqb s.args.count 0 s.if-count-ne0.false, sym c.list_ok.ensures ∙ c.if-list_ok.true)
+
+pub returns : goal.returns
+returns c = let s = c.before.before in rw (eq-eqb s.args.count 0 s.if-count-ne0.false, sym c.list_ok.ensures ∙ c.if-list_ok.false)

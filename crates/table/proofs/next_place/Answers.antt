@@ -1,0 +1,12 @@
+use mathlib.Core.Path.{◌≡◌}
+use lib.ListN.{length}
+use Rattle.logic.proofs.LogicLaws.{length_mapped}
+use Rattle.table.proofs.TableLaws.{next-is}
+use borrow.Author.Rules.{rules}
+use Rattle.table.proofs.next_place.Goals as goal
+
+pub returns : goal.returns
+returns c =
+    let s = c.before.before in
+    let eight : length s.args.b.drives ≡ 8 = search (rules, length_mapped) in
+    next-is s.args.b _ eight c.held.ensures c.records_length.ensures.0 c.records_length.ensures.1

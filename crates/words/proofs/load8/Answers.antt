@@ -1,0 +1,10 @@
+use mathlib.Core.Path.{sym}
+use native.Mathlib.Nat.{add-zero}
+use native.Mathlib.Omega.{arith}
+use Rattle.words.proofs.WordsLaws.{part_list}
+use Rattle.words.proofs.load8.Goals as goal
+
+pub returns : goal.returns
+returns c =
+    let a = c.args in
+    rw add-zero at (sym (part_list 8 0 a.s.now a.at (omega arith)))
