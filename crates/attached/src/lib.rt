@@ -1,5 +1,7 @@
 // The records of a drive table that follow a drive's and belong to it: kind 3, the drive's bad blocks, and kind 4, bytes 0 to 13 of its device
 // parameter table.
+#![tactic(auto)]
+
 ghost use Rattle.std.specs.Prelude.{◌≡◌, true, ◌+◌, ◌*◌, ◌≤◌, ◌<◌, length};
 ghost use Rattle.std.proofs.lemmas.List.Edits.{sets};
 ghost use Rattle.words.specs.Words.{le};

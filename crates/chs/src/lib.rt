@@ -1,5 +1,7 @@
 // Addresses by cylinder, head and sector: to block numbers, back, and in the registers CX and DX.
 // Every answer is given for all input: what is outside the geometry or the table's limits is refused by its BIOS code.
+#![tactic(auto)]
+
 ghost use Rattle.std.specs.Prelude.{◌≡◌, true};
 ghost use Rattle.chs.specs.Chs.{unpack, address_in, is_valid, number, size, split, in_limits, block_of, address_of, block_numbers, address_numbers, block_given, address_given, pack};
 

@@ -1,4 +1,6 @@
 // The converter of a drive's record (document 02, 2026-06): from kind 1 to kind 2, whose device path has sixteen bytes, and back.
+#![tactic(auto)]
+
 ghost use Rattle.std.specs.Prelude.{◌≡◌, ◌≤◌, length};
 ghost use Rattle.std.proofs.lemmas.List.Edits.{sets};
 ghost use Rattle.convert.specs.Convert.{is_record, shared, up_ok, up_answer, up_out, down_ok, down_answer, down_out};

@@ -1,4 +1,6 @@
 // A drive of the table: its record, of 68 or 76 bytes, and the rules of document 01 that one drive obeys.
+#![tactic(auto)]
+
 ghost use Rattle.std.specs.Prelude.{◌≡◌, ◌+◌, ◌≤◌, ◌++◌, length, replicate};
 ghost use Rattle.std.proofs.lemmas.List.Edits.{sets};
 ghost use Rattle.chs.specs.Chs.{size};

@@ -2,6 +2,8 @@
 // table that it needs, does what the desk's method of the same name does, by the same functions, and writes the words that changed. The calls
 // of the reader of fragments read the whole reader from its block and lay it out again. The converters and the
 // calls on numbers are lent no block. Nothing is kept between calls.
+#![tactic(auto)]
+
 ghost use Rattle.std.specs.Prelude.{◌≡◌, List, [], ◌∷◌, ◌+◌, ◌<◌, ltb, eqb, length};
 ghost use Rattle.logic.specs.Logic.{pick, both};
 ghost use Rattle.memory.specs.Window.{guests};

@@ -1,5 +1,7 @@
 // The drive table read as it arrives: a reader that is fed fragments of any length, keeps at most one unfinished record between them, and is
 // told when the input ends.
+#![tactic(auto)]
+
 ghost use Rattle.std.specs.Prelude.{◌≡◌, ◌≤◌, ◌<◌, take};
 ghost use Rattle.table.specs.Table.{longest_record, step_at};
 ghost use Rattle.feed.specs.declared.Course.TheVariants.{Reading};

@@ -1,5 +1,7 @@
 // The desk block: a desk laid out in bytes that the host owns. A call judges the block on its words, reads the row or the drive that it
 // needs, and writes the words that it changed; no desk is made of it.
+#![tactic(auto)]
+
 ghost use Rattle.std.specs.Prelude.{◌≡◌, ◌+◌, ◌*◌, ◌≤◌, ◌<◌, length, get_or, ◌++◌, eqb};
 ghost use Rattle.std.proofs.lemmas.List.Edits.{sets};
 ghost use Rattle.logic.specs.Logic.{pick, both};

@@ -1,6 +1,8 @@
 // INT 13h: registers, requests, and the steps of each function, over one drive and one guest's window. A step function is told whether
 // DL names a drive (`known`) and is handed that drive; where it is not known `d` is any drive, and is not looked at. Where the guest can see
 // the drive's parameter table it is told what the guest is shown of it (`shown`); where bad blocks count it is handed those of the drive (`bads`).
+#![tactic(auto)]
+
 ghost use Rattle.std.specs.Prelude.{◌≡◌, true, ◌+◌, ◌-◌, ◌*◌, ◌/◌, ◌%◌, ◌≤◌, ◌<◌, length, replicate, ltb, eqb};
 ghost use Rattle.std.proofs.lemmas.List.Edits.{sets};
 ghost use Rattle.logic.specs.Logic.{pick, either};

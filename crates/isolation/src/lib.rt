@@ -1,1 +1,2 @@
 // Theorems only: demand 3 over every list of calls at a desk.
+#![tactic(auto)]

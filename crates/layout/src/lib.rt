@@ -1,5 +1,7 @@
 // The layouts that guests see in their memory: the device address packet, which the desk reads, and the result buffer of 48h and the device
 // parameter table that it may point at, which the desk writes.
+#![tactic(auto)]
+
 ghost use Rattle.std.specs.Prelude.{◌≡◌, ◌+◌, ◌-◌, ◌%◌, ◌≤◌, ◌<◌, length, set};
 ghost use Rattle.std.proofs.lemmas.List.Edits.{sets};
 ghost use Rattle.layout.specs.Packet.{linear, packet_length, packet_at, read_packet, packet_numbers, packet_given};

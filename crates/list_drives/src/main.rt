@@ -1,6 +1,8 @@
 // Lists the drive table on standard input, or says where and why it is refused. The store is taken as 2^32 blocks.
 // The table is read as it arrives, a piece at a time, and is never held as a whole: so input may have any length. Once it is refused, nothing more is
 // read.
+#![tactic(auto)]
+
 use drive::Drive;
 use feed::{Fed, Feed};
 use table::Table;

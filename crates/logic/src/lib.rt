@@ -1,4 +1,6 @@
 // Tests as functions, so that a caller's test is straight-line code with a Bool definition for its promise.
+#![tactic(auto)]
+
 ghost use Rattle.std.specs.Prelude.{◌≡◌, ◌+◌, leb};
 ghost use Rattle.logic.specs.Logic.{both, either, in_range};
 

@@ -1,6 +1,8 @@
 // The guests' windows of the lent arena, and moves of 512-byte blocks between a window and the store (document 01, "Parts of the desk").
 // What hands a window out takes any number. A move or a write asks that its place lies inside the window and the store: the desk has
 // tested that range before it lets a request wait, and again for each desk that it is handed.
+#![tactic(auto)]
+
 ghost use Rattle.std.specs.Prelude.{◌≡◌, ◌+◌, ◌*◌, ◌≤◌, length};
 ghost use Rattle.std.proofs.lemmas.List.Edits.{sets};
 ghost use Rattle.words.specs.Words.{le_bytes};

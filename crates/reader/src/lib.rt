@@ -1,5 +1,7 @@
 // The reader block: a reader of fragments laid out in bytes that the host owns, from one call to the next. A call reads the block, and makes
 // sure that what it read makes the same bytes again.
+#![tactic(auto)]
+
 ghost use Rattle.std.specs.Prelude.{◌≡◌, ◌-◌, ◌≤◌, length};
 ghost use Rattle.std.proofs.lemmas.List.Edits.{sets};
 ghost use Rattle.words.specs.Words.{le, part};

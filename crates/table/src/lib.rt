@@ -1,4 +1,6 @@
 // The drive table: a cursor that reads one record, a reader that holds its bytes, the whole table, and the writer.
+#![tactic(auto)]
+
 ghost use Rattle.std.specs.Prelude.{◌≡◌, ◌+◌, ◌-◌, ◌*◌, ◌^◌, ◌≤◌, ◌<◌, min, length, get_or, ltb, eqb, not, true, false};
 ghost use Rattle.std.proofs.lemmas.List.Edits.{sets};
 ghost use Rattle.drive.specs.Drive.{is_drive_kind, drive_length, record_of, fields_ok, in_store};

@@ -4,6 +4,8 @@
 // a window of 65,536 bytes; the turns of P9 and P10 are given at desks with a drive of 64 blocks. The check pays for each slice that is lent, and in
 // each statement for every local, a desk or a table most: so a case is a call with numbers that makes its own table and window, and a function that
 // holds a desk or a table does little else.
+#![tactic(auto)]
+
 mod fragments;
 mod placement;
 mod sources;

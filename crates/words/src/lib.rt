@@ -1,6 +1,8 @@
 // Little-endian words of 2, 4 and 8 bytes, read from slices and arrays and written to them. Wider words are made of two halves, so
 // that one law over the width answers each promise. A function that reads or writes at a place asks that the place lies in the slice:
 // every caller has tested the length once for all fields of its layout.
+#![tactic(auto)]
+
 ghost use Rattle.std.specs.Prelude.{◌≡◌, ◌+◌, ◌≤◌, ◌<◌, length, set};
 ghost use Rattle.std.proofs.lemmas.List.Edits.{sets};
 ghost use Rattle.words.specs.Words.{le, le_bytes, part};

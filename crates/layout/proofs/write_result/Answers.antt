@@ -17,7 +17,7 @@ returns-then-out-size c =
 
 -- ---- 74 bytes
 
-store-requires : goal.store-requires
+pub store-requires : goal.store-requires
 store-requires c κs =
     let l : length c.wide_of-r.result ≡ 74 = c.wide_of-r.type-inv.1.0.1 in
     omega arith
@@ -30,7 +30,7 @@ returns-then-n-eq-WIDE_SIZE c =
 
 -- ---- 66 and fewer
 
-narrow_of-r-requires : goal.narrow_of-r-requires
+pub narrow_of-r-requires : goal.narrow_of-r-requires
 narrow_of-r-requires c κs = let a = c.args in returned_narrow a.d a.asked c.returned_size-n.ensures c.if-n-eq-WIDE_SIZE.false
 
 pub slice_bounds-r-end : goal.slice_bounds-r-end
