@@ -3,10 +3,39 @@
 
 Words are in snake case, types and modules in upper camel case; a dash stays only between two names (`length-block_bytes`).
 A name is turned where it is declared in specs/ or proofs/ of this repository; what a file imports from elsewhere keeps its spelling, and so do
-functions, fields and parameters of src/. Run once, behind port.py, at the top of the repository. --check writes nothing and prints the table.
+functions, fields and parameters of src/. Before that it derives Copy and takes int13's λ clauses apart. Run once, behind port.py, at the top of the repository. --check writes nothing and prints the table.
 What falls together, or meets a parameter, is printed on lines that begin `meets:`.
 """
 import collections, glob, re, sys
+
+# ---- what stands in the way of the names: structs and enums are copied, and `result` is a word of the clauses
+
+def word(name, new, text):
+    return re.sub(rf"(?<![\w.'-]){name}(?![\w'-])", new, text)
+
+def first():
+    for p in glob.glob("crates/*/src/*.rt"):
+        t = read(p)
+        new = re.sub(r"^( *)#\[derive\(Drop\)\]", r"\1#[derive(Clone, Copy)]", t, flags=re.M)
+        if "/int13/" in p:
+            # the definition of 48h, which was `result`
+            new = re.sub(r"(ghost use Rattle\.int13\.specs\.Steps\.\{[^}]*)\bresult\b,", r"\1result_into,", new)
+            new = new.replace("result known d shown r", "result_into known d shown r")
+            taken = lambda m: f"{m[1]} {{ {word(re.escape(m[2]), 'result', m[3].strip())} }}"
+            new = re.sub(r"(ensures)\*\s*\{\s*λ (\w+)\. ⌜(.*?)⌝\s*\}", taken, new, flags=re.S)
+        if new != t:
+            write(p, new)
+    for p in antt_files():
+        t = read(p)
+        if p.endswith("int13/specs/Steps.antt") or re.search(r"^use Rattle\.int13\.specs\.Steps\.\{[^}]*\bresult\b", t, re.M):
+            lines = [l if l.lstrip().startswith("--") else word("result", "result_into", l) for l in t.split("\n")]
+            write(p, "\n".join(lines))
+
+def write(p, t):
+    with open(p, "w", encoding="utf-8") as f:
+        f.write(t)
+
+# ---- names
 
 CRATES = sorted(p.split("/")[1] for p in glob.glob("crates/*/src"))
 WORD = re.compile(r"[^\s(){}\[\].;,@\"«»⌜⌝]+")
@@ -109,6 +138,8 @@ def turned(w, known):
 
 def main():
     check = "--check" in sys.argv
+    if not check:
+        first()
     files = {p: read(p) for p in antt_files()}
     for p, names in APART.items():
         for n in names:
