@@ -8,7 +8,7 @@ use lib.ListN.{length, drop, length-append, length-drop}
 use lib.Seq.{sets, take_all, take-add, drop-drop, length-take-le}
 use Rattle.words.specs.Words.{Bytes, le, le_bytes, part}
 use Rattle.words.proofs.WordsLaws.{sets-append, sets-whole, length-le_bytes, read-write, write_read}
-use Rattle.attached.specs.Parameters.{parameters_length, number_in, parameters_in, parameters_record}
+use Rattle.attached.specs.Parameters.{number_in, parameters_in, parameters_record}
 
 -- ---- what the code reads and stores
 

@@ -1,7 +1,7 @@
 -- Document 02, 2026-04: the record of kind 3, which follows its drive's: the drive's number, and the drive's bad blocks, one to sixteen in
 -- ascending order.
 -- Assumes nothing.
-use Rattle.std.specs.Prelude.{ℕ, zero, suc, ◌+◌, ◌-◌, ◌*◌, ◌/◌, min, Bool, true, false, List, ◌++◌, length, take, drop, replicate, leb, ltb, eqb}
+use Rattle.std.specs.Prelude.{ℕ, zero, suc, ◌+◌, ◌-◌, ◌*◌, ◌/◌, min, Bool, List, ◌++◌, length, take, drop, replicate, leb, ltb, eqb}
 use Rattle.logic.specs.Logic.{pick, both, either, in_range, all_below, some_below}
 use Rattle.words.specs.Words.{le, le_bytes}
 use Rattle.attached.specs.declared.Bads.{Bads}

@@ -1,5 +1,4 @@
 use native.Mathlib.Omega.{arith}
-use Prim.Native.Nat.{◌-◌}
 use mathlib.Core.Path.{◌≡◌, sym, ap, ◌∙◌}
 use Rattle.attached.specs.Bad.{good}
 use Rattle.attached.proofs.BadLaws.{good-most, good_to, good_to_none, good_to_more, good_to_all}
