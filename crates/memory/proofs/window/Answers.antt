@@ -11,4 +11,4 @@ returns c =
     let a = c.args in
     let o = c.span_of-s in
     let e : o.result.end - o.result.start ≡ span_length (length a.arena.now) a.guest a.m = omega arith in
-    (rw (e, o.ensures.0), rw o.ensures.0 (ap (λ (p : ℕ). (a.arena.ptr.0, p)) (add_comm _ _)))
+    (rw (e, o.ensures.0), rw o.ensures.0 (ap (λ (p : ℕ). (a.arena.ref_ptr.0, p)) (add_comm _ _)))
