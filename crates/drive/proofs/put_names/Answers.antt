@@ -1,19 +1,9 @@
 use Rattle.drive.proofs.DriveLaws.{Arrays, name_stores}
 use borrow.Author.Rules.{rules}
 use Rattle.drive.proofs.put_names.Goals as goal
-use Rattle.drive.proofs.put_names.Goals.{Start}
-
--- what the types say
-arrays : (c : Start) → Arrays c.args.d
-arrays c = record { bus = search rules; interface = search rules; path = search rules; device = search rules; tail = search rules }
 
 pub returns : goal.returns
 returns c =
-    let s₆ = c.before.before in
-    let s₅ = s₆.before.before.before.before in
-    let s₄ = s₅.before.before.before.before in
-    let s₃ = s₄.before.before.before.before in
-    let s₂ = s₃.before.before.before.before.before.before.before.before in
-    let s₁ = s₂.before.before.before.before in
-    let b = s₁.before.before.before in
-    rw (s₆.store8-3.ensures, s₅.store8-2.ensures, s₄.store8.ensures, s₃.store4.ensures, s₂.put_byte-2.ensures, s₁.put_byte.ensures, name_stores b.args.out.now b.args.d (arrays b))
+    -- what the types say
+    let arrays : Arrays c.args.d = record { bus = search rules; interface = search rules; path = search rules; device = search rules; tail = search rules } in
+    rw (c.store8-3.ensures, c.store8-2.ensures, c.store8.ensures, c.store4.ensures, c.put_byte-2.ensures, c.put_byte.ensures, name_stores c.args.out.now c.args.d arrays)
