@@ -1,7 +1,6 @@
 -- Laws of the device parameter table, and its bytes by offset.
 -- Assumes nothing.
 use mathlib.Core.Path.{◌≡◌, sym, ◌∙◌}
-use mathlib.Core.Logic.{◌≢◌}
 use mathlib.Core.List.{List, [], ◌∷◌, ◌++◌, append_assoc}
 use Prim.Native.Nat.{ℕ, zero, suc, ◌+◌, ◌*◌, ◌/◌, ◌%◌, ◌<◌}
 use native.Mathlib.Nat.{mod-lt}
@@ -11,7 +10,7 @@ use lib.Seq.{sets, take_all, take_at, set_at, set_split, set-append_left, get_or
 use Rattle.words.specs.Words.{part}
 use Rattle.words.proofs.WordsLaws.{sets_front}
 use Rattle.layout.specs.ResultBuffer.{sum, checksum}
-use Rattle.layout.specs.ParameterTable.{drive_flags, revision, placed_bytes, parameter_table, TableBytes, ParameterTables}
+use Rattle.layout.specs.ParameterTable.{drive_flags, revision, placed_bytes, parameter_table, ParameterTables}
 use Rattle.layout.proofs.ResultBufferLaws.{sum-checked}
 
 -- ---- the parts, of fourteen bytes

@@ -18,6 +18,4 @@ decode-d-requires c = decodable 2 _ (sym c.is_record.ensures ∙ not-false _ c.i
 pub returns : goal.returns
 unfolding down_ok sound_record
 returns c =
-    let d = c.before.before.before.before.before in
-    let s = d.before in
-    rw (c.and-2.ensures, c.and.ensures, c.is_i2o.ensures, c.zero_tail.ensures, c.fields_ok.ensures, d.decode-d.ensures, eq-eqb _ _ s.if-room.false, sym s.is_record.ensures ∙ not-false _ s.if-not-is_record.false-raw)
+    rw (c.and-2.ensures, c.and.ensures, c.is_i2o.ensures, c.zero_tail.ensures, c.fields_ok.ensures, c.decode-d.ensures, eq-eqb _ _ c.if-room.false, sym c.is_record.ensures ∙ not-false _ c.if-not-is_record.false-raw)

@@ -18,5 +18,4 @@ decode-requires c = decodable 1 _ (sym c.is_record.ensures ∙ not-false _ c.if-
 pub returns : goal.returns
 unfolding up_ok sound_record
 returns c =
-    let s = c.before.before in
-    rw (c.fields_ok.ensures, c.decode.ensures, eq-eqb _ _ s.if-room.false, sym s.is_record.ensures ∙ not-false _ s.if-not-is_record.false-raw)
+    rw (c.fields_ok.ensures, c.decode.ensures, eq-eqb _ _ c.if-room.false, sym c.is_record.ensures ∙ not-false _ c.if-not-is_record.false-raw)

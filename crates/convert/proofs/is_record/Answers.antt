@@ -18,5 +18,4 @@ get16-requires-2 c = omega (arith, c.if-r-size.false, c.length_of-size.ensures, 
 pub returns : goal.returns
 unfolding is_record
 returns c =
-    let s = c.before.before.before in
-    rw (c.and.ensures, c.get16-2.ensures, c.get16.ensures, eq-eqb _ _ (s.if-r-size.false ∙ s.length_of-size.ensures), s.length_of-size.ensures)
+    rw (c.and.ensures, c.get16-2.ensures, c.get16.ensures, eq-eqb _ _ (c.if-r-size.false ∙ c.length_of-size.ensures), c.length_of-size.ensures)

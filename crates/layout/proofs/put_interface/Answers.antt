@@ -4,7 +4,6 @@ use Rattle.layout.proofs.put_interface.Goals as goal
 
 pub returns : goal.returns
 returns c =
-    let b = c.before.before.before.before.before.before.before.before.before.before.before.before.before.before.before.before.before.before.before in
-    let a = b.args in
+    let a = c.args in
     interface_stores a.out.now a.d (search rules)
     c.store16.ensures c.store32.ensures c.store4.ensures c.store8.ensures

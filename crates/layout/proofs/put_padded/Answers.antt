@@ -1,4 +1,3 @@
-use Prim.Native.Nat.{◌-◌}
 use mathlib.Core.Path.{ap, ◌∙◌}
 use native.Mathlib.Omega.{arith}
 use lib.ListN.{length, take}
@@ -9,15 +8,13 @@ use Rattle.layout.proofs.put_padded.Goals as goal
 
 pub bounds-out-at : goal.bounds-out-at
 bounds-out-at c =
-    let h = c.before.before.before in
     let a = c.args in
-    omega (arith, ap length h.loop-i.invariant.1 ∙ length-sets a.out.now a.at (take h.loop-i.i (padded a.name.now)))
+    omega (arith, ap length c.loop-i.invariant.1 ∙ length-sets a.out.now a.at (take c.loop-i.i (padded a.name.now)))
 
 pub loop-i-preserved : goal.loop-i-preserved
 loop-i-preserved c =
-    let h = c.before.before.before in
     let a = c.args in
-    (omega arith, rw (h.loop-i.invariant.1, c.padded_byte.ensures) (padded-more a.out.now a.at a.name.now h.loop-i.i c.loop-i-test.true))
+    (omega arith, rw (c.loop-i.invariant.1, c.padded_byte.ensures) (padded-more a.out.now a.at a.name.now c.loop-i.i c.loop-i-test.true))
 
 pub shape_of-out : goal.shape_of-out
 shape_of-out c =
@@ -26,6 +23,5 @@ shape_of-out c =
 
 pub returns : goal.returns
 returns c =
-    let h = c.before in
     let a = c.args in
-    h.loop-i.invariant.1 ∙ ap (sets a.out.now a.at) (take_all h.loop-i.i (padded a.name.now) (omega (arith, length-padded a.name.now)))
+    c.loop-i.invariant.1 ∙ ap (sets a.out.now a.at) (take_all c.loop-i.i (padded a.name.now) (omega (arith, length-padded a.name.now)))
