@@ -4,20 +4,20 @@ use Rattle.desk.proofs.house_number.Goals as goal
 
 pub returns-then-not-acceptable : goal.returns-then-not-acceptable
 unfolding house_number
-returns-then-not-acceptable c = rw (not-true c.args.acceptable c.if-not-acceptable.true-raw)
+returns-then-not-acceptable c = rw c.if-not-acceptable.true
 
 pub returns-then-not-lent : goal.returns-then-not-lent
 unfolding house_number
-returns-then-not-lent c = let a = c.args in rw (not-false a.acceptable c.if-not-acceptable.false-raw, not-true a.lent c.if-not-lent.true-raw)
+returns-then-not-lent c = let a = c.args in rw (c.if-not-acceptable.false, c.if-not-lent.true)
 
 pub returns-then-not-guest : goal.returns-then-not-guest
 unfolding house_number
 returns-then-not-guest c =
     let a = c.args in
-    rw (not-false a.acceptable c.if-not-acceptable.false-raw, not-false a.lent c.if-not-lent.false-raw, not-true a.guest c.if-not-guest.true-raw)
+    rw (c.if-not-acceptable.false, c.if-not-lent.false, c.if-not-guest.true)
 
 pub returns : goal.returns
 unfolding house_number
 returns c =
     let a = c.args in
-    rw (not-false a.acceptable c.if-not-acceptable.false-raw, not-false a.lent c.if-not-lent.false-raw, not-false a.guest c.if-not-guest.false-raw)
+    rw (c.if-not-acceptable.false, c.if-not-lent.false, c.if-not-guest.false)

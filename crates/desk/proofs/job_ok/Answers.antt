@@ -8,13 +8,13 @@ pub returns-then-not-count_ok : goal.returns-then-not-count_ok
 returns-then-not-count_ok c =
     let s = c.args in
     let count = c.before in
-    job_count s.d s.m s.j count.function_of-f.ensures count.is_sectors-sectors.ensures count.count_ok.ensures (not-true _ c.if-not-count_ok.true-raw)
+    job_count s.d s.m s.j count.function_of-f.ensures count.is_sectors-sectors.ensures count.count_ok.ensures c.if-not-count_ok.true
 
 -- at most 128 blocks
 pub overflow_mul-j : goal.overflow_mul-j
 overflow_mul-j c =
     let count = c.before.before.before.before.before.before.before in
-    omega (arith, count_most count.is_sectors-sectors.result count.args.j.count (sym count.count_ok.ensures ∙ not-false _ c.if-not-count_ok.false-raw))
+    omega (arith, count_most count.is_sectors-sectors.result count.args.j.count (sym count.count_ok.ensures ∙ c.if-not-count_ok.false))
 
 pub returns : goal.returns
 returns c =

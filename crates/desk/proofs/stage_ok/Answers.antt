@@ -8,9 +8,9 @@ pub returns-in_default : goal.returns-in_default
 returns-in_default c = let a = c.args in not-waiting (stage_ok a.b a.m) a.stage c.in_default.keys2 refl (λ r. refl)
 
 pub returns-then-not-is_drive : goal.returns-then-not-is_drive
-returns-then-not-is_drive c = rw (c.before.before.before.stage.given.1, sym c.is_drive.ensures ∙ not-true _ c.if-not-is_drive.true-raw)
+returns-then-not-is_drive c = rw (c.before.before.before.stage.given.1, sym c.is_drive.ensures ∙ c.if-not-is_drive.true)
 
 pub returns : goal.returns
 returns c =
-    let known = sym c.is_drive.ensures ∙ not-false _ c.if-not-is_drive.false-raw in
+    let known = sym c.is_drive.ensures ∙ c.if-not-is_drive.false in
     rw (c.before.before.before.before.before.stage.given.1, c.request_ok.ensures, c.drive_at-d.ensures.1 known, known)

@@ -12,7 +12,7 @@ use Rattle.int13.proofs.bads_of.Goals.{Else-not-is_drive}
 
 -- past the test the number is a drive's
 known : (c : Else-not-is_drive) → is_drive c.args.b c.args.n ≡ true
-known c = sym c.is_drive.ensures ∙ not-false _ c.if-not-is_drive.false-raw
+known c = sym c.is_drive.ensures ∙ c.if-not-is_drive.false
 
 -- so that it is 128 and one of the eight slots
 slot : (c : Else-not-is_drive) → (128 ≤ c.args.n) × (c.args.n - 128 < 8)
@@ -22,7 +22,7 @@ slot c =
 
 pub returns-then-not-is_drive : goal.returns-then-not-is_drive
 unfolding bads_of
-returns-then-not-is_drive c = rw (sym c.is_drive.ensures ∙ not-true _ c.if-not-is_drive.true-raw) c.no_bads.ensures
+returns-then-not-is_drive c = rw (sym c.is_drive.ensures ∙ c.if-not-is_drive.true) c.no_bads.ensures
 
 pub overflow_sub-n : goal.overflow_sub-n
 overflow_sub-n c = (slot c).0

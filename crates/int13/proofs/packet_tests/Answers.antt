@@ -47,7 +47,7 @@ pub returns-then-f-eq-EXTENDED_VERIFY : goal.returns-then-f-eq-EXTENDED_VERIFY
 unfolding packet_tests
 returns-then-f-eq-EXTENDED_VERIFY c =
     let verify : eqb (ah c.args.r) 0x44 ≡ true = eq-eqb _ _ (sym c.function_of-f.ensures ∙ c.if-f-eq-EXTENDED_VERIFY.true) in
-    rw (few c.before.before.before.before.before.before.before.before.before.before.before, allowed c.before.before.before.before.before.before, inside c.before.before.before, verify, c.verified.ensures, c.before.good2.ensures.0)
+    rw (few c.before.before.before.before.before.before.before.before.before.before.before, allowed c.before.before.before.before.before.before, inside c.before.before.before, verify, c.verified.ensures, c.good.ensures.0)
 
 pub returns-then-ends_past-2 : goal.returns-then-ends_past-2
 unfolding packet_tests

@@ -4,8 +4,8 @@ use Rattle.int13.proofs.parameters_08.Goals as goal
 
 pub returns-then-not-known : goal.returns-then-not-known
 unfolding parameters
-returns-then-not-known c = rw (not-true c.args.known c.if-not-known.true-raw, c.refuse.ensures)
+returns-then-not-known c = rw (c.if-not-known.true, c.refuse.ensures)
 
 pub returns : goal.returns
 unfolding parameters
-returns c = rw (not-false c.args.known c.if-not-known.false-raw, c.geometry_given.ensures)
+returns c = rw (c.if-not-known.false, c.geometry_given.ensures)

@@ -12,14 +12,14 @@ use Rattle.int13.proofs.result_48.Goals as goal
 pub returns-then-not-known : goal.returns-then-not-known
 unfolding result_into
 returns-then-not-known c =
-    let known = not-true c.args.known c.if-not-known.true-raw in
+    let known = c.if-not-known.true in
     (rw (known, c.refuse.ensures), rw known)
 
 pub returns-then-window-place : goal.returns-then-window-place
 unfolding result_into
 returns-then-window-place c =
     let a = c.args in
-    let known = not-false c.args.known c.if-not-known.false-raw in
+    let known = c.if-not-known.false in
     let short : ltb (length a.window.now) (packet_place a.r + 2) ≡ true = lt-ltb (length a.window.now) (packet_place a.r + 2) (omega arith) in
     (rw (known, short, c.refuse-then-window-place.ensures), rw (known, short))
 
@@ -27,7 +27,7 @@ pub returns : goal.returns
 unfolding result_into
 returns c =
     let a = c.args in
-    let known = not-false a.known c.if-not-known.false-raw in
+    let known = c.if-not-known.false in
     let w = a.window.now in
     let inside : ltb (length w) (packet_place a.r + 2) ≡ false = le-ltb (length w) (packet_place a.r + 2) (omega arith) in
     let asked = c.get16-asked.ensures in

@@ -12,7 +12,7 @@ use Rattle.int13.proofs.sectors_02_03.Goals.{After-block_of-block, Else-and, Els
 -- what each passed test says
 
 named : (c : Else-not-known) → c.args.known ≡ true
-named c = not-false _ c.if-not-known.false-raw
+named c = c.if-not-known.false
 
 some : (c : Else-count-eq0) → eqb (al c.args.r) 0 ≡ false
 some c = ne_eqb _ _ (λ e. c.if-count-eq0.false (c.al-count.ensures ∙ e))
@@ -25,7 +25,7 @@ allowed c = rw (c.is_write.ensures, c.function_of.ensures, c.is_protected.ensure
 
 pub returns-then-not-known : goal.returns-then-not-known
 unfolding sectors
-returns-then-not-known c = rw (not-true c.args.known c.if-not-known.true-raw, c.refuse.ensures)
+returns-then-not-known c = rw (c.if-not-known.true, c.refuse.ensures)
 
 pub returns-then-count-eq0 : goal.returns-then-count-eq0
 unfolding sectors
@@ -52,7 +52,7 @@ unfolding sectors
 decided c = rw (named c.before.before.before.before.before.before.before.before.before.before.before, some c.before.before.before.before.before.before.before.before.before, few c.before.before.before.before.before.before.before.before, allowed c.before.before.before, c.block_of-block.ensures.0, c.geometry_of.ensures, c.address_in.ensures)
 
 pub returns-in-Refused : goal.returns-in-Refused
-returns-in-Refused c = rw (decided c.before.before.before.before, c.before.before.block.given.1, c.refuse-in-Refused.ensures)
+returns-in-Refused c = rw (decided c.before.before, c.in-Refused.is, c.refuse-in-Refused.ensures)
 
 pub returns-in-Block : goal.returns-in-Block
-returns-in-Block c = rw (decided c.before.before.before.before, c.block-in-Block-1.given.1, c.sector_run.ensures)
+returns-in-Block c = rw (decided c.before.before, c.in-Block.is, c.sector_run.ensures)

@@ -4,8 +4,8 @@ use Rattle.int13.proofs.seek_47.Goals as goal
 
 pub returns-then-not-known : goal.returns-then-not-known
 unfolding seek
-returns-then-not-known c = rw (not-true c.args.known c.if-not-known.true-raw, c.refuse.ensures)
+returns-then-not-known c = rw (c.if-not-known.true, c.refuse.ensures)
 
 pub returns : goal.returns
 unfolding seek
-returns c = rw (not-false c.args.known c.if-not-known.false-raw, c.seek_read.ensures, c.read_packet-read.ensures.0, c.packet_place.ensures)
+returns c = rw (c.if-not-known.false, c.seek_read.ensures, c.read_packet-read.ensures.0, c.packet_place.ensures)

@@ -1,7 +1,6 @@
 use Prim.Native.Nat.{◌+◌, ◌-◌}
 use mathlib.Core.Path.{◌≡◌, refl, ap, ◌∙◌}
 use mathlib.Core.Bool.{true, false}
-use mathlib.Core.Logic.{⊎_elim}
 use native.Mathlib.Omega.{arith}
 use lib.ListN.{length, replicate}
 use lib.Seq.{length-sets}
@@ -12,6 +11,7 @@ use Rattle.int13.specs.Placement.{tables_to}
 use Rattle.int13.proofs.PlacementLaws.{parameters_to-most, counted, length-tables, laid_none, laid_one}
 use borrow.Author.Rules.{rules}
 use Rattle.int13.proofs.tables_of.Goals as goal
+use Rattle.int13.proofs.tables_of.Goals.{then-b-i, else-b-i}
 
 pub loop-i-init : goal.loop-i-init
 unfolding parameters_to tables_to
@@ -29,19 +29,18 @@ overflow_add-at c =
 
 pub loop-i-preserved : goal.loop-i-preserved
 loop-i-preserved c =
-    let h = c.before.before.before in
-    let b = h.args.b in
-    let i = h.loop-i.i in
+    let b = c.args.b in
+    let i = c.loop-i.i in
     let l : length b.parameters ≡ 112 = search (rules, length_mapped) in
-    ⊎_elim
-    (λ w.
-    let table = w.2.ensures ∙ ap parameter_table w.1.ensures in
-    let laid = w.7 ∙ laid_one (replicate 128 0) b i l (omega arith) w.0.taken h.loop-i.invariant.3 h.loop-i.invariant.1 table w.5.ensures in
-    (omega arith, omega (arith, counted b i true w.0.taken, w.8), ap length laid ∙ length-sets (replicate 128 0) 0 (tables_to (i + 1) b), laid))
-    (λ w.
-    let laid = laid_none (replicate 128 0) b i w.0.left (w.1 ∙ h.loop-i.invariant.3) in
-    (omega arith, omega (arith, counted b i false w.0.left, w.2), ap length laid ∙ length-sets (replicate 128 0) 0 (tables_to (i + 1) b), laid))
-    c.if-b-i.branch
+    elim c.if-b-i.branch [
+      then-b-i w ↦
+        let table = w.parameter_table-r.ensures ∙ ap parameter_table w.parameters_at.ensures in
+        let laid = w.out-is ∙ laid_one (replicate 128 0) b i l (omega arith) w.if-b-i.true c.loop-i.invariant.3 c.loop-i.invariant.1 table w.store.ensures in
+        (omega arith, omega (arith, counted b i true w.if-b-i.true), ap length laid ∙ length-sets (replicate 128 0) 0 (tables_to (i + 1) b), laid)
+    | else-b-i w ↦
+        let laid = laid_none (replicate 128 0) b i w.if-b-i.false (w.out-is ∙ c.loop-i.invariant.3) in
+        (omega arith, omega (arith, counted b i false w.if-b-i.false), ap length laid ∙ length-sets (replicate 128 0) 0 (tables_to (i + 1) b), laid)
+    ]
 
 pub returns : goal.returns
 returns c =

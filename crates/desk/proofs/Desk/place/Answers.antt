@@ -45,7 +45,7 @@ good : (c : After-place_ok) → c.place_ok.result ≡ place_ok (table_count (des
 good c = c.place_ok.ensures ∙ ap (λ (n : ℕ). place_ok n (window_size (desk c.before.before.before.before.before.before.before.before.before)) (address c.before.before.before.before.before.before.before.before.before)) c.table_count.ensures.0
 
 fits : (c : Else-not-place_ok) → place_ok (table_count (desk c.before.before.before.before.before.before.before.before.before.before).table) (window_size (desk c.before.before.before.before.before.before.before.before.before.before)) (address c.before.before.before.before.before.before.before.before.before.before) ≡ true
-fits c = sym (good c.before) ∙ not-false _ c.if-not-place_ok.false-raw
+fits c = sym (good c.before) ∙ c.if-not-place_ok.false
 
 pub returns-then-number-ne0 : goal.returns-then-number-ne0
 unfolding place_of
@@ -69,7 +69,7 @@ returns-then-not-place_ok c =
     let t = c.before.before.before.before.before.before.before.before.before in
     let h = t.before in
     place_answered (desk h) (guest h) (address h) (arena h) (store h)
-    (place-bad (desk h) (guest h) (arena h) (store h) (passed t) (address h) (sym (waits c.before.before.before.before.before.before) ∙ c.if-waits.false) (sym (good c.before) ∙ not-true _ c.if-not-place_ok.true-raw))
+    (place-bad (desk h) (guest h) (arena h) (store h) (passed t) (address h) (sym (waits c.before.before.before.before.before.before) ∙ c.if-waits.false) (sym (good c.before) ∙ c.if-not-place_ok.true))
 
 pub lay_tables-requires : goal.lay_tables-requires
 lay_tables-requires c =
