@@ -5,23 +5,24 @@ use native.Mathlib.Omega.{arith}
 use mathlib.Core.Path.{sym, ◌∙◌}
 use borrow.Author.Rules.{rules}
 use Rattle.image.proofs.drive_named.Goals as goal
-use Rattle.image.proofs.drive_named.Goals.{Then-is_drive}
 
 -- a known number is that of one of the slots
-within : (c : Then-is_drive) → let n = c.args.n in (first_drive ≤ n) × (n < first_drive + 8)
-within c = let s = c.args in slot_known s.b.now s.n (sym c.is_drive.ensures ∙ c.if-is_drive.true)
-
 pub overflow_sub-n : goal.overflow_sub-n
-overflow_sub-n c = omega (arith, (within c).0)
+overflow_sub-n c =
+    let h = slot_known c.args.b.now c.args.n (sym c.is_drive.ensures ∙ c.if-is_drive.true) in
+    omega (arith, h)
 
 pub drive_in-requires : goal.drive_in-requires
-drive_in-requires c = let h = within c in (search rules, omega (arith, h))
+drive_in-requires c =
+    let h = slot_known c.args.b.now c.args.n (sym c.is_drive.ensures ∙ c.if-is_drive.true) in
+    (search rules, omega (arith, h))
 
 pub returns-then-is_drive : goal.returns-then-is_drive
 returns-then-is_drive c =
     let s = c.args in
-    let h = within c.before in
-    rw (sym c.is_drive.ensures ∙ c.if-is_drive.true) (c.drive_in.ensures ∙ sym (slot_of s.b.now (s.n - 128) (omega (arith, h))))
+    let known = sym c.is_drive.ensures ∙ c.if-is_drive.true in
+    let h = slot_known s.b.now s.n known in
+    rw known (c.drive_in.ensures ∙ sym (slot_of s.b.now (s.n - 128) (omega (arith, h))))
 
 pub returns : goal.returns
 returns c =

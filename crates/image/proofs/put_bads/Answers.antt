@@ -14,10 +14,10 @@ use Rattle.image.proofs.put_bads.Goals as goal
 
 pub returns : goal.returns
 returns c =
-    let s = c.before.before.before.before.before.before.before.before.before.before.before in
+    let s = c in
     let a = s.args in
-    let l : length a.t2 ≡ 8 = search (rules, length_mapped) in
-    let bytes : Bytes a.bad.now = λ i. omega (arith, c.shared_slice_known-1.given i) in
-    let w = listed-is (λ k. get_or a.t2 k 0) a.t2 8 0 l (λ k q. refl) in
-    bads_laid a.out.now 2832 a.t2 a.bad.now l bytes s.requires.1
+    let l : length a.counts ≡ 8 = search (rules, length_mapped) in
+    let bytes : Bytes a.bad.now = λ i. omega (arith, c.type_inv.bad i) in
+    let w = listed-is (λ k. get_or a.counts k 0) a.counts 8 0 l (λ k q. refl) in
+    bads_laid a.out.now 2832 a.counts a.bad.now l bytes s.requires.1
     (c.put_words.ensures ∙ ap (λ (x : List ℕ). sets a.out.now 2832 (flat x)) w) c.store.ensures

@@ -14,19 +14,19 @@ loop-k-init c = (search rules, search rules, refl)
 
 pub loop-k-preserved : goal.loop-k-preserved
 loop-k-preserved c =
-    let h = c.before.before.before.before.before.before.before.before in
+    let h = c in
     let a = h.args in
-    let l : length a.t2 ≡ 8 = search rules in
+    let l : length a.drives ≡ 8 = search rules in
     let e = c.put_words.ensures in (
       search rules,
       ap length e ∙ rw length-sets h.loop-k.invariant.1,
       e ∙ rw (h.loop-k.invariant.2, c.drive_words-w.ensures)
-          (part-more drive_words 16 length-drive a.out.now (slot_at 0) (slot_at h.loop-k.k) a.t2 h.loop-k.k _ (omega arith) (omega arith)),
+          (part-more drive_words 16 length-drive a.out.now (slot_at 0) (slot_at h.loop-k.k) a.drives h.loop-k.k _ (omega arith) (omega arith)),
     )
 
 pub returns : goal.returns
 returns c =
-    let h = c.before in
+    let h = c in
     let a = h.args in
-    let l : length a.t2 ≡ 8 = search rules in
-    h.loop-k.invariant.2 ∙ ap (λ l. sets a.out.now (slot_at 0) (flat (each drive_words l))) (take_all h.loop-k.k a.t2 (omega arith))
+    let l : length a.drives ≡ 8 = search rules in
+    h.loop-k.invariant.2 ∙ ap (λ l. sets a.out.now (slot_at 0) (flat (each drive_words l))) (take_all h.loop-k.k a.drives (omega arith))

@@ -8,9 +8,9 @@ use Rattle.image.proofs.put_marks.Goals as goal
 pub returns : goal.returns
 returns c =
     let a = c.args in
-    let l : length a.t3 ≡ 8 = search (rules, length_mapped) in
-    let b = c.before.before.before.before.before in
-    rw (← marks-listed a.t3 8 l) (c.put_words.ensures ∙ rw (
+    let l : length a.marks ≡ 8 = search (rules, length_mapped) in
+    let b = c in
+    rw (← marks-listed a.marks 8 l) (c.put_words.ensures ∙ rw (
       b.bit-8.ensures,
       b.bit-7.ensures,
       b.bit-6.ensures,
