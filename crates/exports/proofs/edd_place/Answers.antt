@@ -4,7 +4,7 @@ use mathlib.Core.List.{List}
 use Prim.Native.Nat.{ℕ, ◌<◌}
 use lib.ListN.{length}
 use lib.Dec.{ltb}
-use borrow.Author.Tests.{ltb-true, not-true, not-false}
+use borrow.Author.Tests.{ltb-true}
 use Rattle.memory.specs.Window.{window_length}
 use Rattle.table.specs.declared.Table.{Table}
 use Rattle.int13.specs.Placement.{table_count}
@@ -99,7 +99,7 @@ returns-then-not-place_ok c =
     let i = idle c.before in
     let e = tested i.before in
     let h = e.before in
-    rw (← place-bad (desk h) (guest h) (arena h) (store h) (passed e) (address h) (sym (waits i.before) ∙ i.if-is_waiting.left) (sym (good c.before) ∙ not-true _ c.if-not-place_ok.true-raw))
+    rw (← place-bad (desk h) (guest h) (arena h) (store h) (passed e) (address h) (sym (waits i.before) ∙ i.if-is_waiting.left) (sym (good c.before) ∙ c.if-not-place_ok.true))
 
 -- where all tests have passed
 abbrev free : After-table_of → Else-not-place_ok
@@ -112,7 +112,7 @@ read : (c : After-table_of) → c.table_of.result ≡ (desk (house c).before).ta
 read c = let e = house c in table-read (bytes e.before) (passed e).acceptable c.table_of.ensures
 
 placed : (c : After-table_of) → let h = (house c).before in place_ok (table_count (desk h).table) (window_size (desk h)) (address h) ≡ true
-placed c = sym (good (free c).before) ∙ not-false _ (free c).if-not-place_ok.false-raw
+placed c = sym (good (free c).before) ∙ (free c).if-not-place_ok.false
 
 pub table_of-requires : goal.table_of-requires
 table_of-requires c = sized (tested (idle c.before.before).before)

@@ -1,6 +1,5 @@
 use mathlib.Core.Path.{◌≡◌, refl, sym, ◌∙◌}
 use mathlib.Core.Bool.{true}
-use borrow.Author.Tests.{not-true, not-false}
 use Rattle.desk.specs.Acceptable.{accept}
 use Rattle.desk.proofs.CallsLaws.{house-tests}
 use Rattle.image.specs.Image.{desk_of, accepted}
@@ -10,11 +9,11 @@ use Rattle.exports.proofs.number_at.Goals.{Else-not-acceptable}
 
 good : (c : Else-not-acceptable) → accept (desk_of c.args.desk.now) ≡ true
 unfolding accepted
-good c = sym c.acceptable.ensures ∙ not-false _ c.if-not-acceptable.false-raw
+good c = sym c.acceptable.ensures ∙ c.if-not-acceptable.false
 
 pub returns-then-not-acceptable : goal.returns-then-not-acceptable
 unfolding accepted
-returns-then-not-acceptable c = no_desk c.args.desk.now _ _ c.house_number.ensures (sym c.acceptable.ensures ∙ not-true _ c.if-not-acceptable.true-raw)
+returns-then-not-acceptable c = no_desk c.args.desk.now _ _ c.house_number.ensures (sym c.acceptable.ensures ∙ c.if-not-acceptable.true)
 
 pub is_lent-requires : goal.is_lent-requires
 is_lent-requires c = (block c.args.desk.now (good c)).size

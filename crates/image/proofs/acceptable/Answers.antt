@@ -1,6 +1,5 @@
 use native.Mathlib.Omega.{arith}
 use Rattle.image.proofs.Judged.{judged-size, judged-pointer, judged-table, judged_rows, judged-more}
-use borrow.Author.Tests.{not-true, not-false}
 use Rattle.words.specs.Words.{Bytes}
 use Rattle.image.proofs.acceptable.Goals as goal
 

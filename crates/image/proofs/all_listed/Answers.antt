@@ -1,6 +1,5 @@
 use native.Mathlib.Omega.{arith}
 use borrow.Author.Rules.{rules}
-use borrow.Author.Tests.{not-true, not-false}
 use Prim.Native.Nat.{◌-◌}
 use mathlib.Core.Path.{◌≡◌, refl}
 use Rattle.logic.proofs.LogicLaws.{all_fails, all-next}
@@ -17,14 +16,14 @@ unfolding listed_to
 returns-then-not-is_listed c =
     let l = c.before.before.before in
     let b = l.args.b.now in
-    all_fails 8 l.loop-i.i (listed_at (read_desk b).table) (omega arith) c.is_listed.ensures (not-true _ c.if-not-is_listed.true-raw)
+    all_fails 8 l.loop-i.i (listed_at (read_desk b).table) (omega arith) c.is_listed.ensures c.if-not-is_listed.true
 
 pub loop-i-preserved : goal.loop-i-preserved
 unfolding listed_to
 loop-i-preserved c =
     let l = c.before.before.before in
     let b = l.args.b.now in
-    (search rules, all-next l.loop-i.i (listed_at (read_desk b).table) l.loop-i.invariant.1 c.is_listed.ensures (not-false _ c.if-not-is_listed.false-raw))
+    (search rules, all-next l.loop-i.i (listed_at (read_desk b).table) l.loop-i.invariant.1 c.is_listed.ensures c.if-not-is_listed.false)
 
 pub returns : goal.returns
 returns c =

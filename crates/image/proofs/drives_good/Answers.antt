@@ -1,6 +1,5 @@
 use native.Mathlib.Omega.{arith}
 use borrow.Author.Rules.{rules}
-use borrow.Author.Tests.{not-true, not-false}
 use Prim.Native.Nat.{◌-◌}
 use mathlib.Core.Path.{◌≡◌, refl}
 use Rattle.logic.proofs.LogicLaws.{all_fails, all-next}
@@ -17,14 +16,14 @@ unfolding drives_good
 returns-then-not-drive_good c =
     let l = c.before.before.before in
     let a = l.args in
-    all_fails a.n l.loop-i.i (λ i. drive_good a.b.now a.store (slot_at i)) (omega arith) c.drive_good.ensures (not-true _ c.if-not-drive_good.true-raw)
+    all_fails a.n l.loop-i.i (λ i. drive_good a.b.now a.store (slot_at i)) (omega arith) c.drive_good.ensures c.if-not-drive_good.true
 
 pub loop-i-preserved : goal.loop-i-preserved
 unfolding drives_good
 loop-i-preserved c =
     let l = c.before.before.before in
     let a = l.args in
-    (search rules, all-next l.loop-i.i (λ i. drive_good a.b.now a.store (slot_at i)) l.loop-i.invariant.1 c.drive_good.ensures (not-false _ c.if-not-drive_good.false-raw))
+    (search rules, all-next l.loop-i.i (λ i. drive_good a.b.now a.store (slot_at i)) l.loop-i.invariant.1 c.drive_good.ensures c.if-not-drive_good.false)
 
 pub returns : goal.returns
 returns c =

@@ -1,13 +1,12 @@
 use Rattle.image.proofs.Judged.{bare-good, unplaced_good, more-listed, more_unlisted}
 use Rattle.logic.proofs.LogicLaws.{both_itself}
 use mathlib.Core.Path.{sym, ◌∙◌}
-use borrow.Author.Tests.{not-true, not-false}
 use Rattle.image.proofs.more_good.Goals as goal
 
 pub returns-then-not-bads_good : goal.returns-then-not-bads_good
 returns-then-not-bads_good c =
     let s = c.args in
-    more_unlisted s.b.now s.m c.bads_good.ensures (not-true _ c.if-not-bads_good.true-raw)
+    more_unlisted s.b.now s.m c.bads_good.ensures c.if-not-bads_good.true
 
 pub returns-then-bare : goal.returns-then-bare
 returns-then-bare c =
@@ -15,7 +14,7 @@ returns-then-bare c =
     let g = t.before.before.before in
     let s = g.args in
     let b = s.b.now in
-    rw (← more-listed b s.m g.bads_good.ensures (not-false _ g.if-not-bads_good.false-raw), bare-good b (sym t.below-bare.ensures ∙ c.if-bare.true), unplaced_good b s.m (sym t.below.ensures ∙ t.if-below.true))
+    rw (← more-listed b s.m g.bads_good.ensures g.if-not-bads_good.false, bare-good b (sym t.below-bare.ensures ∙ c.if-bare.true), unplaced_good b s.m (sym t.below.ensures ∙ t.if-below.true))
 
 pub returns-then-below : goal.returns-then-below
 returns-then-below c =
@@ -23,7 +22,7 @@ returns-then-below c =
     let g = t.before.before.before in
     let s = g.args in
     let b = s.b.now in
-    rw (← more-listed b s.m g.bads_good.ensures (not-false _ g.if-not-bads_good.false-raw), unplaced_good b s.m (sym t.below.ensures ∙ t.if-below.true), both_itself) c.parameters_good.ensures
+    rw (← more-listed b s.m g.bads_good.ensures g.if-not-bads_good.false, unplaced_good b s.m (sym t.below.ensures ∙ t.if-below.true), both_itself) c.parameters_good.ensures
 
 pub returns-then-bare-2 : goal.returns-then-bare-2
 returns-then-bare-2 c =
@@ -31,10 +30,10 @@ returns-then-bare-2 c =
     let g = t.before.before.before in
     let s = g.args in
     let b = s.b.now in
-    rw (← more-listed b s.m g.bads_good.ensures (not-false _ g.if-not-bads_good.false-raw), bare-good b (sym t.below-bare.ensures ∙ c.if-bare-2.true)) c.places_good.ensures
+    rw (← more-listed b s.m g.bads_good.ensures g.if-not-bads_good.false, bare-good b (sym t.below-bare.ensures ∙ c.if-bare-2.true)) c.places_good.ensures
 
 pub returns : goal.returns
 returns c =
     let g = c.before.before.before.before.before.before.before in
     let s = g.args in
-    rw (← more-listed s.b.now s.m g.bads_good.ensures (not-false _ g.if-not-bads_good.false-raw), c.and.ensures, c.places_good-2.ensures, c.parameters_good-2.ensures)
+    rw (← more-listed s.b.now s.m g.bads_good.ensures g.if-not-bads_good.false, c.and.ensures, c.places_good-2.ensures, c.parameters_good-2.ensures)

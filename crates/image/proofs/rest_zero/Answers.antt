@@ -1,6 +1,5 @@
 use native.Mathlib.Omega.{arith}
 use borrow.Author.Rules.{rules}
-use borrow.Author.Tests.{not-true, not-false}
 use Prim.Native.Nat.{◌-◌}
 use mathlib.Core.Path.{◌≡◌}
 use Rattle.image.proofs.Judged.{rest-none, rest-bad, rest-next}
@@ -13,13 +12,13 @@ pub returns-then-not-below : goal.returns-then-not-below
 returns-then-not-below c =
     let l = c.before.before.before in
     let a = l.args in
-    rest-bad a.n a.b.now l.loop-i.i l.loop-i.invariant.0 (omega arith) c.below.ensures (not-true _ c.if-not-below.true-raw)
+    rest-bad a.n a.b.now l.loop-i.i l.loop-i.invariant.0 (omega arith) c.below.ensures c.if-not-below.true
 
 pub loop-i-preserved : goal.loop-i-preserved
 loop-i-preserved c =
     let l = c.before.before.before in
     let a = l.args in
-    (search rules, search rules, rest-next a.n a.b.now l.loop-i.i l.loop-i.invariant.0 l.loop-i.invariant.2 c.below.ensures (not-false _ c.if-not-below.false-raw))
+    (search rules, search rules, rest-next a.n a.b.now l.loop-i.i l.loop-i.invariant.0 l.loop-i.invariant.2 c.below.ensures c.if-not-below.false)
 
 pub returns : goal.returns
 returns c =

@@ -1,6 +1,5 @@
 use native.Mathlib.Omega.{arith}
 use borrow.Author.Rules.{rules}
-use borrow.Author.Tests.{not-true, not-false}
 use Prim.Native.Nat.{◌-◌}
 use mathlib.Core.Path.{◌≡◌, refl}
 use Rattle.logic.proofs.LogicLaws.{all_fails, all-next}
@@ -17,14 +16,14 @@ unfolding rows_good
 returns-then-not-row_good c =
     let l = c.before.before.before in
     let a = l.args in
-    all_fails 8 l.loop-g.g (λ g. row_good a.b.now a.m (row_at g)) (omega arith) c.row_good.ensures (not-true _ c.if-not-row_good.true-raw)
+    all_fails 8 l.loop-g.g (λ g. row_good a.b.now a.m (row_at g)) (omega arith) c.row_good.ensures c.if-not-row_good.true
 
 pub loop-g-preserved : goal.loop-g-preserved
 unfolding rows_good
 loop-g-preserved c =
     let l = c.before.before.before in
     let a = l.args in
-    (search rules, all-next l.loop-g.g (λ g. row_good a.b.now a.m (row_at g)) l.loop-g.invariant.1 c.row_good.ensures (not-false _ c.if-not-row_good.false-raw))
+    (search rules, all-next l.loop-g.g (λ g. row_good a.b.now a.m (row_at g)) l.loop-g.invariant.1 c.row_good.ensures c.if-not-row_good.false)
 
 pub returns : goal.returns
 returns c =
