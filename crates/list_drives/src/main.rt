@@ -5,13 +5,11 @@
 
 use drive::Drive;
 use feed::{Fed, Feed};
+use std::io;
+use std::io::Read;
 use table::Table;
 
 const STORE_BLOCKS: u64 = 4294967296;
-
-const INPUT: i32 = 0;
-
-const OUTPUT: i32 = 1;
 
 // Bytes of a piece, at most.
 const PIECE: usize = 64;
@@ -21,43 +19,30 @@ const PIECE: usize = 64;
 const MOST_READS: usize = table::LONGEST_TABLE - table::END_LENGTH as usize + table::LONGEST_RECORD;
 
 // `table refused 3 at 0`
-fn print_refusal(number: u8, place: usize) {
-    io::write_all(OUTPUT, b"table refused ");
-    io::print_decimal(OUTPUT, number as u64);
-    io::write_all(OUTPUT, b" at ");
-    io::print_decimal(OUTPUT, place as u64);
-    io::write_all(OUTPUT, b"\n");
+fn print_refusal(rt: &impl Print, number: u8, place: usize) -> io::Result<()> {
+    println!(rt; "table refused {number} at {place}")
 }
 
 // `80 blocks 2048 first 0 chs 2/16/63`, the drive's number in hexadecimal
-fn print_drive(number: u64, d: Drive) {
-    io::print_hex(OUTPUT, number, 2);
-    io::write_all(OUTPUT, b" blocks ");
-    io::print_decimal(OUTPUT, d.blocks);
-    io::write_all(OUTPUT, b" first ");
-    io::print_decimal(OUTPUT, d.first);
-    io::write_all(OUTPUT, b" chs ");
-    io::print_decimal(OUTPUT, d.c as u64);
-    io::write_all(OUTPUT, b"/");
-    io::print_decimal(OUTPUT, d.h as u64);
-    io::write_all(OUTPUT, b"/");
-    io::print_decimal(OUTPUT, d.s as u64);
-    io::write_all(OUTPUT, b"\n");
+fn print_drive(rt: &impl Print, number: u64, d: Drive) -> io::Result<()> {
+    println!(rt;
+        "{number:02x} blocks {} first {} chs {}/{}/{}",
+        d.blocks, d.first, d.c, d.h, d.s
+    )
 }
 
 // `table ok drives 1`, then a line for each drive
-fn print_table(b: Table) {
+fn print_table(rt: &impl Print, b: Table) -> io::Result<()> {
     let count = b.count;
-    io::write_all(OUTPUT, b"table ok drives ");
-    io::print_decimal(OUTPUT, count as u64);
-    io::write_all(OUTPUT, b"\n");
+    println!(rt; "table ok drives {count}")?;
     let drives = b.drives;
     for i in 0..8 {
         if i < count {
             let d = drives[i];
-            print_drive(128 + i as u64, d);
+            print_drive(rt, 128 + i as u64, d)?;
         }
     }
+    Ok(())
 }
 
 // Nothing that follows can change what the reader says.
@@ -70,14 +55,14 @@ fn is_settled(f: Feed) -> bool {
     }
 }
 
-// The reader, fed what arrives until it is refused or the input ends.
-fn read_input() -> Feed {
+// The reader, fed what arrives until it is refused or the input ends. A read that fails counts as the end.
+fn read_input(rt: &impl Input) -> Feed {
+    let mut input = rt.reader();
     let mut f = Feed::open(STORE_BLOCKS);
     let mut piece = [0u8; PIECE];
     let mut left: usize = MOST_READS;
     while 0 < left {
-        let got = libc::read(INPUT, &mut piece);
-        let n = io::count(got, &piece);
+        let n = input.read(&mut piece).unwrap_or(0);
         f = f.take(&piece[..n]);
         if n == 0 {
             return f;
@@ -90,14 +75,14 @@ fn read_input() -> Feed {
     f
 }
 
-fn main() {
-    let f = read_input().end();
+fn main(rt: HostRuntime) -> io::Result<()> {
+    let f = read_input(&rt).end();
     let b = f.table;
     let answer = f.answer();
     match answer {
         // The end was told: everything is settled.
-        Fed::More => {}
-        Fed::Accepted => print_table(b),
-        Fed::Refused(number, place) => print_refusal(number, place),
+        Fed::More => Ok(()),
+        Fed::Accepted => print_table(&rt, b),
+        Fed::Refused(number, place) => print_refusal(&rt, number, place),
     }
 }
