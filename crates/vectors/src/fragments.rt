@@ -2,8 +2,9 @@
 // in pieces of one length, and says what the reader says then and once the input has ended.
 ghost use Rattle.std.specs.Prelude.{◌≡◌, ◌≤◌, min};
 
-use super::{OUTPUT, STORE_BLOCKS, end_line, say, table_bytes};
+use super::{STORE_BLOCKS, end_line, say, table_bytes};
 use feed::{Fed, Feed};
+use std::io;
 
 // A table of 72 bytes with a byte behind it.
 const BYTES: usize = 73;
@@ -40,64 +41,52 @@ fn fed(t: [u8; BYTES], n: usize, size: usize) -> Feed
     f
 }
 
-fn say_fed(f: Feed) {
+fn say_fed(rt: &impl Print, f: Feed) -> io::Result<()> {
     let b = f.table;
     let answer = f.answer();
     match answer {
-        Fed::More => say(b"nothing settled"),
-        Fed::Accepted => {
-            say(b"table ok drives ");
-            io::print_decimal(OUTPUT, b.count as u64);
-        }
-        Fed::Refused(number, place) => {
-            say(b"table refused ");
-            io::print_decimal(OUTPUT, number as u64);
-            say(b" at ");
-            io::print_decimal(OUTPUT, place as u64);
-        }
+        Fed::More => say(rt, b"nothing settled"),
+        Fed::Accepted => print!(rt; "table ok drives {}", b.count),
+        Fed::Refused(number, place) => print!(rt; "table refused {number} at {place}"),
     }
 }
 
 // `fed in 72 pieces: table ok drives 1`
-fn pieces_case(size: usize, pieces: u64)
+fn pieces_case(rt: &impl Print, size: usize, pieces: u64) -> io::Result<()>
     requires { 1 ≤ size }
 {
-    say(b"fed in ");
-    io::print_decimal(OUTPUT, pieces);
-    say(b" pieces: ");
+    print!(rt; "fed in {pieces} pieces: ")?;
     let f = fed(table_with(0x44, 1), 72, size).end();
-    say_fed(f);
-    end_line();
+    say_fed(rt, f)?;
+    end_line(rt)
 }
 
 // What is said after the first n bytes, and at their end.
-fn bytes_case(length: u8, kind: u8, n: usize) {
+fn bytes_case(rt: &impl Print, length: u8, kind: u8, n: usize) -> io::Result<()> {
     let f = fed(table_with(length, kind), n, 1);
-    say(b"fed ");
-    io::print_decimal(OUTPUT, n as u64);
-    say(b" bytes: ");
-    say_fed(f);
-    say(b", ended: ");
-    say_fed(f.end());
-    end_line();
+    print!(rt; "fed {n} bytes: ")?;
+    say_fed(rt, f)?;
+    say(rt, b", ended: ")?;
+    say_fed(rt, f.end())?;
+    end_line(rt)
 }
 
-pub(crate) fn cases() {
-    pieces_case(1, 72);
-    pieces_case(3, 24);
-    pieces_case(67, 2);
-    pieces_case(68, 2);
-    bytes_case(0x44, 1, 0);
-    bytes_case(0x44, 1, 67);
-    bytes_case(0x44, 1, 68);
-    bytes_case(0x44, 1, 72);
-    bytes_case(0x44, 1, 73);
-    say(b"kind 9, ");
-    bytes_case(0x44, 9, 3);
-    say(b"kind 9, ");
-    bytes_case(0x44, 9, 4);
-    say(b"length 67, ");
-    bytes_case(0x43, 1, 3);
-    say(b"length 67, ");
-    bytes_case(0x43, 1, 4);
+pub(crate) fn cases(rt: &impl Print) -> io::Result<()> {
+    pieces_case(rt, 1, 72)?;
+    pieces_case(rt, 3, 24)?;
+    pieces_case(rt, 67, 2)?;
+    pieces_case(rt, 68, 2)?;
+    bytes_case(rt, 0x44, 1, 0)?;
+    bytes_case(rt, 0x44, 1, 67)?;
+    bytes_case(rt, 0x44, 1, 68)?;
+    bytes_case(rt, 0x44, 1, 72)?;
+    bytes_case(rt, 0x44, 1, 73)?;
+    say(rt, b"kind 9, ")?;
+    bytes_case(rt, 0x44, 9, 3)?;
+    say(rt, b"kind 9, ")?;
+    bytes_case(rt, 0x44, 9, 4)?;
+    say(rt, b"length 67, ")?;
+    bytes_case(rt, 0x43, 1, 3)?;
+    say(rt, b"length 67, ")?;
+    bytes_case(rt, 0x43, 1, 4)
 }

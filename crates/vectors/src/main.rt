@@ -17,8 +17,7 @@ ghost use Rattle.std.specs.Prelude.{◌≡◌, ◌+◌, ◌≤◌, ◌<◌, leng
 use chs::{Address, Geometry, ToAddress, ToBlock};
 use desk::{Desk, TurnAnswer};
 use int13::{Outcome, Placement, Registers};
-
-const OUTPUT: i32 = 1;
+use std::io;
 
 const FIRST_DRIVE: u16 = 0x80;
 
@@ -92,71 +91,60 @@ fn table_of(which: u8) -> [u8; 72] {
 
 // ---- lines
 
-fn say(text: &[u8]) {
-    io::write_all(OUTPUT, text);
+fn say(rt: &impl Print, text: &[u8]) -> io::Result<()> {
+    rt.write_all(text)
 }
 
-fn end_line() {
-    say(b"\n");
+fn end_line(rt: &impl Print) -> io::Result<()> {
+    say(rt, b"\n")
 }
 
-fn say_byte(b: u8) {
-    say(b" ");
-    io::print_hex(OUTPUT, b as u64, 2);
+fn say_byte(rt: &impl Print, b: u8) -> io::Result<()> {
+    print!(rt; " {b:02x}")
 }
 
-fn say_word(text: &[u8], n: u16) {
-    say(text);
-    io::print_hex(OUTPUT, n as u64, 4);
+fn say_word(rt: &impl Print, text: &[u8], n: u16) -> io::Result<()> {
+    say(rt, text)?;
+    print!(rt; "{n:04x}")
 }
 
 // A register by its letter, as ` AX 0000`.
-fn say_register(letter: u8, n: u16) {
+fn say_register(rt: &impl Print, letter: u8, n: u16) -> io::Result<()> {
     let text = [b' ', letter, b'X', b' '];
-    say_word(&text, n);
+    say_word(rt, &text, n)
 }
 
 // What a case is about, as `AL 128: `.
-fn say_case(text: &[u8], n: u64) {
-    say(text);
-    io::print_decimal(OUTPUT, n);
-    say(b": ");
+fn say_case(rt: &impl Print, text: &[u8], n: u64) -> io::Result<()> {
+    say(rt, text)?;
+    print!(rt; "{n}: ")
 }
 
-fn say_range(start: u64, count: u16) {
-    say(b"start ");
-    io::print_decimal(OUTPUT, start);
-    say_case(b" count ", count as u64);
+fn say_range(rt: &impl Print, start: u64, count: u16) -> io::Result<()> {
+    print!(rt; "start {start}")?;
+    say_case(rt, b" count ", count as u64)
 }
 
 // What stands before an answer's registers, as `08h drive 80:`.
-fn say_call(function: u16, drive: u16) {
-    io::print_hex(OUTPUT, function as u64, 2);
-    say(b"h drive ");
-    io::print_hex(OUTPUT, drive as u64, 2);
-    say(b":");
+fn say_call(rt: &impl Print, function: u16, drive: u16) -> io::Result<()> {
+    print!(rt; "{function:02x}h drive {drive:02x}:")
 }
 
-fn say_code(code: u64) {
-    say(b"AH ");
-    io::print_hex(OUTPUT, code, 2);
+fn say_code(rt: &impl Print, code: u64) -> io::Result<()> {
+    print!(rt; "AH {code:02x}")
 }
 
 // That the call waits, or the code in AH.
-fn say_outcome(outcome: Outcome) {
+fn say_outcome(rt: &impl Print, outcome: Outcome) -> io::Result<()> {
     match outcome {
-        Outcome::Waits(_) => say(b"waits"),
-        Outcome::Answered(r) => say_code((r.ax / 256) as u64),
+        Outcome::Waits(_) => say(rt, b"waits")?,
+        Outcome::Answered(r) => say_code(rt, (r.ax / 256) as u64)?,
     }
-    end_line();
+    end_line(rt)
 }
 
-fn say_address(a: Address) {
-    io::print_decimal(OUTPUT, a.cylinder as u64);
-    say(b"/");
-    io::print_decimal(OUTPUT, a.head as u64);
-    say(b"/");
-    io::print_decimal(OUTPUT, a.sector as u64);
+fn say_address(rt: &impl Print, a: Address) -> io::Result<()> {
+    print!(rt; "{}/{}/{}", a.cylinder, a.head, a.sector)
 }
 
 // ---- calls
@@ -192,9 +180,16 @@ fn begin_at(which: u8, r: Registers, window: &mut [u8]) -> Outcome {
     begin(&t, r, window)
 }
 
+// 65,536 zeros. The `ensures` gives the length alone, which lending the window as a slice needs.
+fn zero_window() -> [u8; 65536]
+    ensures { 65536 ≡ length result }
+{
+    [0; 65536]
+}
+
 // A call that needs nothing in the window.
 fn bare_call(which: u8, r: Registers) -> Outcome {
-    let mut window = io::large_buffer();
+    let mut window = zero_window();
     begin_at(which, r, &mut window)
 }
 
@@ -209,26 +204,39 @@ fn put_packet(arena: &mut [u8], at: usize, size: u16, start: u64, count: u16)
 }
 
 // A packet call with the packet at place 0 of the window and the buffer over it.
-fn packet_call(which: u8, ax: u16, size: u16, start: u64, count: u16) {
-    let mut window = io::large_buffer();
+fn packet_call(
+    rt: &impl Print,
+    which: u8,
+    ax: u16,
+    size: u16,
+    start: u64,
+    count: u16,
+) -> io::Result<()> {
+    let mut window = zero_window();
     put_packet(&mut window, 0, size, start, count);
-    say_outcome(begin_at(which, registers(ax, 0, FIRST_DRIVE), &mut window));
+    say_outcome(
+        rt,
+        begin_at(which, registers(ax, 0, FIRST_DRIVE), &mut window),
+    )
 }
 
-fn range_call(start: u64, count: u16) {
-    say_range(start, count);
-    packet_call(PLAIN, 0x4200, PACKET_SIZE, start, count);
+fn range_call(rt: &impl Print, start: u64, count: u16) -> io::Result<()> {
+    say_range(rt, start, count)?;
+    packet_call(rt, PLAIN, 0x4200, PACKET_SIZE, start, count)
 }
 
-fn count_call(count: u16) {
-    say_case(b"count ", count as u64);
-    packet_call(PLAIN, 0x4200, PACKET_SIZE, 0, count);
+fn count_call(rt: &impl Print, count: u16) -> io::Result<()> {
+    say_case(rt, b"count ", count as u64)?;
+    packet_call(rt, PLAIN, 0x4200, PACKET_SIZE, 0, count)
 }
 
 // 02h from cylinder 0, head 0, sector 1.
-fn sector_call(al: u8) {
-    say_case(b"AL ", al as u64);
-    say_outcome(bare_call(PLAIN, registers(0x0200 + al as u16, 0x0001, FIRST_DRIVE)));
+fn sector_call(rt: &impl Print, al: u8) -> io::Result<()> {
+    say_case(rt, b"AL ", al as u64)?;
+    say_outcome(
+        rt,
+        bare_call(PLAIN, registers(0x0200 + al as u16, 0x0001, FIRST_DRIVE)),
+    )
 }
 
 // Where the checksum of a result stands: of 74 bytes at 73, of 66 at 65, and the shorter ones have none.
@@ -238,94 +246,91 @@ fn checksum_place(size: u16) -> usize
     if size == 74 { 73 } else { 65 }
 }
 
-fn say_result(asked: u16, r: Registers, out: &[u8]) {
+fn say_result(rt: &impl Print, asked: u16, r: Registers, out: &[u8]) -> io::Result<()> {
     if out.len() < 74 {
-        return;
+        return Ok(());
     }
-    say_case(b"48h size ", asked as u64);
-    say_code((r.ax / 256) as u64);
+    say_case(rt, b"48h size ", asked as u64)?;
+    say_code(rt, (r.ax / 256) as u64)?;
     let size = words::get16(out, 0);
-    say(b" size word ");
-    io::print_decimal(OUTPUT, size as u64);
+    print!(rt; " size word {size}")?;
     let place = checksum_place(size);
-    say(b" byte ");
-    io::print_decimal(OUTPUT, place as u64);
-    say_byte(out[place]);
-    end_line();
+    print!(rt; " byte {place}")?;
+    say_byte(rt, out[place])?;
+    end_line(rt)
 }
 
 // 48h with a result buffer of that size at place 0: the code, the size word and the byte of the checksum afterwards.
-fn result_of(t: &[u8], asked: u16) {
-    let mut window = io::large_buffer();
+fn result_of(rt: &impl Print, t: &[u8], asked: u16) -> io::Result<()> {
+    let mut window = zero_window();
     words::store16(&mut window, 0, asked);
     let outcome = begin(t, registers(0x4800, 0, FIRST_DRIVE), &mut window);
     let Outcome::Answered(r) = outcome else {
-        return;
+        return Ok(());
     };
-    say_result(asked, r, &window);
+    say_result(rt, asked, r, &window)
 }
 
-fn result_call(asked: u16) {
+fn result_call(rt: &impl Print, asked: u16) -> io::Result<()> {
     let t = table_of(PLAIN);
-    result_of(&t, asked);
+    result_of(rt, &t, asked)
 }
 
-fn say_geometry(drive: u16, outcome: Outcome) {
+fn say_geometry(rt: &impl Print, drive: u16, outcome: Outcome) -> io::Result<()> {
     let Outcome::Answered(r) = outcome else {
-        return;
+        return Ok(());
     };
-    say_call(0x08, drive);
-    say_register(b'A', r.ax);
-    say_register(b'C', r.cx);
-    say_register(b'D', r.dx);
-    end_line();
+    say_call(rt, 0x08, drive)?;
+    say_register(rt, b'A', r.ax)?;
+    say_register(rt, b'C', r.cx)?;
+    say_register(rt, b'D', r.dx)?;
+    end_line(rt)
 }
 
 // 08h.
-fn geometry_call(which: u8, drive: u16) {
-    say_geometry(drive, bare_call(which, registers(0x0800, 0, drive)));
+fn geometry_call(rt: &impl Print, which: u8, drive: u16) -> io::Result<()> {
+    say_geometry(rt, drive, bare_call(which, registers(0x0800, 0, drive)))
 }
 
 // 41h.
-fn extensions_call(drive: u16, bx: u16) {
+fn extensions_call(rt: &impl Print, drive: u16, bx: u16) -> io::Result<()> {
     let asked = Registers {
         bx,
         ..registers(0x4100, 0, drive)
     };
     let outcome = bare_call(PLAIN, asked);
     let Outcome::Answered(r) = outcome else {
-        return;
+        return Ok(());
     };
-    say_call(0x41, drive);
-    say_register(b'A', r.ax);
-    say_register(b'B', r.bx);
-    say_register(b'C', r.cx);
-    end_line();
+    say_call(rt, 0x41, drive)?;
+    say_register(rt, b'A', r.ax)?;
+    say_register(rt, b'B', r.bx)?;
+    say_register(rt, b'C', r.cx)?;
+    end_line(rt)
 }
 
-fn say_refused(code: u64) {
-    say(b" ");
-    say_code(code);
+fn say_refused(rt: &impl Print, code: u64) -> io::Result<()> {
+    say(rt, b" ")?;
+    say_code(rt, code)
 }
 
 // The address of a block in the geometry 1024/h/63.
-fn address_case(h: u32, n: u64) {
+fn address_case(rt: &impl Print, h: u32, n: u64) -> io::Result<()> {
     let g = Geometry { c: 1024, h, s: 63 };
-    say(b"block ");
-    io::print_decimal(OUTPUT, n);
+    print!(rt; "block {n}")?;
     let a = chs::address_of(g, n);
     match a {
         ToAddress::At(x) => {
-            say(b" is ");
-            say_address(x);
+            say(rt, b" is ")?;
+            say_address(rt, x)?;
         }
-        ToAddress::Refused(code) => say_refused(code as u64),
+        ToAddress::Refused(code) => say_refused(rt, code as u64)?,
     }
-    end_line();
+    end_line(rt)
 }
 
 // The block of an address in the geometry of the sums, 1024/16/63.
-fn block_case(cylinder: u32, head: u32, sector: u32) {
+fn block_case(rt: &impl Print, cylinder: u32, head: u32, sector: u32) -> io::Result<()> {
     let g = Geometry {
         c: 1024,
         h: 16,
@@ -336,75 +341,72 @@ fn block_case(cylinder: u32, head: u32, sector: u32) {
         head,
         sector,
     };
-    say_address(a);
+    say_address(rt, a)?;
     let b = chs::block_of(g, a);
     match b {
-        ToBlock::Block(n) => {
-            say(b" block ");
-            io::print_decimal(OUTPUT, n as u64);
-        }
-        ToBlock::Refused(code) => say_refused(code as u64),
+        ToBlock::Block(n) => print!(rt; " block {n}")?,
+        ToBlock::Refused(code) => say_refused(rt, code as u64)?,
     }
-    end_line();
+    end_line(rt)
 }
 
 // ---- the cases of the functions
 
-fn blocks() {
-    block_case(0, 0, 1);
-    block_case(0, 1, 1);
-    block_case(1, 0, 1);
-    block_case(1023, 15, 63);
-    block_case(0, 0, 0);
+fn blocks(rt: &impl Print) -> io::Result<()> {
+    block_case(rt, 0, 0, 1)?;
+    block_case(rt, 0, 1, 1)?;
+    block_case(rt, 1, 0, 1)?;
+    block_case(rt, 1023, 15, 63)?;
+    block_case(rt, 0, 0, 0)
 }
 
-fn last_blocks() {
-    address_case(16, 1032191);
-    address_case(16, 1032192);
-    address_case(255, 16450559);
-    address_case(255, 16450560);
+fn last_blocks(rt: &impl Print) -> io::Result<()> {
+    address_case(rt, 16, 1032191)?;
+    address_case(rt, 16, 1032192)?;
+    address_case(rt, 255, 16450559)?;
+    address_case(rt, 255, 16450560)
 }
 
 // A write to a protected drive, out of range as well.
-fn protected() {
-    say(b"protected, ");
-    say_range(2048, 1);
-    packet_call(PROTECTED, 0x4300, PACKET_SIZE, 2048, 1);
+fn protected(rt: &impl Print) -> io::Result<()> {
+    say(rt, b"protected, ")?;
+    say_range(rt, 2048, 1)?;
+    packet_call(rt, PROTECTED, 0x4300, PACKET_SIZE, 2048, 1)
 }
 
-fn ranges() {
-    range_call(2047, 1);
-    range_call(2048, 0);
-    range_call(2048, 1);
+fn ranges(rt: &impl Print) -> io::Result<()> {
+    range_call(rt, 2047, 1)?;
+    range_call(rt, 2048, 0)?;
+    range_call(rt, 2048, 1)
 }
 
-fn counts() {
-    sector_call(128);
-    sector_call(129);
-    count_call(127);
-    count_call(128);
+fn counts(rt: &impl Print) -> io::Result<()> {
+    sector_call(rt, 128)?;
+    sector_call(rt, 129)?;
+    count_call(rt, 127)?;
+    count_call(rt, 128)
 }
 
-fn sizes() {
-    result_call(25);
-    result_call(26);
-    result_call(29);
-    result_call(30);
-    result_call(65);
-    result_call(66);
-    result_call(73);
-    result_call(74);
-    result_call(65535);
+fn sizes(rt: &impl Print) -> io::Result<()> {
+    result_call(rt, 25)?;
+    result_call(rt, 26)?;
+    result_call(rt, 29)?;
+    result_call(rt, 30)?;
+    result_call(rt, 65)?;
+    result_call(rt, 66)?;
+    result_call(rt, 73)?;
+    result_call(rt, 74)?;
+    result_call(rt, 65535)
 }
 
-fn functions() {
-    protected();
-    ranges();
-    counts();
-    extensions_call(FIRST_DRIVE, 0x55AA);
-    geometry_call(PLAIN, FIRST_DRIVE);
-    sizes();
-    geometry_call(LARGEST, FIRST_DRIVE);
+fn functions(rt: &impl Print) -> io::Result<()> {
+    protected(rt)?;
+    ranges(rt)?;
+    counts(rt)?;
+    extensions_call(rt, FIRST_DRIVE, 0x55AA)?;
+    geometry_call(rt, PLAIN, FIRST_DRIVE)?;
+    sizes(rt)?;
+    geometry_call(rt, LARGEST, FIRST_DRIVE)
 }
 
 // ---- turns
@@ -436,50 +438,53 @@ fn wait_40(desk: Desk, guest: usize, arena: &mut [u8], store: &[u8]) -> Desk {
 }
 
 // A byte of the first, of the seventeenth and of the thirty-third block of a guest's buffer: what its three turns lay down.
-fn say_parts(guest: usize, arena: &[u8]) {
+fn say_parts(rt: &impl Print, guest: usize, arena: &[u8]) -> io::Result<()> {
     if 8 <= guest {
-        return;
+        return Ok(());
     }
     let at = 20480 * guest;
     if arena.len() < at + 20480 {
-        return;
+        return Ok(());
     }
-    say(b"bytes 100, 8292, 16484:");
-    say_byte(arena[at + 100]);
-    say_byte(arena[at + 8292]);
-    say_byte(arena[at + 16484]);
-    end_line();
+    say(rt, b"bytes 100, 8292, 16484:")?;
+    say_byte(rt, arena[at + 100])?;
+    say_byte(rt, arena[at + 8292])?;
+    say_byte(rt, arena[at + 16484])?;
+    end_line(rt)
 }
 
-fn say_served(guest: usize, moved: u64, arena: &[u8]) {
-    say(b"turn: guest ");
-    io::print_decimal(OUTPUT, guest as u64);
-    say(b" moved ");
-    io::print_decimal(OUTPUT, moved);
-    end_line();
-    say_parts(guest, arena);
+fn say_served(rt: &impl Print, guest: usize, moved: u64, arena: &[u8]) -> io::Result<()> {
+    println!(rt; "turn: guest {guest} moved {moved}")?;
+    say_parts(rt, guest, arena)
 }
 
-fn say_turned(answer: TurnAnswer, arena: &[u8]) {
+fn say_turned(rt: &impl Print, answer: TurnAnswer, arena: &[u8]) -> io::Result<()> {
     match answer {
-        TurnAnswer::Served(guest, moved) => say_served(guest, moved, arena),
-        TurnAnswer::Idle => say(b"turn: idle\n"),
-        TurnAnswer::Refused(_) => say(b"turn: refused\n"),
+        TurnAnswer::Served(guest, moved) => say_served(rt, guest, moved, arena),
+        TurnAnswer::Idle => say(rt, b"turn: idle\n"),
+        TurnAnswer::Refused(_) => say(rt, b"turn: refused\n"),
     }
 }
 
-fn one_turn(desk: Desk, arena: &mut [u8], store: &mut [u8]) -> Desk {
+fn one_turn(rt: &impl Print, desk: Desk, arena: &mut [u8], store: &mut [u8]) -> io::Result<Desk> {
     let turned = desk.turn(arena, store);
     let answer = turned.answer;
-    say_turned(answer, &arena[..]);
-    turned.desk
+    say_turned(rt, answer, &arena[..])?;
+    Ok(turned.desk)
 }
 
-fn turns(desk: Desk, number: u64, arena: &mut [u8], store: &mut [u8]) {
+fn turns(
+    rt: &impl Print,
+    desk: Desk,
+    number: u64,
+    arena: &mut [u8],
+    store: &mut [u8],
+) -> io::Result<()> {
     let mut next = desk;
     for _ in 0..number {
-        next = one_turn(next, arena, store);
+        next = one_turn(rt, next, arena, store)?;
     }
+    Ok(())
 }
 
 fn four_wait(desk: Desk, first: usize, arena: &mut [u8], store: &[u8]) -> Desk {
@@ -506,10 +511,10 @@ fn two_wait(arena: &mut [u8], store: &[u8]) -> Desk {
 }
 
 // P9: guests 2 and 5 wait with 40 blocks each, and seven turns follow.
-fn two_guests(arena: &mut [u8], store: &mut [u8]) {
+fn two_guests(rt: &impl Print, arena: &mut [u8], store: &mut [u8]) -> io::Result<()> {
     fill(store, 1);
     let both = two_wait(arena, &store[..]);
-    turns(both, 7, arena, store);
+    turns(rt, both, 7, arena, store)
 }
 
 fn eight_wait(arena: &mut [u8], store: &[u8]) -> Desk {
@@ -519,10 +524,10 @@ fn eight_wait(arena: &mut [u8], store: &[u8]) -> Desk {
 }
 
 // P10: the first turn leaves pointer 1 and all eight waiting, and eight follow.
-fn eight_guests(arena: &mut [u8], store: &mut [u8]) {
+fn eight_guests(rt: &impl Print, arena: &mut [u8], store: &mut [u8]) -> io::Result<()> {
     fill(store, 101);
     let all = eight_wait(arena, &store[..]);
-    turns(all, 9, arena, store);
+    turns(rt, all, 9, arena, store)
 }
 
 fn zero_arena() -> [u8; 163840]
@@ -537,19 +542,19 @@ fn zero_store() -> [u8; 32768]
     [0; 32768]
 }
 
-fn main() {
-    blocks();
-    last_blocks();
-    functions();
+fn main(rt: HostRuntime) -> io::Result<()> {
+    blocks(&rt)?;
+    last_blocks(&rt)?;
+    functions(&rt)?;
     let mut arena = zero_arena();
     let mut store = zero_store();
-    two_guests(&mut arena, &mut store);
-    eight_guests(&mut arena, &mut store);
-    sources::functions();
-    sources::tables();
-    sources::withdrawal(&mut arena, &mut store);
-    placement::tables(&mut arena, &store);
-    fragments::cases();
-    worn::cases(&mut arena, &mut store);
-    wide::cases();
+    two_guests(&rt, &mut arena, &mut store)?;
+    eight_guests(&rt, &mut arena, &mut store)?;
+    sources::functions(&rt)?;
+    sources::tables(&rt)?;
+    sources::withdrawal(&rt, &mut arena, &mut store)?;
+    placement::tables(&rt, &mut arena, &store)?;
+    fragments::cases(&rt)?;
+    worn::cases(&rt, &mut arena, &mut store)?;
+    wide::cases(&rt)
 }

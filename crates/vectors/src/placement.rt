@@ -3,11 +3,10 @@
 ghost use Rattle.std.specs.Prelude.{◌+◌, ◌≤◌, length};
 
 use super::sources::say_bytes;
-use super::{
-    FIRST_DRIVE, OUTPUT, end_line, registers, say, say_call, say_case, say_register, table_bytes,
-};
+use super::{FIRST_DRIVE, end_line, registers, say, say_call, say_case, say_register, table_bytes};
 use desk::{Desk, PlaceAnswer, PostAnswer};
 use int13::Registers;
+use std::io;
 
 const WINDOW: usize = 20480;
 
@@ -65,99 +64,124 @@ fn opened(arena: u64, store: u64) -> Desk {
 
 // ---- what a guest is shown
 
-fn say_support(drive: u16, answer: PostAnswer) {
+fn say_support(rt: &impl Print, drive: u16, answer: PostAnswer) -> io::Result<()> {
     let PostAnswer::Answered(r) = answer else {
-        return;
+        return Ok(());
     };
-    say_call(0x41, drive);
-    say_register(b'A', r.ax);
-    say_register(b'B', r.bx);
-    say_register(b'C', r.cx);
-    end_line();
+    say_call(rt, 0x41, drive)?;
+    say_register(rt, b'A', r.ax)?;
+    say_register(rt, b'B', r.bx)?;
+    say_register(rt, b'C', r.cx)?;
+    end_line(rt)
 }
 
 // 41h.
-fn support_case(desk: Desk, guest: usize, drive: u16, arena: &mut [u8], store: &[u8]) {
+fn support_case(
+    rt: &impl Print,
+    desk: Desk,
+    guest: usize,
+    drive: u16,
+    arena: &mut [u8],
+    store: &[u8],
+) -> io::Result<()> {
     let asked = Registers {
         bx: 0x55AA,
         ..registers(0x4100, 0, drive)
     };
     let posted = desk.post(guest, asked, arena, store);
     let answer = posted.answer;
-    say_support(drive, answer);
+    say_support(rt, drive, answer)
 }
 
-fn say_pointer(drive: u16, at: usize, arena: &[u8])
+fn say_pointer(rt: &impl Print, drive: u16, at: usize, arena: &[u8]) -> io::Result<()>
     requires { at ≤ 163840 }
 {
-    say_call(0x48, drive);
-    say(b" bytes 26 to 29:");
-    say_bytes(arena, at + 26, at + 30);
+    say_call(rt, 0x48, drive)?;
+    say(rt, b" bytes 26 to 29:")?;
+    say_bytes(rt, arena, at + 26, at + 30)
 }
 
 // 48h with a result buffer of 30 bytes at place 0 of a guest's window: its bytes 26 to 29 afterwards.
-fn pointer_case(desk: Desk, guest: usize, drive: u16, arena: &mut [u8], store: &[u8]) {
+fn pointer_case(
+    rt: &impl Print,
+    desk: Desk,
+    guest: usize,
+    drive: u16,
+    arena: &mut [u8],
+    store: &[u8],
+) -> io::Result<()> {
     if 8 <= guest {
-        return;
+        return Ok(());
     }
     let at = WINDOW * guest;
     if arena.len() < at + 2 {
-        return;
+        return Ok(());
     }
     words::store16(arena, at, 30);
     desk.post(guest, registers(0x4800, 0, drive), arena, store);
-    say_pointer(drive, at, &arena[..]);
+    say_pointer(rt, drive, at, &arena[..])
 }
 
-fn shown(desk: Desk, guest: usize, drive: u16, arena: &mut [u8], store: &[u8]) {
-    support_case(desk, guest, drive, arena, store);
-    pointer_case(desk, guest, drive, arena, store);
+fn shown(
+    rt: &impl Print,
+    desk: Desk,
+    guest: usize,
+    drive: u16,
+    arena: &mut [u8],
+    store: &[u8],
+) -> io::Result<()> {
+    support_case(rt, desk, guest, drive, arena, store)?;
+    pointer_case(rt, desk, guest, drive, arena, store)
 }
 
 // ---- placing
 
-fn say_placed(address: u64, answer: PlaceAnswer) {
-    say_case(b"place at ", address);
+fn say_placed(rt: &impl Print, address: u64, answer: PlaceAnswer) -> io::Result<()> {
+    say_case(rt, b"place at ", address)?;
     match answer {
-        PlaceAnswer::Placed => say(b"done"),
-        PlaceAnswer::Refused(number) => {
-            say(b"refused ");
-            io::print_decimal(OUTPUT, number as u64);
-        }
+        PlaceAnswer::Placed => say(rt, b"done")?,
+        PlaceAnswer::Refused(number) => print!(rt; "refused {number}")?,
     }
-    end_line();
+    end_line(rt)
 }
 
-fn place(desk: Desk, guest: usize, address: u64, arena: &mut [u8], store: &[u8]) -> Desk {
+fn place(
+    rt: &impl Print,
+    desk: Desk,
+    guest: usize,
+    address: u64,
+    arena: &mut [u8],
+    store: &[u8],
+) -> io::Result<Desk> {
     let placing = desk.place(guest, address, arena, store);
     let answer = placing.answer;
-    say_placed(address, answer);
-    placing.desk
+    say_placed(rt, address, answer)?;
+    Ok(placing.desk)
 }
 
 // The sixteen bytes of a table at a place of the arena.
-fn table_case(at: usize, arena: &[u8])
+fn table_case(rt: &impl Print, at: usize, arena: &[u8]) -> io::Result<()>
     requires { at ≤ 163840 }
 {
-    say(b"table:");
-    say_bytes(arena, at, at + 16);
+    say(rt, b"table:")?;
+    say_bytes(rt, arena, at, at + 16)
 }
 
 // A place that is not a multiple of 16 is refused, and the desk stays.
-fn placed(arena: &mut [u8], store: &[u8]) -> Desk {
+fn placed(rt: &impl Print, arena: &mut [u8], store: &[u8]) -> io::Result<Desk> {
     let desk = opened(arena.len() as u64, store.len() as u64);
-    shown(desk, 1, FIRST_DRIVE, arena, store);
-    let refused = place(desk, 1, ADDRESS + 1, arena, store);
-    place(refused, 1, ADDRESS, arena, store)
+    shown(rt, desk, 1, FIRST_DRIVE, arena, store)?;
+    let refused = place(rt, desk, 1, ADDRESS + 1, arena, store)?;
+    place(rt, refused, 1, ADDRESS, arena, store)
 }
 
-pub(crate) fn tables(arena: &mut [u8], store: &[u8]) {
-    let desk = placed(arena, store);
+pub(crate) fn tables(rt: &impl Print, arena: &mut [u8], store: &[u8]) -> io::Result<()> {
+    let desk = placed(rt, arena, store)?;
     let at = WINDOW + ADDRESS as usize;
-    table_case(at, &arena[..]);
-    table_case(at + 16, &arena[..]);
-    shown(desk, 1, 0x80, arena, store);
-    shown(desk, 1, 0x81, arena, store);
-    shown(desk, 1, 0x82, arena, store);
-    shown(desk, 2, 0x80, arena, store);
+    table_case(rt, at, &arena[..])?;
+    table_case(rt, at + 16, &arena[..])?;
+    shown(rt, desk, 1, 0x80, arena, store)?;
+    shown(rt, desk, 1, 0x81, arena, store)?;
+    shown(rt, desk, 1, 0x82, arena, store)?;
+    shown(rt, desk, 2, 0x80, arena, store)
 }

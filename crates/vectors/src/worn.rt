@@ -3,10 +3,11 @@ ghost use Rattle.std.specs.Prelude.{◌+◌, ◌≤◌, length};
 
 use super::sources::{say_answer, say_count};
 use super::{
-    FIRST_DRIVE, OUTPUT, PACKET_SIZE, STORE_BLOCKS, end_line, put_packet, registers, say, say_case,
+    FIRST_DRIVE, PACKET_SIZE, STORE_BLOCKS, end_line, put_packet, registers, say, say_case,
     say_register, table_bytes,
 };
 use desk::{CollectAnswer, Desk, PostAnswer, TurnAnswer};
+use std::io;
 
 // ---- the drive
 
@@ -32,14 +33,13 @@ fn worn_table(first: u64, second: u64) -> [u8; 94] {
 }
 
 // `bad blocks 20, 41: table ok`
-fn list_case(first: u64, second: u64) {
+fn list_case(rt: &impl Print, first: u64, second: u64) -> io::Result<()> {
     let t = worn_table(first, second);
-    say(b"bad blocks ");
-    io::print_decimal(OUTPUT, first);
-    say_case(b", ", second);
+    print!(rt; "bad blocks {first}")?;
+    say_case(rt, b", ", second)?;
     let reading = table::read_table(&t, STORE_BLOCKS);
     let answer = reading.answer;
-    say_answer(answer);
+    say_answer(rt, answer)
 }
 
 fn opened(arena: u64, store: u64) -> Desk {
@@ -50,58 +50,54 @@ fn opened(arena: u64, store: u64) -> Desk {
 
 // ---- what a guest is told
 
-fn say_posted(answer: PostAnswer) {
+fn say_posted(rt: &impl Print, answer: PostAnswer) -> io::Result<()> {
     match answer {
         PostAnswer::Answered(r) => {
-            say(b"answered");
-            say_register(b'A', r.ax);
+            say(rt, b"answered")?;
+            say_register(rt, b'A', r.ax)?;
         }
-        PostAnswer::Waits => say(b"waits"),
-        PostAnswer::Refused(_) => say(b"refused"),
+        PostAnswer::Waits => say(rt, b"waits")?,
+        PostAnswer::Refused(_) => say(rt, b"refused")?,
     }
-    end_line();
+    end_line(rt)
 }
 
-fn say_turned(answer: TurnAnswer) {
+fn say_turned(rt: &impl Print, answer: TurnAnswer) -> io::Result<()> {
     match answer {
-        TurnAnswer::Served(_, moved) => {
-            say(b"turn: moved ");
-            io::print_decimal(OUTPUT, moved);
-            end_line();
-        }
-        TurnAnswer::Idle => {}
-        TurnAnswer::Refused(_) => say(b"turn: refused\n"),
+        TurnAnswer::Served(_, moved) => println!(rt; "turn: moved {moved}"),
+        TurnAnswer::Idle => Ok(()),
+        TurnAnswer::Refused(_) => say(rt, b"turn: refused\n"),
     }
 }
 
-fn say_collected(answer: CollectAnswer) {
+fn say_collected(rt: &impl Print, answer: CollectAnswer) -> io::Result<()> {
     match answer {
         CollectAnswer::Given(r) => {
-            say(b"collected:");
-            say_register(b'A', r.ax);
+            say(rt, b"collected:")?;
+            say_register(rt, b'A', r.ax)?;
             if r.carry {
-                say(b" carry");
+                say(rt, b" carry")?;
             }
-            end_line();
+            end_line(rt)
         }
-        CollectAnswer::Refused(_) => {}
+        CollectAnswer::Refused(_) => Ok(()),
     }
 }
 
 // ---- a request
 
-fn one_turn(desk: Desk, arena: &mut [u8], store: &mut [u8]) -> Desk {
+fn one_turn(rt: &impl Print, desk: Desk, arena: &mut [u8], store: &mut [u8]) -> io::Result<Desk> {
     let turned = desk.turn(arena, store);
     let answer = turned.answer;
-    say_turned(answer);
-    turned.desk
+    say_turned(rt, answer)?;
+    Ok(turned.desk)
 }
 
 // Three turns are enough for 40 blocks; an idle one says nothing.
-fn served(desk: Desk, arena: &mut [u8], store: &mut [u8]) -> Desk {
-    let one = one_turn(desk, arena, store);
-    let two = one_turn(one, arena, store);
-    one_turn(two, arena, store)
+fn served(rt: &impl Print, desk: Desk, arena: &mut [u8], store: &mut [u8]) -> io::Result<Desk> {
+    let one = one_turn(rt, desk, arena, store)?;
+    let two = one_turn(rt, one, arena, store)?;
+    one_turn(rt, two, arena, store)
 }
 
 // The packet at place 0.
@@ -113,62 +109,73 @@ fn put_request(start: u64, count: u16, arena: &mut [u8]) {
 }
 
 // The function in AH, the sectors of 02h and 03h in AL; the packet of the others at place 0. 02h and 03h begin at sector 4, which is block 3.
-fn posted(ax: u16, start: u64, count: u16, arena: &mut [u8], store: &[u8]) -> Desk {
+fn posted(
+    rt: &impl Print,
+    ax: u16,
+    start: u64,
+    count: u16,
+    arena: &mut [u8],
+    store: &[u8],
+) -> io::Result<Desk> {
     let desk = opened(arena.len() as u64, store.len() as u64);
     put_request(start, count, arena);
     let posted = desk.post(0, registers(ax, 0x0004, FIRST_DRIVE), arena, store);
     let answer = posted.answer;
-    say_posted(answer);
-    posted.desk
+    say_posted(rt, answer)?;
+    Ok(posted.desk)
 }
 
-fn collected(desk: Desk) {
+fn collected(rt: &impl Print, desk: Desk) -> io::Result<()> {
     let collected = desk.collect(0);
     let answer = collected.answer;
-    say_collected(answer);
+    say_collected(rt, answer)
 }
 
 // `AX 4200 start 3 count 40: waits`, its turns, its registers, and the word at 2.
-fn request(ax: u16, start: u64, count: u16, arena: &mut [u8], store: &mut [u8]) {
-    say(b"AX ");
-    io::print_hex(OUTPUT, ax as u64, 4);
-    say(b" start ");
-    io::print_decimal(OUTPUT, start);
-    say_case(b" count ", count as u64);
-    let waiting = posted(ax, start, count, arena, &store[..]);
-    let desk = served(waiting, arena, store);
-    collected(desk);
-    say_count(&arena[..]);
+fn request(
+    rt: &impl Print,
+    ax: u16,
+    start: u64,
+    count: u16,
+    arena: &mut [u8],
+    store: &mut [u8],
+) -> io::Result<()> {
+    print!(rt; "AX {ax:04x} start {start}")?;
+    say_case(rt, b" count ", count as u64)?;
+    let waiting = posted(rt, ax, start, count, arena, &store[..])?;
+    let desk = served(rt, waiting, arena, store)?;
+    collected(rt, desk)?;
+    say_count(rt, &arena[..])
 }
 
 // ---- the cases
 
-fn lists() {
-    list_case(20, 41);
-    list_case(41, 20);
-    list_case(20, 20);
-    list_case(20, 64);
+fn lists(rt: &impl Print) -> io::Result<()> {
+    list_case(rt, 20, 41)?;
+    list_case(rt, 41, 20)?;
+    list_case(rt, 20, 20)?;
+    list_case(rt, 20, 64)
 }
 
 // 40 blocks from block 3 on, of which 17 come before the first bad one.
-fn by_function(arena: &mut [u8], store: &mut [u8]) {
-    request(0x4200, 3, 40, arena, store);
-    request(0x0228, 3, 40, arena, store);
-    request(0x4300, 3, 40, arena, store);
-    request(0x0328, 3, 40, arena, store);
+fn by_function(rt: &impl Print, arena: &mut [u8], store: &mut [u8]) -> io::Result<()> {
+    request(rt, 0x4200, 3, 40, arena, store)?;
+    request(rt, 0x0228, 3, 40, arena, store)?;
+    request(rt, 0x4300, 3, 40, arena, store)?;
+    request(rt, 0x0328, 3, 40, arena, store)
 }
 
 // A bad block behind data that lies over the packet, a bad block first, none in the range, and 44h.
-fn by_range(arena: &mut [u8], store: &mut [u8]) {
-    request(0x4200, 15, 8, arena, store);
-    request(0x4200, 20, 2, arena, store);
-    request(0x4200, 21, 20, arena, store);
-    request(0x4400, 3, 40, arena, store);
-    request(0x4400, 21, 20, arena, store);
+fn by_range(rt: &impl Print, arena: &mut [u8], store: &mut [u8]) -> io::Result<()> {
+    request(rt, 0x4200, 15, 8, arena, store)?;
+    request(rt, 0x4200, 20, 2, arena, store)?;
+    request(rt, 0x4200, 21, 20, arena, store)?;
+    request(rt, 0x4400, 3, 40, arena, store)?;
+    request(rt, 0x4400, 21, 20, arena, store)
 }
 
-pub(crate) fn cases(arena: &mut [u8], store: &mut [u8]) {
-    lists();
-    by_function(arena, store);
-    by_range(arena, store);
+pub(crate) fn cases(rt: &impl Print, arena: &mut [u8], store: &mut [u8]) -> io::Result<()> {
+    lists(rt)?;
+    by_function(rt, arena, store)?;
+    by_range(rt, arena, store)
 }

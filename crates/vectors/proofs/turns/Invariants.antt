@@ -4,7 +4,7 @@ use lib.ListN.{length}
 use Rattle.vectors.proofs.turns.Given as goal
 
 abbrev pub invariant-loop : goal.invariant-loop
-invariant-loop l = (length l.arena ≡ length l.initial.arena) × (length l.store ≡ length l.initial.store)
+invariant-loop g l = (length l.arena ≡ length l.initial.arena) × (length l.store ≡ length l.initial.store)
 
 abbrev pub decreases-loop : goal.decreases-loop
-decreases-loop l = l.number - l.counter
+decreases-loop g l = l.number - l.counter
