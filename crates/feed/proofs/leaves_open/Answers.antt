@@ -6,22 +6,19 @@ use lib.Seq.{length-take-le}
 use borrow.Author.Rules.{rules}
 use Rattle.feed.proofs.FeedLaws.{open_found, open_full}
 use Rattle.feed.proofs.leaves_open.Goals as goal
-use Rattle.feed.proofs.leaves_open.Goals.{Else-n-ge-LONGEST_RECORD}
-
--- there is room for the byte
-inside : (c : Else-n-ge-LONGEST_RECORD) → c.args.n + 1 ≤ length (set c.args.held c.args.n c.args.x)
-inside c =
-    let room : length c.args.held ≡ 134 = search rules in
-    omega (arith, room, c.if-n-ge-LONGEST_RECORD.false, length-set c.args.held c.args.n c.args.x)
 
 pub returns-then-n-ge-LONGEST_RECORD : goal.returns-then-n-ge-LONGEST_RECORD
 returns-then-n-ge-LONGEST_RECORD c = let a = c.args in open_full a.held a.n a.x c.if-n-ge-LONGEST_RECORD.true
 
 pub slice_bounds-is_unfinished-end : goal.slice_bounds-is_unfinished-end
-slice_bounds-is_unfinished-end c = sym (length-take-le _ _ (inside c.before))
+slice_bounds-is_unfinished-end c =
+    let a = c.args in
+    -- there is room for the byte
+    let room : length a.held ≡ 134 = search rules in
+    let inside : a.n + 1 ≤ length (set a.held a.n a.x) = omega (arith, room, c.if-n-ge-LONGEST_RECORD.false, length-set a.held a.n a.x) in
+    sym (length-take-le _ _ inside)
 
 pub returns : goal.returns
 returns c =
-    let e = c.before.before in
-    let a = e.args in
-    open_found a.held a.n a.x (omega (arith, e.if-n-ge-LONGEST_RECORD.false)) c.is_unfinished.ensures
+    let a = c.args in
+    open_found a.held a.n a.x (omega (arith, c.if-n-ge-LONGEST_RECORD.false)) c.is_unfinished.ensures

@@ -2,7 +2,7 @@ use Rattle.feed.proofs.FeedLaws.{place-behind, place-record}
 use Rattle.feed.proofs.refused_at.Goals as goal
 
 pub returns-then-number-eq-BYTE_FOLLOWS : goal.returns-then-number-eq-BYTE_FOLLOWS
-returns-then-number-eq-BYTE_FOLLOWS c = let p = c.before in place-behind p.args.b p.next_place-next.ensures.0 c.if-number-eq-BYTE_FOLLOWS.true
+returns-then-number-eq-BYTE_FOLLOWS c = place-behind c.args.b c.next_place-next.ensures.0 c.if-number-eq-BYTE_FOLLOWS.true
 
 pub returns : goal.returns
-returns c = let p = c.before in place-record p.args.b p.next_place-next.ensures.0 c.if-number-eq-BYTE_FOLLOWS.false
+returns c = place-record c.args.b c.next_place-next.ensures.0 c.if-number-eq-BYTE_FOLLOWS.false

@@ -17,24 +17,20 @@ overflow_add-f c = let l = (open_is _ _ _ _ (sym c.stays_open.ensures ∙ c.if-s
 
 pub loop-i-preserved-then-stays_open : goal.loop-i-preserved-then-stays_open
 loop-i-preserved-then-stays_open c =
-    let h = c.before.before.before.before.before.before.before in
-    let a = h.args in
-    (search rules, feed_on a.self a.bytes.now h.loop-i.i (omega arith) h.loop-i.invariant.1 (byte-open h.loop-i.f _ (sym c.stays_open.ensures ∙ c.if-stays_open.true)))
+    let a = c.args in
+    (search rules, feed_on a.self a.bytes.now c.loop-i.i (omega arith) c.loop-i.invariant.1 (byte-open c.loop-i.f _ (sym c.stays_open.ensures ∙ c.if-stays_open.true)))
 
 pub loop-i-preserved : goal.loop-i-preserved
 loop-i-preserved c =
-    let h = c.before.before.before.before.before.before.before.before in
-    let a = h.args in
-    (search rules, feed_on a.self a.bytes.now h.loop-i.i (omega arith) h.loop-i.invariant.1 c.byte-f.ensures)
+    let a = c.args in
+    (search rules, feed_on a.self a.bytes.now c.loop-i.i (omega arith) c.loop-i.invariant.1 c.byte-f.ensures)
 
 pub returns-then-is_over : goal.returns-then-is_over
 returns-then-is_over c =
-    let h = c.before.before.before in
-    let a = h.args in
-    feed_over a.self a.bytes.now h.loop-i.i h.loop-i.invariant.1 (sym c.is_over.ensures ∙ c.if-is_over.true)
+    let a = c.args in
+    feed_over a.self a.bytes.now c.loop-i.i c.loop-i.invariant.1 (sym c.is_over.ensures ∙ c.if-is_over.true)
 
 pub returns : goal.returns
 returns c =
-    let h = c.before in
-    let a = h.args in
-    feed_whole a.self a.bytes.now h.loop-i.i (omega arith) h.loop-i.invariant.1
+    let a = c.args in
+    feed_whole a.self a.bytes.now c.loop-i.i (omega arith) c.loop-i.invariant.1
