@@ -9,5 +9,4 @@ returns-then-b-ne-SIZE c = rw (ne_eqb _ reader_size c.if-b-ne-SIZE.true)
 pub returns : goal.returns
 unfolding accepted
 returns c =
-    let d = c.before.before.before in
-    rw (eq-eqb _ reader_size d.if-b-ne-SIZE.false, c.and.ensures, c.is_image.ensures, c.obeys.ensures, d.decode-f.ensures)
+    rw (eq-eqb _ reader_size c.if-b-ne-SIZE.false, c.and.ensures, c.is_image.ensures, c.obeys.ensures, c.decode-f.ensures)

@@ -16,26 +16,20 @@ loop-i-init c = (omega arith, refl)
 
 pub returns-then-a-i : goal.returns-then-a-i
 returns-then-a-i c =
-    let h = c.before.before.before.before in
-    let s = h.before in
-    let a = s.args.a.now in
-    let b = s.args.b.now in
-    all_fails {a = eqb (get_or a h.loop-i.i 0) (get_or b h.loop-i.i 0)} 2018 h.loop-i.i (λ k. eqb (get_or a k 0) (get_or b k 0)) (search rules) refl (ne_eqb _ _ c.if-a-i.true)
-    ∙ sym (same-all 2018 a b s.requires.0 s.requires.1)
+    let a = c.args.a.now in
+    let b = c.args.b.now in
+    all_fails {a = eqb (get_or a c.loop-i.i 0) (get_or b c.loop-i.i 0)} 2018 c.loop-i.i (λ k. eqb (get_or a k 0) (get_or b k 0)) (search rules) refl (ne_eqb _ _ c.if-a-i.true)
+    ∙ sym (same-all 2018 a b c.requires.0 c.requires.1)
 
 pub loop-i-preserved : goal.loop-i-preserved
 loop-i-preserved c =
-    let h = c.before.before.before.before in
-    let s = h.before in
-    let a = s.args.a.now in
-    let b = s.args.b.now in
-    (search rules, all-next {a = eqb (get_or a h.loop-i.i 0) (get_or b h.loop-i.i 0)} h.loop-i.i (λ k. eqb (get_or a k 0) (get_or b k 0)) h.loop-i.invariant.1 refl (eq-eqb _ _ c.if-a-i.false))
+    let a = c.args.a.now in
+    let b = c.args.b.now in
+    (search rules, all-next {a = eqb (get_or a c.loop-i.i 0) (get_or b c.loop-i.i 0)} c.loop-i.i (λ k. eqb (get_or a k 0) (get_or b k 0)) c.loop-i.invariant.1 refl (eq-eqb _ _ c.if-a-i.false))
 
 pub returns : goal.returns
 returns c =
-    let h = c.before in
-    let s = h.before in
-    let a = s.args.a.now in
-    let b = s.args.b.now in
-    let e : h.loop-i.i ≡ 2018 = omega arith in
-    h.loop-i.invariant.1 ∙ ap (λ (m : ℕ). all_below m (λ k. eqb (get_or a k 0) (get_or b k 0))) e ∙ sym (same-all 2018 a b s.requires.0 s.requires.1)
+    let a = c.args.a.now in
+    let b = c.args.b.now in
+    let e : c.loop-i.i ≡ 2018 = omega arith in
+    c.loop-i.invariant.1 ∙ ap (λ (m : ℕ). all_below m (λ k. eqb (get_or a k 0) (get_or b k 0))) e ∙ sym (same-all 2018 a b c.requires.0 c.requires.1)

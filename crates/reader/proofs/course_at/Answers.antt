@@ -12,6 +12,4 @@ returns-then-number-eq2 c =
     simp (← c.get64-number.ensures, ne_eqb _ _ c.if-number-eq0.false, ne_eqb _ _ c.if-number-eq1.false, eq-eqb _ _ c.if-number-eq2.true)
 
 pub returns : goal.returns
-returns c =
-    let h = c.before.before.before in
-    simp (← h.get64-number.ensures, ne_eqb _ _ h.if-number-eq0.false, ne_eqb _ _ c.if-number-eq1.false, ne_eqb _ _ c.if-number-eq2.false)
+returns c = simp (← c.get64-number.ensures, ne_eqb _ _ c.if-number-eq0.false, ne_eqb _ _ c.if-number-eq1.false, ne_eqb _ _ c.if-number-eq2.false)

@@ -3,7 +3,5 @@ use Rattle.reader.proofs.decode.Goals as goal
 
 pub returns : goal.returns
 returns c =
-    let t = c.before.before.before.before in
-    let e = t.before.before in
-    decode_is e.table_end-end.result e.args.b.now e.get64-store.ensures e.table_end-end.ensures.2 t.read_table-r.ensures.reading
+    decode_is c.table_end-end.result c.args.b.now c.get64-store.ensures c.table_end-end.ensures.2 c.read_table-r.ensures.reading
     c.held_at.ensures c.get64.ensures c.course_at.ensures

@@ -8,7 +8,6 @@ use Rattle.reader.proofs.held_at.Goals as goal
 
 pub returns : goal.returns
 returns c =
-    let s = c.before.before.before.before.before in
-    let b = s.args.b.now in
-    let l : length (part 134 b 40) ≡ 134 = length-take-le 134 (drop 40 b) (rw length-drop (omega (arith, s.requires))) in
+    let b = c.args.b.now in
+    let l : length (part 134 b 40) ≡ 134 = length-take-le 134 (drop 40 b) (rw length-drop (omega (arith, c.requires))) in
     c.store.ensures ∙ sets-whole (replicate 134 0) (part 134 b 40) (sym l)

@@ -14,14 +14,12 @@ loop-j-init c = (omega arith, refl)
 
 pub loop-j-preserved : goal.loop-j-preserved
 loop-j-preserved c =
-    let h = c.before.before.before in
-    let a = h.args in
-    (search rules, all_more h.loop-j.j (λ k. either (ltb k a.n) (eqb (get_or a.t1 k 0) 0)) h.loop-j.invariant.1 c.and-zero.ensures c.or.ensures)
+    let a = c.args in
+    (search rules, all_more c.loop-j.j (λ k. either (ltb k a.n) (eqb (get_or a.held k 0) 0)) c.loop-j.invariant.1 c.and-zero.ensures c.or.ensures)
 
 pub returns : goal.returns
 unfolding rest_zero
 returns c =
-    let h = c.before in
-    let a = h.args in
-    let e : h.loop-j.j ≡ 134 = omega arith in
-    h.loop-j.invariant.1 ∙ ap (λ (m : ℕ). all_below m (λ k. either (ltb k a.n) (eqb (get_or a.t1 k 0) 0))) e
+    let a = c.args in
+    let e : c.loop-j.j ≡ 134 = omega arith in
+    c.loop-j.invariant.1 ∙ ap (λ (m : ℕ). all_below m (λ k. either (ltb k a.n) (eqb (get_or a.held k 0) 0))) e

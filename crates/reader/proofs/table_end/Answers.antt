@@ -5,6 +5,4 @@ pub returns-then-n : goal.returns-then-n
 returns-then-n c = end-inside c.args.b.now c.get64-n.ensures c.if-n.true
 
 pub returns : goal.returns
-returns c =
-    let s = c.before.before.before in
-    end-past s.args.b.now s.requires c.get64-n.ensures c.if-n.false
+returns c = end-past c.args.b.now c.requires c.get64-n.ensures c.if-n.false
