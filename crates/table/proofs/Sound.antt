@@ -25,7 +25,7 @@ use Rattle.attached.proofs.AttachedLaws.{length-parameters_in}
 use Rattle.attached.proofs.BadLaws.{bads_ok_intro, bads_ok-no_bads}
 use Rattle.table.specs.declared.Table.{Table}
 use Rattle.table.specs.declared.Answer.TheVariants.{Accepted}
-use Rattle.table.specs.Table.{no_drive, zero_drive, empty_table, overlaps_any, refusal, more, has_parameters, parameters_refusal, with_parameters, bads_at, bads_refusal, with_bads, most_records, read_from, read_table, taken_at, sound_to, blank_at, blank_to, attached_at, attached_to, listed_at, listed_to, is_sound}
+use Rattle.table.specs.Table.{no_drive, zero_drive, empty_table, overlaps_any, refusal, more, has_parameters, parameters_refusal, with_parameters, bads_at, bads_refusal, with_bads, most_records, read_table, taken_at, sound_to, blank_at, blank_to, attached_at, attached_to, listed_at, listed_to, is_sound}
 use Rattle.table.proofs.TableLaws.{refusal-room, refusal-taken, parameters-room, bads_room, length_whole, bads_whole, read_keeps, drive-bytes}
 use Rattle.table.proofs.Slots.{marked, marked_other, bytes-other, bads_same, bads_other, bads_empty, Listed, bads_in-listed, listed-none, attached_drive, attached_zero, attached_intro}
 

@@ -2,7 +2,6 @@ use Rattle.logic.proofs.LogicLaws.{some_more, all_more}
 use Rattle.table.proofs.TableLaws.{taken_is}
 use Rattle.table.specs.Table.{overlaps_any, sound_to}
 use mathlib.Core.Path.{◌≡◌, refl, ◌∙◌}
-use Prim.Native.Nat.{◌-◌}
 use native.Mathlib.Omega.{arith}
 use borrow.Author.Rules.{rules}
 use Rattle.table.proofs.sound_to.Goals as goal

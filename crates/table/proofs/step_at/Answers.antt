@@ -1,4 +1,4 @@
-use mathlib.Core.Path.{◌≡◌, sym, ◌∙◌}
+use mathlib.Core.Path.{sym, ◌∙◌}
 use native.Mathlib.Nat.{add-sub_cancel_left}
 use native.Mathlib.Omega.{arith}
 use Rattle.table.proofs.TableLaws.{whole_at, drive-kind, other-kind, drive-whole, bads_whole, parameters-whole, step_at-bad, step_at-end, step_at-drive, step_at_bads, step_at-parameters}
