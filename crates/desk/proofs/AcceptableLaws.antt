@@ -1,7 +1,7 @@
 -- What an accepted desk says, as facts.
 -- Assumes nothing.
 use mathlib.Core.Path.{◌≡◌, refl, ap, ◌∙◌}
-use mathlib.Core.Logic.{◌⊎◌, ⊎_elim}
+use mathlib.Core.Logic.{◌⊎◌, inl, inr, ⊎_elim}
 use mathlib.Core.Bool.{Bool, true, false, not}
 use mathlib.Core.List.{List, [], ◌∷◌}
 use types.Run.{OneOf}
@@ -139,7 +139,13 @@ waits_servable b M store q s f w =
 
 -- ---- the tests of the code, one by one
 
--- what goes by the stage, of a row that a `let .. else` finds not waiting
+-- the number of the stage of a row that a `let .. else` finds not waiting
+pub not_waiting-tag : (s : Stage) → ((q : Request) → s ≡ Waiting q → ⊥) → OneOf (0 ∷ 2 ∷ []) (tag_of stage.the_type s)
+not_waiting-tag Vacant n = inl refl
+not_waiting-tag (Waiting q) n = absurd (n q refl)
+not_waiting-tag (Finished r) n = inr refl
+
+-- what goes by the stage, of such a row
 pub not-waiting : {A : Type 0} (f : Stage → A) {x : A} (s : Stage) → OneOf (0 ∷ 2 ∷ []) (tag_of stage.the_type s) → x ≡ f Vacant → ((r : Registers) → x ≡ f (Finished r)) → x ≡ f s
 not-waiting f Vacant k v h = v
 not-waiting f (Waiting q) k v h = absurd (⊎_elim (λ w. omega arith) (λ w. omega arith) k)

@@ -1,7 +1,7 @@
 -- What each call's definition gives in each case, as the code meets them.
 -- Assumes nothing.
 use mathlib.Core.Path.{◌≡◌, refl, sym, ap, ◌∙◌}
-use mathlib.Core.Logic.{◌⊎◌, ⊎_elim}
+use mathlib.Core.Logic.{◌⊎◌, inl, inr, ⊎_elim}
 use mathlib.Core.Bool.{Bool, true, false}
 use mathlib.Core.List.{List, [], ◌∷◌}
 use types.Run.{OneOf}
@@ -50,7 +50,17 @@ use Rattle.desk.specs.Calls.{house_tests, house_number, is_lent, done, written_o
 use Rattle.desk.proofs.AcceptableLaws.{accept_true, rows_ok_at, Waits, waits_facts, not-waiting, drive-obeys, waits_servable}
 use Rattle.desk.proofs.Transfers.{length_moved, ending_laid}
 
--- ---- stages that a `let .. else` leaves
+-- ---- stages that a `let .. else` leaves, by their numbers
+
+pub not_finished-tag : (s : Stage) → ((r : Registers) → s ≡ Finished r → ⊥) → OneOf (0 ∷ 1 ∷ []) (tag_of stage.the_type s)
+not_finished-tag Vacant n = inl refl
+not_finished-tag (Waiting q) n = inr refl
+not_finished-tag (Finished r) n = absurd (n r refl)
+
+pub not_vacant-tag : (s : Stage) → (s ≡ Vacant → ⊥) → OneOf (1 ∷ 2 ∷ []) (tag_of stage.the_type s)
+not_vacant-tag Vacant n = absurd (n refl)
+not_vacant-tag (Waiting q) n = inl refl
+not_vacant-tag (Finished r) n = inr refl
 
 collect-stage : (s : Stage) (d : Desk) (g : ℕ) (arena store : List ℕ) → OneOf (0 ∷ 1 ∷ []) (tag_of stage.the_type s) → done d (CollectRefused 22) arena store ≡ collect_stage d g s arena store
 collect-stage Vacant d g arena store k = refl

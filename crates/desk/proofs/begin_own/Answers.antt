@@ -18,9 +18,9 @@ returns c =
     let own : ℕ = window_length (length arena) in
     let e : o.result.end - o.result.start ≡ span_length (length arena) a.guest m.result = omega arith in
     let part : take (o.result.end - o.result.start) (drop o.result.start arena) ≡ window_of arena a.guest own = rw (e, o.ensures.0, m.ensures) in
-    let n : length k.new.1.1.1.0 ≡ span_length (length arena) a.guest own = k.auto.1.1.1.0 ∙ ap length part ∙ length-window arena a.guest own in (
+    let n : length k.new.window ≡ span_length (length arena) a.guest own = k.auto.window ∙ ap length part ∙ length-window arena a.guest own in (
       k.ensures.0 ∙ ap (λ (x : List ℕ). (begin (fed a.b a.placement) a.registers x).outcome) part,
       rw (e, o.ensures.0, m.ensures)
-          (with_window_lent arena a.guest own k.new.1.1.1.0 n
+          (with_window_lent arena a.guest own k.new.window n
           ∙ ap (with_window arena a.guest own) (k.ensures.1 ∙ ap (λ (x : List ℕ). (begin (fed a.b a.placement) a.registers x).window) part)),
     )

@@ -7,36 +7,30 @@ use Rattle.desk.proofs.job_ok.Goals as goal
 pub returns-then-not-count_ok : goal.returns-then-not-count_ok
 returns-then-not-count_ok c =
     let s = c.args in
-    let count = c.before in
-    job_count s.d s.m s.j count.function_of-f.ensures count.is_sectors-sectors.ensures count.count_ok.ensures c.if-not-count_ok.true
+    job_count s.d s.m s.j c.function_of-f.ensures c.is_sectors-sectors.ensures c.count_ok.ensures c.if-not-count_ok.true
 
 -- at most 128 blocks
 pub overflow_mul-j : goal.overflow_mul-j
 overflow_mul-j c =
-    let count = c.before.before.before.before.before.before.before in
-    omega (arith, count_most count.is_sectors-sectors.result count.args.j.count (sym count.count_ok.ensures ∙ c.if-not-count_ok.false))
+    omega (arith, count_most c.is_sectors-sectors.result c.args.j.count (sym c.count_ok.ensures ∙ c.if-not-count_ok.false))
 
 pub returns : goal.returns
 returns c =
-    let places = c.before.before.before in
-    let free = places.before.before.before.before.before in
-    let counted = free.before.before.before.before.before in
-    let sector = counted.before.before in
-    let s = sector.args in
+    let s = c.args in
     job_tests s.d s.m s.j
-    sector.function_of-f.ensures
-    sector.is_sectors-sectors.ensures
-    counted.count_ok.ensures
-    (not-false _ counted.if-not-count_ok.false-raw)
-    free.or.ensures
-    free.or-transfer.ensures
-    free.is_write.ensures
-    free.is_protected.ensures
-    free.and-protected.ensures
-    places.ends_by.ensures
-    places.packet_ok.ensures
-    places.and.ensures
-    places.and-places.ensures
+    c.function_of-f.ensures
+    c.is_sectors-sectors.ensures
+    c.count_ok.ensures
+    c.if-not-count_ok.false
+    c.or.ensures
+    c.or-transfer.ensures
+    c.is_write.ensures
+    c.is_protected.ensures
+    c.and-protected.ensures
+    c.ends_by.ensures
+    c.packet_ok.ensures
+    c.and.ensures
+    c.and-places.ensures
     c.range_ok.ensures
     c.and-blocks.ensures
     c.and-2.ensures

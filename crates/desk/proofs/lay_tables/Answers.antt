@@ -16,9 +16,9 @@ slice_bounds-put_bytes_in-end c =
 pub put_bytes_in-requires : goal.put_bytes_in-requires
 put_bytes_in-requires c =
     let n = c.table_count in
-    let s = c.before.before.before.before.before.before in
+    let a = c.args in
     rw c.window_length-m.ensures
-    (omega (arith, n.ensures.0, length-take (16 * n.result) c.tables_of-bytes.result, place_span (table_count s.args.b) (length s.args.arena.now) s.args.guest s.args.address s.requires.0 s.requires.1))
+    (omega (arith, n.ensures.0, length-take (16 * n.result) c.tables_of-bytes.result, place_span (table_count a.b) (length a.arena.now) a.guest a.address c.requires.0 c.requires.1))
 
 pub returns : goal.returns
 returns c =

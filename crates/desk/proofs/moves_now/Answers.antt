@@ -9,4 +9,4 @@ unfolding moves_now
 returns c =
     let a = c.args in
     let k = c.quota_of.ensures in
-    (c.good2.ensures.0 ∙ ap (good a.bads (a.q.job.start + a.q.moved)) k, rw k at c.good2.ensures.1)
+    (c.good.ensures.0 ∙ ap (good a.bads (a.q.job.start + a.q.moved)) k, rw k at c.good.ensures.1)

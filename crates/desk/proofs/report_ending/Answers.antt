@@ -7,29 +7,21 @@ use Rattle.memory.specs.Window.{window_length}
 use Rattle.memory.proofs.WindowLaws.{with_window-same}
 use Rattle.desk.specs.Calls.{goes_on}
 use Rattle.desk.proofs.report_ending.Goals as goal
-use Rattle.desk.proofs.report_ending.Goals.{Else-goes_on}
 
 pub returns-then-goes_on : goal.returns-then-goes_on
 returns-then-goes_on c =
     let a = c.args in
     rw (sym c.goes_on.ensures ∙ c.if-goes_on.true) (sym (with_window-same a.arena.now a.guest (window_length (length a.arena.now))))
 
--- the request ends
-ends : (c : Else-goes_on) → goes_on c.args.q c.args.k ≡ false
-ends c = sym c.goes_on.ensures ∙ c.if-goes_on.false
-
 pub returns-then-job-moved : goal.returns-then-job-moved
 returns-then-job-moved c =
-    let e = c.before.before.before.before in
-    let a = e.args in
-    rw (ends e, le-ltb (a.q.moved + a.k) a.q.job.count c.if-job-moved.true) (sym (with_window-same a.arena.now a.guest (window_length (length a.arena.now))))
+    let a = c.args in
+    rw (sym c.goes_on.ensures ∙ c.if-goes_on.false, le-ltb (a.q.moved + a.k) a.q.job.count c.if-job-moved.true) (sym (with_window-same a.arena.now a.guest (window_length (length a.arena.now))))
 
 pub report_moved-requires : goal.report_moved-requires
-report_moved-requires c = let s = c.before.before.before.before.before.before.before.before in (s.requires.0, s.requires.1, s.requires.2)
+report_moved-requires c = (c.requires.0, c.requires.1, c.requires.2)
 
 pub returns : goal.returns
 returns c =
-    let t = c.before.before.before.before in
-    let e = t.before.before.before.before in
-    let a = e.args in
-    rw (ends e, lt-ltb (a.q.moved + a.k) a.q.job.count t.if-job-moved.false) c.report_moved.ensures
+    let a = c.args in
+    rw (sym c.goes_on.ensures ∙ c.if-goes_on.false, lt-ltb (a.q.moved + a.k) a.q.job.count c.if-job-moved.false) c.report_moved.ensures

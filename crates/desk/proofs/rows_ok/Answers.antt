@@ -12,12 +12,10 @@ loop-i-init c = (search rules, refl)
 
 pub loop-i-preserved : goal.loop-i-preserved
 loop-i-preserved c =
-    let h = c.before.before.before.before in
-    let a = h.args in
-    (search rules, rows_ok-more h.loop-i.i a.t1 a.b a.m h.loop-i.invariant.1 c.and-good.ensures c.stage_ok.ensures)
+    let a = c.args in
+    (search rules, rows_ok-more c.loop-i.i a.rows a.b a.m c.loop-i.invariant.1 c.and-good.ensures c.stage_ok.ensures)
 
 pub returns : goal.returns
 returns c =
-    let h = c.before in
-    let e : h.loop-i.i ≡ 8 = omega arith in
-    rw (← e) h.loop-i.invariant.1
+    let e : c.loop-i.i ≡ 8 = omega arith in
+    rw (← e) c.loop-i.invariant.1

@@ -1,5 +1,5 @@
 use mathlib.Core.Path.{◌≡◌, refl, sym, ◌∙◌}
-use mathlib.Core.Bool.{true}
+use mathlib.Core.Bool.{Bool, true}
 use Prim.Native.Nat.{ℕ, ◌<◌}
 use lib.Dec.{ltb}
 use borrow.Author.Tests.{ltb-true}
@@ -8,48 +8,44 @@ use Rattle.desk.specs.declared.CollectAnswer.TheVariants.{Refused as CollectRefu
 use Rattle.desk.specs.Parts.{stage_at}
 use Rattle.desk.specs.Acceptable.{accept}
 use Rattle.desk.specs.Calls.{house_number, done, collect_stage, collect_of}
-use Rattle.desk.proofs.CallsLaws.{house-tests, house-refused, Passed, house_passed, collect-other, collect-finished}
+use Rattle.desk.proofs.CallsLaws.{not_finished-tag, house-tests, house-refused, Passed, house_passed, collect-other, collect-finished}
 use Rattle.desk.proofs.NumbersLaws.{collect_answered}
 use Rattle.desk.proofs.Desk.collect.Goals as goal
-use Rattle.desk.proofs.Desk.collect.Goals.{After-house_number-number, Else-number-ne0}
 
-abbrev desk : After-house_number-number → Desk
-desk c = c.args.self
+-- where the number is 0 the tests passed
+passed : (d : Desk) (g : ℕ) {n : ℕ} {a : Bool} → n ≡ house_number a true (ltb g 8) → a ≡ accept d → n ≡ 0 → Passed (accept d) true (ltb g 8)
+passed d g e ea z = house_passed _ _ _ (house-tests e ea refl refl) z
 
-abbrev guest : After-house_number-number → ℕ
-guest c = c.args.guest
-
-number : (c : After-house_number-number) → c.house_number-number.result ≡ house_number (accept (desk c)) true (ltb (guest c) 8)
-number c = house-tests c.house_number-number.ensures c.accept.ensures refl refl
-
-passed : (c : Else-number-ne0) → Passed (accept (desk c.before)) true (ltb (guest c.before) 8)
-passed c = house_passed _ _ _ (number c.before) c.if-number-ne0.false
-
-below : (c : Else-number-ne0) → guest c.before < 8
-below c = ltb-true (guest c.before) 8 (passed c).guest
+below : (d : Desk) (g : ℕ) → Passed (accept d) true (ltb g 8) → g < 8
+below d g p = ltb-true g 8 p.guest
 
 pub returns-then-number-ne0 : goal.returns-then-number-ne0
 unfolding collect_of
 returns-then-number-ne0 c =
-    collect_answered (desk c.before) (guest c.before)
-    (λ arena store. house-refused _ _ _ (λ n. done (desk c.before) (CollectRefused n) arena store) (collect_stage (desk c.before) (guest c.before) (stage_at (desk c.before) (guest c.before)) arena store) (number c.before) c.if-number-ne0.true)
+    let d = c.args.self in
+    let g = c.args.guest in
+    let number : c.house_number-number.result ≡ house_number (accept d) true (ltb g 8) = house-tests c.house_number-number.ensures c.accept.ensures refl refl in
+    collect_answered d g
+    (λ arena store. house-refused _ _ _ (λ n. done d (CollectRefused n) arena store) (collect_stage d g (stage_at d g) arena store) number c.if-number-ne0.true)
 
 pub stage_in-stage-requires : goal.stage_in-stage-requires
-stage_in-stage-requires c = below c.before
+stage_in-stage-requires c = below c.args.self c.args.guest (passed c.args.self c.args.guest c.house_number-number.ensures c.accept.ensures c.if-number-ne0.false)
 
 pub returns-in_default : goal.returns-in_default
 returns-in_default c =
-    let h = c.before.before.before.before in
-    collect_answered (desk h) (guest h)
-    (λ arena store. collect-other (desk h) (guest h) arena store (passed c.before.before.before) (rw c.stage_in-stage.ensures at c.in_default.keys2))
+    let d = c.args.self in
+    let g = c.args.guest in
+    let p = passed d g c.house_number-number.ensures c.accept.ensures c.if-number-ne0.false in
+    collect_answered d g
+    (λ arena store. collect-other d g arena store p (not_finished-tag (stage_at d g) (rw c.stage_in-stage.ensures at c.in_default.not-Finished)))
 
 pub with_stage-requires : goal.with_stage-requires
-with_stage-requires c = below c.before.before.before.before.before
+with_stage-requires c = below c.args.self c.args.guest (passed c.args.self c.args.guest c.house_number-number.ensures c.accept.ensures c.if-number-ne0.false)
 
 pub returns : goal.returns
 returns c =
-    let w = c.before in
-    let t = w.before.before.before.before.before in
-    let h = t.before in
-    collect_answered (desk h) (guest h)
-    (λ arena store. rw c.with_stage.ensures (collect-finished (desk h) (guest h) arena store (passed t) w.before.stage.given.0.0 (sym w.stage_in-stage.ensures ∙ w.before.stage.given.1)))
+    let d = c.args.self in
+    let g = c.args.guest in
+    let p = passed d g c.house_number-number.ensures c.accept.ensures c.if-number-ne0.false in
+    collect_answered d g
+    (λ arena store. rw c.with_stage.ensures (collect-finished d g arena store p c.in-Finished.registers (sym c.stage_in-stage.ensures ∙ c.in-Finished.is)))

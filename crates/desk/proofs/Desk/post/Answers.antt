@@ -1,69 +1,53 @@
-use mathlib.Core.Path.{refl, sym, ◌∙◌}
+use mathlib.Core.Path.{◌≡◌, refl, sym, ◌∙◌}
 use mathlib.Core.List.{List}
-use Prim.Native.Nat.{ℕ, ◌-◌, ◌<◌}
+use Prim.Native.Nat.{ℕ, ◌<◌}
 use lib.Dec.{ltb}
 use borrow.Author.Tests.{ltb-true}
-use Rattle.int13.specs.declared.Registers.{Registers}
 use Rattle.desk.specs.declared.Desk.{Desk}
 use Rattle.desk.specs.declared.PostAnswer.TheVariants.{Refused as PostRefused}
 use Rattle.desk.specs.Parts.{stage_at}
 use Rattle.desk.specs.Acceptable.{accept}
-use Rattle.desk.specs.Calls.{is_lent, done, post_row, post_of}
-use Rattle.desk.proofs.CallsLaws.{house-refused, Passed, house_passed, post-other, post-vacant}
+use Rattle.desk.specs.Calls.{house_number, is_lent, done, post_row, post_of}
+use Rattle.desk.proofs.CallsLaws.{not_vacant-tag, house-refused, Passed, house_passed, post-other, post-vacant}
 use Rattle.desk.proofs.NumbersLaws.{post_answered}
 use Rattle.desk.proofs.Desk.post.Goals as goal
-use Rattle.desk.proofs.Desk.post.Goals.{After-house-number, Else-number-ne0}
 
-abbrev desk : After-house-number → Desk
-desk c = c.args.self
+-- where the number is 0 the tests passed
+passed : (d : Desk) (g : ℕ) (arena store : List ℕ) {n : ℕ} → n ≡ house_number (accept d) (is_lent d arena store) (ltb g 8) → n ≡ 0
+    → Passed (accept d) (is_lent d arena store) (ltb g 8)
+passed d g arena store e z = house_passed _ _ _ e z
 
-abbrev arena : After-house-number → List ℕ
-arena c = c.args.arena.now
-
-abbrev store : After-house-number → List ℕ
-store c = c.args.store.now
-
-abbrev guest : After-house-number → ℕ
-guest c = c.args.guest
-
-abbrev call : After-house-number → Registers
-call c = c.args.registers
-
-passed : (c : Else-number-ne0) → Passed (accept (desk c.before)) (is_lent (desk c.before) (arena c.before) (store c.before)) (ltb (guest c.before) 8)
-passed c = house_passed _ _ _ c.house-number.ensures c.if-number-ne0.false
-
-below : (c : Else-number-ne0) → guest c.before < 8
-below c = ltb-true (guest c.before) 8 (passed c).guest
+below : (d : Desk) (g : ℕ) (arena store : List ℕ) {n : ℕ} → n ≡ house_number (accept d) (is_lent d arena store) (ltb g 8) → n ≡ 0 → g < 8
+below d g arena store e z = ltb-true g 8 (passed d g arena store e z).guest
 
 pub returns-then-number-ne0 : goal.returns-then-number-ne0
 unfolding post_of
 returns-then-number-ne0 c =
-    let h = c.before in
-    post_answered (desk h) (guest h) (call h) (arena h) (store h)
-    (house-refused _ _ _ (λ n. done (desk h) (PostRefused n) (arena h) (store h)) (post_row (desk h) (guest h) (call h) (arena h) (store h) (stage_at (desk h) (guest h))) h.house-number.ensures c.if-number-ne0.true)
+    let a = c.args in
+    post_answered a.self a.guest a.registers a.arena.now a.store.now
+    (house-refused _ _ _ (λ n. done a.self (PostRefused n) a.arena.now a.store.now) (post_row a.self a.guest a.registers a.arena.now a.store.now (stage_at a.self a.guest)) c.house-number.ensures c.if-number-ne0.true)
 
 pub stage_in-stage-requires : goal.stage_in-stage-requires
-stage_in-stage-requires c = below c.before
+stage_in-stage-requires c = let a = c.args in below a.self a.guest a.arena.now a.store.now c.house-number.ensures c.if-number-ne0.false
 
 pub returns-in_default : goal.returns-in_default
 returns-in_default c =
-    let t = c.before.before.before in
-    let h = t.before in
-    post_answered (desk h) (guest h) (call h) (arena h) (store h)
-    (post-other (desk h) (guest h) (arena h) (store h) (passed t) (call h) (rw c.stage_in-stage.ensures at c.in_default.keys2))
+    let a = c.args in
+    let p = passed a.self a.guest a.arena.now a.store.now c.house-number.ensures c.if-number-ne0.false in
+    post_answered a.self a.guest a.registers a.arena.now a.store.now
+    (post-other a.self a.guest a.arena.now a.store.now p a.registers (not_vacant-tag (stage_at a.self a.guest) (rw c.stage_in-stage.ensures at c.in_default.not-Vacant)))
 
 pub placement-requires : goal.placement-requires
-placement-requires c = below c.before.before.before.before.before
+placement-requires c = let a = c.args in below a.self a.guest a.arena.now a.store.now c.house-number.ensures c.if-number-ne0.false
 
 pub posted-requires : goal.posted-requires
-posted-requires c = below c.before.before.before.before.before.before.before.before.before.before
+posted-requires c = let a = c.args in below a.self a.guest a.arena.now a.store.now c.house-number.ensures c.if-number-ne0.false
 
 pub returns : goal.returns
 returns c =
+    let a = c.args in
     let k = c.begin_own-outcome.ensures in
-    let p = c.placement.ensures in
-    let v = c.before.before.before.before.before.before.before in
-    let t = v.before.before.before.before in
-    let h = t.before in
-    post_answered (desk h) (guest h) (call h) (arena h) (store h)
-    (rw (k.1, p) (post-vacant (desk h) (guest h) (arena h) (store h) (passed t) (call h) (sym v.stage_in-stage.ensures ∙ v.enum_told-1.given.1) (rw p at k.0) refl c.posted.ensures.0 c.posted.ensures.1))
+    let own = c.placement.ensures in
+    let p = passed a.self a.guest a.arena.now a.store.now c.house-number.ensures c.if-number-ne0.false in
+    post_answered a.self a.guest a.registers a.arena.now a.store.now
+    (rw (k.1, own) (post-vacant a.self a.guest a.arena.now a.store.now p a.registers (sym c.stage_in-stage.ensures ∙ c.in-Vacant.is) (rw own at k.0) refl c.posted.ensures.0 c.posted.ensures.1))

@@ -4,123 +4,124 @@ use mathlib.Core.List.{List}
 use Prim.Native.Nat.{ℕ, ◌<◌}
 use native.Mathlib.Omega.{arith}
 use Rattle.attached.specs.declared.Bads.{Bads}
-use Rattle.int13.specs.Steps.{is_drive, drive_at}
+use Rattle.int13.specs.Steps.{is_drive, bads_of, drive_at}
 use Rattle.desk.specs.declared.Request.{Request}
+use Rattle.desk.specs.declared.Service.{Service}
 use Rattle.desk.specs.declared.Stage.TheVariants.{Waiting}
 use Rattle.desk.specs.declared.Desk.{Desk}
 use Rattle.desk.specs.declared.Next.TheVariants.{Guest}
 use Rattle.desk.specs.declared.TurnAnswer.TheVariants.{Refused as TurnRefused}
 use Rattle.desk.specs.Parts.{stage_at}
 use Rattle.desk.specs.Acceptable.{accept}
-use Rattle.desk.specs.Calls.{is_lent, done, first_waiting, service_of, bads_for, Transferred, turn_next, turn_of}
-use Rattle.desk.proofs.AcceptableLaws.{accept_true}
+use Rattle.desk.specs.Calls.{house_number, is_lent, done, first_waiting, service_of, bads_for, Transferred, turn_next, turn_of}
+use Rattle.desk.proofs.AcceptableLaws.{not_waiting-tag, accept_true}
 use Rattle.desk.proofs.CallsLaws.{house-refused, Passed, house_passed, turn_nobody, turn-other, turn-served, seek-below, waiting_facts, servable, in-range, ending_facts}
 use Rattle.desk.proofs.NumbersLaws.{turn_answered}
 use Rattle.desk.proofs.Desk.turn.Goals as goal
-use Rattle.desk.proofs.Desk.turn.Goals.{After-house-number, After-service_of-service, Else-number-ne0, In-Guest, In-Waiting}
 
-abbrev desk : After-house-number → Desk
-desk c = c.args.self
+-- where the number is 0 the tests passed
+passed : (d : Desk) (arena store : List ℕ) {n : ℕ} → n ≡ house_number (accept d) (is_lent d arena store) true → n ≡ 0 → Passed (accept d) (is_lent d arena store) true
+passed d arena store e z = house_passed _ _ _ e z
 
-abbrev arena : After-house-number → List ℕ
-arena c = c.args.arena.now
+-- the guest that the search has found
+below : (d : Desk) (arena store : List ℕ) (g : ℕ) → Passed (accept d) (is_lent d arena store) true → first_waiting d.rows 8 d.pointer ≡ Guest g → g < 8
+below d arena store g p f = seek-below d.rows 8 d.pointer g (accept_true d p.acceptable).pointer f
 
-abbrev store : After-house-number → List ℕ
-store c = c.args.store.now
+-- acceptance knows the drive of the request that its row waits with
+drive : (d : Desk) (arena store : List ℕ) (g : ℕ) (q : Request) → Passed (accept d) (is_lent d arena store) true → g < 8 → stage_at d g ≡ Waiting q → is_drive d.table q.job.drive ≡ true
+drive d arena store g q p b row = (waiting_facts d g q p.acceptable b row).job.drive
 
-passed : (c : Else-number-ne0) → Passed (accept (desk c.before)) (is_lent (desk c.before) (arena c.before) (store c.before)) true
-passed c = house_passed _ _ _ c.house-number.ensures c.if-number-ne0.false
-
--- where the search has found a guest: the tests passed
-abbrev on : In-Guest → Else-number-ne0
-on c = c.before.before.before.before.before
-
-abbrev guest : In-Guest → ℕ
-guest c = c.before.found.given.0.0
-
-found : (c : In-Guest) → first_waiting (desk (on c).before).rows 8 (desk (on c).before).pointer ≡ Guest (guest c)
-found c = sym c.next_waiting-found.ensures ∙ c.before.found.given.1
-
-below : (c : In-Guest) → guest c < 8
-below c = let d = desk (on c).before in seek-below d.rows 8 d.pointer (guest c) (accept_true d (passed (on c)).acceptable).pointer (found c)
-
--- where its request is bound: the row waits with it, and acceptance knows its drive
-abbrev met : In-Waiting → In-Guest
-met c = c.before.before.before.before
-
-abbrev asked : In-Waiting → Request
-asked c = c.before.stage.given.0.0
-
-row : (c : In-Waiting) → stage_at (desk (on (met c)).before) (guest (met c)) ≡ Waiting (asked c)
-row c = sym c.stage_in-stage.ensures ∙ c.before.stage.given.1
-
-drive : (c : In-Waiting) → is_drive (desk (on (met c)).before).table (asked c).job.drive ≡ true
-drive c = (waiting_facts (desk (on (met c)).before) (guest (met c)) (asked c) (passed (on (met c))).acceptable (below (met c)) (row c)).job.drive
+-- what the turn does to it
+service : {s : Service} {l : Bads} (d : Desk) (q : Request) → s ≡ service_of l q → l ≡ bads_of d.table q.job.drive → s ≡ service_of (bads_for d q) q
+service d q e l = e ∙ ap (λ (x : Bads). service_of x q) l
 
 pub returns-then-number-ne0 : goal.returns-then-number-ne0
 unfolding turn_of
 returns-then-number-ne0 c =
-    let h = c.before in
-    turn_answered (desk h) (arena h) (store h)
-    (house-refused _ _ _ (λ n. done (desk h) (TurnRefused n) (arena h) (store h)) (turn_next (desk h) (first_waiting (desk h).rows 8 (desk h).pointer) (arena h) (store h)) h.house-number.ensures c.if-number-ne0.true)
+    let d = c.args.self in
+    let arena = c.args.arena.now in
+    let store = c.args.store.now in
+    turn_answered d arena store
+    (house-refused _ _ _ (λ n. done d (TurnRefused n) arena store) (turn_next d (first_waiting d.rows 8 d.pointer) arena store) c.house-number.ensures c.if-number-ne0.true)
 
 pub next_waiting-found-requires : goal.next_waiting-found-requires
-next_waiting-found-requires c = (accept_true (desk c.before.before) (passed c.before).acceptable).pointer
+next_waiting-found-requires c = let a = c.args in (accept_true a.self (passed a.self a.arena.now a.store.now c.house-number.ensures c.if-number-ne0.false).acceptable).pointer
 
 pub returns-in_default : goal.returns-in_default
 returns-in_default c =
-    let h = c.before.before.before.before.before in
-    turn_answered (desk h) (arena h) (store h)
-    (turn_nobody (desk h) (arena h) (store h) (passed c.before.before.before.before) (sym c.next_waiting-found.ensures ∙ c.enum_told-1.given.1))
+    let d = c.args.self in
+    let arena = c.args.arena.now in
+    let store = c.args.store.now in
+    let p = passed d arena store c.house-number.ensures c.if-number-ne0.false in
+    turn_answered d arena store (turn_nobody d arena store p (sym c.next_waiting-found.ensures ∙ c.in_default.is))
 
 pub stage_in-stage-requires : goal.stage_in-stage-requires
-stage_in-stage-requires c = below c
+stage_in-stage-requires c =
+    let a = c.args in
+    below a.self a.arena.now a.store.now c.in-Guest.guest (passed a.self a.arena.now a.store.now c.house-number.ensures c.if-number-ne0.false) (sym c.next_waiting-found.ensures ∙ c.in-Guest.is)
 
 pub returns-in_default-stage : goal.returns-in_default-stage
 returns-in_default-stage c =
-    let w = c.before.before in
-    let h = (on w).before in
-    turn_answered (desk h) (arena h) (store h)
-    (turn-other (desk h) (arena h) (store h) (passed (on w)) (guest w) (found w) (rw c.stage_in-stage.ensures at c.in_default-stage.keys2))
-
--- what the turn does to it
-service : (c : After-service_of-service) → c.service_of-service.result ≡ service_of (bads_for (desk (on (met c.before.before.before.before)).before) (asked c.before.before.before.before)) (asked c.before.before.before.before)
-service c = c.service_of-service.ensures ∙ ap (λ (l : Bads). service_of l (asked c.before.before.before.before)) c.bads_of.ensures
+    let d = c.args.self in
+    let arena = c.args.arena.now in
+    let store = c.args.store.now in
+    let g = c.in-Guest.guest in
+    let p = passed d arena store c.house-number.ensures c.if-number-ne0.false in
+    turn_answered d arena store
+    (turn-other d arena store p g (sym c.next_waiting-found.ensures ∙ c.in-Guest.is) (not_waiting-tag (stage_at d g) (rw c.stage_in-stage.ensures at c.in_default-stage.not-Waiting)))
 
 pub service_of-service-requires : goal.service_of-service-requires
 service_of-service-requires c =
-    let w = c.before.before.before in
-    let h = (on (met w)).before in
-    servable (desk h) (arena h) (store h) (guest (met w)) (asked w) (passed (on (met w))) (below (met w)) (row w) (omega (arith, h.before.before.before.good.1.1.0.0))
+    let d = c.args.self in
+    let arena = c.args.arena.now in
+    let store = c.args.store.now in
+    let g = c.in-Guest.guest in
+    let p = passed d arena store c.house-number.ensures c.if-number-ne0.false in
+    let b = below d arena store g p (sym c.next_waiting-found.ensures ∙ c.in-Guest.is) in
+    let row = sym c.stage_in-stage.ensures ∙ c.in-Waiting.is in
+    servable d arena store g c.in-Waiting.q p b row (omega arith)
 
 pub transfer-requires : goal.transfer-requires
 transfer-requires c =
-    let k = c.before.before in
-    let w = k.before.before.before.before in
-    let h = (on (met w)).before in
-    let lengths = h.before.before.before.good in
-    rw (k.drive_at-d.ensures.1 (drive w))
-    (in-range (desk h) (arena h) (store h) (guest (met w)) (asked w) (passed (on (met w))) (below (met w)) (row w) (omega (arith, lengths.1.0.0)) (omega (arith, lengths.1.1.0.0)) (service k))
+    let d = c.args.self in
+    let arena = c.args.arena.now in
+    let store = c.args.store.now in
+    let g = c.in-Guest.guest in
+    let q = c.in-Waiting.q in
+    let p = passed d arena store c.house-number.ensures c.if-number-ne0.false in
+    let b = below d arena store g p (sym c.next_waiting-found.ensures ∙ c.in-Guest.is) in
+    let row = sym c.stage_in-stage.ensures ∙ c.in-Waiting.is in
+    rw (c.drive_at-d.ensures.1 (drive d arena store g q p b row))
+    (in-range d arena store g q p b row (omega arith) (omega arith) (service d q c.service_of-service.ensures c.bads_of.ensures))
 
 pub report_ending-requires : goal.report_ending-requires
 report_ending-requires c =
-    let t = c.before.before.before.before.before in
-    let k = t.before.before.before in
-    let w = k.before.before.before.before in
-    let h = (on (met w)).before in
-    let p = passed (on (met w)) in
-    ending_facts (desk h) (arena h) (store h) k.drive_at-d.result.first (guest (met w)) (asked w) p.acceptable p.lent (below (met w)) (row w) (service k) t.transfer.ensures
+    let d = c.args.self in
+    let arena = c.args.arena.now in
+    let store = c.args.store.now in
+    let g = c.in-Guest.guest in
+    let q = c.in-Waiting.q in
+    let p = passed d arena store c.house-number.ensures c.if-number-ne0.false in
+    let b = below d arena store g p (sym c.next_waiting-found.ensures ∙ c.in-Guest.is) in
+    let row = sym c.stage_in-stage.ensures ∙ c.in-Waiting.is in
+    ending_facts d arena store c.drive_at-d.result.first g q p.acceptable p.lent b row (service d q c.service_of-service.ensures c.bads_of.ensures) c.transfer.ensures
 
 pub served-requires : goal.served-requires
-served-requires c = below (met c.before.before.before.before.before.before.before.before.before.before.before.before.before.before.before)
+served-requires c =
+    let a = c.args in
+    below a.self a.arena.now a.store.now c.in-Guest.guest (passed a.self a.arena.now a.store.now c.house-number.ensures c.if-number-ne0.false) (sym c.next_waiting-found.ensures ∙ c.in-Guest.is)
 
 pub returns : goal.returns
 returns c =
-    let r = c.before.before.before in
-    let t = r.before.before.before.before.before.before in
-    let k = t.before.before.before in
-    let w = k.before.before.before.before in
-    let h = (on (met w)).before in
-    let moved : Transferred (drive_at (desk h).table (asked w).job.drive).first (asked w) k.service_of-service.result.moved (guest (met w)) (arena h) (store h) _ _ = rw (k.drive_at-d.ensures.1 (drive w)) at t.transfer.ensures in
-    turn_answered (desk h) (arena h) (store h)
-    (turn-served (desk h) (arena h) (store h) (passed (on (met w))) (guest (met w)) (asked w) (found (met w)) (row w) (service k) c.served.ensures.0 c.served.ensures.1 moved r.report_ending.ensures)
+    let d = c.args.self in
+    let arena = c.args.arena.now in
+    let store = c.args.store.now in
+    let g = c.in-Guest.guest in
+    let q = c.in-Waiting.q in
+    let p = passed d arena store c.house-number.ensures c.if-number-ne0.false in
+    let found = sym c.next_waiting-found.ensures ∙ c.in-Guest.is in
+    let b = below d arena store g p found in
+    let row = sym c.stage_in-stage.ensures ∙ c.in-Waiting.is in
+    let moved : Transferred (drive_at d.table q.job.drive).first q c.service_of-service.result.moved g arena store _ _ = rw (c.drive_at-d.ensures.1 (drive d arena store g q p b row)) at c.transfer.ensures in
+    turn_answered d arena store
+    (turn-served d arena store p g q found row (service d q c.service_of-service.ensures c.bads_of.ensures) c.served.ensures.0 c.served.ensures.1 moved c.report_ending.ensures)

@@ -11,72 +11,61 @@ use Rattle.desk.specs.declared.Desk.{Desk}
 use Rattle.desk.specs.declared.WithdrawAnswer.TheVariants.{Given as WithdrawGiven, Refused as WithdrawRefused}
 use Rattle.desk.specs.Parts.{stage_at}
 use Rattle.desk.specs.Acceptable.{accept}
-use Rattle.desk.specs.Calls.{is_lent, done, withdraw_stage, withdraw_of}
+use Rattle.desk.specs.Calls.{house_number, is_lent, done, withdraw_stage, withdraw_of}
+use Rattle.desk.proofs.AcceptableLaws.{not_waiting-tag}
 use Rattle.desk.proofs.CallsLaws.{house-refused, Passed, house_passed, withdraw-other, withdraw_waiting, Report, report_facts}
 use Rattle.desk.proofs.NumbersLaws.{withdraw_answered}
 use Rattle.desk.proofs.Desk.withdraw.Goals as goal
-use Rattle.desk.proofs.Desk.withdraw.Goals.{After-house-number, Else-number-ne0, In-Waiting}
 
-abbrev desk : After-house-number → Desk
-desk c = c.args.self
+-- where the number is 0 the tests passed
+passed : (d : Desk) (g : ℕ) (arena store : List ℕ) {n : ℕ} → n ≡ house_number (accept d) (is_lent d arena store) (ltb g 8) → n ≡ 0
+    → Passed (accept d) (is_lent d arena store) (ltb g 8)
+passed d g arena store e z = house_passed _ _ _ e z
 
-abbrev arena : After-house-number → List ℕ
-arena c = c.args.arena.now
+below : (d : Desk) (g : ℕ) (arena store : List ℕ) {n : ℕ} → n ≡ house_number (accept d) (is_lent d arena store) (ltb g 8) → n ≡ 0 → g < 8
+below d g arena store e z = ltb-true g 8 (passed d g arena store e z).guest
 
-abbrev store : After-house-number → List ℕ
-store c = c.args.store.now
-
-abbrev guest : After-house-number → ℕ
-guest c = c.args.guest
-
-passed : (c : Else-number-ne0) → Passed (accept (desk c.before)) (is_lent (desk c.before) (arena c.before) (store c.before)) (ltb (guest c.before) 8)
-passed c = house_passed _ _ _ c.house-number.ensures c.if-number-ne0.false
-
-below : (c : Else-number-ne0) → guest c.before < 8
-below c = ltb-true (guest c.before) 8 (passed c).guest
-
--- where the request is bound: the tests passed, and the row waits with it
-abbrev on : In-Waiting → Else-number-ne0
-on c = c.before.before.before.before.before
-
-abbrev asked : In-Waiting → Request
-asked c = c.before.stage.given.0.0
-
-row : (c : In-Waiting) → stage_at (desk (on c).before) (guest (on c).before) ≡ Waiting (asked c)
-row c = sym c.stage_in-stage.ensures ∙ c.before.stage.given.1
-
-facts : (c : In-Waiting) → Report (asked c) (guest (on c).before) (length (arena (on c).before))
-facts c = let h = (on c).before in report_facts (desk h) (arena h) (store h) (guest h) (asked c) (passed (on c)).acceptable (passed (on c)).lent (below (on c)) (row c)
+-- where the request is bound the row waits with it
+facts : (d : Desk) (g : ℕ) (arena store : List ℕ) (q : Request) {n : ℕ} → n ≡ house_number (accept d) (is_lent d arena store) (ltb g 8) → n ≡ 0 → stage_at d g ≡ Waiting q
+    → Report q g (length arena)
+facts d g arena store q e z row =
+    let p = passed d g arena store e z in
+    report_facts d arena store g q p.acceptable p.lent (below d g arena store e z) row
 
 pub returns-then-number-ne0 : goal.returns-then-number-ne0
 unfolding withdraw_of
 returns-then-number-ne0 c =
-    let h = c.before in
-    withdraw_answered (desk h) (guest h) (arena h) (store h)
-    (house-refused _ _ _ (λ n. done (desk h) (WithdrawRefused n) (arena h) (store h)) (withdraw_stage (desk h) (guest h) (stage_at (desk h) (guest h)) (arena h) (store h)) h.house-number.ensures c.if-number-ne0.true)
+    let a = c.args in
+    withdraw_answered a.self a.guest a.arena.now a.store.now
+    (house-refused _ _ _ (λ n. done a.self (WithdrawRefused n) a.arena.now a.store.now) (withdraw_stage a.self a.guest (stage_at a.self a.guest) a.arena.now a.store.now) c.house-number.ensures c.if-number-ne0.true)
 
 pub stage_in-stage-requires : goal.stage_in-stage-requires
-stage_in-stage-requires c = below c.before
+stage_in-stage-requires c = let a = c.args in below a.self a.guest a.arena.now a.store.now c.house-number.ensures c.if-number-ne0.false
 
 pub returns-in_default : goal.returns-in_default
 returns-in_default c =
-    let t = c.before.before.before in
-    let h = t.before in
-    withdraw_answered (desk h) (guest h) (arena h) (store h)
-    (withdraw-other (desk h) (guest h) (arena h) (store h) (passed t) (rw c.stage_in-stage.ensures at c.in_default.keys2))
+    let a = c.args in
+    let p = passed a.self a.guest a.arena.now a.store.now c.house-number.ensures c.if-number-ne0.false in
+    withdraw_answered a.self a.guest a.arena.now a.store.now
+    (withdraw-other a.self a.guest a.arena.now a.store.now p (not_waiting-tag (stage_at a.self a.guest) (rw c.stage_in-stage.ensures at c.in_default.not-Waiting)))
 
 pub report_moved-requires : goal.report_moved-requires
-report_moved-requires c = let f = facts c.before in (f.guest, f.packet, omega (arith, f.moved))
+report_moved-requires c =
+    let a = c.args in
+    let f = facts a.self a.guest a.arena.now a.store.now c.in-Waiting.q c.house-number.ensures c.if-number-ne0.false (sym c.stage_in-stage.ensures ∙ c.in-Waiting.is) in
+    (f.guest, f.packet, omega (arith, f.moved))
 
 pub with_stage-requires : goal.with_stage-requires
-with_stage-requires c = (facts c.before.before.before.before).guest
+with_stage-requires c = let a = c.args in below a.self a.guest a.arena.now a.store.now c.house-number.ensures c.if-number-ne0.false
 
 pub given_back-requires : goal.given_back-requires
-given_back-requires c = (facts c.before.before.before.before.before).moved
+given_back-requires c =
+    let a = c.args in
+    (facts a.self a.guest a.arena.now a.store.now c.in-Waiting.q c.house-number.ensures c.if-number-ne0.false (sym c.stage_in-stage.ensures ∙ c.in-Waiting.is)).moved
 
 pub returns : goal.returns
 returns c =
-    let w = c.before.before.before.before.before.before in
-    let h = (on w).before in
-    withdraw_answered (desk h) (guest h) (arena h) (store h)
-    (withdraw_waiting (desk h) (guest h) (arena h) (store h) (passed (on w)) (asked w) (row w) c.with_stage.ensures (ap WithdrawGiven c.given_back.ensures) c.report_moved.ensures)
+    let a = c.args in
+    let p = passed a.self a.guest a.arena.now a.store.now c.house-number.ensures c.if-number-ne0.false in
+    withdraw_answered a.self a.guest a.arena.now a.store.now
+    (withdraw_waiting a.self a.guest a.arena.now a.store.now p c.in-Waiting.q (sym c.stage_in-stage.ensures ∙ c.in-Waiting.is) c.with_stage.ensures (ap WithdrawGiven c.given_back.ensures) c.report_moved.ensures)
