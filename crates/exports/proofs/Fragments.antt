@@ -73,7 +73,7 @@ open-image b store e h =
 fed_images : {b : List ℕ} {f : Feed} (fs : List (List ℕ)) → ImageOf b f → EachBytes fs → ImageOf (fed_block b fs) (feeds f fs)
 unfolding fed_block feeds
 fed_images [] i h = i
-fed_images (l ∷ ls) i h = fed_images ls (fed-image i l 0 h.0) h.1
+fed_images {b = b} {f = f} (l ∷ ls) i h = fed_images {b = leaves (reader_feed_call b l 0)} {f = feed_all f l} ls (fed-image i l 0 h.0) h.1
 
 -- ---- one fragment more
 
