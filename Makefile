@@ -32,9 +32,9 @@ help:
 	@echo 'make tsan       the demo under ThreadSanitizer: no report, and broken rules are reported; not part of the gate'
 	@echo 'make touch      which bytes of arena and store a call touches: only those of its guest'
 	@echo 'make bench      what a call costs, as ratios to memcpy and to the model (docs/PERFORMANCE.md)'
-	@echo 'make test       the host tests (host/test), on what `make check` or `rt check` left in target/'
+	@echo 'make test       the host tests (host/test), on what `make check` or `rt run` left in crates/*/out'
 	@echo 'make check      the gate (.ci/run): everything proved from nothing, then all tests; some 50 minutes'
-	@echo 'make clean      removes target/, and with it the library'
+	@echo 'make clean      removes target/, and with it the library; what rt keeps in crates/*/out stays'
 
 library: $(LIBRARY)
 
