@@ -1,7 +1,7 @@
 -- Document 02, 2026-03: "However the bytes are cut, drives, refusal number and place must equal those of reading the whole." `proofs/Arrives.antt`
 -- proves it.
 -- Assumes nothing.
-use Rattle.std.specs.Prelude.{ℕ, ◌+◌, ◌-◌, ◌<◌, ◌≡◌, true, false, List, [], ◌∷◌, ◌++◌, length, take, drop, eqb}
+use Rattle.std.specs.Prelude.{ℕ, ◌+◌, ◌-◌, ◌<◌, ◌≡◌, List, [], ◌∷◌, ◌++◌, length, take, drop, eqb}
 use Rattle.logic.specs.Logic.{pick}
 use Rattle.words.specs.Words.{Bytes}
 use Rattle.table.specs.declared.Answer.{Answer}

@@ -1,7 +1,7 @@
 -- Document 02, 2026-03, "read the table as it arrives": a reader that is fed bytes, keeps at most one unfinished record between them, and is told
 -- when the input ends.
 -- Assumes nothing.
-use Rattle.std.specs.Prelude.{ℕ, ◌+◌, Bool, true, false, List, [], ◌∷◌, ◌++◌, take, set, replicate, ltb, eqb}
+use Rattle.std.specs.Prelude.{ℕ, ◌+◌, Bool, true, false, List, [], ◌∷◌, take, set, replicate, ltb, eqb}
 use Rattle.logic.specs.Logic.{pick, both}
 use Rattle.table.specs.declared.Table.{Table}
 use Rattle.table.specs.declared.Step.{Step}
