@@ -1,10 +1,9 @@
 -- Laws of the device parameter tables in a guest's window, and of what a guest is shown of them.
 -- Assumes nothing.
 use Prim.Native.Nat.{ℕ, zero, suc, ◌+◌, ◌-◌, ◌*◌, ◌/◌, ◌%◌, ◌≤◌, ◌<◌}
-use mathlib.Core.Path.{◌≡◌, refl, sym, ap, ◌∙◌}
+use mathlib.Core.Path.{◌≡◌, refl, sym, ◌∙◌}
 use mathlib.Core.Bool.{Bool, true, false}
-use mathlib.Core.List.{List, [], ◌++◌, append-nil}
-use native.Mathlib.Nat.{zero-add}
+use mathlib.Core.List.{List, [], append-nil}
 use native.Mathlib.Numerals.{add-one}
 use native.Mathlib.Omega.{arith}
 use lib.ListN.{length, drop, length-append, length-drop}
@@ -16,7 +15,6 @@ use Rattle.table.specs.Table.{has_parameters, parameters_at, parameters_to}
 use Rattle.layout.specs.ParameterTable.{parameter_table}
 use Rattle.layout.proofs.ParameterTableLaws.{length-parameters}
 use Rattle.int13.specs.declared.Placement.{Placement}
-use Rattle.int13.specs.declared.Shown.{Shown}
 use Rattle.int13.specs.Placement.{tables_to, tables_of, table_count, table_address, not_shown}
 use Rattle.int13.specs.Steps.{first_drive, is_drive, shown_of}
 

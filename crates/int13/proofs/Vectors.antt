@@ -25,13 +25,12 @@ use Rattle.memory.specs.Blocks.{blocks}
 use Rattle.int13.specs.declared.Registers.{Registers}
 use Rattle.int13.specs.declared.Job.{Job}
 use Rattle.int13.specs.declared.Placement.{Placement}
-use Rattle.int13.specs.declared.Shown.{Shown}
 use Rattle.int13.specs.declared.Outcome.{Outcome}
 use Rattle.int13.specs.declared.Outcome.TheVariants.{Answered, Waits}
 use Rattle.int13.specs.declared.Plan.{Plan}
 use Rattle.int13.specs.declared.Plan.TheVariants.{Refuse, Clear, Finish, Wait}
 use Rattle.int13.specs.Answers.{dl, succeed, withdraw, ended, posted, outcome_numbers}
-use Rattle.int13.specs.Placement.{no_placement, placed_at, tables_to, tables_of, table_count, table_address, not_shown, pointer_of}
+use Rattle.int13.specs.Placement.{no_placement, placed_at, tables_to, tables_of, table_count, table_address, not_shown}
 use Rattle.int13.specs.Steps.{Checked, fed, is_drive, bads_of, shown_of, drive_at, drive_in, drive_named, verify_ok, verified, packet_tests, packet_plan, seek, sectors, parameters, extensions, result_into, steps, begin}
 use Rattle.int13.specs.Numbers.{sectors_given, parameters_given, check_given, packet_tests_given, packet_numbers_at, extended_given, seek_given, buffer_given, steps_given, begin_given}
 use Rattle.int13.specs.Alone.{asked, named_from, Memory, store_block, moves, good_of, reported, Served, served_by, alone}

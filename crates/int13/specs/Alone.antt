@@ -1,7 +1,7 @@
 -- Document 01, "The words of demand 3", and document 02, 2026-04: a request's own words, and served alone, a plain machine of registers, window
 -- and store.
 -- Assumes nothing.
-use Rattle.std.specs.Prelude.{ℕ, ◌+◌, ◌*◌, ◌/◌, Bool, true, false, List, length, ltb}
+use Rattle.std.specs.Prelude.{ℕ, ◌+◌, ◌*◌, ◌/◌, List, length, ltb}
 use Rattle.logic.specs.Logic.{pick}
 use Rattle.words.specs.Words.{le}
 use Rattle.chs.specs.declared.ToBlock.{ToBlock}
@@ -17,7 +17,7 @@ use Rattle.int13.specs.declared.Job.{Job}
 use Rattle.int13.specs.declared.Outcome.{Outcome}
 use Rattle.int13.specs.declared.Outcome.TheVariants.{Answered, Waits}
 use Rattle.int13.specs.Answers.{ah, al, is_sectors, is_write, ended}
-use Rattle.int13.specs.Steps.{Checked, Feeds, fed, drive_at, drive_named, bads_of, packet_place, with_count, begin}
+use Rattle.int13.specs.Steps.{Feeds, fed, drive_at, drive_named, bads_of, packet_place, with_count, begin}
 
 -- ---- "The words of demand 3", a request from outside: the registers and the window that the post found
 

@@ -2,7 +2,7 @@
 -- bad blocks and the window's bytes.
 -- The tests stand in the paper's order with the codes printed there, and no answer is named: what the steps promise goes through this list.
 -- Assumes nothing.
-use Rattle.std.specs.Prelude.{ℕ, ◌+◌, ◌-◌, ◌*◌, ◌/◌, ◌%◌, Bool, true, false, not, List, [], ◌∷◌, length, get_or, drop, leb, ltb, eqb}
+use Rattle.std.specs.Prelude.{ℕ, ◌+◌, ◌-◌, ◌*◌, ◌/◌, ◌%◌, Bool, false, not, List, [], ◌∷◌, length, get_or, drop, leb, ltb, eqb}
 use Rattle.logic.specs.Logic.{pick, both, either}
 use Rattle.words.specs.Words.{le}
 use Rattle.chs.specs.Chs.{in_limits, is_valid, number, address_in}

@@ -2,7 +2,7 @@
 -- of the guest's window; `known`: whether the table has the drive; d: that drive, any one where it is not known; s: what the guest is shown of
 -- the drive's parameter table (document 02, 2026-01); l: the drive's bad blocks (document 02, 2026-04).
 -- Assumes nothing.
-use Rattle.std.specs.Prelude.{ℕ, ◌+◌, ◌-◌, ◌*◌, ◌/◌, ◌%◌, Bool, true, false, not, List, ◌++◌, length, get_or, take, drop, leb, ltb, eqb}
+use Rattle.std.specs.Prelude.{ℕ, ◌+◌, ◌-◌, ◌*◌, ◌/◌, ◌%◌, Bool, false, not, List, ◌++◌, length, get_or, take, drop, leb, ltb, eqb}
 use Rattle.std.proofs.lemmas.List.Edits.{sets}
 use Rattle.logic.specs.Logic.{pick, both, either}
 use Rattle.words.specs.Words.{le, le_bytes}
@@ -32,7 +32,7 @@ use Rattle.int13.specs.declared.Outcome.TheVariants.{Answered, Waits}
 use Rattle.int13.specs.declared.Plan.{Plan}
 use Rattle.int13.specs.declared.Plan.TheVariants.{Refuse, Clear, Finish, Wait}
 use Rattle.int13.specs.Placement.{not_shown, shown_in, pointer_of}
-use Rattle.int13.specs.Answers.{write_protected, no_parameters, bad_buffer, bad_read, ah, al, dl, is_write, answer, succeed, refuse, posted}
+use Rattle.int13.specs.Answers.{write_protected, no_parameters, bad_buffer, bad_read, ah, al, dl, is_write, succeed, refuse, posted}
 
 -- ---- "Steps of each function", what they are fed and what they make of a call
 

@@ -2,7 +2,6 @@ use mathlib.Core.Path.{◌≡◌, sym, ◌∙◌}
 use mathlib.Core.Bool.{true}
 use Prim.Native.Nat.{◌-◌, ◌≤◌, ◌<◌}
 use lib.ListN.{length}
-use borrow.Author.Tests.{not-true, not-false}
 use Rattle.logic.proofs.LogicLaws.{length_mapped}
 use Rattle.int13.specs.Steps.{is_drive, bads_of}
 use Rattle.int13.proofs.StepsLaws.{drive_slot}

@@ -1,7 +1,6 @@
 use mathlib.Core.Path.{◌≡◌, sym, ◌∙◌}
 use mathlib.Core.Bool.{true, false, not}
 use Rattle.logic.specs.Logic.{both}
-use borrow.Author.Tests.{not-true, not-false}
 use Rattle.int13.specs.Answers.{ah, al, is_write}
 use Rattle.int13.specs.Steps.{verify_ok, packet_plan}
 use Rattle.int13.proofs.packet_plan.Goals as goal

@@ -1,4 +1,3 @@
-use borrow.Author.Tests.{not-true, not-false}
 use Rattle.int13.specs.Steps.{parameters}
 use Rattle.int13.proofs.parameters_08.Goals as goal
 

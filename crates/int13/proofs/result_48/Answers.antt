@@ -4,7 +4,7 @@ use Prim.Native.Nat.{◌+◌}
 use native.Mathlib.Omega.{arith}
 use lib.ListN.{length}
 use lib.Dec.{ltb}
-use borrow.Author.Tests.{not-true, not-false, lt-ltb, le-ltb}
+use borrow.Author.Tests.{lt-ltb, le-ltb}
 use Rattle.int13.specs.Steps.{packet_place, result_into}
 use Rattle.int13.proofs.StepsLaws.{lent_rest, put_rest}
 use Rattle.int13.proofs.result_48.Goals as goal

@@ -1,4 +1,3 @@
-use borrow.Author.Tests.{not-true, not-false}
 use Rattle.int13.specs.Steps.{seek}
 use Rattle.int13.proofs.seek_47.Goals as goal
 

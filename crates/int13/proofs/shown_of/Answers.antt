@@ -3,7 +3,6 @@ use mathlib.Core.Bool.{true}
 use Prim.Native.Nat.{ℕ, ◌+◌, ◌-◌, ◌*◌, ◌/◌, ◌%◌, ◌<◌, ◌≤◌}
 use native.Mathlib.Omega.{arith}
 use lib.ListN.{length}
-use borrow.Author.Tests.{not-true, not-false}
 use Rattle.logic.proofs.LogicLaws.{length_mapped}
 use Rattle.int13.specs.declared.Shown.{Shown}
 use Rattle.int13.specs.Steps.{is_drive, shown_of}

@@ -1,4 +1,3 @@
-use Prim.Native.Nat.{◌-◌}
 use mathlib.Core.Path.{◌≡◌, refl}
 use mathlib.Core.Bool.{true, false}
 use native.Mathlib.Omega.{arith}
@@ -16,8 +15,8 @@ loop-i-preserved c =
     let b = c.args.b in
     let i = c.loop-i.i in
     elim c.if-b-i.branch [
-      then-b-i w ↦ (omega arith, omega arith, omega (arith, counted b i true w.if-b-i.true))
-    | else-b-i w ↦ (omega arith, omega arith, omega (arith, counted b i false w.if-b-i.false))
+      | then-b-i w ↦ (omega arith, omega arith, omega (arith, counted b i true w.if-b-i.true))
+      | else-b-i w ↦ (omega arith, omega arith, omega (arith, counted b i false w.if-b-i.false))
     ]
 
 pub returns : goal.returns

@@ -1,4 +1,4 @@
-use Prim.Native.Nat.{◌+◌, ◌-◌}
+use Prim.Native.Nat.{◌+◌}
 use mathlib.Core.Path.{◌≡◌, refl, ap, ◌∙◌}
 use mathlib.Core.Bool.{true, false}
 use native.Mathlib.Omega.{arith}
@@ -33,13 +33,13 @@ loop-i-preserved c =
     let i = c.loop-i.i in
     let l : length b.parameters ≡ 112 = search (rules, length_mapped) in
     elim c.if-b-i.branch [
-      then-b-i w ↦
-        let table = w.parameter_table-r.ensures ∙ ap parameter_table w.parameters_at.ensures in
-        let laid = w.out-is ∙ laid_one (replicate 128 0) b i l (omega arith) w.if-b-i.true c.loop-i.invariant.3 c.loop-i.invariant.1 table w.store.ensures in
-        (omega arith, omega (arith, counted b i true w.if-b-i.true), ap length laid ∙ length-sets (replicate 128 0) 0 (tables_to (i + 1) b), laid)
-    | else-b-i w ↦
-        let laid = laid_none (replicate 128 0) b i w.if-b-i.false (w.out-is ∙ c.loop-i.invariant.3) in
-        (omega arith, omega (arith, counted b i false w.if-b-i.false), ap length laid ∙ length-sets (replicate 128 0) 0 (tables_to (i + 1) b), laid)
+      | then-b-i w ↦
+          let table = w.parameter_table-r.ensures ∙ ap parameter_table w.parameters_at.ensures in
+          let laid = w.out-is ∙ laid_one (replicate 128 0) b i l (omega arith) w.if-b-i.true c.loop-i.invariant.3 c.loop-i.invariant.1 table w.store.ensures in
+          (omega arith, omega (arith, counted b i true w.if-b-i.true), ap length laid ∙ length-sets (replicate 128 0) 0 (tables_to (i + 1) b), laid)
+      | else-b-i w ↦
+          let laid = laid_none (replicate 128 0) b i w.if-b-i.false (w.out-is ∙ c.loop-i.invariant.3) in
+          (omega arith, omega (arith, counted b i false w.if-b-i.false), ap length laid ∙ length-sets (replicate 128 0) 0 (tables_to (i + 1) b), laid)
     ]
 
 pub returns : goal.returns
