@@ -24,5 +24,5 @@ returns c =
     let e : o.result.end - o.result.start ≡ span_length (length arena) a.guest c.window_length-m.result = omega arith in
     let part : take (o.result.end - o.result.start) (drop o.result.start arena) ≡ own_window arena a.guest = rw (e, o.ensures.0, m) in
     let k = c.steps_at in
-    let n : length k.new.1.1.1.0 ≡ span_length (length arena) a.guest own = k.auto.1.1.1.0 ∙ ap length part ∙ length-window arena a.guest own in
-    (k.ensures.0 ∙ ap (λ (x : List ℕ). (begin (fed t p) a.r x).outcome) part, rw (e, o.ensures.0, m) (with_window_lent arena a.guest own k.new.1.1.1.0 n ∙ ap (with_own arena a.guest) (k.ensures.1 ∙ ap (λ (x : List ℕ). (begin (fed t p) a.r x).window) part)))
+    let n : length k.new.window ≡ span_length (length arena) a.guest own = k.auto.window ∙ ap length part ∙ length-window arena a.guest own in
+    (k.ensures.0 ∙ ap (λ (x : List ℕ). (begin (fed t p) a.r x).outcome) part, rw (e, o.ensures.0, m) (with_window_lent arena a.guest own k.new.window n ∙ ap (with_own arena a.guest) (k.ensures.1 ∙ ap (λ (x : List ℕ). (begin (fed t p) a.r x).window) part)))

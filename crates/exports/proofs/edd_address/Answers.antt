@@ -4,8 +4,8 @@ use Rattle.exports.proofs.edd_address.Goals as goal
 
 pub returns-in-At : goal.returns-in-At
 unfolding address_call over address_numbers
-returns-in-At c = rw (← c.address_of-answer.ensures.0, c.before.answer.given.1)
+returns-in-At c = rw (← c.address_of-answer.ensures.0, c.in-At.is)
 
 pub returns-in-Refused : goal.returns-in-Refused
 unfolding address_call over address_numbers
-returns-in-Refused c = rw (← c.address_of-answer.ensures.0, c.answer-in-Refused-1.given.1)
+returns-in-Refused c = rw (← c.address_of-answer.ensures.0, c.in-Refused.is)

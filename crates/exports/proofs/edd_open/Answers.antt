@@ -10,8 +10,8 @@ returns-then-desk-ne-SIZE c = rw (ne_eqb _ desk_size c.if-desk-ne-SIZE.true)
 
 pub returns-in-Opened : goal.returns-in-Opened
 unfolding open_call over open_numbers
-returns-in-Opened c = rw (eq-eqb _ desk_size c.if-desk-ne-SIZE.false, ← c.before.before.before.before.before.before.«open».ensures.0, c.enum_told-1.given.1, c.encode.ensures)
+returns-in-Opened c = rw (eq-eqb _ desk_size c.if-desk-ne-SIZE.false, ← c.open-opening.ensures.0, c.in-Opened.is, c.encode.ensures)
 
 pub returns-in-Refused : goal.returns-in-Refused
 unfolding open_call over open_numbers
-returns-in-Refused c = rw (eq-eqb _ desk_size c.if-desk-ne-SIZE.false, ← c.before.before.before.«open».ensures.0, c.before.answer.given.1)
+returns-in-Refused c = rw (eq-eqb _ desk_size c.if-desk-ne-SIZE.false, ← c.open-opening.ensures.0, c.in-Refused.is)

@@ -3,20 +3,12 @@ use Rattle.exports.proofs.Readers.{reader-size, none-fed, fed}
 use Rattle.exports.proofs.edd_reader_feed.Goals as goal
 
 pub returns-then-not-acceptable : goal.returns-then-not-acceptable
-returns-then-not-acceptable c =
-    let s = c.before.before.before.before.before in
-    none-fed s.args.reader.now c.acceptable.ensures c.if-not-acceptable.true s.args.bytes.now s.args.place.now
+returns-then-not-acceptable c = none-fed c.args.reader.now c.acceptable.ensures c.if-not-acceptable.true c.args.bytes.now c.args.place.now
 
 pub decode-requires : goal.decode-requires
-decode-requires c =
-    let i = c.before in
-    let s = i.before.before.before.before.before in
-    reader-size s.args.reader.now (sym i.acceptable.ensures ∙ i.if-not-acceptable.false)
+decode-requires c = reader-size c.args.reader.now (sym c.acceptable.ensures ∙ c.if-not-acceptable.false)
 
 pub returns : goal.returns
 returns c =
-    let e = c.before.before.before.before in
-    let t = e.before.before in
-    let i = t.before.before.before in
-    let s = i.before.before.before.before.before in
-    fed s.args.reader.now i.acceptable.ensures i.if-not-acceptable.false t.decode.ensures s.args.bytes.now s.args.place.now t.take-f.ensures e.encode.ensures c.say.ensures
+    fed c.args.reader.now c.acceptable.ensures c.if-not-acceptable.false c.decode.ensures c.args.bytes.now c.args.place.now c.take-f.ensures c.encode.ensures
+    c.say.ensures

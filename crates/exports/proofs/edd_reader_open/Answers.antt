@@ -9,7 +9,4 @@ returns-then-reader-ne-SIZE c = rw (ne_eqb _ reader_size c.if-reader-ne-SIZE.tru
 
 pub returns : goal.returns
 unfolding reader_open_call
-returns c =
-    let e = c.before.before in
-    let o = e.before.before in
-    rw (eq-eqb _ reader_size o.if-reader-ne-SIZE.false, e.encode.ensures, o.«open».ensures)
+returns c = rw (eq-eqb _ reader_size c.if-reader-ne-SIZE.false, c.encode.ensures, c.open-f.ensures)

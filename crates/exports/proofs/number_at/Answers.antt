@@ -5,21 +5,20 @@ use Rattle.desk.proofs.CallsLaws.{house-tests}
 use Rattle.image.specs.Image.{desk_of, accepted}
 use Rattle.exports.proofs.Exports.{block, no_desk, lent_read}
 use Rattle.exports.proofs.number_at.Goals as goal
-use Rattle.exports.proofs.number_at.Goals.{Else-not-acceptable}
-
-good : (c : Else-not-acceptable) → accept (desk_of c.args.desk.now) ≡ true
-unfolding accepted
-good c = sym c.acceptable.ensures ∙ c.if-not-acceptable.false
 
 pub returns-then-not-acceptable : goal.returns-then-not-acceptable
 unfolding accepted
 returns-then-not-acceptable c = no_desk c.args.desk.now _ _ c.house_number.ensures (sym c.acceptable.ensures ∙ c.if-not-acceptable.true)
 
 pub is_lent-requires : goal.is_lent-requires
-is_lent-requires c = (block c.args.desk.now (good c)).size
+unfolding accepted
+is_lent-requires c =
+    let good : accept (desk_of c.args.desk.now) ≡ true = sym c.acceptable.ensures ∙ c.if-not-acceptable.false in
+    (block c.args.desk.now good).size
 
 pub returns : goal.returns
+unfolding accepted
 returns c =
     let a = c.args in
-    let h = good c.before.before in
-    house-tests c.house_number-2.ensures (sym h) (lent_read a.desk.now h a.arena a.store c.is_lent.ensures) refl
+    let good : accept (desk_of a.desk.now) ≡ true = sym c.acceptable.ensures ∙ c.if-not-acceptable.false in
+    house-tests c.house_number-2.ensures (sym good) (lent_read a.desk.now good a.arena a.store c.is_lent.ensures) refl

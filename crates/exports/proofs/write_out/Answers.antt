@@ -6,10 +6,10 @@ pub returns-in-Bytes : goal.returns-in-Bytes
 unfolding over written_numbers
 returns-in-Bytes c =
     let w = c.write_table-answer.ensures in
-    (rw (← w.0, c.before.answer.given.1), w.1)
+    (rw (← w.0, c.in-Bytes.is), w.1)
 
 pub returns-in-Refused : goal.returns-in-Refused
 unfolding over written_numbers
 returns-in-Refused c =
     let w = c.write_table-answer.ensures in
-    (rw (← w.0, c.answer-in-Refused-1.given.1), w.1)
+    (rw (← w.0, c.in-Refused.is), w.1)
