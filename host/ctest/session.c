@@ -144,7 +144,7 @@ static uint32_t refused_at(size_t byte, uint8_t value, size_t length, uint64_t *
     return number;
 }
 
-/* rule: exports::edd_open readTable */
+/* rule: exports::edd_open read_table */
 static void table_refusals(void)
 {
     uint64_t place = 77;
@@ -347,7 +347,7 @@ static uint32_t open_worn(machine *m, uint8_t first, uint8_t second, uint8_t *ta
     return edd_open(m->desk, EDD_DESK_SIZE, table, WORN, ARENA, STORE, place);
 }
 
-/* rule: exports::edd_open exports::edd_write exports::edd_post exports::edd_turn exports::edd_collect badsRefusal ended */
+/* rule: exports::edd_open exports::edd_write exports::edd_post exports::edd_turn exports::edd_collect bads_refusal ended */
 /* a worn disk: a read that stops, a write that stops in its second part, a first block that is bad, and 44h */
 static void worn_disk(machine *m)
 {
@@ -508,7 +508,7 @@ static void device_paths(machine *m)
     free(table);
 }
 
-/* rule: exports::edd_open exports::edd_write readTable */
+/* rule: exports::edd_open exports::edd_write read_table */
 /* tables with kind 2 that are refused, and blocks that no table leads to */
 static void wide_refused(machine *m)
 {
@@ -789,7 +789,7 @@ static void refused_once_and_for_all(const uint8_t *table, size_t length, size_t
     free(reader);
 }
 
-/* rule: exports::edd_reader_feed exports::edd_reader_end exports::edd_reader_write refusedAt */
+/* rule: exports::edd_reader_feed exports::edd_reader_end exports::edd_reader_write refused_at */
 static void fragments_refused(void)
 {
     uint8_t *table = three_drives(), *longer = bytes(THREE + 1, 0);

@@ -331,7 +331,7 @@ fn counting(first: u8) -> [u8; 14] {
 
 // ---- a: refusals
 
-// rule: postOf turnOf collectOf withdrawOf placeOf writtenOf
+// rule: post_of turn_of collect_of withdraw_of place_of written_of
 fn a1_order_of_house_numbers(service: &dyn Service) {
     let mut stand = Stand::paper(service, 1024);
     stand.arena = Lent::holding(&[0; 100], Place::END);
@@ -361,7 +361,7 @@ fn a1_order_of_house_numbers(service: &dyn Service) {
     assert_eq!(stand.collect(7), (22, STALE));
 }
 
-// rule: postOf turnOf withdrawOf placeOf
+// rule: post_of turn_of withdraw_of place_of
 fn a2_store_length_alone(service: &dyn Service) {
     let mut stand = Stand::paper(service, 1024);
     assert_eq!(stand.post_packet(3, 0x42, 1, 0).0, NOTHING_YET);
@@ -379,7 +379,7 @@ fn a2_store_length_alone(service: &dyn Service) {
     }
 }
 
-// rule: postOf turnOf withdrawOf placeOf
+// rule: post_of turn_of withdraw_of place_of
 fn a2_arena_length_alone(service: &dyn Service) {
     let mut stand = Stand::paper(service, 1024);
     assert_eq!(stand.post_packet(3, 0x42, 1, 0).0, NOTHING_YET);
@@ -394,7 +394,7 @@ fn a2_arena_length_alone(service: &dyn Service) {
     }
 }
 
-// rule: openCall Calls.opened exports::edd_open
+// rule: open_call Calls.opened exports::edd_open
 fn a3_open_over_anything(service: &dyn Service) {
     let table = drives::table(&[paper_drive()]);
     let mut clean = Stand::paper(service, 1024);
@@ -408,7 +408,7 @@ fn a3_open_over_anything(service: &dyn Service) {
     assert_eq!(stand.turn().0, NOTHING_YET);
 }
 
-// rule: openCall exports::edd_open
+// rule: open_call exports::edd_open
 fn a3_table_refused(service: &dyn Service) {
     let mut stand = Stand::paper(service, 1024);
     assert_eq!(stand.post_packet(3, 0x42, 1, 0).0, NOTHING_YET);
@@ -422,7 +422,7 @@ fn a3_table_refused(service: &dyn Service) {
     assert_eq!(stand.turn(), (DONE, 3, 1), "the desk goes on");
 }
 
-// rule: openCall exports::edd_open
+// rule: open_call exports::edd_open
 fn a3_wrong_size_first(service: &dyn Service) {
     let good = drives::table(&[paper_drive()]);
     for size in [0, 1, DESK_SIZE - 1, DESK_SIZE + 1, 2 * DESK_SIZE] {
@@ -436,7 +436,7 @@ fn a3_wrong_size_first(service: &dyn Service) {
     }
 }
 
-// rule: turnOf exports::edd_turn
+// rule: turn_of exports::edd_turn
 fn a4_idle(service: &dyn Service) {
     let mut stand = Stand::paper(service, 1024);
     assert_eq!(stand.post_packet(4, 0x42, 1, 0).0, NOTHING_YET);
@@ -449,7 +449,7 @@ fn a4_idle(service: &dyn Service) {
     assert_eq!(stand.turn(), (24, UNWRITTEN, UNWRITTEN), "lengths come before idle");
 }
 
-// rule: postOf exports::edd_post
+// rule: post_of exports::edd_post
 fn a5_a6_busy_row(service: &dyn Service) {
     let mut stand = Stand::paper(service, 1024);
     assert_eq!(stand.post_packet(4, 0x42, 1, 0).0, NOTHING_YET);
@@ -479,7 +479,7 @@ fn a7_unknown_function(service: &dyn Service) {
     assert!(stand.all() == before, "something changed");
 }
 
-// rule: isDrive
+// rule: is_drive
 fn a8_drive_numbers(service: &dyn Service) {
     for count in [0u8, 1, 8] {
         let drives: Vec<Drive> = (0..count).map(|i| small_drive(u64::from(i), 1)).collect();
@@ -503,7 +503,7 @@ fn a8_drive_numbers(service: &dyn Service) {
     }
 }
 
-// rule: given postCall
+// rule: given post_call
 fn a9_carry_is_not_read(service: &dyn Service) {
     let mut blocks = Vec::new();
     for carry in [0, 1, 65535] {
@@ -585,7 +585,7 @@ fn a10_empty_slices(service: &dyn Service) {
 
 // ---- b: functions
 
-// rule: packetPlan packetTests
+// rule: packet_plan packet_tests
 fn b1_order_by_packet(service: &dyn Service) {
     // a protected drive; each line has one fault and all later ones
     let mut stand = Stand::open(service, &[protected(paper_drive())], 8 * 1024, 2048 * 512);
@@ -623,7 +623,7 @@ fn b1_order_by_packet(service: &dyn Service) {
     }
 }
 
-// rule: packetTests
+// rule: packet_tests
 fn b2_count_zero(service: &dyn Service) {
     let mut stand = Stand::open(service, &[protected(paper_drive()), Drive { first: 2048, ..paper_drive() }], 8 * 1024, 4096 * 512);
     // function, drive, start, buffer, code
@@ -647,7 +647,7 @@ fn b2_count_zero(service: &dyn Service) {
     }
 }
 
-// rule: packetTests
+// rule: packet_tests
 fn b3_verify_moves_nothing(service: &dyn Service) {
     let mut stand = Stand::open(service, &[protected(paper_drive())], 8 * 1024, 2048 * 512);
     stand.packet(0, 0, 127, (0xFFFF, 0xFFFF), 2048 - 127);
@@ -661,7 +661,7 @@ fn b3_verify_moves_nothing(service: &dyn Service) {
     assert_eq!(stand.window(0)[2..4], [0, 0]);
 }
 
-// rule: seekRead
+// rule: seek_read
 fn b4_seek(service: &dyn Service) {
     let mut stand = Stand::paper(service, 1024);
     for (count, start, code) in [(65535, 2047, 0), (0, 2047, 0), (0, 2048, 4), (65535, 2048, 4), (1, u64::MAX, 4)] {
@@ -676,7 +676,7 @@ fn b4_seek(service: &dyn Service) {
     assert_eq!(stand.post(0, by_packet(0x47, 0)).1.ah(), 0x01);
 }
 
-// rule: packetAt
+// rule: packet_at
 fn b5_packet(service: &dyn Service) {
     let mut stand = Stand::paper(service, 1024);
     // always sixteen bytes, whatever the size byte says
@@ -697,7 +697,7 @@ fn b5_packet(service: &dyn Service) {
     assert_eq!(stand.post(0, by_packet(0x42, 0)).1.ah(), 9, "FFFF:FFFF is an address");
 }
 
-// rule: linear readPacket
+// rule: linear read_packet
 fn b6_addresses_never_wrap(service: &dyn Service) {
     let last = 0x10_FFEF;
     for (window, waits) in [(last + 512, true), (last + 511, false)] {
@@ -725,7 +725,7 @@ fn b6_addresses_never_wrap(service: &dyn Service) {
     }
 }
 
-// rule: packetTests
+// rule: packet_tests
 fn b7_start_and_count_never_wrap(service: &dyn Service) {
     let mut stand = Stand::paper(service, 2048);
     for (count, start) in [(0, u64::MAX), (1, u64::MAX), (2, u64::MAX), (2, u64::MAX - 1), (3, u64::MAX - 2), (1, 2048), (1, 1 << 32)] {
@@ -736,7 +736,7 @@ fn b7_start_and_count_never_wrap(service: &dyn Service) {
     }
 }
 
-// rule: verifyOk
+// rule: verify_ok
 fn b8_write_with_verify(service: &dyn Service) {
     let with_bit_3 = Drive { first: 2048, flags: 0x08, ..paper_drive() };
     let mut stand = Stand::open(service, &[paper_drive(), with_bit_3], 8 * 1024, 4096 * 512);
@@ -755,7 +755,7 @@ fn b8_write_with_verify(service: &dyn Service) {
     }
 }
 
-// rule: sectors sectorRun
+// rule: sectors sector_run
 fn b9_sectors(service: &dyn Service) {
     let mut stand = Stand::open(service, &[protected(paper_drive())], 8 * 70_000, 2048 * 512);
     for (al, cylinder, code) in [(0, 9, 0x01), (129, 9, 0x09), (1, 9, 0x03), (128, 0, 0x03)] {
@@ -796,7 +796,7 @@ fn b9_sectors(service: &dyn Service) {
     assert_eq!(stand.post(0, both), (DONE, refused_sectors(both, 0x04)), "the address comes before the buffer");
 }
 
-// rule: parameters geometryGiven
+// rule: parameters geometry_given
 fn b10_drive_parameters(service: &dyn Service) {
     let drives = [small_drive(0, 5), small_drive(5, 5), Drive { cylinders: 3, heads: 2, sectors: 1, ..small_drive(10, 6) }];
     let mut stand = Stand::open(service, &drives, 80, 16 * 512);
@@ -811,7 +811,7 @@ fn b10_drive_parameters(service: &dyn Service) {
     assert_eq!(stand.post(0, given), (DONE, Registers { ax: 0, cx: 0xFFFF, dx: 0xFE01, ..given }));
 }
 
-// rule: extensions extensionsGiven
+// rule: extensions extensions_given
 fn b11_check_extensions(service: &dyn Service) {
     let mut stand = Stand::paper(service, 0);
     let given = Registers { bx: 0x55AA, ..registers(0x41, 0x99, 0x80) };
@@ -821,7 +821,7 @@ fn b11_check_extensions(service: &dyn Service) {
     }
 }
 
-// rule: returnedSize resultAnswer
+// rule: returned_size result_answer
 fn b12_result_sizes(service: &dyn Service) {
     let mut stand = Stand::paper(service, 1024);
     for asked in [0u16, 25, 26, 29, 30, 65, 66, 73, 74, 65535] {
@@ -854,7 +854,7 @@ fn b12_result_sizes(service: &dyn Service) {
     }
 }
 
-// rule: wholeResult checksum
+// rule: whole_result checksum
 fn b13_result_bytes(service: &dyn Service) {
     let mut stand = Stand::paper(service, 1024);
     stand.window(3)[8..10].copy_from_slice(&73u16.to_le_bytes());
@@ -873,7 +873,7 @@ fn b13_result_bytes(service: &dyn Service) {
     assert!(arena[..from] == before.1[..from] && arena[from + 66..] == before.1[from + 66..], "every other byte stays");
 }
 
-// rule: blockOf addressOf exports::edd_block exports::edd_address
+// rule: block_of address_of exports::edd_block exports::edd_address
 fn b14_addresses(service: &dyn Service) {
     let of = |c, h, s| Geometry { cylinders: c, heads: h, sectors: s };
     let block = |g, cylinder, head, sector| {
@@ -931,7 +931,7 @@ fn opened(service: &dyn Service, table: &[u8], store_blocks: u64) -> (u32, u64) 
     (service.open(desk.bytes_mut(), table.bytes(), 0, 512 * store_blocks, &mut place), place)
 }
 
-// rule: readTable refusal
+// rule: read_table refusal
 fn c1_order_of_checks(service: &dyn Service) {
     let good = small_drive(0, 4);
     let record = good.record();
@@ -961,7 +961,7 @@ fn c1_order_of_checks(service: &dyn Service) {
     assert_eq!(opened(service, &after, 3), (6, 0), "a drive is judged before what follows the end");
 }
 
-// rule: readTable
+// rule: read_table
 fn c2_places(service: &dyn Service) {
     let record = small_drive(0, 4).record();
     assert_eq!(opened(service, &[], 9), (1, 0));
@@ -1004,7 +1004,7 @@ fn field_cases(good: Drive) -> [(&'static str, Drive, u32); 27] {
     ]
 }
 
-// rule: fieldsOk
+// rule: fields_ok
 fn c3_fields(service: &dyn Service) {
     for (what, drive, number) in field_cases(paper_drive()) {
         let expected = (number, if number == 0 { UNWRITTEN } else { 0 });
@@ -1012,7 +1012,7 @@ fn c3_fields(service: &dyn Service) {
     }
 }
 
-// rule: inStore overlap
+// rule: in_store overlap
 fn c4_c5_ranges(service: &dyn Service) {
     let at = |first, blocks| Drive { first, ..small_drive(first, blocks) };
     let one = |first, blocks, store| opened(service, &drives::table(&[at(first, blocks)]), store).0;
@@ -1034,7 +1034,7 @@ fn c4_c5_ranges(service: &dyn Service) {
     assert_eq!(service.open(&mut desk, &drives::table(&[]), 0, 511, &mut 0), DONE);
 }
 
-// rule: tableOf writeOut exports::edd_write
+// rule: table_of write_out exports::edd_write
 fn c7_written_back(service: &dyn Service) {
     let mut chance = Chance::new(77);
     for round in 0..60 {
@@ -1110,7 +1110,7 @@ fn d1_accepted_though_unreachable(service: &dyn Service) {
     assert_eq!(stand.turn().0, 24, "zeros, and an arena with bytes");
 }
 
-// rule: Acceptable.accept jobOk rangeOk movedOk
+// rule: Acceptable.accept job_ok range_ok moved_ok
 fn d1_refused_by_one_word(service: &dyn Service) {
     let mut stand = mixed(service);
     stand.refused_with("pointer", POINTER, 8);
@@ -1140,7 +1140,7 @@ fn d1_refused_by_one_word(service: &dyn Service) {
     stand.refused_with("carry 2", row(0, 8), 2);
 }
 
-// rule: countOk
+// rule: count_ok
 fn d1_limits_of_the_counts(service: &dyn Service) {
     let mut stand = Stand::paper(service, 70_000);
     assert_eq!(stand.post_packet(0, 0x42, 127, 0).0, NOTHING_YET);
@@ -1153,7 +1153,7 @@ fn d1_limits_of_the_counts(service: &dyn Service) {
     stand.refused_with("128 of 128 moved", row(1, 14), 128);
 }
 
-// rule: isTransfer
+// rule: is_transfer
 fn d2_function_of_a_row(service: &dyn Service) {
     let mut stand = mixed(service);
     stand.set_word(row(0, 13), 8);
@@ -1168,7 +1168,7 @@ fn d2_function_of_a_row(service: &dyn Service) {
     stand.refused_with("count 0", row(2, 11), 0);
 }
 
-// rule: packetOk
+// rule: packet_ok
 fn d3_packet_of_02h_and_03h(service: &dyn Service) {
     let mut stand = mixed(service);
     stand.refused_with("02h with packet 1", row(2, 13), 1);
@@ -1181,7 +1181,7 @@ fn d3_packet_of_02h_and_03h(service: &dyn Service) {
     stand.refused_with("42h, packet one byte past the window", row(2, 13), 12_000 - 15);
 }
 
-// rule: isImage
+// rule: is_image
 fn d4_words_that_a_stage_does_not_use(service: &dyn Service) {
     let mut stand = mixed(service);
     for value in [1, 1 << 63, u64::MAX] {
@@ -1214,7 +1214,7 @@ fn d4_words_that_a_stage_does_not_use(service: &dyn Service) {
     }
 }
 
-// rule: isSound
+// rule: is_sound
 fn d5_table_in_the_block(service: &dyn Service) {
     let mut stand = mixed(service);
     // widths
@@ -1243,7 +1243,7 @@ fn d5_table_in_the_block(service: &dyn Service) {
     stand.refused_with("overlap", drive_word(1, 4), 0);
 }
 
-// rule: jobOk rangeOk
+// rule: job_ok range_ok
 fn d6_words_that_wrap(service: &dyn Service) {
     let mut stand = mixed(service);
     for guest in [0, 2] {
@@ -1263,7 +1263,7 @@ fn d6_words_that_wrap(service: &dyn Service) {
     stand.accepted_with("an arena just long enough", ARENA_LENGTH, 8 * (0x200 + 20 * 512));
 }
 
-// rule: openOf
+// rule: open_of
 fn d7_absurd_lengths(service: &dyn Service) {
     let mut stand = Stand::paper(service, 1024);
     let table = drives::table(&[paper_drive()]);
@@ -1290,7 +1290,7 @@ fn d7_absurd_lengths(service: &dyn Service) {
     assert_eq!(stand.open_again(&drives::table(&[Drive { blocks: blocks + 1, ..paper_drive() }]), 0, u64::MAX), (6, 0));
 }
 
-// rule: isImage openCall
+// rule: is_image open_call
 fn d9_wrong_size(service: &dyn Service) {
     let mut stand = mixed(service);
     let good = stand.desk.bytes().to_vec();
@@ -1309,7 +1309,7 @@ fn d9_wrong_size(service: &dyn Service) {
 
 // ---- e: windows, turns, collects, withdrawals
 
-// rule: windowLength spanStart spanLength exports::edd_window
+// rule: window_length span_start span_length exports::edd_window
 fn e1_windows(service: &dyn Service) {
     let window = |arena_length, guest| {
         let (mut start, mut length) = (UNWRITTEN, UNWRITTEN);
@@ -1326,7 +1326,7 @@ fn e1_windows(service: &dyn Service) {
     }
 }
 
-// rule: windowLength inStore
+// rule: window_length in_store
 fn e2_odd_arenas(service: &dyn Service) {
     let edges = [1, 2, 25, 26, 29, 30, 65, 66, 73, 74].map(|m| 8 * m + 3);
     for arena_length in [0, 7, 8, 127, 128, 8 * 511, 4096 + 7, 8 * 512 + 7].into_iter().chain(edges) {
@@ -1370,7 +1370,7 @@ fn e2_odd_arenas(service: &dyn Service) {
     }
 }
 
-// rule: turnOf exports::edd_turn
+// rule: turn_of exports::edd_turn
 fn e4_turn_order(service: &dyn Service) {
     let mut stand = Stand::paper(service, 1024 + 16 * 512);
     stand.set_word(POINTER, 7);
@@ -1447,7 +1447,7 @@ fn e5_places_above_4_gib(service: &dyn Service) {
     assert_eq!(stand.post(5, Registers { ax: 0x0202, ..given }).1.ah(), 0x04);
 }
 
-// rule: packetJob moves
+// rule: packet_job moves
 fn e6_packet_is_read_once(service: &dyn Service) {
     let mut stand = Stand::paper(service, 21_000);
     // the read lays data over its own packet, and the guest writes other values there between the turns
@@ -1464,7 +1464,7 @@ fn e6_packet_is_read_once(service: &dyn Service) {
     assert_eq!(stand.collect(1), (DONE, succeeded(given)));
 }
 
-// rule: withdrawOf withdrawnWindow exports::edd_withdraw
+// rule: withdraw_of withdrawn_window exports::edd_withdraw
 fn e7_withdrawal(service: &dyn Service) {
     let mut stand = Stand::paper(service, 21_000);
     // nothing moved: 0
@@ -1498,7 +1498,7 @@ fn e7_withdrawal(service: &dyn Service) {
     assert_eq!(stand.post_packet(1, 0x42, 1, 0).0, NOTHING_YET, "the row is vacant at once");
 }
 
-// rule: collectOf exports::edd_collect
+// rule: collect_of exports::edd_collect
 fn e8_collect_once(service: &dyn Service) {
     let mut stand = Stand::paper(service, 2048);
     assert_eq!(stand.post_packet(6, 0x42, 2, 0).0, NOTHING_YET);
@@ -1514,7 +1514,7 @@ fn e8_collect_once(service: &dyn Service) {
 
 // ---- g: sums, the paper's own cases, threads
 
-// rule: blockOf parameters checksum turnOf
+// rule: block_of parameters checksum turn_of
 fn g1_sums(service: &dyn Service) {
     let g = Geometry { cylinders: 1024, heads: 16, sectors: 63 };
     let block = |cylinder, head, sector| {
@@ -1543,7 +1543,7 @@ fn g1_sums(service: &dyn Service) {
     assert_eq!(turns, [1, 2, 3, 4, 5, 6, 7, 0]);
 }
 
-// rule: packetTests sectors
+// rule: packet_tests sectors
 fn g2_run_by_program(service: &dyn Service) {
     let mut stand = Stand::paper(service, 66_100);
     assert_eq!(stand.post_packet(0, 0x42, 1, 2047).0, NOTHING_YET);
@@ -1609,7 +1609,7 @@ fn g5_no_other_memory_is_touched(service: &dyn Service) {
 
 /// Every known function with every AL and DL, and every unknown one: what is answered at once leaves the block as it was.
 fn g3_answered_at_once_leaves_the_desk(service: &dyn Service) {
-    // rule: postOf exports::edd_post
+    // rule: post_of exports::edd_post
     let mut stand = Stand::paper(service, 1024);
     stand.packet(4, 0x100, 0, (0, 0), 0);
     let desk = stand.desk.bytes().to_vec();
@@ -1648,7 +1648,7 @@ fn parameters_record(number: u16) -> Vec<u8> {
     drives::parameters_record(number, counting(number as u8))
 }
 
-// rule: parametersRefusal notLast
+// rule: parameters_refusal not_last
 fn h1_not_the_last_drive(service: &dyn Service) {
     let (d, p) = (small_record, parameters_record);
     let cases: [(&str, Vec<Vec<u8>>, (u32, u64)); 13] = [
@@ -1679,7 +1679,7 @@ fn h1_not_the_last_drive(service: &dyn Service) {
     assert_eq!(opened(service, &with(&[d(8), p(8)]), 9), (4, 704), "a ninth drive comes first");
 }
 
-// rule: headerOf lengthOk isKind
+// rule: header_of length_ok is_kind
 fn h1_checks_before_9(service: &dyn Service) {
     let (drive, bad) = (small_record(0), parameters_record(5));
     let at_68 = |record: &[u8]| opened(service, &[&drive[..], record].concat(), 9);
@@ -1710,7 +1710,7 @@ fn h1_checks_before_9(service: &dyn Service) {
     assert_eq!(at_68(&good), (1, 88), "no end record");
 }
 
-// rule: openCall exports::edd_open
+// rule: open_call exports::edd_open
 fn h1_refused_changes_nothing(service: &dyn Service) {
     let mut stand = three_drives(service, 1024);
     stand.place_done(2, 0x40, &GAPPED);
@@ -1721,7 +1721,7 @@ fn h1_refused_changes_nothing(service: &dyn Service) {
     assert_eq!(stand.shown(2, 0x82), ([0, 0, 5, 0], 5), "the desk goes on");
 }
 
-// rule: slotRecords tableOf writeOut withParameters
+// rule: slot_records table_of write_out with_parameters
 fn h2_written_back_raw(service: &dyn Service) {
     for first in [0x00, 0x20, 0x7C, 0x80, 0xA0, 0xF0] {
         let list: Vec<Drive> = (0..8).map(|i| with_parameters(small_drive(i, 1), first + i as u8)).collect();
@@ -1745,7 +1745,7 @@ fn h2_written_back_raw(service: &dyn Service) {
     assert_eq!(stand.write(&mut out[1..]), (19, UNWRITTEN));
 }
 
-// rule: placeOf houseTests exports::edd_place
+// rule: place_of house_tests exports::edd_place
 fn h3_order_of_house_numbers(service: &dyn Service) {
     let mut stand = three_drives(service, 1024);
     assert_eq!(stand.post_packet(3, 0x42, 1, 0).0, NOTHING_YET);
@@ -1773,7 +1773,7 @@ fn h3_order_of_house_numbers(service: &dyn Service) {
     stand.place_done(2, 0, &GAPPED);
 }
 
-// rule: placeStage placeOf
+// rule: place_stage place_of
 fn h4_waiting_and_finished_rows(service: &dyn Service) {
     let mut stand = Stand::open(service, &[with_parameters(small_drive(0, 40), 0x10)], 8 * 12_000, 40 * 512);
     for given in [by_sector(0x02, 20, 0, 0, 1), by_sector(0x03, 20, 0, 0, 1), by_packet(0x42, 0), by_packet(0x43, 0)] {
@@ -1796,7 +1796,7 @@ fn h4_waiting_and_finished_rows(service: &dyn Service) {
     stand.place_done(3, 0, &GAPPED[..1]);
 }
 
-// rule: placeOk badPlace
+// rule: place_ok bad_place
 fn h5_bad_places(service: &dyn Service) {
     // two tables in windows of that many bytes: the last good address, if there is one
     for (window, last) in [(0, None), (31, None), (32, Some(0)), (47, Some(0)), (48, Some(16)), (1023, Some(976)), (1024, Some(992))] {
@@ -1818,7 +1818,7 @@ fn h5_bad_places(service: &dyn Service) {
     three_drives(service, 1007).place_refused(26, 7, 976);
 }
 
-// rule: placeOk placeTables
+// rule: place_ok place_tables
 fn h6_no_tables(service: &dyn Service) {
     for drives in [&[][..], &[small_drive(0, 4)]] {
         for (window, last) in [(0, 0), (1015, 1008), (1024, 1024)] {
@@ -1839,7 +1839,7 @@ fn h6_no_tables(service: &dyn Service) {
     assert_eq!(stand.shown(0, 0x80), (NO_POINTER, 1), "placed, but the drive has no record");
 }
 
-// rule: placeOk segments pointerOf
+// rule: place_ok segments pointer_of
 fn h7_segments(service: &dyn Service) {
     const WINDOW: usize = 0x11_0010;
     let one = [with_parameters(small_drive(0, 4), 0x10)];
@@ -1862,7 +1862,7 @@ fn h7_segments(service: &dyn Service) {
     stand.refused_with("a segment of 10000h", ADDRESSES + 7, 0x10_0000);
 }
 
-// rule: tablesOf tablesIn placeTables
+// rule: tables_of tables_in place_tables
 fn h8_what_is_placed(service: &dyn Service) {
     let mut stand = three_drives(service, 1024);
     for guest in 0..8 {
@@ -1876,7 +1876,7 @@ fn h8_what_is_placed(service: &dyn Service) {
     assert_eq!(stand.shown(7, 0x82).0, [0, 0, 63, 0], "drives without a record take no room");
 }
 
-// rule: driveFlags checksum parameterTable TableBytes
+// rule: drive_flags checksum parameter_table TableBytes
 fn h8_flags_and_sum(service: &dyn Service) {
     let mut chance = Chance::new(8);
     for flags in 0..=255 {
@@ -1892,7 +1892,7 @@ fn h8_flags_and_sum(service: &dyn Service) {
     }
 }
 
-// rule: pointerOf shownIn tableAddress resultOut
+// rule: pointer_of shown_in table_address result_out
 fn h9_pointer_of_48h(service: &dyn Service) {
     let mut stand = three_drives(service, 1024);
     // before and after: the same result but for bytes 26 to 29, of every size
@@ -1927,7 +1927,7 @@ fn h9_pointer_of_48h(service: &dyn Service) {
     assert_eq!((stand.shown(5, 0x80).0, stand.shown(5, 0x82).0), ([0, 0, 0xFF, 0x10], [0, 0, 0x00, 0x11]));
 }
 
-// rule: extensions extensionsGiven
+// rule: extensions extensions_given
 fn h10_check_extensions(service: &dyn Service) {
     let mut stand = three_drives(service, 1024);
     let all = |stand: &mut Stand, guest: usize| [0x80, 0x81, 0x82].map(|dl| stand.shown(guest, dl).1);
@@ -1940,7 +1940,7 @@ fn h10_check_extensions(service: &dyn Service) {
     }
 }
 
-// rule: withPlacement placeTables
+// rule: with_placement place_tables
 fn h11_placed_anew(service: &dyn Service) {
     let mut stand = three_drives(service, 1024);
     stand.place_done(2, 0x40, &GAPPED);
@@ -1965,7 +1965,7 @@ fn h11_placed_anew(service: &dyn Service) {
     assert_eq!((stand.word(PLACED + 2), stand.word(ADDRESSES + 2), stand.shown(2, 0x82).0), (1, 0, [0, 0, 1, 0]));
 }
 
-// rule: Calls.opened openOf
+// rule: Calls.opened open_of
 fn h12_opening_clears(service: &dyn Service) {
     let mut stand = three_drives(service, 1024);
     let fresh = stand.desk.bytes().to_vec();
@@ -1983,7 +1983,7 @@ fn h12_opening_clears(service: &dyn Service) {
     }
 }
 
-// rule: placementOk placementsOk isImage Acceptable.accept
+// rule: placement_ok placements_ok is_image Acceptable.accept
 fn h13_placements_in_the_block(service: &dyn Service) {
     let mut stand = three_drives(service, 1024);
     stand.place_done(2, 0x40, &GAPPED);
@@ -2020,7 +2020,7 @@ fn h13_placements_in_the_block(service: &dyn Service) {
     stand.refused_with("beyond the window", ADDRESSES + 2, (u64::MAX / 8 & !15) + 16);
 }
 
-// rule: attachedAt isSound isImage
+// rule: attached_at is_sound is_image
 fn h14_parameters_in_the_block(service: &dyn Service) {
     let mut stand = three_drives(service, 1024);
     for slot in 0..8 {
@@ -2065,7 +2065,7 @@ fn flagged(words: impl Iterator<Item = u16>) -> Vec<Drive> {
     words.enumerate().map(|(i, flags)| Drive { flags, ..small_drive(i as u64, 1) }).collect()
 }
 
-// rule: flagsShown FlagBits
+// rule: flags_shown FlagBits
 fn h15_flags_of_48h(service: &dyn Service) {
     let mut stand = Stand::open(service, &flagged([0x7A, 0x7E, 0x78, 0x70, 0x74, 0x2B, 0x5C, 0x13].into_iter()), 8 * 1024, 8 * 512);
     for (dl, shown) in (0x80..).zip([0x0A, 0x7E, 0x08, 0x00, 0x74, 0x0B, 0x5C, 0x03]) {
@@ -2089,7 +2089,7 @@ fn h15_flags_of_48h(service: &dyn Service) {
     }
 }
 
-// rule: recordOf tableOf driveWords
+// rule: record_of table_of drive_words
 fn h16_flags_are_kept(service: &dyn Service) {
     for some in 0..16 {
         let list = flagged(8 * some..8 * some + 8);
@@ -2107,7 +2107,7 @@ fn h16_flags_are_kept(service: &dyn Service) {
     }
 }
 
-// rule: verifyOk
+// rule: verify_ok
 fn h17_verify_by_the_table(service: &dyn Service) {
     let words = [0x78, 0x70, 0x7C, 0x74, 0x08, 0x7F, 0x77, 0x00];
     let mut stand = Stand::open(service, &flagged(words.into_iter()), 8 * 1024, 8 * 512);
@@ -2232,7 +2232,7 @@ fn reader_block(course: u64, number: u64, store_blocks: u64, held: &[u8], record
     block
 }
 
-// rule: Arrives feedAll feeds joined exports::edd_reader_feed
+// rule: Arrives feed_all feeds joined exports::edd_reader_feed
 fn h18_cut_in_two(service: &dyn Service) {
     let table = paper_table();
     assert_eq!(opened(service, &table, 2048), ACCEPTED);
@@ -2254,7 +2254,7 @@ fn h18_cut_in_two(service: &dyn Service) {
     }
 }
 
-// rule: feedByte heldByte afterStep byCourse
+// rule: feed_byte held_byte after_step by_course
 fn h19_byte_by_byte(service: &dyn Service) {
     for (table, store_blocks) in [(paper_table(), 2048), (parameters_table(), 8), (drives::table(&[]), 0), (drives::table(&gapped()), 64)] {
         let mut reader = Arrival::open(service, store_blocks);
@@ -2295,7 +2295,7 @@ fn settles(service: &dyn Service, what: &str, table: &[u8], store_blocks: u64, s
     assert_eq!(slowly.end(), refusal, "{what}: at the end too");
 }
 
-// rule: afterStep refusedAt readerFeedCall Arrives
+// rule: after_step refused_at reader_feed_call Arrives
 fn h20_settling_bytes(service: &dyn Service) {
     let good = [with_parameters(small_drive(0, 4), 1), small_drive(4, 4)];
     let records = |count: usize| drives::table(&good[..count]).strip_suffix(&drives::END).unwrap().to_vec();
@@ -2354,7 +2354,7 @@ fn h20_settling_bytes(service: &dyn Service) {
     settles(service, "a byte behind eight drives with parameters", &[&parameters_table()[..], &[0, 0]].concat(), 9, 708, (8, 708));
 }
 
-// rule: endBy endFeed told soFar exports::edd_reader_end
+// rule: end_by end_feed told so_far exports::edd_reader_end
 fn h21_missing_only_at_the_end(service: &dyn Service) {
     let table = drives::table(&[with_parameters(small_drive(0, 4), 1), small_drive(4, 4)]);
     for length in 0..table.len() {
@@ -2378,7 +2378,7 @@ fn h21_missing_only_at_the_end(service: &dyn Service) {
     assert_eq!(reader.end(), (1, 704));
 }
 
-// rule: feedAll readerFeedCall
+// rule: feed_all reader_feed_call
 fn h22_empty_fragments(service: &dyn Service) {
     let table = drives::table(&gapped());
     let mut reader = Arrival::open(service, 64);
@@ -2394,7 +2394,7 @@ fn h22_empty_fragments(service: &dyn Service) {
     refused.unchanged("nothing was fed", |reader| assert_eq!(reader.feed(&[]), (3, 0)));
 }
 
-// rule: feedAll afterStep Arrives
+// rule: feed_all after_step Arrives
 fn h23_several_records_in_one(service: &dyn Service) {
     let table = parameters_table();
     // the records that a fragment ends, and the rest of them in another
@@ -2418,7 +2418,7 @@ fn h23_several_records_in_one(service: &dyn Service) {
     assert_eq!(reader.feed(&[0xFF; 100_000]), (3, 0));
 }
 
-// rule: byCourse answerBy fedNumbers Stays
+// rule: by_course answer_by fed_numbers Stays
 fn h24_after_a_refusal(service: &dyn Service) {
     let table = drives::table(&gapped());
     let one = drives::table(&[small_drive(0, 4)]);
@@ -2447,7 +2447,7 @@ fn h24_after_a_refusal(service: &dyn Service) {
     }
 }
 
-// rule: byCourse endBy Stays
+// rule: by_course end_by Stays
 fn h25_after_the_end(service: &dyn Service) {
     let table = drives::table(&gapped());
     let mut reader = Arrival::open(service, 64);
@@ -2467,7 +2467,7 @@ fn h25_after_the_end(service: &dyn Service) {
     assert_eq!(reader.end(), (1, 0), "opened anew, and nothing arrived");
 }
 
-// rule: readerWriteCall readerWriteEffect writeOut exports::edd_reader_write
+// rule: reader_write_call reader_write_effect write_out exports::edd_reader_write
 fn h26_written_out(service: &dyn Service) {
     let table = drives::table(&gapped());
     let mut out = Lent::holding(&[0x3C; LONGEST_TABLE], Place::END);
@@ -2503,7 +2503,7 @@ fn h26_written_out(service: &dyn Service) {
     assert!(untouched(&out));
 }
 
-// rule: readerOpenCall Feed.opened exports::edd_reader_open exports::edd_reader_size
+// rule: reader_open_call Feed.opened exports::edd_reader_open exports::edd_reader_size
 fn h27_size_and_store(service: &dyn Service) {
     assert_eq!(service.reader_size(), READER_SIZE as u64);
     assert_eq!(READER_SIZE, 2018);
@@ -2528,7 +2528,7 @@ fn h27_size_and_store(service: &dyn Service) {
     }
 }
 
-// rule: Reader.image headBytes tableBytes courseNumber refusalNumber Reader.laid
+// rule: Reader.image head_bytes table_bytes course_number refusal_number Reader.laid
 fn h28_reader_block(service: &dyn Service) {
     let list = [with_parameters(small_drive(0, 4), 0x30), small_drive(4, 4)];
     let table = drives::table(&list);
@@ -2574,7 +2574,7 @@ fn h28_reader_block(service: &dyn Service) {
     is(&reader, "full", reader_block(0, 0, 8, &eight[..67], &eight[..704]));
 }
 
-// rule: Reader.accepted readReader Reader.Exact
+// rule: Reader.accepted read_reader Reader.Exact
 /// Each byte of some good blocks changed by one: every call answers as the model does, and leaves the same block.
 fn h29_every_byte_of_the_block(service: &dyn Service) {
     let list = [with_parameters(small_drive(0, 4), 0x30), small_drive(4, 4)];
@@ -2617,7 +2617,7 @@ fn h29_every_byte_of_the_block(service: &dyn Service) {
     }
 }
 
-// rule: Reader.accept courseOk isCut Reader.restZero courseAt
+// rule: Reader.accept course_ok is_cut Reader.rest_zero course_at
 fn h30_rules_of_the_block(service: &dyn Service) {
     let list = [with_parameters(small_drive(0, 4), 0x30), small_drive(4, 4)];
     let table = drives::table(&list);
@@ -2795,7 +2795,7 @@ impl Stand<'_> {
     }
 }
 
-// rule: badsRefusal hasBads namesLast
+// rule: bads_refusal has_bads names_last
 fn h31_not_the_last_drive(service: &dyn Service) {
     let (d, p) = (small_record, parameters_record);
     let b = |number| drives::bad_record(number, &[0]);
@@ -2833,7 +2833,7 @@ fn h31_not_the_last_drive(service: &dyn Service) {
     assert_eq!(opened(service, &with(&[d(8), b(8)]), 9), (4, 656), "a ninth drive comes first");
 }
 
-// rule: headerOf lengthOk badLengthOk badsRefusal
+// rule: header_of length_ok bad_length_ok bads_refusal
 fn h32_order_of_the_checks(service: &dyn Service) {
     let drive = small_record(0);
     let at_68 = |record: &[u8]| opened(service, &[&drive[..], record].concat(), 9);
@@ -2861,7 +2861,7 @@ fn h32_order_of_the_checks(service: &dyn Service) {
     assert_eq!(at_68(&[&drives::bad_record(0, &[0])[..], &[4, 0, 0, 0, 0]].concat()), (8, 86));
 }
 
-// rule: badLengthOk badCount badLength lengthOk
+// rule: bad_length_ok bad_count bad_length length_ok
 fn h33_lengths(service: &dyn Service) {
     let drive = small_drive(0, 40).record();
     for length in 0..=300u16 {
@@ -2887,7 +2887,7 @@ fn h33_lengths(service: &dyn Service) {
     }
 }
 
-// rule: listOk ascends areBlocks badAt badsRefusal
+// rule: list_ok ascends are_blocks bad_at bads_refusal
 fn h34_lists(service: &dyn Service) {
     let of = |blocks: u64, list: &[u64]| {
         let drive = Drive { blocks, ..small_drive(0, 1) };
@@ -2941,7 +2941,7 @@ fn h34_lists(service: &dyn Service) {
     assert_eq!(of(vast, &[0x00FF, 0x0100]), ACCEPTED, "little-endian");
 }
 
-// rule: openCall exports::edd_open
+// rule: open_call exports::edd_open
 fn h34_refused_changes_nothing(service: &dyn Service) {
     let mut stand = Stand::open(service, &[worn(small_drive(0, 40), &[3])], 8 * 21_000, 40 * 512);
     assert_eq!(stand.post_packet(2, 0x42, 20, 0).0, NOTHING_YET);
@@ -2977,7 +2977,7 @@ fn longest_table() -> Vec<u8> {
     drives::table(&(0..8).map(of).collect::<Vec<_>>())
 }
 
-// rule: slotRecords badRecord tableOf writeOut withBads badsWords
+// rule: slot_records bad_record table_of write_out with_bads bads_words
 fn h35_written_back(service: &dyn Service) {
     for counts in [[0, 1, 2, 3, 4, 5, 6, 7], [8, 9, 10, 11, 12, 13, 14, 15], [16, 0, 16, 0, 1, 16, 0, 16], [16; 8], [1; 8], [0; 8]] {
         let list = worn_drives(counts);
@@ -3010,7 +3010,7 @@ fn h35_written_back(service: &dyn Service) {
     assert_eq!((DESK_SIZE, 8 * BAD_COUNTS, 8 * (BAD_LISTS + 128)), (3920, 2832, DESK_SIZE));
 }
 
-// rule: movesNow serve stageAfter ended badCode reported good isBad
+// rule: moves_now serve stage_after ended bad_code reported good is_bad
 fn h36_first_block_bad(service: &dyn Service) {
     for ah in MOVING {
         for count in [1, 2, 16, 17, 40] {
@@ -3039,7 +3039,7 @@ fn h36_first_block_bad(service: &dyn Service) {
     assert_eq!(stand.collect(7), (22, STALE));
 }
 
-// rule: good isBad before goodOf movesNow quota serve stageAfter goesOn movedBy beside reported endedWindow endedMemory ended badCode
+// rule: good is_bad before good_of moves_now quota serve stage_after goes_on moved_by beside reported ended_window ended_memory ended bad_code
 fn h37_where_the_bad_block_lies(service: &dyn Service) {
     for ah in MOVING {
         for (count, index) in [1, 7, 14, 15, 16, 17, 30, 31, 32, 33, 38, 39].map(|index| (40, index)).into_iter().chain([
@@ -3090,7 +3090,7 @@ fn h37_where_the_bad_block_lies(service: &dyn Service) {
     assert_eq!(stand.collect(1), (DONE, ended(given, 40, 16)));
 }
 
-// rule: reported beside endedWindow AfterData CountBytes
+// rule: reported beside ended_window AfterData CountBytes
 fn h38_count_word_on_top_of_the_data(service: &dyn Service) {
     // the buffer is the window's first forty blocks, and the packet lies in it: in the first block, across two blocks, in the last one that
     // is moved, in the bad one, behind it; with no bad block among the forty the data stay
@@ -3121,7 +3121,7 @@ fn h38_count_word_on_top_of_the_data(service: &dyn Service) {
     }
 }
 
-// rule: turnOf serve badsFor movedBy
+// rule: turn_of serve bads_for moved_by
 fn h39_two_guests(service: &dyn Service) {
     // guest 2 meets block 20 in its second part, guest 5 does not; guest 6 ends just before block 90, guest 0 begins with block 20
     for (ah, code) in [(0x42, 0x10), (0x43, 0xCC)] {
@@ -3168,7 +3168,7 @@ fn h39_two_guests(service: &dyn Service) {
     }
 }
 
-// rule: ended badCode goodOf sectorJob
+// rule: ended bad_code good_of sector_job
 fn h40_by_al(service: &dyn Service) {
     for ah in [0x02, 0x03] {
         for (bad, good) in
@@ -3189,7 +3189,7 @@ fn h40_by_al(service: &dyn Service) {
     }
 }
 
-// rule: verified packetTests goodOf packetPlan
+// rule: verified packet_tests good_of packet_plan
 fn h41_verify(service: &dyn Service) {
     let drive = worn(small_drive(3, 100), &[10, 20, 21, 99]);
     let mut stand = Stand::open(service, &[drive], 8 * 4000, 110 * 512);
@@ -3239,7 +3239,7 @@ fn h41_verify(service: &dyn Service) {
     verifies(&mut stand, 127, 73, Some(53), 0x10);
 }
 
-// rule: packetTests sectors verified steps seek
+// rule: packet_tests sectors verified steps seek
 fn h42_what_comes_first_and_what_heeds_no_list(service: &dyn Service) {
     let all_bad: Vec<u64> = (0..16).collect();
     let drive = worn(Drive { flags: 0x0A, ..small_drive(0, 16) }, &all_bad);
@@ -3299,7 +3299,7 @@ fn h42_what_comes_first_and_what_heeds_no_list(service: &dyn Service) {
     }
 }
 
-// rule: withdrawOf withdrawnWindow
+// rule: withdraw_of withdrawn_window
 fn h43_withdrawn_before_the_bad_block(service: &dyn Service) {
     for ah in MOVING {
         for (turns, moved) in [(0, 0), (1, 16)] {
@@ -3323,7 +3323,7 @@ fn h43_withdrawn_before_the_bad_block(service: &dyn Service) {
     }
 }
 
-// rule: openCall exports::edd_open movesNow
+// rule: open_call exports::edd_open moves_now
 fn h44_opened_with_another_list(service: &dyn Service) {
     let lengths = (8 * 21_000, 60 * 512);
     let mut stand = Stand::open(service, &[worn(small_drive(0, 60), &[20])], lengths.0 as usize, lengths.1 as usize);
@@ -3339,7 +3339,7 @@ fn h44_opened_with_another_list(service: &dyn Service) {
     stand.runs("opened while one waited", 3, 0x42, 8, 40, 22);
 }
 
-// rule: badsOf badsAt badsFor goodOf wornBlock
+// rule: bads_of bads_at bads_for good_of worn_block
 fn h45_blocks_of_the_drive(service: &dyn Service) {
     // the second drive begins at block 50 of the store: its block 4 is the store's 54; the third, at 10, has none; the fourth all of its own
     let list = [
@@ -3377,7 +3377,7 @@ fn h45_blocks_of_the_drive(service: &dyn Service) {
     }
 }
 
-// rule: good isBad badAt
+// rule: good is_bad bad_at
 fn h45_numbers_above_32_bits(service: &dyn Service) {
     // a store of 5 TiB of which only what is touched takes memory; the drive begins at its block 7
     let (first, blocks) = (7, 10 << 30);
@@ -3404,7 +3404,7 @@ fn h45_numbers_above_32_bits(service: &dyn Service) {
     }
 }
 
-// rule: badsOk zeroPast ascends areBlocks listedTo listedAt badsGood isSound
+// rule: bads_ok zero_past ascends are_blocks listed_to listed_at bads_good is_sound
 fn h46_lists_in_the_block(service: &dyn Service) {
     let sixteen: Vec<u64> = (0..16).map(|i| 3 * i + 2).collect();
     // of one sector each, so that fewer blocks break no other rule
@@ -3477,7 +3477,7 @@ fn h46_lists_in_the_block(service: &dyn Service) {
     assert!(stand.accepted(), "three drives, and their lists");
 }
 
-// rule: badsOk badsGood listedTo exports::edd_write
+// rule: bads_ok bads_good listed_to exports::edd_write
 /// Each byte of the lists changed, in some blocks: every call answers as the model does, and leaves the same block and memory.
 fn h46_every_byte_of_the_lists(service: &dyn Service) {
     let blocks = [[3, 0, 16, 1, 0, 2, 0, 0], [16; 8], [0; 8]].map(worn_drives);
@@ -3509,7 +3509,7 @@ fn h46_every_byte_of_the_lists(service: &dyn Service) {
     }
 }
 
-// rule: jobOk movedOk Acceptable.accept movesNow
+// rule: job_ok moved_ok Acceptable.accept moves_now
 fn h47_rows_and_lists(service: &dyn Service) {
     // no rule of a waiting row speaks of bad blocks: one behind the moved number, or before it, is accepted
     let mut stand = Stand::open(service, &[worn(small_drive(0, 60), &[3, 20])], 8 * 21_000, 60 * 512);
@@ -3537,7 +3537,7 @@ fn h47_rows_and_lists(service: &dyn Service) {
     assert_eq!(stand.collect(4), (DONE, ended(by_packet(0x42, 0), 40, 17)));
 }
 
-// rule: feedByte feedAll Arrives afterStep
+// rule: feed_byte feed_all Arrives after_step
 fn h48_lists_in_fragments(service: &dyn Service) {
     let list = [worn(small_drive(0, 40), &[1]), with_parameters(worn(small_drive(40, 40), &[0, 5, 39]), 7), small_drive(80, 40)];
     let table = drives::table(&list);
@@ -3569,7 +3569,7 @@ fn h48_lists_in_fragments(service: &dyn Service) {
     }
 }
 
-// rule: afterStep refusedAt badsRefusal Arrives
+// rule: after_step refused_at bads_refusal Arrives
 fn h49_what_settles_a_list(service: &dyn Service) {
     let drive = small_drive(0, 40);
     let with_list = worn(drive, &[1, 30]);
@@ -3602,7 +3602,7 @@ fn h49_what_settles_a_list(service: &dyn Service) {
     }
 }
 
-// rule: Reader.image headBytes tableBytes isCut Reader.accept Reader.accepted Reader.restZero
+// rule: Reader.image head_bytes table_bytes is_cut Reader.accept Reader.accepted Reader.rest_zero
 fn h50_readers_of_lists(service: &dyn Service) {
     let list = [worn(small_drive(0, 40), &[1, 30]), with_parameters(small_drive(40, 40), 7)];
     let table = drives::table(&list);
@@ -3692,7 +3692,7 @@ fn h50_readers_of_lists(service: &dyn Service) {
     }
 }
 
-// rule: exports::edd_turn exports::edd_post movesNow
+// rule: exports::edd_turn exports::edd_post moves_now
 /// A turn at a bad block touches neither that block nor those behind it, and 44h no block at all.
 fn h51_no_other_memory_is_touched(service: &dyn Service) {
     const WINDOW: usize = 16 * 4096;
@@ -3724,7 +3724,7 @@ fn h51_no_other_memory_is_touched(service: &dyn Service) {
 
 // ---- h: division (change request 2026-05)
 
-// rule: addressOf exports::edd_address
+// rule: address_of exports::edd_address
 /// Every block of the largest geometry has its address, and a number of 64 bits is compared whole: one that is a multiple of 2^32, of
 /// S x 2^32, S x H x 2^32 or C x H x S x 2^32 above a good block, which a narrowed block or quotient would be taken for, is refused.
 fn h52_blocks_of_64_bits(service: &dyn Service) {
@@ -3811,7 +3811,7 @@ impl Stand<'_> {
     }
 }
 
-// rule: returnedSize resultAnswer
+// rule: returned_size result_answer
 fn h53_result_sizes(service: &dyn Service) {
     let drives = [
         ("kind 1", small_drive(0, 4), 66),
@@ -3838,7 +3838,7 @@ fn h53_result_sizes(service: &dyn Service) {
     }
 }
 
-// rule: wholeResult checksum
+// rule: whole_result checksum
 fn h54_whole_results(service: &dyn Service) {
     // document 01's drive: byte 73 makes the sum zero, with 20h in both names
     let expected = [
@@ -3892,7 +3892,7 @@ fn h54_whole_results(service: &dyn Service) {
     assert_eq!(stand.window(3)[0x242..0x260], [0x77; 30], "bytes from 66 on stay");
 }
 
-// rule: wholeResult checksum
+// rule: whole_result checksum
 /// The names of document 000, with its padding, in the longer result; with the record's in the shorter one.
 fn h55_padding(service: &dyn Service) {
     let buses = [(*b"PCI\0", [0x50, 0x43, 0x49, 0x20]), (*b"ISA\0", [0x49, 0x53, 0x41, 0x20])];
@@ -3946,7 +3946,7 @@ fn h55_padding(service: &dyn Service) {
     }
 }
 
-// rule: resultAnswer returnedSize
+// rule: result_answer returned_size
 fn h56_room(service: &dyn Service) {
     let drives = [small_drive(0, 4), wide(small_drive(4, 4), [0x5A; 8]), i2o(small_drive(8, 4), [0x5A; 8])];
     let mut stand = Stand::open(service, &drives, 8 * 1024, 12 * 512);
@@ -3961,7 +3961,7 @@ fn h56_room(service: &dyn Service) {
     }
 }
 
-// rule: wholeResult pointerOf shownIn
+// rule: whole_result pointer_of shown_in
 /// The pointer to the parameter table is there in the longer result, and where an I2O drive is asked with 66.
 fn h57_placed_tables(service: &dyn Service) {
     let list = [
@@ -3992,7 +3992,7 @@ fn h57_placed_tables(service: &dyn Service) {
     }
 }
 
-// rule: flagsShown FlagBits
+// rule: flags_shown FlagBits
 fn h58_flags_of_every_size(service: &dyn Service) {
     let words = [(0x7A, 0x0A), (0x7E, 0x7E), (0x70, 0x00), (0x74, 0x74), (0x2B, 0x0B)];
     for (flags, shown) in words {
@@ -4007,7 +4007,7 @@ fn h58_flags_of_every_size(service: &dyn Service) {
     }
 }
 
-// rule: recordOf tableOf driveWords writeOut
+// rule: record_of table_of drive_words write_out
 fn h59_the_kind_is_kept(service: &dyn Service) {
     let tails = [None, Some([0; 8]), Some([1, 2, 3, 4, 5, 6, 7, 8]), Some([0, 0, 0, 0, 0, 0, 0, 0x80]), Some([0xFF; 8])];
     // each pair of neighbours, and all after one another
@@ -4044,7 +4044,7 @@ fn h59_the_kind_is_kept(service: &dyn Service) {
     );
 }
 
-// rule: readTable tableOf writeOut feedAll
+// rule: read_table table_of write_out feed_all
 /// Eight drives of kind 2 with sixteen bad blocks and parameters each: the longest table, read whole, in fragments, and written.
 fn h60_the_longest_table(service: &dyn Service) {
     let table = longest_table();
@@ -4077,7 +4077,7 @@ fn h60_the_longest_table(service: &dyn Service) {
     }
 }
 
-// rule: readTable headerOf lengthOk isKind refusal
+// rule: read_table header_of length_ok is_kind refusal
 fn h61_records_of_both_kinds(service: &dyn Service) {
     let (d, w, p) = (small_record, wide_record, parameters_record);
     let b = |number| drives::bad_record(number, &[0]);
@@ -4144,7 +4144,7 @@ fn h61_records_of_both_kinds(service: &dyn Service) {
     }
 }
 
-// rule: fieldsOk refusal
+// rule: fields_ok refusal
 fn h62_fields_of_kind_2(service: &dyn Service) {
     for tail in [[0; 8], [0xFE; 8], *b"I2O\0\0\0\0\0"] {
         for (what, drive, number) in field_cases(paper_drive()) {
@@ -4176,7 +4176,7 @@ fn h62_fields_of_kind_2(service: &dyn Service) {
     }
 }
 
-// rule: afterStep refusedAt readerFeedCall Arrives
+// rule: after_step refused_at reader_feed_call Arrives
 fn h63_what_settles_kind_2(service: &dyn Service) {
     let good = [wide(small_drive(0, 4), [1; 8]), with_parameters(i2o(small_drive(4, 4), [2; 8]), 1), small_drive(8, 4)];
     for before in 0..=3 {
@@ -4220,7 +4220,7 @@ fn h63_what_settles_kind_2(service: &dyn Service) {
     }
 }
 
-// rule: Reader.image Reader.accept Reader.accepted isCut
+// rule: Reader.image Reader.accept Reader.accepted is_cut
 fn h64_readers_of_kind_2(service: &dyn Service) {
     let list = [wide(small_drive(0, 4), [1; 8]), with_parameters(i2o(small_drive(4, 4), [2; 8]), 1)];
     let table = drives::table(&list);
@@ -4286,7 +4286,7 @@ fn h64_readers_of_kind_2(service: &dyn Service) {
     }
 }
 
-// rule: isSound isImage driveWords
+// rule: is_sound is_image drive_words
 fn h65_kinds_in_the_block(service: &dyn Service) {
     let list = [
         small_drive(0, 4),
@@ -4359,7 +4359,7 @@ fn h65_kinds_in_the_block(service: &dyn Service) {
     assert_eq!(service.version(), 6);
 }
 
-// rule: postOf turnOf placeOf
+// rule: post_of turn_of place_of
 /// But for 48h and the table written, a drive of kind 2 and of type I2O is served as one of kind 1.
 fn h66_served_as_kind_1(service: &dyn Service) {
     let base = [with_parameters(worn(small_drive(0, 40), &[30]), 0x10), protected(small_drive(40, 20))];
@@ -4568,7 +4568,7 @@ fn h68_lengths_of_a_conversion(service: &dyn Service) {
     }
 }
 
-// rule: exports::edd_convert_up exports::edd_convert_down fieldsOk
+// rule: exports::edd_convert_up exports::edd_convert_down fields_ok
 /// Up, then down, gives the original bytes; a record that check 5 refuses is 10, one that only checks 6 and 7 would refuse converts.
 fn h69_up_and_down(service: &dyn Service) {
     let mut converter = Converter::new(service);
@@ -4646,7 +4646,7 @@ fn h70_what_has_no_kind_1(service: &dyn Service) {
     assert_eq!(opened(service, &drives::table(&[Drive { blocks: 1_663_065, ..all }]), 1 << 24), ACCEPTED);
 }
 
-// rule: wholeResult returnedSize exports::edd_convert_up
+// rule: whole_result returned_size exports::edd_convert_up
 /// "A kind 1 drive answers 74 as its conversion", and every other size too.
 fn h71_answers_as_its_conversion(service: &dyn Service) {
     let mut converter = Converter::new(service);
