@@ -1,10 +1,7 @@
 use borrow.Author.Rules.{rules}
 use native.Mathlib.Omega.{arith}
-use Prim.Native.Nat.{◌+◌, ◌≤◌}
 use mathlib.Core.Path.{◌≡◌, ap}
 use lib.Seq.{length-sets}
-use Rattle.table.specs.declared.Table.{Table}
-use Rattle.table.specs.Table.{table_of}
 use Rattle.reader.specs.Reader.{head_bytes}
 use lib.ListN.{length}
 use Rattle.reader.proofs.ReaderLaws.{table_fits, image-laid}
