@@ -5,18 +5,18 @@ use native.Mathlib.Nat.{add-zero}
 use native.Mathlib.Omega.{arith}
 use native.Mathlib.Decide.{ℕ_discrete}
 use mathlib.Core.Path.{◌≡◌, refl, sym, ap, ◌∙◌}
-use mathlib.Core.Logic.{◌⊎◌, inl, inr, ⊎_elim, ◌≢◌}
+use mathlib.Core.Logic.{◌⊎◌, inl, inr, ⊎_elim}
 use mathlib.Core.Bool.{Bool, true, false, not}
-use mathlib.Core.List.{List, [], ◌∷◌, ◌++◌, append_assoc, append-nil}
+use mathlib.Core.List.{List, [], ◌++◌, append_assoc, append-nil}
 use lib.ListN.{length, get_or, drop, length-append}
 use lib.Seq.{sets, length-sets, get_or-set_same, get_or-take, get_or-drop}
-use lib.Dec.{leb, ltb, eqb}
-use borrow.Author.Tests.{leb-true, ltb-true, eqb-true, not-false}
-use Rattle.logic.specs.Logic.{pick, both, either}
-use Rattle.logic.proofs.LogicLaws.{impossible, both_true, either_true, pick-cases}
+use lib.Dec.{ltb}
+use borrow.Author.Tests.{ltb-true, eqb-true, not-false}
+use Rattle.logic.specs.Logic.{pick}
+use Rattle.logic.proofs.LogicLaws.{impossible, both_true, pick-cases}
 use Rattle.words.specs.Words.{part}
 use Rattle.words.proofs.WordsLaws.{sets-append}
-use Rattle.memory.specs.Window.{window_length, span_length, window_of, with_window}
+use Rattle.memory.specs.Window.{span_length, window_of, with_window}
 use Rattle.memory.proofs.Sets.{part-sets-before, part-sets-after, part-sets-same}
 use Rattle.memory.proofs.WindowLaws.{length-window, span_in, window_with_same}
 use Rattle.table.specs.declared.Table.{Table}
@@ -25,7 +25,7 @@ use Rattle.layout.specs.ParameterTable.{parameter_table}
 use Rattle.int13.specs.declared.Placement.{Placement}
 use Rattle.int13.specs.declared.Shown.{Shown}
 use Rattle.int13.specs.Placement.{tables_to, tables_of, table_count, table_address, placed_at, shown_in, pointer_of, not_shown}
-use Rattle.int13.specs.Steps.{first_drive, drive_count, is_drive, shown_of}
+use Rattle.int13.specs.Steps.{is_drive, shown_of}
 use Rattle.int13.proofs.StepsLaws.{count_most, is_drive_true}
 use Rattle.int13.proofs.PlacementLaws.{length_at, length-tables_to, length-tables}
 use Rattle.layout.proofs.ParameterTableLaws.{parameter_tables}
@@ -33,11 +33,11 @@ use Rattle.desk.specs.declared.Desk.{Desk}
 use Rattle.desk.specs.declared.Stage.{Stage}
 use Rattle.desk.specs.declared.Stage.TheVariants.{Vacant, Waiting, Finished}
 use Rattle.desk.specs.declared.PlaceAnswer.{PlaceAnswer}
-use Rattle.desk.specs.declared.PlaceAnswer.TheVariants.{Placed, Refused as PlaceRefused}
+use Rattle.desk.specs.declared.PlaceAnswer.TheVariants.{Placed}
 use Rattle.desk.specs.Parts.{window_size, stage_at, placement_at, with_placement}
 use Rattle.desk.specs.Acceptable.{place_ok, accept}
-use Rattle.desk.specs.Calls.{Done, done, house_tests, is_lent, tables_in, place_tables, place_stage, place_of}
-use Rattle.desk.specs.Placed.{behind, Lists, Demand2}
+use Rattle.desk.specs.Calls.{Done, is_lent, tables_in, place_tables, place_stage, place_of}
+use Rattle.desk.specs.Placed.{behind, Demand2}
 use Rattle.desk.proofs.Places.{GoodPlace, place_facts}
 
 -- ---- one table among all

@@ -1,6 +1,6 @@
 -- Document 01, "Calls the host makes": which desks are accepted; any other is 25.
 -- Assumes nothing.
-use Rattle.std.specs.Prelude.{◌≡◌, ℕ, zero, suc, ◌+◌, ◌*◌, ◌/◌, ◌%◌, ◌^◌, ◌≤◌, ◌<◌, Bool, true, false, not, List, leb, ltb, eqb}
+use Rattle.std.specs.Prelude.{ℕ, zero, suc, ◌+◌, ◌*◌, ◌/◌, ◌%◌, ◌^◌, ◌≤◌, ◌<◌, Bool, true, not, List, leb, ltb, eqb}
 use Rattle.logic.specs.Logic.{pick, both, either, all_below}
 use Rattle.chs.specs.Chs.{size}
 use Rattle.drive.specs.declared.Drive.{Drive}

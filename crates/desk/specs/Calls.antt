@@ -1,7 +1,7 @@
 -- Document 01, "Calls the host makes" and "Numbers given back", and document 02, 2026-01 and 2026-04: what each call answers, and the desk, arena
 -- and store it leaves.
 -- Assumes nothing.
-use Rattle.std.specs.Prelude.{ℕ, zero, suc, ◌+◌, ◌-◌, ◌/◌, min, ◌≡◌, Bool, true, false, not, List, [], ◌∷◌, length, replicate, leb, ltb, eqb}
+use Rattle.std.specs.Prelude.{ℕ, zero, suc, ◌+◌, ◌-◌, ◌/◌, min, ◌≡◌, Bool, true, false, not, List, length, replicate, leb, ltb, eqb}
 use Rattle.std.proofs.lemmas.List.Edits.{sets}
 use Rattle.logic.specs.Logic.{pick, both}
 use Rattle.memory.specs.Window.{guests, window_of, with_window}
@@ -11,17 +11,15 @@ use Rattle.attached.specs.Bad.{good}
 use Rattle.table.specs.declared.Table.{Table}
 use Rattle.table.specs.declared.Answer.{Answer}
 use Rattle.table.specs.declared.Answer.TheVariants.{Accepted, Refused as TableRefused}
-use Rattle.table.specs.declared.Reading.{Reading}
 use Rattle.table.specs.declared.Written.{Written}
-use Rattle.table.specs.declared.Written.TheVariants.{Bytes, Refused as WriteRefused}
+use Rattle.table.specs.declared.Written.TheVariants.{Refused as WriteRefused}
 use Rattle.table.specs.Table.{empty_table, read_table, write_answer, write_out}
 use Rattle.int13.specs.declared.Registers.{Registers}
-use Rattle.int13.specs.declared.Job.{Job}
 use Rattle.int13.specs.declared.Outcome.{Outcome}
 use Rattle.int13.specs.declared.Outcome.TheVariants.{Answered, Waits}
 use Rattle.int13.specs.Answers.{ended, withdraw}
 use Rattle.int13.specs.Placement.{tables_of, table_count}
-use Rattle.int13.specs.Steps.{Checked, fed, bads_of, begin}
+use Rattle.int13.specs.Steps.{fed, bads_of, begin}
 use Rattle.int13.specs.Alone.{Memory, store_block, moves, reported, ended_window}
 use Rattle.desk.specs.declared.Request.{Request}
 use Rattle.desk.specs.declared.Stage.{Stage}

@@ -11,7 +11,6 @@ use Rattle.int13.specs.declared.Registers.{Registers}
 use Rattle.int13.specs.Answers.{ah, al, is_sectors, nothing_yet, register_numbers}
 use Rattle.int13.specs.Steps.{bads_of}
 use Rattle.int13.specs.Numbers.{begin_given}
-use Rattle.desk.specs.declared.Request.{Request}
 use Rattle.desk.specs.declared.Stage.{Stage}
 use Rattle.desk.specs.declared.Stage.TheVariants.{Vacant, Waiting, Finished}
 use Rattle.desk.specs.declared.Desk.{Desk}

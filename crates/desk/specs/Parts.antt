@@ -3,9 +3,7 @@
 use Rattle.std.specs.Prelude.{ℕ, ◌+◌, ◌/◌, ◌%◌, Bool, true, false, List, length, get_or, set}
 use Rattle.memory.specs.Window.{guests, window_length, window_of, with_window}
 use Rattle.memory.specs.Blocks.{block_length}
-use Rattle.table.specs.declared.Table.{Table}
 use Rattle.int13.specs.declared.Placement.{Placement}
-use Rattle.desk.specs.declared.Request.{Request}
 use Rattle.desk.specs.declared.Stage.{Stage}
 use Rattle.desk.specs.declared.Stage.TheVariants.{Vacant, Waiting, Finished}
 use Rattle.desk.specs.declared.Row.{Row}

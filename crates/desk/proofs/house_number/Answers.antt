@@ -1,4 +1,3 @@
-use borrow.Author.Tests.{not-true, not-false}
 use Rattle.desk.specs.Calls.{house_number}
 use Rattle.desk.proofs.house_number.Goals as goal
 

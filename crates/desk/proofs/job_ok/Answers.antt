@@ -1,5 +1,4 @@
 use mathlib.Core.Path.{◌∙◌, sym}
-use borrow.Author.Tests.{not-true, not-false}
 use native.Mathlib.Omega.{arith}
 use Rattle.desk.proofs.AcceptableLaws.{count_most, job_count, job_tests}
 use Rattle.desk.proofs.job_ok.Goals as goal

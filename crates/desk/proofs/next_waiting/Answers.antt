@@ -1,6 +1,4 @@
-use borrow.Author.Rules.{rules}
 use native.Mathlib.Omega.{arith}
-use Prim.Native.Nat.{◌-◌}
 use mathlib.Core.Path.{refl, sym, ◌∙◌}
 use Rattle.desk.proofs.Searches.{seek_here, seek_on, seek-none}
 use Rattle.desk.proofs.next_waiting.Goals as goal

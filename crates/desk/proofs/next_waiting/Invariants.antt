@@ -1,4 +1,4 @@
-use Prim.Native.Nat.{◌<◌, ◌-◌}
+use Prim.Native.Nat.{◌<◌}
 use mathlib.Core.Path.{◌≡◌}
 use Rattle.desk.specs.Calls.{first_waiting}
 use Rattle.desk.proofs.next_waiting.Given as goal

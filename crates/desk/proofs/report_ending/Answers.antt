@@ -1,11 +1,9 @@
-use mathlib.Core.Path.{◌≡◌, sym, ◌∙◌}
-use mathlib.Core.Bool.{false}
+use mathlib.Core.Path.{sym, ◌∙◌}
 use Prim.Native.Nat.{◌+◌}
 use lib.ListN.{length}
 use borrow.Author.Tests.{lt-ltb, le-ltb}
 use Rattle.memory.specs.Window.{window_length}
 use Rattle.memory.proofs.WindowLaws.{with_window-same}
-use Rattle.desk.specs.Calls.{goes_on}
 use Rattle.desk.proofs.report_ending.Goals as goal
 
 pub returns-then-goes_on : goal.returns-then-goes_on

@@ -1,6 +1,5 @@
 use borrow.Author.Rules.{rules}
 use native.Mathlib.Omega.{arith}
-use Prim.Native.Nat.{◌-◌}
 use mathlib.Core.Path.{◌≡◌, refl}
 use Rattle.desk.specs.Acceptable.{rows_ok}
 use Rattle.desk.proofs.AcceptableLaws.{rows_ok-more}

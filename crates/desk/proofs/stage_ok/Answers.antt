@@ -1,5 +1,4 @@
 use mathlib.Core.Path.{refl, sym, ◌∙◌}
-use borrow.Author.Tests.{not-true, not-false}
 use Rattle.desk.specs.Acceptable.{stage_ok}
 use Rattle.desk.proofs.AcceptableLaws.{not_waiting-tag, not-waiting}
 use Rattle.desk.proofs.stage_ok.Goals as goal
