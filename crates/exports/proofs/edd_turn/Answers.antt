@@ -1,175 +1,177 @@
-use mathlib.Core.Path.{◌≡◌, refl, sym, ap, subst, ◌∙◌}
+use mathlib.Core.Path.{◌≡◌, refl, sym, ap, ◌∙◌}
 use mathlib.Core.Bool.{true}
-use mathlib.Core.List.{List, ◌∷◌}
-use types.Run.{OneOf}
-use denote.Enum.Declared.{tag_of}
+use mathlib.Core.List.{List, [], ◌∷◌}
 use Prim.Native.Nat.{ℕ, ◌<◌}
 use native.Mathlib.Omega.{arith}
+use Rattle.logic.specs.Logic.{pick}
+use Rattle.drive.specs.declared.Drive.{Drive}
 use Rattle.attached.specs.declared.Bads.{Bads}
-use Rattle.int13.specs.Steps.{drive_at}
-use Rattle.desk.specs.contracts.Stage as stage
+use Rattle.int13.specs.Steps.{first_drive, is_drive, drive_at, bads_of}
 use lib.ListN.{length}
 use Rattle.desk.specs.declared.Request.{Request}
+use Rattle.desk.specs.declared.Service.{Service}
 use Rattle.desk.specs.declared.Stage.{Stage}
 use Rattle.desk.specs.declared.Stage.TheVariants.{Waiting}
 use Rattle.desk.specs.declared.Desk.{Desk}
+use Rattle.desk.specs.declared.Next.{Next}
 use Rattle.desk.specs.declared.Next.TheVariants.{Guest}
 use Rattle.desk.specs.declared.TurnAnswer.TheVariants.{Refused as TurnRefused}
-use Rattle.desk.specs.Parts.{window_size, stage_at}
+use Rattle.desk.specs.Parts.{stage_at}
 use Rattle.desk.specs.Acceptable.{accept}
-use Rattle.desk.specs.Calls.{is_lent, done, first_waiting, service_of, bads_for, Transferred, turn_next, turn_of}
+use Rattle.desk.specs.Calls.{house_number, is_lent, done, first_waiting, service_of, bads_for, Transferred, turn_next, turn_of}
 use Rattle.desk.specs.Numbers.{turn_numbers}
-use Rattle.desk.proofs.AcceptableLaws.{accept_true, Waits}
+use Rattle.desk.proofs.AcceptableLaws.{not_waiting-tag, accept_true}
 use Rattle.desk.proofs.CallsLaws.{house-refused, Passed, house_passed, turn_nobody, turn-other, turn-served, seek-below, waiting_facts, servable, in-range, ending_facts}
-use Rattle.image.specs.Image.{desk_size, desk_of}
+use Rattle.image.specs.Image.{desk_size, read_desk, desk_of}
 use Rattle.exports.specs.Exports.{over, turn_call}
 use Rattle.exports.proofs.Exports.{block, pointer_read, next-read, stage_read, drive-read, bads_read, put_turn}
 use Rattle.exports.proofs.edd_turn.Goals as goal
-use Rattle.exports.proofs.edd_turn.Goals.{After-drive_named-d, After-number_at-number, After-service_of-service, Else-number-ne0, In-Guest, In-Waiting, Then-number-ne0}
 
-abbrev bytes : After-number_at-number → List ℕ
-bytes c = c.args.desk.now
+-- where the number is 0 the tests passed
+passed : {n : ℕ} (b arena store : List ℕ) → n ≡ house_number (accept (desk_of b)) (is_lent (desk_of b) arena store) true → n ≡ 0
+    → Passed (accept (desk_of b)) (is_lent (desk_of b) arena store) true
+passed b arena store e z = house_passed _ _ _ e z
 
-abbrev desk : After-number_at-number → Desk
-desk c = desk_of (bytes c)
-
-abbrev arena : After-number_at-number → List ℕ
-arena c = c.args.arena.now
-
-abbrev store : After-number_at-number → List ℕ
-store c = c.args.store.now
-
-passed : (c : Else-number-ne0) → Passed (accept (desk c.before)) (is_lent (desk c.before) (arena c.before) (store c.before)) true
-passed c = house_passed _ _ _ c.number_at-number.ensures c.if-number-ne0.false
-
-refused : (c : Then-number-ne0) → done (desk c.before) (TurnRefused c.number_at-number.result) (arena c.before) (store c.before) ≡ turn_of (desk c.before) (arena c.before) (store c.before)
+refused : {n : ℕ} (b arena store : List ℕ) → n ≡ house_number (accept (desk_of b)) (is_lent (desk_of b) arena store) true → (n ≡ 0 → ⊥)
+    → done (desk_of b) (TurnRefused n) arena store ≡ turn_of (desk_of b) arena store
 unfolding turn_of
-refused c =
-    let h = c.before in
-    house-refused _ _ _ (λ n. done (desk h) (TurnRefused n) (arena h) (store h)) (turn_next (desk h) (first_waiting (desk h).rows 8 (desk h).pointer) (arena h) (store h)) h.number_at-number.ensures c.if-number-ne0.true
+refused b arena store e z =
+    let d = desk_of b in
+    house-refused _ _ _ (λ n. done d (TurnRefused n) arena store) (turn_next d (first_waiting d.rows 8 d.pointer) arena store) e z
 
-sized : (c : Else-number-ne0) → length (bytes c.before) ≡ desk_size
-sized c = (block (bytes c.before) (passed c).acceptable).size
+module _ (b arena store : List ℕ) (p : Passed (accept (desk_of b)) (is_lent (desk_of b) arena store) true) where
+  sized : length b ≡ desk_size
+  sized = (block b p.acceptable).size
 
--- the guest that the sought found, once the tests had passed
-abbrev tested : In-Guest → Else-number-ne0
-tested c = c.before.before.before.before.before
+  -- what the search found
+  found : {n : Next} {x : Next} → n ≡ first_waiting (read_desk b).rows 8 (read_desk b).pointer → n ≡ x → first_waiting (desk_of b).rows 8 (desk_of b).pointer ≡ x
+  found en e = sym (next-read b p.acceptable en) ∙ e
 
-abbrev guest : In-Guest → ℕ
-guest c = c.before.found.given.0.0
+  below : {n : Next} (g : ℕ) → n ≡ first_waiting (read_desk b).rows 8 (read_desk b).pointer → n ≡ Guest g → g < 8
+  below g en e = let d = desk_of b in seek-below d.rows 8 d.pointer g (accept_true d p.acceptable).pointer (found en e)
 
-found : (c : In-Guest) → let d = desk (tested c).before in first_waiting d.rows 8 d.pointer ≡ Guest (guest c)
-found c = sym (next-read (bytes (tested c).before) (passed (tested c)).acceptable c.next_of-found.ensures) ∙ c.before.found.given.1
+  -- the found guest's request
+  holds : {s : Stage} (g : ℕ) (q : Request) → s ≡ stage_at (read_desk b) g → s ≡ Waiting q → stage_at (desk_of b) g ≡ Waiting q
+  holds g q es e = sym (stage_read b p.acceptable g es) ∙ e
 
-below : (c : In-Guest) → guest c < 8
-below c = let d = desk (tested c).before in seek-below d.rows 8 d.pointer (guest c) (accept_true d (passed (tested c)).acceptable).pointer (found c)
+  -- its drive, which acceptance knows
+  named : {x : Drive} (g : ℕ) (q : Request) → g < 8 → stage_at (desk_of b) g ≡ Waiting q
+      → x ≡ drive_at (read_desk b).table (pick (is_drive (read_desk b).table q.job.drive) q.job.drive first_drive) → x ≡ drive_at (desk_of b).table q.job.drive
+  named g q l h e = drive-read b p.acceptable q.job.drive e (waiting_facts (desk_of b) g q p.acceptable l h).job.drive
 
--- its request, and what acceptance says of it
-abbrev sought : In-Waiting → In-Guest
-sought c = c.before.before.before.before.before
-
-abbrev house : In-Waiting → After-number_at-number
-house c = (tested (sought c)).before
-
-abbrev request : In-Waiting → Request
-request c = c.before.stage.given.0.0
-
-holds : (c : In-Waiting) → stage_at (desk (house c)) (guest (sought c)) ≡ Waiting (request c)
-holds c =
-    sym (stage_read (bytes (house c)) (passed (tested (sought c))).acceptable (guest (sought c)) c.stage_of-stage.ensures)
-    ∙ c.before.stage.given.1
-
-facts : (c : In-Waiting) → Waits (desk (house c)).table (window_size (desk (house c))) (request c)
-facts c = waiting_facts (desk (house c)) (guest (sought c)) (request c) (passed (tested (sought c))).acceptable (below (sought c)) (holds c)
-
-named : (c : After-drive_named-d) → let t = c.before.before in c.drive_named-d.result ≡ drive_at (desk (house t)).table (request t).job.drive
-named c =
-    let t = c.before.before in
-    drive-read (bytes (house t)) (passed (tested (sought t))).acceptable (request t).job.drive c.drive_named-d.ensures (facts t).job.drive
+  -- what the turn does to it
+  service : {s : Service} {l : Bads} (q : Request) → s ≡ service_of l q → l ≡ bads_of (read_desk b).table q.job.drive → s ≡ service_of (bads_for (desk_of b) q) q
+  service q es el = es ∙ ap (λ (x : Bads). service_of x q) (bads_read b p.acceptable q.job.drive el)
 
 pub returns-then-number-ne0 : goal.returns-then-number-ne0
 unfolding turn_call over turn_numbers
-returns-then-number-ne0 c = rw (← refused c)
+returns-then-number-ne0 c = let a = c.args in rw (← refused a.desk.now a.arena.now a.store.now c.number_at-number.ensures c.if-number-ne0.true)
 
 pub next_of-found-requires : goal.next_of-found-requires
-next_of-found-requires c = (sized c.before, pointer_read (bytes c.before.before) (passed c.before).acceptable)
+next_of-found-requires c =
+    let b : List ℕ = c.args.desk.now in
+    let arena : List ℕ = c.args.arena.now in
+    let store : List ℕ = c.args.store.now in
+    let p = passed b arena store c.number_at-number.ensures c.if-number-ne0.false in
+    (sized b arena store p, pointer_read b p.acceptable)
 
 pub returns-in_default : goal.returns-in_default
 unfolding turn_call over turn_numbers
 returns-in_default c =
-    let h = c.before.before.before.before.before in
-    let p = passed c.before.before.before.before in
-    rw (← turn_nobody (desk h) (arena h) (store h) p (sym (next-read (bytes h) p.acceptable c.next_of-found.ensures) ∙ c.enum_told-1.given.1))
+    let b : List ℕ = c.args.desk.now in
+    let arena : List ℕ = c.args.arena.now in
+    let store : List ℕ = c.args.store.now in
+    let p = passed b arena store c.number_at-number.ensures c.if-number-ne0.false in
+    rw (← turn_nobody (desk_of b) arena store p (found b arena store p c.next_of-found.ensures c.in_default.is))
 
 pub stage_of-stage-requires : goal.stage_of-stage-requires
-stage_of-stage-requires c = (sized (tested c.before), below c.before)
+stage_of-stage-requires c =
+    let b : List ℕ = c.args.desk.now in
+    let arena : List ℕ = c.args.arena.now in
+    let store : List ℕ = c.args.store.now in
+    let p = passed b arena store c.number_at-number.ensures c.if-number-ne0.false in
+    (sized b arena store p, below b arena store p c.in-Guest.g c.next_of-found.ensures c.in-Guest.is)
 
 pub returns-in_default-stage : goal.returns-in_default-stage
 unfolding turn_call over turn_numbers
 returns-in_default-stage c =
-    let w = c.before.before.before in
-    let h = (tested w).before in
-    let p = passed (tested w) in
-    let s = stage_read (bytes h) p.acceptable (guest w) c.stage_of-stage.ensures in
-    rw (← turn-other (desk h) (arena h) (store h) p (guest w) (found w) (subst (λ (x : Stage). OneOf (0 ∷ 2 ∷ []) (tag_of stage.the_type x)) s c.in_default-stage.keys2))
+    let b : List ℕ = c.args.desk.now in
+    let arena : List ℕ = c.args.arena.now in
+    let store : List ℕ = c.args.store.now in
+    let g = c.in-Guest.g in
+    let p = passed b arena store c.number_at-number.ensures c.if-number-ne0.false in
+    let f = found b arena store p c.next_of-found.ensures c.in-Guest.is in
+    let s = stage_read b p.acceptable g c.stage_of-stage.ensures in
+    rw (← turn-other (desk_of b) arena store p g f (not_waiting-tag (stage_at (desk_of b) g) (rw s at c.in_default-stage.not-Waiting)))
 
 pub drive_named-d-requires : goal.drive_named-d-requires
-drive_named-d-requires c = sized (tested (sought c.before))
+drive_named-d-requires c =
+    let a = c.args in
+    sized a.desk.now a.arena.now a.store.now (passed a.desk.now a.arena.now a.store.now c.number_at-number.ensures c.if-number-ne0.false)
 
 pub bads_of-requires : goal.bads_of-requires
-bads_of-requires c = sized (tested (sought c.before.before.before))
+bads_of-requires c =
+    let a = c.args in
+    sized a.desk.now a.arena.now a.store.now (passed a.desk.now a.arena.now a.store.now c.number_at-number.ensures c.if-number-ne0.false)
 
 pub service_of-service-requires : goal.service_of-service-requires
 service_of-service-requires c =
-    let t = c.before.before.before.before in
-    let h = house t in
-    servable (desk h) (arena h) (store h) (guest (sought t)) (request t) (passed (tested (sought t))) (below (sought t)) (holds t)
-    (omega (arith, h.before.before.before.before.before.good.1.1.0.0))
-
--- what the turn does to it
-service : (c : After-service_of-service) → let t = c.before.before.before.before.before in c.service_of-service.result ≡ service_of (bads_for (desk (house t)) (request t)) (request t)
-service c =
-    let t = c.before.before.before.before.before in
-    let bads = bads_read (bytes (house t)) (passed (tested (sought t))).acceptable (request t).job.drive c.bads_of.ensures in
-    c.service_of-service.ensures ∙ ap (λ (l : Bads). service_of l (request t)) bads
+    let b : List ℕ = c.args.desk.now in
+    let arena : List ℕ = c.args.arena.now in
+    let store : List ℕ = c.args.store.now in
+    let g = c.in-Guest.g in
+    let q = c.in-Waiting.q in
+    let p = passed b arena store c.number_at-number.ensures c.if-number-ne0.false in
+    let l = below b arena store p g c.next_of-found.ensures c.in-Guest.is in
+    let h = holds b arena store p g q c.stage_of-stage.ensures c.in-Waiting.is in
+    servable (desk_of b) arena store g q p l h (omega arith)
 
 pub transfer-requires : goal.transfer-requires
 transfer-requires c =
-    let s = c.before.before in
-    let n = s.before.before.before in
-    let t = n.before.before in
-    let h = house t in
-    let g = h.before.before.before.before.before.good in
-    rw (named n)
-    (in-range (desk h) (arena h) (store h) (guest (sought t)) (request t) (passed (tested (sought t))) (below (sought t)) (holds t)
-    (omega (arith, g.1.0.0)) (omega (arith, g.1.1.0.0)) (service s))
+    let b : List ℕ = c.args.desk.now in
+    let arena : List ℕ = c.args.arena.now in
+    let store : List ℕ = c.args.store.now in
+    let g = c.in-Guest.g in
+    let q = c.in-Waiting.q in
+    let p = passed b arena store c.number_at-number.ensures c.if-number-ne0.false in
+    let l = below b arena store p g c.next_of-found.ensures c.in-Guest.is in
+    let h = holds b arena store p g q c.stage_of-stage.ensures c.in-Waiting.is in
+    rw (named b arena store p g q l h c.drive_named-d.ensures)
+    (in-range (desk_of b) arena store g q p l h (omega arith) (omega arith) (service b arena store p q c.service_of-service.ensures c.bads_of.ensures))
 
 pub report_ending-requires : goal.report_ending-requires
 report_ending-requires c =
-    let x = c.before.before.before.before.before in
-    let s = x.before.before.before in
-    let n = s.before.before.before in
-    let t = n.before.before in
-    let h = house t in
-    let p = passed (tested (sought t)) in
-    ending_facts (desk h) (arena h) (store h) n.drive_named-d.result.first (guest (sought t)) (request t) p.acceptable p.lent (below (sought t)) (holds t) (service s) x.transfer.ensures
+    let b : List ℕ = c.args.desk.now in
+    let arena : List ℕ = c.args.arena.now in
+    let store : List ℕ = c.args.store.now in
+    let g = c.in-Guest.g in
+    let q = c.in-Waiting.q in
+    let p = passed b arena store c.number_at-number.ensures c.if-number-ne0.false in
+    let l = below b arena store p g c.next_of-found.ensures c.in-Guest.is in
+    let h = holds b arena store p g q c.stage_of-stage.ensures c.in-Waiting.is in
+    ending_facts (desk_of b) arena store c.drive_named-d.result.first g q p.acceptable p.lent l h (service b arena store p q c.service_of-service.ensures c.bads_of.ensures) c.transfer.ensures
 
 pub put_served-requires : goal.put_served-requires
 put_served-requires c =
-    let w = sought c.before.before.before.before.before.before.before.before.before.before.before.before.before.before.before.before.before in
-    (sized (tested w), below w)
+    let b : List ℕ = c.args.desk.now in
+    let arena : List ℕ = c.args.arena.now in
+    let store : List ℕ = c.args.store.now in
+    let p = passed b arena store c.number_at-number.ensures c.if-number-ne0.false in
+    (sized b arena store p, below b arena store p c.in-Guest.g c.next_of-found.ensures c.in-Guest.is)
 
 pub returns : goal.returns
 unfolding turn_call over turn_numbers
 returns c =
-    let r = c.before.before.before.before.before.before in
-    let x = r.before.before.before.before.before.before in
-    let s = x.before.before.before in
-    let n = s.before.before.before in
-    let t = n.before.before in
-    let w = sought t in
-    let h = house t in
-    let p = passed (tested w) in
-    let e : Transferred (drive_at (desk h).table (request t).job.drive).first (request t) s.service_of-service.result.moved (guest w) (arena h) (store h) _ _ = rw (named n) at x.transfer.ensures in
-    let k = put_turn (bytes h) p.acceptable (guest w) s.service_of-service.result.stage (below w) c.put_served.ensures in
-    rw (← turn-served (desk h) (arena h) (store h) p (guest w) (request t) (found w) (holds t) (service s) refl refl e r.report_ending.ensures, k)
+    let b : List ℕ = c.args.desk.now in
+    let arena : List ℕ = c.args.arena.now in
+    let store : List ℕ = c.args.store.now in
+    let g = c.in-Guest.g in
+    let q = c.in-Waiting.q in
+    let p = passed b arena store c.number_at-number.ensures c.if-number-ne0.false in
+    let f = found b arena store p c.next_of-found.ensures c.in-Guest.is in
+    let l = below b arena store p g c.next_of-found.ensures c.in-Guest.is in
+    let h = holds b arena store p g q c.stage_of-stage.ensures c.in-Waiting.is in
+    let e : Transferred (drive_at (desk_of b).table q.job.drive).first q c.service_of-service.result.moved g arena store _ _
+    = rw (named b arena store p g q l h c.drive_named-d.ensures) at c.transfer.ensures in
+    let k = put_turn b p.acceptable g c.service_of-service.result.stage l c.put_served.ensures in
+    rw (← turn-served (desk_of b) arena store p g q f h (service b arena store p q c.service_of-service.ensures c.bads_of.ensures) refl refl e c.report_ending.ensures, k)
