@@ -1,7 +1,7 @@
 -- Document 01, "Calls the host makes": the desk block. It is the image of a desk, a word of eight bytes for each field, and is accepted
 -- exactly when it is the image of a desk that is acceptable.
 -- Assumes nothing.
-use Rattle.std.specs.Prelude.{ℕ, zero, suc, ◌+◌, ◌*◌, ◌^◌, ◌<◌, ◌≡◌, Bool, true, false, List, [], ◌∷◌, ◌++◌, length, get_or, replicate, eqb}
+use Rattle.std.specs.Prelude.{ℕ, zero, suc, ◌+◌, ◌*◌, ◌^◌, ◌<◌, ◌≡◌, Bool, true, List, [], ◌∷◌, ◌++◌, length, get_or, replicate, eqb}
 use Rattle.std.proofs.lemmas.List.Edits.{sets}
 use Rattle.logic.specs.Logic.{pick, both}
 use Rattle.words.specs.Words.{Bytes, le, le_bytes, part}
@@ -10,7 +10,6 @@ use Rattle.drive.specs.Drive.{Fits, same}
 use Rattle.table.specs.declared.Table.{Table}
 use Rattle.table.specs.Table.{no_drive}
 use Rattle.int13.specs.declared.Registers.{Registers}
-use Rattle.int13.specs.declared.Job.{Job}
 use Rattle.desk.specs.declared.Request.{Request}
 use Rattle.desk.specs.declared.Stage.{Stage}
 use Rattle.desk.specs.declared.Stage.TheVariants.{Vacant, Waiting, Finished}

@@ -1,7 +1,7 @@
 -- Document 01, "Calls the host makes": a desk block judged on its words, with no desk made of it. Each part is the rule of one section, and
 -- `judged` of all of them says the same as `accepted`.
 -- Assumes nothing.
-use Rattle.std.specs.Prelude.{ℕ, ◌+◌, ◌-◌, ◌*◌, ◌/◌, ◌^◌, Bool, true, false, List, length, get_or, leb, ltb, eqb}
+use Rattle.std.specs.Prelude.{ℕ, ◌+◌, ◌-◌, ◌*◌, ◌/◌, ◌^◌, Bool, false, List, length, get_or, leb, ltb, eqb}
 use Rattle.logic.specs.Logic.{pick, both, either, all_below}
 use Rattle.words.specs.Words.{le}
 use Rattle.drive.specs.Drive.{fields_ok, in_store}

@@ -1,6 +1,5 @@
 use native.Mathlib.Omega.{arith}
 use borrow.Author.Rules.{rules}
-use Prim.Native.Nat.{◌-◌}
 use mathlib.Core.Path.{◌≡◌, refl}
 use Rattle.logic.proofs.LogicLaws.{all_more}
 use Rattle.table.specs.Table.{attached_at, attached_to}

@@ -1,5 +1,4 @@
-use Prim.Native.Nat.{◌-◌, ◌≤◌, ◌<◌, ◌+◌}
-use Rattle.int13.specs.Steps.{first_drive}
+use Prim.Native.Nat.{◌-◌}
 use Rattle.image.proofs.Fields.{slot_of, slot_known}
 use native.Mathlib.Omega.{arith}
 use mathlib.Core.Path.{sym, ◌∙◌}

@@ -1,6 +1,5 @@
 use native.Mathlib.Omega.{arith}
 use borrow.Author.Rules.{rules}
-use Prim.Native.Nat.{◌-◌}
 use mathlib.Core.Path.{◌≡◌, refl}
 use Rattle.logic.proofs.LogicLaws.{all_fails, all-next}
 use Rattle.image.specs.Image.{slot_at}

@@ -1,6 +1,6 @@
 use Rattle.image.proofs.Fill.{more-laid}
 use lib.ListN.{length}
-use mathlib.Core.Path.{◌≡◌, sym, ◌∙◌}
+use mathlib.Core.Path.{◌≡◌, ◌∙◌}
 use borrow.Author.Rules.{rules}
 use Rattle.image.proofs.put_more.Goals as goal
 

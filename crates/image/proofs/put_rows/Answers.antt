@@ -5,7 +5,6 @@ use native.Mathlib.Omega.{arith}
 use lib.Seq.{sets, length-sets, take_all}
 use lib.ListN.{length}
 use mathlib.Core.Path.{◌≡◌, refl, ap, ◌∙◌}
-use Prim.Native.Nat.{◌-◌}
 use Rattle.image.proofs.put_rows.Goals as goal
 
 pub loop-k-init : goal.loop-k-init

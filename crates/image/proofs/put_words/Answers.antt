@@ -5,7 +5,6 @@ use native.Mathlib.Omega.{arith}
 use lib.Seq.{sets, length-sets, take_all}
 use lib.ListN.{length, take}
 use mathlib.Core.Path.{refl, ap, ◌∙◌}
-use Prim.Native.Nat.{◌-◌}
 use Rattle.image.proofs.put_words.Goals as goal
 
 pub loop-j-init : goal.loop-j-init

@@ -1,6 +1,5 @@
 use native.Mathlib.Omega.{arith}
 use borrow.Author.Rules.{rules}
-use Prim.Native.Nat.{◌-◌}
 use mathlib.Core.Path.{◌≡◌}
 use Rattle.image.proofs.Judged.{rest-none, rest-bad, rest-next}
 use Rattle.image.proofs.rest_zero.Goals as goal

@@ -1,6 +1,6 @@
 use native.Mathlib.Omega.{arith}
 use borrow.Author.Rules.{rules}
-use Prim.Native.Nat.{ℕ, ◌+◌, ◌-◌, ◌<◌}
+use Prim.Native.Nat.{ℕ, ◌+◌, ◌<◌}
 use native.Mathlib.Nat.{add-zero}
 use mathlib.Core.Path.{◌≡◌, refl, sym, ap, ◌∙◌}
 use Rattle.table.specs.Table.{parameters_to}
@@ -19,7 +19,7 @@ loop-i-preserved c =
     let t : k < c.args.n = c.loop-i-test.true in
     let most : k < 8 = omega (arith, t, c.requires.1) in
     elim c.if-mark_at.branch [
-      then-mark_at w ↦ (
+      | then-mark_at w ↦ (
         omega (arith, t),
         omega (arith, w.count-is, c.loop-i.invariant.1),
         count-more b k most (w.count-is ∙ rw (sym c.mark_at.ensures ∙ w.if-mark_at.true) (ap (λ (x : ℕ). x + 1) c.loop-i.invariant.2)),
