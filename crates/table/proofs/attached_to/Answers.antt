@@ -14,16 +14,14 @@ loop-i-init c = (search rules, refl)
 
 pub loop-i-preserved : goal.loop-i-preserved
 loop-i-preserved c =
-    let h = c.before.before.before.before.before in
-    let b = h.args.b in (
+    let b = c.args.b in (
       search rules,
-      all_more h.loop-i.i (attached_at b) h.loop-i.invariant.1 c.and-good.ensures
-          (c.slot_ok.ensures ∙ ap (pick (get_or b.present h.loop-i.i false) (ltb h.loop-i.i b.count)) c.zeros_at-zero.ensures),
+      all_more c.loop-i.i (attached_at b) c.loop-i.invariant.1 c.and-good.ensures
+          (c.slot_ok.ensures ∙ ap (pick (get_or b.present c.loop-i.i false) (ltb c.loop-i.i b.count)) c.zeros_at-zero.ensures),
     )
 
 pub returns : goal.returns
 unfolding attached_to
 returns c =
-    let h = c.before in
-    let e : h.loop-i.i ≡ 8 = omega arith in
-    h.loop-i.invariant.1 ∙ ap (λ n. all_below n (attached_at h.args.b)) e
+    let e : c.loop-i.i ≡ 8 = omega arith in
+    c.loop-i.invariant.1 ∙ ap (λ n. all_below n (attached_at c.args.b)) e

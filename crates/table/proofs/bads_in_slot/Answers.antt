@@ -9,6 +9,5 @@ use Rattle.table.proofs.bads_in_slot.Goals as goal
 
 pub returns : goal.returns
 returns c =
-    let s = c.before.before.before.before.before in
-    let all = s.args.bad.now in
-    (refl, c.store.ensures ∙ rw add-sub_cancel_left (sets-whole (replicate 128 0) (part 128 all (128 * s.args.i)) (sym (length_list_part all s.args.i s.requires.0 s.requires.1))))
+    let all = c.args.bad.now in
+    (refl, c.store.ensures ∙ rw add-sub_cancel_left (sets-whole (replicate 128 0) (part 128 all (128 * c.args.i)) (sym (length_list_part all c.args.i c.requires.0 c.requires.1))))

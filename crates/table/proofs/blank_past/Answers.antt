@@ -13,12 +13,10 @@ loop-i-init c = (search rules, refl)
 pub loop-i-preserved : goal.loop-i-preserved
 unfolding blank_to
 loop-i-preserved c =
-    let h = c.before.before.before.before.before in
-    let a = h.args in
-    (search rules, all_more h.loop-i.i _ h.loop-i.invariant.1 c.and-blank.ensures (c.or.ensures ∙ ap (Rattle.logic.specs.Logic.either (ltb h.loop-i.i a.b.count)) c.is_blank.ensures))
+    let a = c.args in
+    (search rules, all_more c.loop-i.i _ c.loop-i.invariant.1 c.and-blank.ensures (c.or.ensures ∙ ap (Rattle.logic.specs.Logic.either (ltb c.loop-i.i a.b.count)) c.is_blank.ensures))
 
 pub returns : goal.returns
 returns c =
-    let h = c.before in
-    let e : h.loop-i.i ≡ 8 = omega arith in
-    rw (← e) h.loop-i.invariant.1
+    let e : c.loop-i.i ≡ 8 = omega arith in
+    rw (← e) c.loop-i.invariant.1

@@ -9,6 +9,5 @@ use Rattle.table.proofs.bytes_at.Goals as goal
 
 pub returns : goal.returns
 returns c =
-    let s = c.before.before.before.before.before in
-    let all = s.args.bytes.now in
-    c.store.ensures ∙ rw add-sub_cancel_left (sets-whole (replicate 14 0) (part 14 all (14 * s.args.i)) (sym (length_slot_part all s.args.i s.requires.0 s.requires.1)))
+    let all = c.args.bytes.now in
+    c.store.ensures ∙ rw add-sub_cancel_left (sets-whole (replicate 14 0) (part 14 all (14 * c.args.i)) (sym (length_slot_part all c.args.i c.requires.0 c.requires.1)))

@@ -17,9 +17,8 @@ push-requires c =
 
 pub returns-then-n-eq0 : goal.returns-then-n-eq0
 returns-then-n-eq0 c =
-    let s = c.before.before.before.before.before in
-    let a = s.args in
-    drive-next _ a.r.now a.at a.b a.store s.requires.1 c.decode-d.ensures c.refusal_of-n.ensures c.if-n-eq0.true c.push.ensures
+    let a = c.args in
+    drive-next _ a.r.now a.at a.b a.store c.requires.1 c.decode-d.ensures c.refusal_of-n.ensures c.if-n-eq0.true c.push.ensures
 
 pub returns : goal.returns
 returns c =

@@ -8,24 +8,20 @@ returns-then-left-lt-HEADER_LENGTH c = rw (header_is _ _ c.bytes_left-left.ensur
 
 pub returns-then-not-is_kind : goal.returns-then-not-is_kind
 returns-then-not-is_kind c =
-    let r = c.before.before in
-    let h = header_is _ _ r.bytes_left-left.ensures r.get16-size.ensures r.get16-kind.ensures c.is_kind.ensures refl in
-    rw (h, le-ltb _ _ r.if-left-lt-HEADER_LENGTH.false, c.if-not-is_kind.true-raw)
+    let h = header_is _ _ c.bytes_left-left.ensures c.get16-size.ensures c.get16-kind.ensures c.is_kind.ensures refl in
+    rw (h, le-ltb _ _ c.if-left-lt-HEADER_LENGTH.false, c.if-not-is_kind.true)
 
 pub returns-then-not-length_ok : goal.returns-then-not-length_ok
 returns-then-not-length_ok c =
-    let r = c.before.before.before.before in
-    let h = header_is _ _ r.bytes_left-left.ensures r.get16-size.ensures r.get16-kind.ensures c.is_kind.ensures c.length_ok.ensures in
-    rw (h, le-ltb _ _ r.if-left-lt-HEADER_LENGTH.false, c.if-not-is_kind.false-raw, c.if-not-length_ok.true-raw)
+    let h = header_is _ _ c.bytes_left-left.ensures c.get16-size.ensures c.get16-kind.ensures c.is_kind.ensures c.length_ok.ensures in
+    rw (h, le-ltb _ _ c.if-left-lt-HEADER_LENGTH.false, c.if-not-is_kind.false, c.if-not-length_ok.true)
 
 pub returns-then-left-whole : goal.returns-then-left-whole
 returns-then-left-whole c =
-    let r = c.before.before.before.before.before in
-    let h = header_is _ _ r.bytes_left-left.ensures r.get16-size.ensures r.get16-kind.ensures c.is_kind.ensures c.length_ok.ensures in
-    rw (h, le-ltb _ _ r.if-left-lt-HEADER_LENGTH.false, c.if-not-is_kind.false-raw, c.if-not-length_ok.false-raw, lt-ltb _ _ c.if-left-whole.true)
+    let h = header_is _ _ c.bytes_left-left.ensures c.get16-size.ensures c.get16-kind.ensures c.is_kind.ensures c.length_ok.ensures in
+    rw (h, le-ltb _ _ c.if-left-lt-HEADER_LENGTH.false, c.if-not-is_kind.false, c.if-not-length_ok.false, lt-ltb _ _ c.if-left-whole.true)
 
 pub returns : goal.returns
 returns c =
-    let r = c.before.before.before.before.before in
-    let h = header_is _ _ r.bytes_left-left.ensures r.get16-size.ensures r.get16-kind.ensures c.is_kind.ensures c.length_ok.ensures in
-    rw (h, le-ltb _ _ r.if-left-lt-HEADER_LENGTH.false, c.if-not-is_kind.false-raw, c.if-not-length_ok.false-raw, le-ltb _ _ c.if-left-whole.false)
+    let h = header_is _ _ c.bytes_left-left.ensures c.get16-size.ensures c.get16-kind.ensures c.is_kind.ensures c.length_ok.ensures in
+    rw (h, le-ltb _ _ c.if-left-lt-HEADER_LENGTH.false, c.if-not-is_kind.false, c.if-not-length_ok.false, le-ltb _ _ c.if-left-whole.false)

@@ -9,6 +9,4 @@ returns-then-n-gt-MOST_DRIVES c = rw (lt-leb c.args.b.count 8 c.if-n-gt-MOST_DRI
 pub returns : goal.returns
 unfolding is_sound
 returns c =
-    let m = c.before.before.before.before in
-    let s = m.before.before.before.before in
-    rw (le-leb s.args.b.count 8 s.if-n-gt-MOST_DRIVES.false, c.and.ensures, c.sound_to.ensures, c.and-blank.ensures, c.blank_past.ensures, m.and-more.ensures, m.listed_to.ensures, m.attached_to.ensures)
+    rw (le-leb c.args.b.count 8 c.if-n-gt-MOST_DRIVES.false, c.and.ensures, c.sound_to.ensures, c.and-blank.ensures, c.blank_past.ensures, c.and-more.ensures, c.listed_to.ensures, c.attached_to.ensures)

@@ -15,15 +15,13 @@ loop-i-init c = (search rules, refl)
 pub loop-i-preserved : goal.loop-i-preserved
 unfolding listed_to
 loop-i-preserved c =
-    let h = c.before.before.before.before.before in
-    let b = h.args.b in (
+    let b = c.args.b in (
       search rules,
-      all_more h.loop-i.i (listed_at b) h.loop-i.invariant.1 c.and-good.ensures
-          (c.bads_ok.ensures ∙ ap (λ (l : Bads). bads_ok l (get_or b.drives h.loop-i.i no_drive).blocks) c.bads_at.ensures),
+      all_more c.loop-i.i (listed_at b) c.loop-i.invariant.1 c.and-good.ensures
+          (c.bads_ok.ensures ∙ ap (λ (l : Bads). bads_ok l (get_or b.drives c.loop-i.i no_drive).blocks) c.bads_at.ensures),
     )
 
 pub returns : goal.returns
 returns c =
-    let h = c.before in
-    let e : h.loop-i.i ≡ 8 = omega arith in
-    rw (← e) h.loop-i.invariant.1
+    let e : c.loop-i.i ≡ 8 = omega arith in
+    rw (← e) c.loop-i.invariant.1

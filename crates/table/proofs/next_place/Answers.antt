@@ -7,6 +7,5 @@ use Rattle.table.proofs.next_place.Goals as goal
 
 pub returns : goal.returns
 returns c =
-    let s = c.before.before in
-    let eight : length s.args.b.drives ≡ 8 = search (rules, length_mapped) in
-    next-is s.args.b _ eight c.held.ensures c.records_length.ensures.0 c.records_length.ensures.1
+    let eight : length c.args.b.drives ≡ 8 = search (rules, length_mapped) in
+    next-is c.args.b _ eight c.held.ensures c.records_length.ensures.0 c.records_length.ensures.1

@@ -8,13 +8,10 @@ returns-then-l-eq0 c =
 
 pub put_bads-requires : goal.put_bads-requires
 put_bads-requires c =
-    let s = c.before.before.before.before in
-    let w = length_bads_some s.args.i s.args.l c.if-l-eq0.false s.requires.0 in
-    rw w at s.requires.2
+    let w = length_bads_some c.args.i c.args.l c.if-l-eq0.false c.requires.0 in
+    rw w at c.requires.2
 
 pub returns : goal.returns
 returns c =
-    let p = c.before.before.before in
-    let s = p.before.before.before.before.before in
-    let a = s.args in
-    bads_laid a.l a.i a.out.now a.at p.if-l-eq0.false s.requires.0 p.put_bads.ensures c.bad_length.ensures.0
+    let a = c.args in
+    bads_laid a.l a.i a.out.now a.at c.if-l-eq0.false c.requires.0 c.put_bads.ensures c.bad_length.ensures.0

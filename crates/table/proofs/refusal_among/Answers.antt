@@ -1,5 +1,5 @@
 use mathlib.Core.Path.{sym, ◌∙◌}
-use borrow.Author.Tests.{le-leb, lt-leb, not-true, not-false}
+use borrow.Author.Tests.{le-leb, lt-leb}
 use Rattle.table.specs.Table.{refusal_among}
 use Rattle.table.proofs.refusal_among.Goals as goal
 
@@ -9,16 +9,16 @@ returns-then-n-ge-MOST_DRIVES c = rw (le-leb _ _ c.if-n-ge-MOST_DRIVES.true)
 
 pub returns-then-not-fields_ok : goal.returns-then-not-fields_ok
 unfolding refusal_among
-returns-then-not-fields_ok c = rw (lt-leb _ _ c.if-n-ge-MOST_DRIVES.false, sym c.fields_ok.ensures ∙ not-true _ c.if-not-fields_ok.true-raw)
+returns-then-not-fields_ok c = rw (lt-leb _ _ c.if-n-ge-MOST_DRIVES.false, sym c.fields_ok.ensures ∙ c.if-not-fields_ok.true)
 
 pub returns-then-not-in_store : goal.returns-then-not-in_store
 unfolding refusal_among
-returns-then-not-in_store c = rw (lt-leb _ _ c.if-n-ge-MOST_DRIVES.false, sym c.fields_ok.ensures ∙ not-false _ c.if-not-fields_ok.false-raw, sym c.in_store.ensures ∙ not-true _ c.if-not-in_store.true-raw)
+returns-then-not-in_store c = rw (lt-leb _ _ c.if-n-ge-MOST_DRIVES.false, sym c.fields_ok.ensures ∙ c.if-not-fields_ok.false, sym c.in_store.ensures ∙ c.if-not-in_store.true)
 
 pub returns-then-overlaps_run : goal.returns-then-overlaps_run
 unfolding refusal_among
-returns-then-overlaps_run c = rw (lt-leb _ _ c.if-n-ge-MOST_DRIVES.false, sym c.fields_ok.ensures ∙ not-false _ c.if-not-fields_ok.false-raw, sym c.in_store.ensures ∙ not-false _ c.if-not-in_store.false-raw, sym c.overlaps_run.ensures ∙ c.if-overlaps_run.true)
+returns-then-overlaps_run c = rw (lt-leb _ _ c.if-n-ge-MOST_DRIVES.false, sym c.fields_ok.ensures ∙ c.if-not-fields_ok.false, sym c.in_store.ensures ∙ c.if-not-in_store.false, sym c.overlaps_run.ensures ∙ c.if-overlaps_run.true)
 
 pub returns : goal.returns
 unfolding refusal_among
-returns c = rw (lt-leb _ _ c.if-n-ge-MOST_DRIVES.false, sym c.fields_ok.ensures ∙ not-false _ c.if-not-fields_ok.false-raw, sym c.in_store.ensures ∙ not-false _ c.if-not-in_store.false-raw, sym c.overlaps_run.ensures ∙ c.if-overlaps_run.false)
+returns c = rw (lt-leb _ _ c.if-n-ge-MOST_DRIVES.false, sym c.fields_ok.ensures ∙ c.if-not-fields_ok.false, sym c.in_store.ensures ∙ c.if-not-in_store.false, sym c.overlaps_run.ensures ∙ c.if-overlaps_run.false)

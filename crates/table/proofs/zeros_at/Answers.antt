@@ -13,13 +13,11 @@ loop-j-init c = (search rules, refl)
 
 pub loop-j-preserved : goal.loop-j-preserved
 loop-j-preserved c =
-    let h = c.before.before.before in
-    let a = h.args in
-    (search rules, all_more {a = eqb (get_or a.bytes.now (a.at + h.loop-j.j) 0) 0} h.loop-j.j (λ k. eqb (get_or a.bytes.now (a.at + k) 0) 0) h.loop-j.invariant.1 c.and-zero.ensures refl)
+    let a = c.args in
+    (search rules, all_more {a = eqb (get_or a.bytes.now (a.at + c.loop-j.j) 0) 0} c.loop-j.j (λ k. eqb (get_or a.bytes.now (a.at + k) 0) 0) c.loop-j.invariant.1 c.and-zero.ensures refl)
 
 pub returns : goal.returns
 returns c =
-    let h = c.before in
-    let e : h.loop-j.j ≡ 14 = omega arith in
-    let a = h.args in
-    h.loop-j.invariant.1 ∙ ap (λ (n : ℕ). all_below n (λ k. eqb (get_or a.bytes.now (a.at + k) 0) 0)) e
+    let e : c.loop-j.j ≡ 14 = omega arith in
+    let a = c.args in
+    c.loop-j.invariant.1 ∙ ap (λ (n : ℕ). all_below n (λ k. eqb (get_or a.bytes.now (a.at + k) 0) 0)) e
