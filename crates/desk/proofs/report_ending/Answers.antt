@@ -1,5 +1,6 @@
 use mathlib.Core.Path.{sym, ◌∙◌}
 use Prim.Native.Nat.{◌+◌}
+use native.Mathlib.Omega.{arith}
 use lib.ListN.{length}
 use borrow.Author.Tests.{lt-ltb, le-ltb}
 use Rattle.memory.specs.Window.{window_length}
@@ -17,7 +18,7 @@ returns-then-job-moved c =
     rw (sym c.goes_on.ensures ∙ c.if-goes_on.false, le-ltb (a.q.moved + a.k) a.q.job.count c.if-job-moved.true) (sym (with_window-same a.arena.now a.guest (window_length (length a.arena.now))))
 
 pub report_moved-requires : goal.report_moved-requires
-report_moved-requires c = (c.requires.0, c.requires.1, c.requires.2)
+report_moved-requires c = (c.requires.0, c.requires.1, omega arith)
 
 pub returns : goal.returns
 returns c =
