@@ -1,12 +1,12 @@
 -- However a table is cut, the calls at a reader block say what reading the whole says, and write what was fed.
 -- Assumes nothing.
-use mathlib.Core.Path.{◌≡◌, refl, sym, ap, ◌∙◌, subst}
+use mathlib.Core.Path.{◌≡◌, refl, sym, ap, ◌∙◌}
 use mathlib.Core.Bool.{Bool, true, false}
 use mathlib.Core.List.{List, [], ◌∷◌, ◌++◌, append_assoc, append-nil}
 use Prim.Native.Nat.{ℕ, zero, suc, ◌/◌, ◌^◌, ◌<◌}
 use native.Mathlib.Omega.{arith}
-use lib.ListN.{length, get_or, drop}
-use lib.Dec.{ltb, eqb}
+use lib.ListN.{length, drop}
+use lib.Dec.{ltb}
 use borrow.Author.Tests.{eq-eqb}
 use Rattle.logic.specs.Logic.{pick}
 use Rattle.words.specs.Words.{Bytes}
@@ -23,11 +23,11 @@ use Rattle.feed.specs.declared.Fed.TheVariants.{More, Accepted as FedAccepted, R
 use Rattle.feed.specs.Feed.{opened, feed_all, feeds, end_feed, answer_of, fed_numbers}
 use Rattle.feed.specs.Arrives.{joined, told, so_far, Arrives}
 use Rattle.feed.proofs.Arrives.{arrives}
-use Rattle.reader.specs.Reader.{image, reader_size, read_reader, accept, accepted, laid, FitsReader, ImageOf}
+use Rattle.reader.specs.Reader.{image, reader_size, laid, ImageOf}
 use Rattle.reader.proofs.Exact.{exact}
 use Rattle.reader.proofs.Keeps.{fed-accepted, end-accepted, opened-accepted}
-use Rattle.exports.specs.Exports.{Effect, effect, over, reader_open_call, reader_effect, reader_feed_call, reader_end_call, reader_write_effect, reader_write_call}
-use Rattle.exports.specs.Fragments.{leaves, fed_block, arrived, ended_block, whole, EachBytes, Fragments, EveryFragments}
+use Rattle.exports.specs.Exports.{Effect, effect, over, reader_open_call, reader_feed_call, reader_end_call, reader_write_effect, reader_write_call}
+use Rattle.exports.specs.Fragments.{leaves, fed_block, arrived, ended_block, whole, EachBytes, EveryFragments}
 use Rattle.exports.proofs.Readers.{reader-size}
 
 -- ---- calls at the block of a reader

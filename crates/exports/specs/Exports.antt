@@ -2,7 +2,7 @@
 -- needs. Each is document 01's call at the desk whose image the block is; those of the reader of fragments (document 02, 2026-03) are over a
 -- reader block, and the converters (2026-06) over records. What stands behind a pointer afterwards is a value of the answer, or what stood there.
 -- Assumes nothing.
-use Rattle.std.specs.Prelude.{ℕ, ◌/◌, Bool, true, false, List, [], ◌∷◌, length, get_or, eqb}
+use Rattle.std.specs.Prelude.{ℕ, ◌/◌, false, List, [], ◌∷◌, length, get_or, eqb}
 use Rattle.logic.specs.Logic.{pick}
 use Rattle.chs.specs.declared.Geometry.{Geometry}
 use Rattle.chs.specs.declared.Address.{Address}
@@ -15,7 +15,6 @@ use Rattle.int13.specs.Answers.{nothing_yet}
 use Rattle.desk.specs.declared.Desk.{Desk}
 use Rattle.desk.specs.declared.OpenAnswer.{OpenAnswer}
 use Rattle.desk.specs.declared.OpenAnswer.TheVariants.{Opened, Refused as OpenRefused}
-use Rattle.desk.specs.declared.Opening.{Opening}
 use Rattle.desk.specs.declared.PostAnswer.{PostAnswer}
 use Rattle.desk.specs.declared.PostAnswer.TheVariants.{Answered, Waits, Refused as PostRefused}
 use Rattle.desk.specs.declared.TurnAnswer.{TurnAnswer}

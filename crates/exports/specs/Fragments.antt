@@ -1,7 +1,7 @@
 -- Document 02, 2026-03, at a reader block: what the calls for C say and leave, for every list of fragments after an opening. Each is said in terms
 -- of reading all bytes at once. `proofs/Fragments.antt` proves it.
 -- Assumes nothing.
-use Rattle.std.specs.Prelude.{ℕ, ◌/◌, ◌^◌, ◌<◌, ◌≡◌, true, List, [], ◌∷◌, ◌++◌, length, get_or, drop, ltb}
+use Rattle.std.specs.Prelude.{ℕ, ◌/◌, ◌^◌, ◌<◌, ◌≡◌, List, [], ◌∷◌, ◌++◌, length, get_or, drop, ltb}
 use Rattle.logic.specs.Logic.{pick}
 use Rattle.words.specs.Words.{Bytes}
 use Rattle.memory.specs.Blocks.{block_length}

@@ -1,5 +1,5 @@
 use mathlib.Core.Path.{◌≡◌, refl, sym, ap, ◌∙◌}
-use mathlib.Core.Bool.{Bool, true, false}
+use mathlib.Core.Bool.{Bool}
 use mathlib.Core.List.{List}
 use Prim.Native.Nat.{ℕ, ◌<◌}
 use lib.ListN.{length}
@@ -8,7 +8,6 @@ use borrow.Author.Tests.{ltb-true}
 use Rattle.memory.specs.Window.{window_length}
 use Rattle.table.specs.declared.Table.{Table}
 use Rattle.int13.specs.Placement.{table_count}
-use Rattle.desk.specs.declared.Desk.{Desk}
 use Rattle.desk.specs.declared.PlaceAnswer.TheVariants.{Refused as PlaceRefused}
 use Rattle.desk.specs.Parts.{window_size, own_window, with_own, stage_at, is_waiting}
 use Rattle.desk.specs.Acceptable.{place_ok, accept}

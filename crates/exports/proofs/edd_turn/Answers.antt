@@ -1,6 +1,6 @@
 use mathlib.Core.Path.{◌≡◌, refl, sym, ap, ◌∙◌}
 use mathlib.Core.Bool.{true}
-use mathlib.Core.List.{List, [], ◌∷◌}
+use mathlib.Core.List.{List}
 use Prim.Native.Nat.{ℕ, ◌<◌}
 use native.Mathlib.Omega.{arith}
 use Rattle.logic.specs.Logic.{pick}
@@ -12,7 +12,6 @@ use Rattle.desk.specs.declared.Request.{Request}
 use Rattle.desk.specs.declared.Service.{Service}
 use Rattle.desk.specs.declared.Stage.{Stage}
 use Rattle.desk.specs.declared.Stage.TheVariants.{Waiting}
-use Rattle.desk.specs.declared.Desk.{Desk}
 use Rattle.desk.specs.declared.Next.{Next}
 use Rattle.desk.specs.declared.Next.TheVariants.{Guest}
 use Rattle.desk.specs.declared.TurnAnswer.TheVariants.{Refused as TurnRefused}
