@@ -35,7 +35,7 @@ use Rattle.int13.specs.declared.Plan.{Plan}
 use Rattle.int13.specs.declared.Plan.TheVariants.{Wait}
 use Rattle.int13.specs.Answers.{ended, posted as posted_registers}
 use Rattle.int13.specs.Steps.{unchanged, is_drive, bads_of, verify_ok, packet_job, packet_tests, packet_read, packet_plan, with_count, carry_out, sectors, fed, steps, begin}
-use Rattle.int13.specs.Alone.{store_block, moves, reported, alone}
+use Rattle.int13.specs.Alone.{store_block, reported, alone}
 use Rattle.desk.specs.declared.Request.{Request}
 use Rattle.desk.specs.declared.Stage.TheVariants.{Waiting, Finished}
 use Rattle.desk.specs.declared.Desk.{Desk}

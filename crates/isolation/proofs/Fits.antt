@@ -6,8 +6,8 @@ use mathlib.Core.Bool.{Bool, true, false}
 use mathlib.Core.List.{List, [], ◌∷◌}
 use native.Mathlib.Omega.{arith}
 use native.Mathlib.Decide.{ℕ_discrete}
-use lib.ListN.{length, get_or, set, drop, replicate, length-set, length-drop, length-take, get_or-replicate}
-use lib.Seq.{sets, get_or-set_same, get_or-set_other, length-sets, length-take-le}
+use lib.ListN.{length, get_or, set, replicate, length-set, length-take, get_or-replicate}
+use lib.Seq.{sets, get_or-set_same, get_or-set_other, length-sets}
 use lib.Dec.{leb, ltb, eqb}
 use borrow.Author.Tests.{leb-true, ltb-true, eqb-true}
 use Rattle.logic.specs.Logic.{pick}

@@ -34,7 +34,7 @@ use Rattle.isolation.proofs.Turn.{dist_lt}
 use Rattle.isolation.proofs.Moves.{Alike, part_agree, moves-size, moves-none}
 use Rattle.isolation.proofs.Endings.{now, good-end}
 use Rattle.isolation.proofs.Accept.{Inv, Ready, ready, job_ready}
-use Rattle.isolation.proofs.View.{answer, view, window_in, window-length}
+use Rattle.isolation.proofs.View.{view, window_in, window-length}
 use Rattle.isolation.proofs.Keep.{inv_step, Cleans, clean_row, cleans_step, cleans_after, Fixed, fixed_step, reached}
 use Rattle.isolation.proofs.Fate.{Fate, stays, passes, parts, ends, leaves, step_fate}
 use Rattle.isolation.proofs.Bound.{total-append, total_at, after-append, opens_front, opens-rest, opens_cons, opens_upto, full_front, Reach, near, wait_for, wait_start, Track, Course, waiting, finishing, leaving, course, track}

@@ -25,7 +25,7 @@ use Rattle.isolation.specs.Lists.{Call, collected, step, Event, run, after}
 use Rattle.isolation.specs.Words.{refused, opens, kind_of, NoneOpens, turns, collects, Accepted, Waits, Finishes, turns_for, Unwritten, Left, placement_after, placement_in}
 use Rattle.isolation.specs.Demand.{out_after, found_by, asked_by, first_by, good_by, Taken, out_on, count_of, first_of, alone_of, Ends, Same, SameAtOnce, Claim, Demand}
 use Rattle.isolation.proofs.Accept.{Inv, none-placed, inv_accept, inv_opened, opened-desk}
-use Rattle.isolation.proofs.View.{same, answer, view}
+use Rattle.isolation.proofs.View.{view}
 use Rattle.isolation.proofs.Keep.{Cleans, cleans_opened, cleans_after, reached, placed-after, turn_spares, place_spares}
 use Rattle.isolation.proofs.Bound.{opens_front, opens-rest, opens_cons, opens_upto, after_at, after_none}
 use Rattle.isolation.proofs.Equal.{end_of}

@@ -12,7 +12,7 @@ use Rattle.desk.specs.Calls.{not_acceptable}
 use Rattle.desk.specs.Numbers.{open_numbers, post_numbers, turn_numbers, collect_numbers, withdraw_numbers, place_numbers}
 use Rattle.image.specs.Image.{desk_size}
 use Rattle.exports.specs.Exports.{effect, over, open_call, write_call, given, changed, post_call, turn_call, collect_call, withdraw_call, place_call}
-use Rattle.isolation.specs.Lists.{Op, open_table, post, turn, collect, withdraw, write, place, Call, Answer, opening, posted, turned, collected, withdrawn, written, placed}
+use Rattle.isolation.specs.Lists.{Op, open_table, post, turn, collect, withdraw, write, place, Answer, opening, posted, turned, collected, withdrawn, written, placed}
 use Rattle.isolation.specs.DeskBlocks.{OutBlock, step_block}
 
 -- ---- "Calls the host makes", the calls for C

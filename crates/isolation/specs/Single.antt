@@ -8,7 +8,7 @@ use Rattle.int13.specs.declared.Registers.{Registers}
 use Rattle.int13.specs.declared.Outcome.{Outcome}
 use Rattle.int13.specs.declared.Outcome.TheVariants.{Answered, Waits}
 use Rattle.int13.specs.Answers.{ended, withdraw}
-use Rattle.int13.specs.Steps.{Checked, fed, begin}
+use Rattle.int13.specs.Steps.{fed, begin}
 use Rattle.desk.specs.declared.Request.{Request}
 use Rattle.desk.specs.declared.Stage.TheVariants.{Waiting}
 use Rattle.desk.specs.declared.Desk.{Desk}
@@ -16,7 +16,7 @@ use Rattle.desk.specs.declared.TurnAnswer.{TurnAnswer}
 use Rattle.desk.specs.declared.TurnAnswer.TheVariants.{Served}
 use Rattle.desk.specs.Parts.{stage_at}
 use Rattle.desk.specs.Acceptable.{accept}
-use Rattle.desk.specs.Calls.{Done, is_lent, turn_of}
+use Rattle.desk.specs.Calls.{is_lent, turn_of}
 
 -- ---- "Numbers given back", registers not named; "Calls the host makes", turn
 
