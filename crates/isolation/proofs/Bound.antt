@@ -90,7 +90,7 @@ Reach g n m k = (m + moved_in g k ≡ n) ⊎ Stops g n m k
 pub reach : (g : ℕ) (q : Request) (d : Desk) (o : Out) → (q.moved + now d.table q ≡ q.job.count) ⊎ (now d.table q < quota q)
     → Counts g (kind_of o.answer) 1 0 (now d.table q) 1 → Reach g q.job.count q.moved (kind_of o.answer)
 reach g q d o h k =
-    ⊎_elim (λ x. inl (ap (λ (n : ℕ). q.moved + n) k.moved ∙ x)) (λ x. inr (k.service, subst (λ (n : ℕ). n < quota q) (sym k.moved) x)) h
+    ⊎_elim (λ x. inl (ap (λ (n : ℕ). q.moved + n) k.moved ∙ x)) (λ x. inr (k.service, omega (arith, subst (λ (n : ℕ). n < quota q) (sym k.moved) x))) h
 
 -- fewer than a full part are not one
 pub not_full : {a b : ℕ} → a ≡ b → a < b → ⊥
