@@ -74,6 +74,7 @@ fn holding(f: Feed, x: u8) -> Feed
 }
 
 // The record that n bytes begin, after those drives: document 01's step on them alone.
+#[inline(always)]
 pub fn begun(held: [u8; table::LONGEST_RECORD], n: usize, b: Table, store: u64) -> Stepped
     requires { n ≤ longest_record }
     ensures { result ≡ step_at (take n held) 0 b store }
@@ -90,6 +91,7 @@ pub fn begun(held: [u8; table::LONGEST_RECORD], n: usize, b: Table, store: u64) 
 }
 
 // A byte more of a record.
+#[inline(never)]
 fn held_byte(f: Feed, x: u8) -> Feed
     requires { f.filled < longest_record }
     ensures { result ≡ held_byte f x }

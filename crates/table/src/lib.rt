@@ -524,6 +524,7 @@ fn place_after(s: Step, at: usize) -> usize
 }
 
 // The record at the cursor's place, and on to the next.
+#[inline(always)]
 pub fn advance(t: &[u8], c: Cursor, store: u64) -> Cursor
     ensures { Advances t.now c store result }
 {
