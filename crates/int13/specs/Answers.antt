@@ -6,7 +6,7 @@ use Rattle.int13.specs.declared.Registers.{Registers}
 use Rattle.int13.specs.declared.Outcome.{Outcome}
 use Rattle.int13.specs.declared.Outcome.TheVariants.{Answered, Waits}
 
--- ---- "Numbers given back", the codes in AH; 01h is layout's `badParameter`, 04h chs's `outside`
+-- ---- "Numbers given back", the codes in AH; 01h is layout's `bad_parameter`, 04h chs's `outside`
 
 -- 03h: write to a protected drive
 abbrev pub write_protected : ℕ
