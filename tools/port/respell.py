@@ -42,6 +42,15 @@ WORD = re.compile(r"[^\s(){}\[\].;,@\"«»⌜⌝]+")
 COMMENT = re.compile(r"(?<![^\s(){}.;,])--[^\n]*")
 USE = re.compile(r"^[ \t]*(?:pub )?(?:ghost )?use ([^\s{;]+?)(?:\.\{([^}]*)\})?(?: as (\S+?))?;?[ \t]*$", re.M)
 HEAD = re.compile(r"^[ \t]*((?:(?:abbrev|unfoldable|pub|opaque|inline) )*)(record |data )?([^\s:(){}.;,]+) (?=[:({])", re.M)
+# laws named after the library's getD, which is get_or now; port.py had turned two of them
+GET_OR = {
+    "getD-before": "get_or_before",
+    "get_d_after": "get_or_after",
+    "getD-blocks-outside": "get_or-blocks_outside",
+    "getD-padded": "get_or_padded",
+    "get_d_part": "get_or-part",
+    "getD-zeros": "get_or_zeros",
+}
 # made by Rattle, or a number
 MADE = re.compile(r"(Need-|After-|Then-|Else-|returns-\d|0x)")
 
@@ -154,6 +163,7 @@ def main():
                 table[w] = turned(w, known)
             where[w].add(p)
     declared_names = set(where)
+    table.update({old: new for old, new in GET_OR.items() if old in where})
     # a dash stays where the name would fall together with another
     taken = collections.defaultdict(set)
     for p, t in files.items():

@@ -128,16 +128,16 @@ zeros_le (suc k) s at i e h =
     ⊎_elim (λ x. zeros_le k s at i (omega arith) x) (λ x. let y : i ≡ k = omega arith in rw y q) (lt_or_le i k)
 
 -- behind a list, zeros
-get_d_zeros : (m i : ℕ) → get_or {A = ℕ} (replicate m 0) i 0 ≡ 0
-get_d_zeros m i =
+get_or_zeros : (m i : ℕ) → get_or {A = ℕ} (replicate m 0) i 0 ≡ 0
+get_or_zeros m i =
     ⊎_elim (λ x. get_or-replicate m i 0 0 x)
     (λ x. let zeros : List ℕ = replicate m 0 in get_or-eq_default zeros 0 (rw length-replicate x))
     (lt_or_le i m)
 
-get_d_padded : (s : List ℕ) (m i : ℕ) → length s ≤ i → get_or (s ++ replicate m 0) i 0 ≡ 0
-get_d_padded s m i h =
+get_or_padded : (s : List ℕ) (m i : ℕ) → length s ≤ i → get_or (s ++ replicate m 0) i 0 ≡ 0
+get_or_padded s m i h =
     let q : length s + (i - length s) ≡ i = omega arith in
-    rw q at (get_or-append-add s (replicate m 0) (i - length s) 0 ∙ get_d_zeros m (i - length s))
+    rw q at (get_or-append-add s (replicate m 0) (i - length s) 0 ∙ get_or_zeros m (i - length s))
 
 -- behind the last number of a list stand zeros: byte by byte
 pub zero_past_at : (l : Bads) (i : ℕ) → zero_past l ≡ true → 8 * l.count ≤ i → i < 128 → get_or l.list i 0 ≡ 0
@@ -157,7 +157,7 @@ list_padded l c e z =
     let past : drop (8 * l.count) l.list ≡ zeros =
     ext_get_or 0 (drop (8 * l.count) l.list) zeros (rw (length-drop, length-replicate) (omega arith))
     (λ i h. let q : i < 128 - 8 * l.count = omega (arith, length-drop (8 * l.count) l.list) in
-    rw (get_or-drop, get_d_zeros (128 - 8 * l.count) i) (zero_past_at l (8 * l.count + i) z (omega arith) (omega arith))) in
+    rw (get_or-drop, get_or_zeros (128 - 8 * l.count) i) (zero_past_at l (8 * l.count + i) z (omega arith) (omega arith))) in
     rw (n, ← past) (take-append-drop (8 * l.count) l.list)
 
 made : ℕ → List ℕ → Bads
@@ -196,7 +196,7 @@ bads_in-zero_past r n e =
     let l : Bads = bads_in r in
     let word : (j : ℕ) → l.count ≤ j → bad_at l j ≡ 0 =
     λ j h. le_zeros 8 l.list (8 * j) (λ i q.
-    rw (bads_in_list r n e) (get_d_padded (drop 6 r) (128 - 8 * n) (8 * j + i) (omega (arith, length-numbers r n e, bads_in-count r n e)))) in
+    rw (bads_in_list r n e) (get_or_padded (drop 6 r) (128 - 8 * n) (8 * j + i) (omega (arith, length-numbers r n e, bads_in-count r n e)))) in
     all_intro 16 (λ j. either (ltb j l.count) (eqb (bad_at l j) 0)) (λ j h.
     ⊎_elim (λ x. either_left (ltb j l.count) (eqb (bad_at l j) 0) (lt-ltb j l.count x))
     (λ x. either_right (ltb j l.count) (eqb (bad_at l j) 0) (eq-eqb (bad_at l j) 0 (word j x)))
@@ -322,7 +322,7 @@ past_all l =
 pub no-bads : (l : Bads) → l.count ≡ 0 → length l.list ≡ 128 → zero_past l ≡ true → l ≡ no_bads
 no-bads l c e z =
     let zeros : List ℕ = replicate 128 0 in
-    bads_ext l no_bads c (ext_get_or 0 l.list zeros e (λ i h. zero_past_at l i z (omega arith) (omega arith) ∙ sym (get_d_zeros 128 i)))
+    bads_ext l no_bads c (ext_get_or 0 l.list zeros e (λ i h. zero_past_at l i z (omega arith) (omega arith) ∙ sym (get_or_zeros 128 i)))
 
 -- ---- what one bad block leaves
 

@@ -35,7 +35,7 @@ use Rattle.layout.specs.declared.ResultAnswer.TheVariants.{Written, Refused as N
 use Rattle.layout.specs.Packet.{packet_at, read_packet}
 use Rattle.layout.specs.ResultBuffer.{result_answer}
 use Rattle.memory.specs.Blocks.{blocks}
-use Rattle.memory.proofs.BlocksLaws.{blocks-length, get_d_blocks_outside, part-blocks-same}
+use Rattle.memory.proofs.BlocksLaws.{blocks-length, get_or-blocks_outside, part-blocks-same}
 use Rattle.int13.specs.declared.Registers.{Registers}
 use Rattle.int13.specs.declared.Job.{Job}
 use Rattle.int13.specs.declared.Placement.{Placement}
@@ -266,7 +266,7 @@ module _ (n first buffer : ℕ) (m : Memory) (room : buffer + 512 * n ≤ length
   read-bytes =
       record {
         window = λ i k hi hk. blocks-byte m.window (buffer + 512 * 0) m.store (512 * (first + 0)) n (omega arith) (omega arith) _ _ (512 * i + k) (omega arith) (omega arith) (omega arith);
-        other = λ x o. get_d_blocks_outside m.window (buffer + 512 * 0) m.store (512 * (first + 0)) n x (⊎_elim (λ y. inl (omega arith)) (λ y. inr (omega arith)) o);
+        other = λ x o. get_or-blocks_outside m.window (buffer + 512 * 0) m.store (512 * (first + 0)) n x (⊎_elim (λ y. inl (omega arith)) (λ y. inr (omega arith)) o);
         size = blocks-length m.window (buffer + 512 * 0) m.store (512 * (first + 0)) n;
         store = refl;
       }
@@ -275,7 +275,7 @@ module _ (n first buffer : ℕ) (m : Memory) (room : buffer + 512 * n ≤ length
   written-bytes =
       record {
         store = λ i k hi hk. blocks-byte m.store (512 * (first + 0)) m.window (buffer + 512 * 0) n (omega arith) (omega arith) _ _ (512 * i + k) (omega arith) (omega arith) (omega arith);
-        other = λ x o. get_d_blocks_outside m.store (512 * (first + 0)) m.window (buffer + 512 * 0) n x (⊎_elim (λ y. inl (omega arith)) (λ y. inr (omega arith)) o);
+        other = λ x o. get_or-blocks_outside m.store (512 * (first + 0)) m.window (buffer + 512 * 0) n x (⊎_elim (λ y. inl (omega arith)) (λ y. inr (omega arith)) o);
         size = blocks-length m.store (512 * (first + 0)) m.window (buffer + 512 * 0) n;
         window = refl;
       }

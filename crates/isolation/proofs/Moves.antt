@@ -13,7 +13,7 @@ use Rattle.logic.specs.Logic.{pick}
 use Rattle.words.specs.Words.{part}
 use Rattle.memory.specs.Blocks.{block_length, blocks}
 use Rattle.memory.proofs.Sets.{length_part}
-use Rattle.memory.proofs.BlocksLaws.{blocks-length, blocks-append, get_d_blocks_outside, part-blocks-same, blocks_source}
+use Rattle.memory.proofs.BlocksLaws.{blocks-length, blocks-append, get_or-blocks_outside, part-blocks-same, blocks_source}
 use Rattle.int13.specs.declared.Job.{Job}
 use Rattle.int13.specs.Answers.{ah, is_write}
 use Rattle.int13.specs.Alone.{Memory, moves}
@@ -26,8 +26,8 @@ writes j = is_write (ah j.registers)
 abbrev pub Agree : ℕ → ℕ → List ℕ → List ℕ → Type 0
 Agree first n s t = (i : ℕ) → block_length * first ≤ i → i < block_length * (first + n) → get_or s i 0 ≡ get_or t i 0
 
-pub get_d_part : (n : ℕ) (l : List ℕ) (at j : ℕ) → j < n → get_or (part n l at) j 0 ≡ get_or l (at + j) 0
-get_d_part n l at j h = get_or-take n (drop at l) j 0 h ∙ get_or-drop at l j 0
+pub get_or-part : (n : ℕ) (l : List ℕ) (at j : ℕ) → j < n → get_or (part n l at) j 0 ≡ get_or l (at + j) 0
+get_or-part n l at j h = get_or-take n (drop at l) j 0 h ∙ get_or-drop at l j 0
 
 -- parts inside are the same
 pub part_agree : (first n at k : ℕ) (s t : List ℕ) → block_length * first ≤ at → at + k ≤ block_length * (first + n) → block_length * (first + n) ≤ length s
@@ -38,7 +38,7 @@ part_agree first n at k s t lo hi fits l a =
     ext_get_or 0 (part k s at) (part k t at) (l₁ ∙ sym l₂)
     (λ j c.
     let h : j < k = omega arith in
-    get_d_part k s at j h ∙ a (at + j) (omega arith) (omega arith) ∙ sym (get_d_part k t at j h))
+    get_or-part k s at j h ∙ a (at + j) (omega arith) (omega arith) ∙ sym (get_or-part k t at j h))
 
 -- ---- lengths
 
@@ -105,7 +105,7 @@ blocks_agree first n at s t w from k fits room l a i h c =
     (lt_or_le i at)
   where
     outside : (i < at) ⊎ (at + block_length * k ≤ i) → get_or (blocks s at w from k) i 0 ≡ get_or (blocks t at w from k) i 0
-    outside o = get_d_blocks_outside s at w from k i o ∙ a i h c ∙ sym (get_d_blocks_outside t at w from k i o)
+    outside o = get_or-blocks_outside s at w from k i o ∙ a i h c ∙ sym (get_or-blocks_outside t at w from k i o)
 
     inside : at ≤ i → i < at + block_length * k → get_or (blocks s at w from k) i 0 ≡ get_or (blocks t at w from k) i 0
     inside x y =
@@ -115,9 +115,9 @@ blocks_agree first n at s t w from k fits room l a i h c =
         let p : part (block_length * k) (blocks s at w from k) at ≡ part (block_length * k) (blocks t at w from k) at
         = part-blocks-same s at w from k fits room ∙ sym (part-blocks-same t at w from k (omega arith) room) in
         rw (← e)
-        (sym (get_d_part (block_length * k) (blocks s at w from k) at j jb)
+        (sym (get_or-part (block_length * k) (blocks s at w from k) at j jb)
         ∙ ap (λ (v : List ℕ). get_or v j 0) p
-        ∙ get_d_part (block_length * k) (blocks t at w from k) at j jb)
+        ∙ get_or-part (block_length * k) (blocks t at w from k) at j jb)
 
 alike_by : (j : Job) (first n i k : ℕ) (m m' : Memory) → i + k ≤ n → j.buffer + block_length * n ≤ length m.window → block_length * (first + n) ≤ length m.store
     → Alike first n m m' → (t : Bool) → Alike first n (moved j first i k m t) (moved j first i k m' t)
@@ -154,7 +154,7 @@ Off j first i k lo n = (b : ℕ) → writes j ≡ true → Named (first + i) k b
 off_by : (j : Job) (first i k lo n : ℕ) (m : Memory) → Off j first i k lo n → (t : Bool) → writes j ≡ t → Agree lo n (moved j first i k m t).store m.store
 off_by j first i k lo n m o false e = λ x h c. refl
 off_by j first i k lo n m o true e = λ x h c.
-    get_d_blocks_outside m.store (block_length * (first + i)) m.window (j.buffer + block_length * i) k x
+    get_or-blocks_outside m.store (block_length * (first + i)) m.window (j.buffer + block_length * i) k x
     (⊎_elim
     (λ y. inl y)
     (λ y.

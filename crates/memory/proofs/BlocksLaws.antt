@@ -63,10 +63,10 @@ byte d e i h =
     sym (at_place e) ∙ ap (λ (l : List ℕ). get_or l 0 0) h ∙ at_place d
 
 -- byte by byte: no byte outside the k blocks changes
-pub get_d_blocks_outside : (d : List ℕ) (at : ℕ) (s : List ℕ) (from k i : ℕ) → (i < at) ⊎ (at + block_length * k ≤ i) →
+pub get_or-blocks_outside : (d : List ℕ) (at : ℕ) (s : List ℕ) (from k i : ℕ) → (i < at) ⊎ (at + block_length * k ≤ i) →
     get_or (blocks d at s from k) i 0 ≡ get_or d i 0
-get_d_blocks_outside d at s from k i (inl h) = byte d (blocks d at s from k) i (part-blocks-before 1 d i at s from k (omega arith))
-get_d_blocks_outside d at s from k i (inr h) = byte d (blocks d at s from k) i (part-blocks-after 1 d i at s from k h)
+get_or-blocks_outside d at s from k i (inl h) = byte d (blocks d at s from k) i (part-blocks-before 1 d i at s from k (omega arith))
+get_or-blocks_outside d at s from k i (inr h) = byte d (blocks d at s from k) i (part-blocks-after 1 d i at s from k h)
 
 -- the k blocks are those of the source
 pub part-blocks-same : (d : List ℕ) (at : ℕ) (s : List ℕ) (from k : ℕ) → at + block_length * k ≤ length d → from + block_length * k ≤ length s →

@@ -24,19 +24,19 @@ use Rattle.table.proofs.TableLaws.{length_list_part}
 -- ---- runs of stores
 
 -- a byte before or after a run stays
-get_d_before : (l : List ℕ) (at : ℕ) (v : List ℕ) (j : ℕ) → j < at → get_or (sets l at v) j 0 ≡ get_or l j 0
-get_d_before l at [] j h = refl
-get_d_before l at (x ∷ v) j h = get_d_before (set l at x) (suc at) v j (omega arith) ∙ get_or-set_other l at j x 0 (λ e. omega arith)
+get_or_before : (l : List ℕ) (at : ℕ) (v : List ℕ) (j : ℕ) → j < at → get_or (sets l at v) j 0 ≡ get_or l j 0
+get_or_before l at [] j h = refl
+get_or_before l at (x ∷ v) j h = get_or_before (set l at x) (suc at) v j (omega arith) ∙ get_or-set_other l at j x 0 (λ e. omega arith)
 
-get_d_after : (l : List ℕ) (at : ℕ) (v : List ℕ) (j : ℕ) → at + length v ≤ j → get_or (sets l at v) j 0 ≡ get_or l j 0
-get_d_after l at [] j h = refl
-get_d_after l at (x ∷ v) j h = get_d_after (set l at x) (suc at) v j (omega arith) ∙ get_or-set_other l at j x 0 (λ e. omega arith)
+get_or_after : (l : List ℕ) (at : ℕ) (v : List ℕ) (j : ℕ) → at + length v ≤ j → get_or (sets l at v) j 0 ≡ get_or l j 0
+get_or_after l at [] j h = refl
+get_or_after l at (x ∷ v) j h = get_or_after (set l at x) (suc at) v j (omega arith) ∙ get_or-set_other l at j x 0 (λ e. omega arith)
 
 -- and so do the bytes of every other slot
 pub bytes-other : (l : List ℕ) (i : ℕ) (p : List ℕ) (k j : ℕ) → length p ≡ 14 → k ≢ i → j < 14 → get_or (sets l (14 * i) p) (14 * k + j) 0 ≡ get_or l (14 * k + j) 0
 bytes-other l i p k j n e h =
-    ⊎_elim (λ (x : k < i). get_d_before l (14 * i) p (14 * k + j) (omega arith))
-    (λ (x : i ≤ k). ⊎_elim (λ (y : i < k). get_d_after l (14 * i) p (14 * k + j) (omega arith)) (λ (y : k ≤ i). absurd (e (omega arith))) (lt_or_le i k)) (lt_or_le k i)
+    ⊎_elim (λ (x : k < i). get_or_before l (14 * i) p (14 * k + j) (omega arith))
+    (λ (x : i ≤ k). ⊎_elim (λ (y : i < k). get_or_after l (14 * i) p (14 * k + j) (omega arith)) (λ (y : k ≤ i). absurd (e (omega arith))) (lt_or_le i k)) (lt_or_le k i)
 
 -- parts whose bytes are the same
 part_ext : (n : ℕ) (l m : List ℕ) (at : ℕ) → length l ≡ length m → ((j : ℕ) → j < n → get_or l (at + j) 0 ≡ get_or m (at + j) 0) → part n l at ≡ part n m at
@@ -58,7 +58,7 @@ run-same n l at p given all =
 run-other : (n : ℕ) (l : List ℕ) (at : ℕ) (p : List ℕ) (place : ℕ) → (place + n ≤ at) ⊎ (at + length p ≤ place) → part n (sets l at p) place ≡ part n l place
 run-other n l at p place h =
     part_ext n (sets l at p) l place (length-sets l at p)
-    (λ j q. ⊎_elim (λ x. get_d_before l at p (place + j) (omega arith)) (λ x. get_d_after l at p (place + j) (omega arith)) h)
+    (λ j q. ⊎_elim (λ x. get_or_before l at p (place + j) (omega arith)) (λ x. get_or_after l at p (place + j) (omega arith)) h)
 
 -- a byte of a slot's part
 pub byte_of : (l : List ℕ) (i j : ℕ) → j < 14 → get_or (part 14 l (14 * i)) j 0 ≡ get_or l (14 * i + j) 0
