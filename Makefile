@@ -33,7 +33,7 @@ help:
 	@echo 'make touch      which bytes of arena and store a call touches: only those of its guest'
 	@echo 'make bench      what a call costs, as ratios to memcpy and to the model (docs/PERFORMANCE.md)'
 	@echo 'make test       the host tests (host/test), on what `make check` or `rt run` left in crates/*/out'
-	@echo 'make check      the gate (.ci/run): everything proved, then all tests; some 50 minutes with the older kit'
+	@echo 'make check      the gate (.ci/run): everything proved, then all tests; some 15 minutes on four processors'
 	@echo 'make clean      removes target/, and with it the library; what rt keeps in crates/*/out stays'
 
 library: $(LIBRARY)
