@@ -1,13 +1,13 @@
 -- Laws of the record of a drive's parameters.
 -- Assumes nothing.
 use mathlib.Core.Path.{◌≡◌, refl, sym, ap, ◌∙◌}
-use mathlib.Core.List.{List, ◌++◌}
-use Prim.Native.Nat.{ℕ, ◌+◌, ◌≤◌, ◌<◌, ◌^◌}
+use mathlib.Core.List.{List}
+use Prim.Native.Nat.{ℕ, ◌≤◌, ◌<◌, ◌^◌}
 use native.Mathlib.Omega.{arith}
 use lib.ListN.{length, drop, length-append, length-drop}
-use lib.Seq.{sets, take_all, take-add, drop-drop, length-take-le}
-use Rattle.words.specs.Words.{Bytes, le, le_bytes, part}
-use Rattle.words.proofs.WordsLaws.{sets-append, sets-whole, length-le_bytes, read-write, write_read}
+use lib.Seq.{sets, take_all, length-take-le}
+use Rattle.words.specs.Words.{Bytes, le, le_bytes}
+use Rattle.words.proofs.WordsLaws.{glue, sets-append, sets-whole, length-le_bytes, read-write, write_read}
 use Rattle.attached.specs.Parameters.{number_in, parameters_in, parameters_record}
 
 -- ---- what the code reads and stores
@@ -28,10 +28,6 @@ record_stores s i p l m e₁ e₂ e₃ e₄ =
     rw (e₄, e₃, e₂, e₁) (sym a ∙ w)
 
 -- ---- from bytes to number and parameters and back
-
--- adjoining parts are one
-pub glue : (r : List ℕ) (k n at : ℕ) {x y : List ℕ} → x ≡ part k r at → y ≡ part n r (at + k) → x ++ y ≡ part (k + n) r at
-glue r k n at p q = rw (p, q, take-add k n (drop at r), drop-drop k at r)
 
 -- the bytes of a record are those of its number and its parameters
 pub record-parameters : (r : List ℕ) → Bytes r → length r ≡ 20 → le 2 r 0 ≡ 20 → le 2 r 2 ≡ 4 → parameters_record (number_in r) (parameters_in r) ≡ r

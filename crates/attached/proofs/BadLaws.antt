@@ -12,14 +12,15 @@ use lib.ListN.{length, get_or, take, drop, replicate, length-append, length-drop
 use lib.Seq.{sets, ext_get_or, get_or-drop, length-take-le, take_all, take_at, get_or-append-add}
 use lib.Dec.{leb, ltb, eqb}
 use borrow.Author.Tests.{leb-true, le-leb, lt-leb, ltb-true, lt-ltb, le-ltb, eqb-true, eqb-false, eq-eqb}
-use Rattle.logic.specs.Logic.{pick, both, either, in_range, all_below, some_below}
-use Rattle.logic.proofs.LogicLaws.{both_true, both_false, either_left, either_right, in_range_true, all_intro, all_at, all_fails, all_ext, some_at, lt_or_le, true≢false}
+use Rattle.std.specs.Prelude.{min}
+use Rattle.std.specs.List.{list_all, range_with_len}
+use Rattle.logic.specs.Logic.{pick, both, either, in_range, some_below}
+use Rattle.logic.proofs.LogicLaws.{both_true, both_false, either_left, either_right, in_range_true, all_intro, all_at, all_fails, all_ext, all_past, range_all, some_at, lt_or_le, true≢false}
 use Rattle.words.specs.Words.{Bytes, le, le_bytes, part}
-use Rattle.words.proofs.WordsLaws.{sets-append, sets_front, length-le_bytes, read-write, write_read}
+use Rattle.words.proofs.WordsLaws.{glue, sets-append, sets_front, length-le_bytes, read-write, write_read}
 use Rattle.attached.specs.declared.Bads.{Bads}
 use Rattle.attached.specs.Parameters.{number_in}
 use Rattle.attached.specs.Bad.{bad_size, bad_length, bad_count, bad_length_ok, bads_in, held_of, list_of, bad_record, no_bads, bad_at, ascends, are_blocks, list_ok, zero_past, bads_ok, is_bad, good, before}
-use Rattle.attached.proofs.AttachedLaws.{glue}
 
 -- ---- how many numbers a list has room for
 
@@ -43,9 +44,9 @@ held-ltb n j h =
 
 -- ---- the lengths of a record
 
-pub bad_count-few : (size : ℕ) → 8 * bad_count size ≤ size - 6
+pub bad_count_few : (size : ℕ) → 8 * bad_count size ≤ size - 6
 unfolding bad_count
-bad_count-few size = omega arith
+bad_count_few size = omega arith
 
 pub bad_count-bad_length : (n : ℕ) → bad_count (bad_length n) ≡ n
 unfolding bad_count
@@ -303,21 +304,23 @@ pub bads_ok-no_bads : (blocks : ℕ) → bads_ok no_bads blocks ≡ true
 unfolding bads_ok list_ok ascends are_blocks zero_past held_of le
 bads_ok-no_bads blocks = refl
 
--- the loop of `zero_past`, which begins behind the n numbers that a list has: before them there is nothing to test
-pub past_first : (n : ℕ) (list : List ℕ) → true ≡ all_below n (λ j. either (ltb j n) (eqb (le 8 list (bad_size * j)) 0))
-past_first n list =
-    sym (all_intro n (λ j. either (ltb j n) (eqb (le 8 list (bad_size * j)) 0)) (λ j h. either_left (ltb j n) (eqb (le 8 list (bad_size * j)) 0) (lt-ltb j n h)))
-
--- behind them a zero
-pub past_test : {x : ℕ} (n j : ℕ) (list : List ℕ) → n ≤ j → x ≡ le 8 list (bad_size * j) → eqb x 0 ≡ either (ltb j n) (eqb (le 8 list (bad_size * j)) 0)
-past_test n j list h e = let f = le-ltb j n h in rw (e, f)
-
--- and that is what is asked, by the count
-pub past_all : (l : Bads) → all_below 16 (λ j. either (ltb j (held_of l.count)) (eqb (bad_at l j) 0)) ≡ zero_past l
+-- what `zero_past` tests, from the first of the n numbers that a list does not have
+pub past_all : {n : ℕ} (l : Bads) → n ≡ held_of l.count → list_all (λ j. eqb (bad_at l j) 0) (range_with_len n (16 - n)) ≡ zero_past l
 unfolding zero_past
-past_all l =
-    all_ext 16 (λ j. either (ltb j (held_of l.count)) (eqb (bad_at l j) 0)) (λ j. either (ltb j l.count) (eqb (bad_at l j) 0))
-    (λ j h. ap (λ t. either t (eqb (bad_at l j) 0)) (held-ltb l.count j h))
+past_all l e =
+    let n : ℕ = held_of l.count in
+    let zero : ℕ → Bool = λ j. eqb (bad_at l j) 0 in
+    rw (e, range_all n (16 - n) zero, all_past 16 n zero (held-most l.count))
+    (all_ext 16 (λ j. either (ltb j n) (zero j)) (λ j. either (ltb j l.count) (zero j)) (λ j h. ap (λ t. either t (zero j)) (held-ltb l.count j h)))
+
+-- what `ascends` tests, each number and the one before it
+pub neighbours : {n : ℕ} (l : Bads) → n ≡ held_of l.count → list_all (λ j. ltb (bad_at l (j - 1)) (bad_at l j)) (range_with_len 1 (n - 1)) ≡ ascends l
+unfolding ascends
+neighbours l e =
+    let n : ℕ = held_of l.count in
+    rw (e, range_all 1 (n - 1) (λ j. ltb (bad_at l (j - 1)) (bad_at l j)))
+    (all_ext (n - 1) (λ k. ltb (bad_at l (1 + k - 1)) (bad_at l (1 + k))) (λ k. ltb (bad_at l k) (bad_at l (k + 1)))
+    (λ k h. let p : 1 + k - 1 ≡ k = omega arith in let q : 1 + k ≡ k + 1 = omega arith in rw (p, q)))
 
 pub no-bads : (l : Bads) → l.count ≡ 0 → length l.list ≡ 128 → zero_past l ≡ true → l ≡ no_bads
 no-bads l c e z =
@@ -326,17 +329,20 @@ no-bads l c e z =
 
 -- ---- what one bad block leaves
 
-pub before-below : (x from k : ℕ) → x < from → before x from k ≡ k
+pub before_below : (x from k : ℕ) → x < from → before x from k ≡ k
 unfolding before
-before-below x from k h = rw (lt-leb from x h)
+before_below x from k h = rw (lt-leb from x h)
 
-pub before-within : (x from k : ℕ) → from ≤ x → x - from < k → before x from k ≡ x - from
+before-within : (x from k : ℕ) → from ≤ x → x - from < k → before x from k ≡ x - from
 unfolding before
 before-within x from k h l = rw (le-leb from x h, lt-ltb (x - from) k l)
 
-pub before-past : (x from k : ℕ) → k ≤ x - from → before x from k ≡ k
+before-past : (x from k : ℕ) → k ≤ x - from → before x from k ≡ k
 unfolding before
 before-past x from k h = rw (le-ltb (x - from) k h, both_false (leb from x))
+
+pub before_min : (x from k : ℕ) → from ≤ x → before x from k ≡ min (x - from) k
+before_min x from k h = ⊎_elim (λ l. before-within x from k h l ∙ omega arith) (λ p. before-past x from k p ∙ omega arith) (lt_or_le (x - from) k)
 
 before-none : (x from : ℕ) → before x from 0 ≡ 0
 before-none x from = before-past x from 0 (omega arith)
@@ -346,7 +352,7 @@ before-first x from k e = before-within x from (suc k) (omega arith) (omega arit
 
 before-next : (x from k : ℕ) → (x ≡ from → ⊥) → before x from (suc k) ≡ suc (before x (suc from) k)
 before-next x from k ne =
-    ⊎_elim (λ b. before-below x from (suc k) b ∙ ap suc (sym (before-below x (suc from) k (omega arith))))
+    ⊎_elim (λ b. before_below x from (suc k) b ∙ ap suc (sym (before_below x (suc from) k (omega arith))))
     (λ b. ⊎_elim (λ w. within b w) (λ p. before-past x from (suc k) (omega arith) ∙ ap suc (sym (before-past x (suc from) k p))) (lt_or_le (x - suc from) k))
     (lt_or_le x from)
   where

@@ -9,6 +9,7 @@ ghost use Rattle.attached.specs.Parameters.{parameters_length, number_in, parame
 ghost use Rattle.attached.specs.Bad.{most_bad, bad_size, list_place, bad_length, list_length, bad_count, bad_length_ok, bads_in, held_of, bad_record, no_bads, ascends, are_blocks, list_ok, zero_past, bads_ok, good, before};
 
 // A drive's parameters are kind 4, and their record is 20 bytes.
+// Stays: kinds are numbers, as in `drive`.
 pub const PARAMETERS_KIND: u16 = 4;
 
 pub const PARAMETERS_LENGTH: u16 = 20;
@@ -21,29 +22,25 @@ pub fn number_in(r: &[u8]) -> u16
     requires { list_place ≤ length r.now }
     ensures { result ≡ number_in r.now }
 {
-    words::get16(r, 4)
+    words::get(r, 4)
 }
 
 // The bytes that a record gives, likewise.
-pub fn parameters_in(r: &[u8]) -> [u8; 14]
+pub fn parameters_in(r: &[u8]) -> [u8; GIVEN_LENGTH]
     requires { parameters_length ≤ length r.now }
     ensures { result ≡ parameters_in r.now }
 {
-    let mut p = [0u8; 14];
-    let from = 6;
-    let end = 20;
-    words::store(&mut p, 0, &r[from..end]);
-    p
+    words::load(r, 6)
 }
 
 // The record of a drive's number and its bytes.
-pub fn encode(number: u16, p: [u8; 14]) -> [u8; 20]
+pub fn encode(number: u16, p: [u8; GIVEN_LENGTH]) -> [u8; 20]
     ensures { result ≡ parameters_record number p }
 {
-    let mut r = [0u8; 20];
-    words::store16(&mut r, 0, PARAMETERS_LENGTH);
-    words::store16(&mut r, 2, PARAMETERS_KIND);
-    words::store16(&mut r, 4, number);
+    let mut r = [0; 20];
+    words::put(&mut r, 0, PARAMETERS_LENGTH);
+    words::put(&mut r, 2, PARAMETERS_KIND);
+    words::put(&mut r, 4, number);
     words::store(&mut r, 6, &p);
     r
 }
@@ -67,11 +64,12 @@ const LIST_PLACE: usize = 6;
 // The longest record of this kind.
 pub const LONGEST_BAD: usize = LIST_PLACE + LIST_LENGTH;
 
+// Stays: a count beside a buffer, since `bads_ok` promises an answer for any count and any bytes.
 // How many bad blocks a drive has, and their numbers, eight bytes each in ascending order; behind them zeros.
 #[derive(Clone, Copy)]
 pub struct Bads {
     pub count: u8,
-    pub list: [u8; 128],
+    pub list: [u8; LIST_LENGTH],
 }
 
 // No list.
@@ -80,21 +78,20 @@ pub fn no_bads() -> Bads
 {
     Bads {
         count: 0,
-        list: [0u8; 128],
+        list: [0; LIST_LENGTH],
     }
 }
 
 // How many numbers a record of that length has.
+#[tactic(auto, unfolding(crate::specs::Bad::bad_count))]
 fn bad_count(size: usize) -> usize
     ensures { result ≡ bad_count size }
 {
-    if size < LIST_PLACE {
-        return 0;
-    }
-    (size - LIST_PLACE) / BAD_SIZE
+    size.saturating_sub(LIST_PLACE) / BAD_SIZE
 }
 
 // The length of a record of one to sixteen numbers.
+#[tactic(auto, using(crate::proofs::BadLaws::bad_count_few), unfolding(crate::specs::Bad::bad_length_ok))]
 pub fn bad_length_ok(size: u16) -> bool
     ensures { result ≡ bad_length_ok size }
 {
@@ -105,13 +102,13 @@ pub fn bad_length_ok(size: u16) -> bool
 }
 
 // The bad blocks that a record gives. The table's reader has found the record whole and its length good.
+#[tactic(auto, using(crate::proofs::BadLaws::bad_count_few))]
 pub fn bads_in(r: &[u8]) -> Bads
     requires { (list_place ≤ length r.now) × (length r.now ≤ list_place + list_length) }
     ensures { result ≡ bads_in r.now }
 {
-    let mut list = [0u8; 128];
-    let from = LIST_PLACE;
-    words::store(&mut list, 0, &r[from..]);
+    let mut list = [0; LIST_LENGTH];
+    words::store(&mut list, 0, &r[LIST_PLACE..]);
     Bads {
         count: bad_count(r.len()) as u8,
         list,
@@ -119,11 +116,11 @@ pub fn bads_in(r: &[u8]) -> Bads
 }
 
 // Of a count, how many numbers a list has room for.
+#[tactic(auto, unfolding(crate::specs::Bad::held_of))]
 fn held(n: u8) -> usize
     ensures { (result ≡ held_of n) × (result ≤ most_bad) }
 {
-    let count = n as usize;
-    if count < MOST_BAD { count } else { MOST_BAD }
+    (n as usize).min(MOST_BAD)
 }
 
 // The length of the record of n numbers.
@@ -138,36 +135,27 @@ pub fn put_bads(l: Bads, number: u16, out: &mut [u8], at: usize)
     requires { at + bad_length (held_of l.count) ≤ length out.old }
     ensures { out.new ≡ sets out.old at (bad_record number l) }
 {
-    let list = l.list;
     let size = BAD_SIZE * held(l.count);
-    words::store16(out, at, (LIST_PLACE + size) as u16);
-    words::store16(out, at + 2, BAD_KIND);
-    words::store16(out, at + 4, number);
-    words::store(out, at + LIST_PLACE, &list[..size]);
+    words::put(out, at, (LIST_PLACE + size) as u16);
+    words::put(out, at + 2, BAD_KIND);
+    words::put(out, at + 4, number);
+    words::store(out, at + LIST_PLACE, &l.list[..size]);
 }
 
 // ---- a list that is taken
 
 // Number j of a list of sixteen.
-fn bad_at(list: &[u8; 128], j: usize) -> u64
+fn bad_at(list: &[u8; LIST_LENGTH], j: usize) -> u64
     requires { j < most_bad }
     ensures { result ≡ le 8 list.now (bad_size * j) }
 {
-    words::get64(list, BAD_SIZE * j)
+    words::get(list, BAD_SIZE * j)
 }
 
 fn ascends(l: Bads) -> bool
     ensures { result ≡ ascends l }
 {
-    let list = l.list;
-    let n = held(l.count);
-    let mut good = true;
-    let mut j = 0;
-    while j + 1 < n {
-        good = logic::and(bad_at(&list, j) < bad_at(&list, j + 1), good);
-        j += 1;
-    }
-    good
+    (1..held(l.count)).all(|j| bad_at(&l.list, j - 1) < bad_at(&l.list, j))
 }
 
 // Of numbers that ascend the last is the greatest: it alone is looked at.
@@ -175,38 +163,28 @@ fn are_blocks(l: Bads, blocks: u64) -> bool
     requires { ascends l ≡ true }
     ensures { result ≡ are_blocks l blocks }
 {
-    let list = l.list;
-    let n = held(l.count);
-    if n == 0 {
-        return true;
+    match held(l.count) {
+        0 => true,
+        n => bad_at(&l.list, n - 1) < blocks,
     }
-    bad_at(&list, n - 1) < blocks
 }
 
 // Ascending numbers of blocks of a drive that has so many.
+#[tactic(auto, unfolding(crate::specs::Bad::list_ok))]
 pub fn list_ok(l: Bads, blocks: u64) -> bool
     ensures { result ≡ list_ok l blocks }
 {
-    if ascends(l) {
-        return are_blocks(l, blocks);
-    }
-    false
+    ascends(l) && are_blocks(l, blocks)
 }
 
 fn zero_past(l: Bads) -> bool
     ensures { result ≡ zero_past l }
 {
-    let list = l.list;
-    let mut zero = true;
-    let mut j = held(l.count);
-    while j < MOST_BAD {
-        zero = logic::and(bad_at(&list, j) == 0, zero);
-        j += 1;
-    }
-    zero
+    (held(l.count)..MOST_BAD).all(|j| bad_at(&l.list, j) == 0)
 }
 
 // What a slot of a table may hold for a drive of so many blocks.
+#[tactic(auto, unfolding(crate::specs::Bad::bads_ok))]
 pub fn bads_ok(l: Bads, blocks: u64) -> bool
     ensures { result ≡ bads_ok l blocks }
 {
@@ -217,6 +195,7 @@ pub fn bads_ok(l: Bads, blocks: u64) -> bool
 // ---- the blocks before the first bad one
 
 // What one bad block leaves of k blocks.
+#[tactic(auto, using(crate::proofs::BadLaws::before_below, crate::proofs::BadLaws::before_min))]
 fn before(x: u64, from: u64, k: u64) -> u64
     ensures { result ≡ before x from k }
 {
@@ -224,20 +203,17 @@ fn before(x: u64, from: u64, k: u64) -> u64
         return k;
     }
     let n = x - from;
-    if n < k { n } else { k }
+    n.min(k)
 }
 
 // Of k blocks from a block on, how many come before the first bad one. One look at each bad block, however many the blocks are.
+#[tactic(auto, using(crate::proofs::BadLaws::good_to_none, crate::proofs::BadLaws::good_to_more))]
 pub fn good(l: Bads, from: u64, k: u64) -> u64
     ensures { (result ≡ good l from k) × (result ≤ k) }
 {
-    let list = l.list;
-    let n = held(l.count);
     let mut left = k;
-    let mut j = 0;
-    while j < n {
-        left = before(bad_at(&list, j), from, left);
-        j += 1;
+    for j in 0..held(l.count) {
+        left = before(bad_at(&l.list, j), from, left);
     }
     left
 }

@@ -2,6 +2,7 @@
 -- Assumes nothing.
 use mathlib.Core.Path.{◌≡◌, refl, ap, ◌∙◌}
 use mathlib.Core.Logic.{◌↔◌}
+use mathlib.Core.List.{[], ◌∷◌}
 use mathlib.Core.Bool.{Bool, true, false}
 use Prim.Native.Nat.{ℕ, ◌+◌, ◌-◌, ◌*◌, ◌/◌, ◌%◌, ◌≤◌, ◌<◌}
 use native.Mathlib.Nat.{mod-lt, div-add-mod', div-lt_iff_lt-mul}
@@ -9,12 +10,11 @@ use native.Mathlib.Omega.{arith}
 use borrow.Author.Tests.{lt-ltb, le-leb, ltb-true}
 use lib.Arith.{digits_div, digits_mod}
 use lib.Dec.{ltb}
+use Rattle.std.specs.Prelude.{Ok, Err}
 use Rattle.logic.proofs.LogicLaws.{impossible}
 use Rattle.chs.specs.declared.Geometry.{Geometry}
 use Rattle.chs.specs.declared.Address.{Address}
-use Rattle.chs.specs.declared.ToBlock.TheVariants.{Block, Refused as NoBlock}
-use Rattle.chs.specs.declared.ToAddress.TheVariants.{At, Refused as NoAddress}
-use Rattle.chs.specs.Chs.{outside, unpack, is_valid, number, size, split, in_limits, block_of, address_of, pack}
+use Rattle.chs.specs.Chs.{unpack, is_valid, number, size, split, in_limits, outside, block_of, address_of, block_numbers, address_numbers, pack}
 use Rattle.chs.specs.Demand2.{Valid, Demand2}
 use Rattle.chs.proofs.ChsLaws.{in_limits_true, is_valid_true, limits-in_limits, valid_is_valid, number_digits, sector_below, number-below, block_of-limits, block_of_invalid, block_of_valid, address_of-limits, address_of_above, address_of-below}
 
@@ -49,35 +49,35 @@ split_valid g n l h =
 -- ---- one to one, by the cases of the two tests
 
 to_address : (g : Geometry) (a : Address) (n : ℕ) (l v : Bool) →
-    in_limits g ≡ l → is_valid g a ≡ v → block_of g a ≡ Block n → address_of g n ≡ At a
+    in_limits g ≡ l → is_valid g a ≡ v → block_of g a ≡ Ok n → address_of g n ≡ Ok a
 to_address g a n true true l v e =
     let w = is_valid_true g a v in
     let same : number g a ≡ n = cc (block_of_valid g a l v) in
-    rw (← same) (address_of-below g (number g a) l (lt-ltb _ _ (number-below g a w)) ∙ ap At (split-number g a w))
+    rw (← same) (address_of-below g (number g a) l (lt-ltb _ _ (number-below g a w)) ∙ ap Ok (split-number g a w))
 to_address g a n true false l v e = impossible (cc (block_of_invalid g a l v))
 to_address g a n false v l f e = impossible (cc (block_of-limits g a l))
 
 to_block : (g : Geometry) (a : Address) (n : ℕ) (l v : Bool) →
-    in_limits g ≡ l → ltb n (size g) ≡ v → address_of g n ≡ At a → block_of g a ≡ Block n
+    in_limits g ≡ l → ltb n (size g) ≡ v → address_of g n ≡ Ok a → block_of g a ≡ Ok n
 to_block g a n true true l v e =
     let same : split g n ≡ a = cc (address_of-below g n l v) in
-    rw (← same) (block_of_valid g (split g n) l (split_valid g n l (ltb-true _ _ v)) ∙ ap Block (number-split g n))
+    rw (← same) (block_of_valid g (split g n) l (split_valid g n l (ltb-true _ _ v)) ∙ ap Ok (number-split g n))
 to_block g a n true false l v e = impossible (cc (address_of_above g n l v))
 to_block g a n false v l f e = impossible (cc (address_of-limits g n l))
 
 -- an address has the block n exactly when the block n has that address
-pub one_to_one : (g : Geometry) (a : Address) (n : ℕ) → (block_of g a ≡ Block n) ↔ (address_of g n ≡ At a)
+pub one_to_one : (g : Geometry) (a : Address) (n : ℕ) → (block_of g a ≡ Ok n) ↔ (address_of g n ≡ Ok a)
 one_to_one g a n = (to_address g a n (in_limits g) (is_valid g a) refl refl, to_block g a n (in_limits g) (ltb n (size g)) refl refl)
 
 -- ---- demand 2
 
 -- an address with a block is valid
-block_valid : (g : Geometry) (a : Address) (n : ℕ) (v : Bool) → in_limits g ≡ true → is_valid g a ≡ v → block_of g a ≡ Block n → Valid g a
+block_valid : (g : Geometry) (a : Address) (n : ℕ) (v : Bool) → in_limits g ≡ true → is_valid g a ≡ v → block_of g a ≡ Ok n → Valid g a
 block_valid g a n true l v e = is_valid_true g a v
 block_valid g a n false l v e = impossible (cc (block_of_invalid g a l v))
 
 -- a block with an address is below the size
-address_below : (g : Geometry) (a : Address) (n : ℕ) (v : Bool) → in_limits g ≡ true → ltb n (size g) ≡ v → address_of g n ≡ At a → n < size g
+address_below : (g : Geometry) (a : Address) (n : ℕ) (v : Bool) → in_limits g ≡ true → ltb n (size g) ≡ v → address_of g n ≡ Ok a → n < size g
 address_below g a n true l v e = ltb-true _ _ v
 address_below g a n false l v e = impossible (cc (address_of_above g n l v))
 
@@ -92,10 +92,18 @@ demand2 g limits =
       only_below = λ a n e. address_below g a n (ltb n (size g)) l refl e;
     }
 
+no_block : block_numbers (Err (record {})) ≡ outside ∷ []
+unfolding block_numbers
+no_block = refl
+
+no_address : address_numbers (Err (record {})) ≡ outside ∷ []
+unfolding address_numbers
+no_address = refl
+
 -- a geometry outside the limits refuses both ways, whatever the argument
 pub outside-limits : (g : Geometry) → in_limits g ≡ false →
-    ((a : Address) → block_of g a ≡ NoBlock outside) × ((n : ℕ) → address_of g n ≡ NoAddress outside)
-outside-limits g l = (λ a. block_of-limits g a l, λ n. address_of-limits g n l)
+    ((a : Address) → block_numbers (block_of g a) ≡ outside ∷ []) × ((n : ℕ) → address_numbers (address_of g n) ≡ outside ∷ [])
+outside-limits g l = (λ a. ap block_numbers (block_of-limits g a l) ∙ no_block, λ n. ap address_numbers (address_of-limits g n l) ∙ no_address)
 
 -- ---- the registers
 

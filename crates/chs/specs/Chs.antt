@@ -1,14 +1,11 @@
 -- Cylinder, head and sector addresses, block numbers, and their registers (document 01).
 -- Assumes nothing.
-use Rattle.std.specs.Prelude.{ℕ, ◌+◌, ◌-◌, ◌*◌, ◌/◌, ◌%◌, Bool, List, [], ◌∷◌, ltb}
+use Rattle.std.specs.Prelude.{ℕ, ◌+◌, ◌-◌, ◌*◌, ◌/◌, ◌%◌, Bool, List, [], ◌∷◌, ltb, Result, Ok, Err}
 use Rattle.logic.specs.Logic.{pick, both, in_range}
 use Rattle.chs.specs.declared.Geometry.{Geometry}
 use Rattle.chs.specs.declared.Address.{Address}
 use Rattle.chs.specs.declared.CylinderSector.{CylinderSector}
-use Rattle.chs.specs.declared.ToBlock.{ToBlock}
-use Rattle.chs.specs.declared.ToBlock.TheVariants.{Block, Refused as NoBlock}
-use Rattle.chs.specs.declared.ToAddress.{ToAddress}
-use Rattle.chs.specs.declared.ToAddress.TheVariants.{At, Refused as NoAddress}
+use Rattle.chs.specs.declared.Outside.{Outside}
 
 -- ---- "Numbers given back"
 
@@ -64,25 +61,25 @@ most_sectors = 63
 unfoldable pub in_limits : Geometry → Bool
 in_limits g = both (in_range g.c 1 most_cylinders) (both (in_range g.h 1 most_heads) (in_range g.s 1 most_sectors))
 
--- the block of an address; outside the limits or the geometry, 04h
-unfoldable pub block_of : Geometry → Address → ToBlock
-block_of g a = pick (both (in_limits g) (is_valid g a)) (Block (number g a)) (NoBlock outside)
+-- the block of an address; none outside the limits or the geometry, and then the answer is 04h
+unfoldable pub block_of : Geometry → Address → Result ℕ Outside
+block_of g a = pick (both (in_limits g) (is_valid g a)) (Ok (number g a)) (Err (record {}))
 
--- for a block below C x H x S, the one valid address that gives it; any other block is 04h
-unfoldable pub address_of : Geometry → ℕ → ToAddress
-address_of g n = pick (both (in_limits g) (ltb n (size g))) (At (split g n)) (NoAddress outside)
+-- for a block below C x H x S, the one valid address that gives it; any other block has none, 04h
+unfoldable pub address_of : Geometry → ℕ → Result Address Outside
+address_of g n = pick (both (in_limits g) (ltb n (size g))) (Ok (split g n)) (Err (record {}))
 
 -- ---- "Forms we want to see": the answers as numbers, 0 and the values, or the code
 
 -- of an address: its block
-unfoldable pub block_numbers : ToBlock → List ℕ
-block_numbers (Block n) = 0 ∷ n ∷ []
-block_numbers (NoBlock code) = code ∷ []
+unfoldable pub block_numbers : Result ℕ Outside → List ℕ
+block_numbers (Ok n) = 0 ∷ n ∷ []
+block_numbers (Err e) = outside ∷ []
 
 -- of a block: its cylinder, head and sector
-unfoldable pub address_numbers : ToAddress → List ℕ
-address_numbers (At a) = 0 ∷ a.cylinder ∷ a.head ∷ a.sector ∷ []
-address_numbers (NoAddress code) = code ∷ []
+unfoldable pub address_numbers : Result Address Outside → List ℕ
+address_numbers (Ok a) = 0 ∷ a.cylinder ∷ a.head ∷ a.sector ∷ []
+address_numbers (Err e) = outside ∷ []
 
 -- the numbers for an address, by the paper's formula
 unfoldable pub block_given : Geometry → Address → List ℕ

@@ -18,7 +18,7 @@ const MOST_HEADS: u64 = 255;
 const MOST_SECTORS: u64 = 63;
 
 // C, H and S.
-#[derive(Clone, Copy)]
+#[derive(Clone, Copy, PartialEq, Eq, Debug)]
 pub struct Geometry {
     pub c: u32,
     pub h: u32,
@@ -26,7 +26,7 @@ pub struct Geometry {
 }
 
 // Cylinder and head count from 0, sector from 1.
-#[derive(Clone, Copy)]
+#[derive(Clone, Copy, PartialEq, Eq, Debug)]
 pub struct Address {
     pub cylinder: u32,
     pub head: u32,
@@ -34,29 +34,20 @@ pub struct Address {
 }
 
 // What CX says.
-#[derive(Clone, Copy)]
+#[derive(Clone, Copy, PartialEq, Eq, Debug)]
 pub struct CylinderSector {
     pub cylinder: u16,
     pub sector: u16,
 }
 
-// A block number, or the BIOS code of the refusal.
-#[derive(Clone, Copy)]
-pub enum ToBlock {
-    Block(u32),
-    Refused(u8),
-}
-
-// An address, or the BIOS code of the refusal.
-#[derive(Clone, Copy)]
-pub enum ToAddress {
-    At(Address),
-    Refused(u8),
-}
+// Why there is no block or no address: the geometry is outside the limits, or what is asked for outside the geometry.
+#[derive(Clone, Copy, PartialEq, Eq, Debug)]
+pub struct Outside;
 
 // ---- geometry
 
 // Whether C, H and S are within the table's limits.
+#[tactic(auto, unfolding(crate::specs::Chs::in_limits))]
 pub fn in_limits(g: Geometry) -> bool
     ensures { result ≡ in_limits g }
 {
@@ -70,6 +61,7 @@ pub fn in_limits(g: Geometry) -> bool
 }
 
 // How many blocks the geometry has. Asks for the limits, without which the product need not fit in 32 bits.
+#[tactic(auto, using(crate::proofs::ChsLaws::tracks_high, crate::proofs::ChsLaws::size_high))]
 fn size_of(g: Geometry) -> u32
     requires { in_limits g ≡ true }
     ensures { result ≡ size g }
@@ -79,6 +71,7 @@ fn size_of(g: Geometry) -> u32
 
 // ---- from an address to its block
 
+#[tactic(auto, unfolding(crate::specs::Chs::is_valid))]
 fn is_valid(g: Geometry, a: Address) -> bool
     ensures { result ≡ is_valid g a }
 {
@@ -88,6 +81,7 @@ fn is_valid(g: Geometry, a: Address) -> bool
     )
 }
 
+#[tactic(auto, using(crate::proofs::ChsLaws::track_fits, crate::proofs::ChsLaws::number_fits, crate::proofs::ChsLaws::sector_least))]
 fn number(g: Geometry, a: Address) -> u32
     requires { (in_limits g ≡ true) × (is_valid g a ≡ true) }
     ensures { result ≡ number g a }
@@ -96,21 +90,23 @@ fn number(g: Geometry, a: Address) -> u32
 }
 
 // The block of an address. Refused: a geometry outside the limits, first, or an address that is not valid in it.
-pub fn block_of(g: Geometry, a: Address) -> ToBlock
+#[tactic(auto, unfolding(crate::specs::Chs::block_of, crate::specs::Chs::block_numbers, crate::specs::Chs::block_given))]
+pub fn block_of(g: Geometry, a: Address) -> Result<u32, Outside>
     ensures { (result ≡ block_of g a) × (block_numbers result ≡ block_given g a) }
 {
     if !in_limits(g) {
-        return ToBlock::Refused(OUTSIDE);
+        return Err(Outside);
     }
     if !is_valid(g, a) {
-        return ToBlock::Refused(OUTSIDE);
+        return Err(Outside);
     }
-    ToBlock::Block(number(g, a))
+    Ok(number(g, a))
 }
 
 // ---- from a block to its address
 
 // Numbers of 32 bits are divided, and nothing wider (2026-05).
+#[tactic(auto, using(crate::proofs::ChsLaws::heads_pos, crate::proofs::ChsLaws::sectors_pos, crate::proofs::ChsLaws::sector_most))]
 fn split(g: Geometry, n: u32) -> Address
     requires { in_limits g ≡ true }
     ensures { result ≡ split g n }
@@ -124,16 +120,17 @@ fn split(g: Geometry, n: u32) -> Address
 
 // The one valid address of a block. Refused: a geometry outside the limits, first, or a block at or past its end.
 // The block is compared in 64 bits and divided in 32, so that block 2^32 is refused and not taken for block 0.
-pub fn address_of(g: Geometry, n: u64) -> ToAddress
+#[tactic(auto, unfolding(crate::specs::Chs::address_of, crate::specs::Chs::address_numbers, crate::specs::Chs::address_given))]
+pub fn address_of(g: Geometry, n: u64) -> Result<Address, Outside>
     ensures { (result ≡ address_of g n) × (address_numbers result ≡ address_given g n) }
 {
     if !in_limits(g) {
-        return ToAddress::Refused(OUTSIDE);
+        return Err(Outside);
     }
     if n < size_of(g) as u64 {
-        ToAddress::At(split(g, n as u32))
+        Ok(split(g, n as u32))
     } else {
-        ToAddress::Refused(OUTSIDE)
+        Err(Outside)
     }
 }
 

@@ -3,22 +3,22 @@
 use mathlib.Core.Path.{◌≡◌, refl, sym, ap, ◌∙◌}
 use mathlib.Core.Bool.{Bool, true, false, not}
 use mathlib.Core.List.{List, [], ◌++◌, append-nil}
-use Prim.Native.Nat.{ℕ, ◌+◌, ◌^◌, ◌≤◌, ◌<◌}
+use Prim.Native.Nat.{ℕ, ◌+◌, ◌-◌, ◌^◌, ◌≤◌, ◌<◌}
 use native.Mathlib.Nat.{le_refl, add_assoc}
 use native.Mathlib.Omega.{arith}
 use lib.Dec.{eqb}
-use lib.ListN.{length, get_or, drop, replicate, length-append, length-drop, get_or-append}
-use lib.Seq.{sets, drop_at, take_all, take-add, drop-drop, get_or-take, get_or-drop, ext_get_or, length-take-le}
+use lib.ListN.{drop_of_length-le, length, get_or, take, drop, replicate, length-append, length-drop, get_or-append}
+use lib.Seq.{sets, length-sets, drop_at, take_at, take_all, take-add, drop-drop, get_or-take, get_or-drop, ext_get_or, length-take-le}
 use borrow.Author.Tests.{eq-eqb, eqb-true}
 use Rattle.logic.specs.Logic.{both, either}
 use Rattle.logic.proofs.LogicLaws.{both_true, both_intro, either_left, true≢false}
 use Rattle.words.specs.Words.{Bytes, le, le_bytes, part}
-use Rattle.words.proofs.WordsLaws.{le_ext, length-le_bytes, read-write, write_read, sets-append, sets-whole}
+use Rattle.words.proofs.WordsLaws.{le_ext, length-le_bytes, read-write, write_read, sets-append, sets_front}
 use Rattle.drive.specs.declared.Drive.{Drive}
 use Rattle.drive.specs.Drive.{drive_length, tail_of, drive_of, same, i2o, interface_ok, is_i2o, zero_tail, kind_ok, geometry_fits, fields_ok}
 use Rattle.drive.proofs.DriveLaws.{length-least, length_most, kind-good, same_true}
 use Rattle.layout.proofs.ResultBufferLaws.{of_kind}
-use Rattle.convert.specs.Convert.{is_record, sound_record, shared, up_bytes, up_ok, down_bytes, down_ok}
+use Rattle.convert.specs.Convert.{is_record, sound_record, shared, converts, converted_bytes, up_bytes, up_ok, down_bytes, down_ok}
 
 -- ---- a record of its kind
 
@@ -39,6 +39,9 @@ pub is-record : (k : ℕ) (r : List ℕ) → Header k r → is_record k r ≡ tr
 unfolding is_record
 is-record k r h = rw (eq-eqb _ _ h.size, eq-eqb _ _ h.length_word, eq-eqb _ _ h.kind_word)
 
+pub least : (k : ℕ) → 68 ≤ drive_length k
+least k = length-least k
+
 pub record_long : (k : ℕ) (r : List ℕ) → Header k r → 68 ≤ length r
 record_long k r h = rw h.size (length-least k)
 
@@ -54,26 +57,11 @@ pub sound_fields : (k : ℕ) (r : List ℕ) → sound_record k r ≡ true → fi
 unfolding sound_record
 sound_fields k r e = (both_true (is_record k r) (fields_ok (drive_of r)) e).1
 
--- ---- what a conversion that is not refused has
-
-pub up_room : (r : List ℕ) (room : ℕ) → up_ok r room ≡ true → room ≡ 76
-unfolding up_ok
-up_room r room e = eqb-true room 76 (both_true (eqb room 76) (sound_record 1 r) e).0
-
-pub up_sound : (r : List ℕ) (room : ℕ) → up_ok r room ≡ true → sound_record 1 r ≡ true
-unfolding up_ok
-up_sound r room e = (both_true (eqb room 76) (sound_record 1 r) e).1
-
-pub up_long : (r : List ℕ) (room : ℕ) → up_ok r room ≡ true → 68 ≤ length r
-up_long r room e = record_long 1 r (sound_header 1 r (up_sound r room e))
+-- ---- what a conversion down that is not refused has
 
 -- a record of kind 1 can say this drive too
 abbrev pub narrow : Drive → Bool
 narrow d = both (zero_tail d) (not (is_i2o d))
-
-pub down-room : (r : List ℕ) (room : ℕ) → down_ok r room ≡ true → room ≡ 68
-unfolding down_ok
-down-room r room e = eqb-true room 68 (both_true (eqb room 68) (both (sound_record 2 r) (narrow (drive_of r))) e).0
 
 pub down_sound : (r : List ℕ) (room : ℕ) → down_ok r room ≡ true → sound_record 2 r ≡ true
 unfolding down_ok
@@ -82,9 +70,6 @@ down_sound r room e = (both_true (sound_record 2 r) (narrow (drive_of r)) (both_
 pub down-narrow : (r : List ℕ) (room : ℕ) → down_ok r room ≡ true → narrow (drive_of r) ≡ true
 unfolding down_ok
 down-narrow r room e = (both_true (sound_record 2 r) (narrow (drive_of r)) (both_true (eqb room 68) (both (sound_record 2 r) (narrow (drive_of r))) e).1).1
-
-pub down_long : (r : List ℕ) (room : ℕ) → down_ok r room ≡ true → 68 ≤ length r
-down_long r room e = record_long 2 r (sound_header 2 r (down_sound r room e))
 
 -- ---- what the code stores
 
@@ -104,15 +89,18 @@ module _ (r : List ℕ) (long : 68 ≤ length r) where
   unfolding up_bytes
   length_up = simp (length-append, length-shared)
 
-  pub up_stores : {o₁ o₂ : List ℕ} (s : List ℕ) → length s ≡ 76 → o₁ ≡ sets s 0 (shared 2 r) → o₂ ≡ sets o₁ 68 (replicate 8 0) → o₂ ≡ up_bytes r
-  unfolding up_bytes
-  up_stores s l e₁ e₂ =
-      let a : sets s 0 (up_bytes r) ≡ sets (sets s 0 (shared 2 r)) 68 (replicate 8 0) = simp (sets-append, length-shared) in
-      rw (e₂, e₁) (sym a ∙ sets-whole s (up_bytes r) (l ∙ sym length_up))
-
-  pub down_stores : {o : List ℕ} (s : List ℕ) → length s ≡ 68 → o ≡ sets s 0 (shared 1 r) → o ≡ down_bytes r
-  unfolding down_bytes
-  down_stores s l e = e ∙ sets-whole s (shared 1 r) (l ∙ sym (length-shared 1))
+  -- the bytes shared, and zeros over what is left
+  pub converted_stores : {o₁ o₂ o₃ z : List ℕ} (s : List ℕ) (k : ℕ) → length s ≡ drive_length k
+      → o₁ ≡ sets s 0 (le_bytes 2 (drive_length k)) → o₂ ≡ sets o₁ 2 (le_bytes 2 k) → o₃ ≡ sets o₂ 4 (part 64 r 4)
+      → z ≡ replicate (length (part (length o₃ - 68) o₃ 68)) 0 → take 68 o₃ ++ (z ++ drop (length o₃ - 68) (drop 68 o₃)) ≡ converted_bytes k r
+  unfolding converted_bytes
+  converted_stores {o₃ = o₃} s k l e₁ e₂ e₃ ez =
+      let n = length-shared k in
+      let o : o₃ ≡ shared k r ++ drop 68 s = rw (e₃, e₂, e₁, ← shared_stores s k r) (rw n at (sets_front s (shared k r) (omega (arith, length-least k)))) in
+      let m : length o₃ ≡ drive_length k = rw (e₃, e₂, e₁) (simp length-sets l) in
+      let rest : length (part (length o₃ - 68) o₃ 68) ≡ drive_length k - 68 = rw (length-take-le (length o₃ - 68) (drop 68 o₃) (simp length-drop (omega arith)), m) refl in
+      let none : drop (length o₃ - 68) (drop 68 o₃) ≡ [] = drop_of_length-le (drop 68 o₃) (simp length-drop (omega arith)) in
+      rw (none, append-nil, ez, rest, o, take_at (shared k r) (drop 68 s) 68 n) refl
 
   -- ---- the bytes behind length and kind are those that were there
 
@@ -305,6 +293,36 @@ sound_down r e z =
     let l = record_long 2 r h in
     let n : length (shared 1 r ++ []) ≡ 68 = rw append-nil (length-shared r l 1) in
     rw (down-nothing r) (sound_shared 1 r [] l (omega arith) n (tail-down r l) (good-down (drive_of r) h.kind_word z (sound_fields 2 r e)))
+
+-- ---- both ways in one
+
+-- a sound record of kind 1 has nothing that kind 1 cannot say
+narrow_sound : (r : List ℕ) → sound_record 1 r ≡ true → narrow (drive_of r) ≡ true
+unfolding drive_of is_i2o zero_tail same
+narrow_sound r e =
+    let h = sound_header 1 r e in
+    let f = sound_fields 1 r e in
+    rw (tail-narrow r h, six_i2o (drive_of r).interface (six_narrow (drive_of r) h.kind_word f))
+
+pub up_converts : (r : List ℕ) (room : ℕ) → converts 1 2 r room ≡ up_ok r room
+unfolding converts up_ok
+up_converts r room = by_test (eqb room 76) (sound_record 1 r) refl
+  where
+    by_test : (t u : Bool) → sound_record 1 r ≡ u → both t (both u (narrow (drive_of r))) ≡ both t u
+    by_test t true e = rw (narrow_sound r e)
+    by_test t false e = refl
+
+pub down_converts : (r : List ℕ) (room : ℕ) → converts 2 1 r room ≡ down_ok r room
+unfolding converts down_ok
+down_converts r room = refl
+
+pub up_converted : (r : List ℕ) → converted_bytes 2 r ≡ up_bytes r
+unfolding converted_bytes up_bytes
+up_converted r = refl
+
+pub down_converted : (r : List ℕ) → converted_bytes 1 r ≡ down_bytes r
+unfolding converted_bytes down_bytes
+down_converted r = append-nil (shared 1 r)
 
 -- ---- up and down, down and up
 

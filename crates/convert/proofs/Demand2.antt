@@ -15,23 +15,25 @@ use Rattle.drive.specs.Drive.{drive_length, drive_of, same, i2o, is_i2o, zero_ta
 use Rattle.layout.specs.declared.Pointer.{Pointer}
 use Rattle.layout.specs.ResultBuffer.{result_answer, result_out}
 use Rattle.layout.proofs.ResultBufferLaws.{kind-answer, kind-out}
-use Rattle.convert.specs.Convert.{is_record, sound_record, up_bytes, up_ok, up_answer, up_out, down_bytes, down_ok, down_answer, down_out}
+use Rattle.convert.specs.Convert.{conversion_number, answer, is_record, sound_record, up_bytes, up_ok, up_answer, up_out, down_bytes, down_ok, down_answer, down_out}
 use Rattle.convert.specs.Demand2.{Demand2}
 use Rattle.convert.proofs.ConvertLaws.{narrow, down_sound, down-narrow, sound_header, kind-up, sound_up, sound_down, narrow-up, up-down, tail-wide, down-up}
 
 -- an answer of 0 is one that was not refused
-passed : (t : Bool) → pick {A = ℕ} t 0 10 ≡ 0 → t ≡ true
+passed : (t : Bool) → conversion_number (answer t) ≡ 0 → t ≡ true
+unfolding conversion_number
 passed true e = refl
 passed false e = impossible (cc)
 
 -- and 10 one that was
-refused : (z i : Bool) → (pick {A = ℕ} (both z (not i)) 0 10 ≡ 10) ↔ (either (not z) i ≡ true)
+refused : (z i : Bool) → (conversion_number (answer (both z (not i))) ≡ 10) ↔ (either (not z) i ≡ true)
+unfolding conversion_number
 refused true true = (λ e. refl, λ e. refl)
 refused true false = (λ e. impossible (cc), λ e. impossible (cc))
 refused false i = (λ e. refl, λ e. refl)
 
 refusals : (r : List ℕ) → sound_record 2 r ≡ true
-    → (down_answer r 68 ≡ 10) ↔ (either (not (same (part 8 r 68) (replicate 8 0))) (same (part 8 r 44) i2o) ≡ true)
+    → (conversion_number (down_answer r 68) ≡ 10) ↔ (either (not (same (part 8 r 68) (replicate 8 0))) (same (part 8 r 44) i2o) ≡ true)
 unfolding down_answer down_ok drive_of zero_tail is_i2o
 refusals r e = rw (e, tail-wide r (sound_header 2 r e)) (refused (same (part 8 r 68) (replicate 8 0)) (same (part 8 r 44) i2o))
 
@@ -49,12 +51,13 @@ unfolding sound_record is_record
 long kind r e = eqb-true (length r) (drive_length kind) (both_true _ _ (both_true _ _ e).0).0
 
 -- what is left of a buffer by an answer
-leaves : (t : Bool) (x out : List ℕ) → ((pick {A = ℕ} t 0 10 ≡ 0) × (pick t x out ≡ x)) ⊎ ((pick {A = ℕ} t 0 10 ≡ 10) × (pick t x out ≡ out))
+leaves : (t : Bool) (x out : List ℕ) → ((conversion_number (answer t) ≡ 0) × (pick t x out ≡ x)) ⊎ ((conversion_number (answer t) ≡ 10) × (pick t x out ≡ out))
+unfolding conversion_number
 leaves true x out = inl (refl, refl)
 leaves false x out = inr (refl, refl)
 
 pub demand_2 : Demand2
-unfolding up_answer up_ok up_out down_answer down_ok down_out
+unfolding conversion_number up_answer up_ok up_out down_answer down_ok down_out
 demand_2 r b =
     record {
       up = ups;
@@ -68,24 +71,24 @@ demand_2 r b =
       answers = answers r;
     }
   where
-    up-only : (out : List ℕ) → up_answer r (length out) ≡ 0 → (length r ≡ 68) × (length out ≡ 76) × (sound_record 1 r ≡ true)
+    up-only : (out : List ℕ) → conversion_number (up_answer r (length out)) ≡ 0 → (length r ≡ 68) × (length out ≡ 76) × (sound_record 1 r ≡ true)
     up-only out e =
         let p = both_true (eqb (length out) 76) (sound_record 1 r) (passed (up_ok r (length out)) e) in
         (long 1 r p.1, eqb-true (length out) 76 p.0, p.1)
 
-    down-only : (out : List ℕ) → down_answer r (length out) ≡ 0 → (length r ≡ 76) × (length out ≡ 68) × (sound_record 2 r ≡ true)
+    down-only : (out : List ℕ) → conversion_number (down_answer r (length out)) ≡ 0 → (length r ≡ 76) × (length out ≡ 68) × (sound_record 2 r ≡ true)
     down-only out e =
         let p = both_true (eqb (length out) 68) _ (passed (down_ok r (length out)) e) in
         let s = (both_true (sound_record 2 r) _ p.1).0 in
         (long 2 r s, eqb-true (length out) 68 p.0, s)
 
-    ups : sound_record 1 r ≡ true → (up_answer r 76 ≡ 0) × (sound_record 2 (up_bytes r) ≡ true)
+    ups : sound_record 1 r ≡ true → (conversion_number (up_answer r 76) ≡ 0) × (sound_record 2 (up_bytes r) ≡ true)
     ups e = (rw e, sound_up r e)
 
-    returned : sound_record 1 r ≡ true → (down_answer (up_bytes r) 68 ≡ 0) × (down_bytes (up_bytes r) ≡ r)
+    returned : sound_record 1 r ≡ true → (conversion_number (down_answer (up_bytes r) 68) ≡ 0) × (down_bytes (up_bytes r) ≡ r)
     returned e = (rw (both_intro (sound_record 2 (up_bytes r)) (narrow (drive_of (up_bytes r))) (sound_up r e) (narrow-up r e)), up-down r b (sound_header 1 r e))
 
-    again : down_answer r 68 ≡ 0 → (sound_record 1 (down_bytes r) ≡ true) × (up_bytes (down_bytes r) ≡ r)
+    again : conversion_number (down_answer r 68) ≡ 0 → (sound_record 1 (down_bytes r) ≡ true) × (up_bytes (down_bytes r) ≡ r)
     again e =
         let o : down_ok r 68 ≡ true = passed (down_ok r 68) e in
         let s = down_sound r 68 o in

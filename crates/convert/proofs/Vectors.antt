@@ -9,7 +9,7 @@ use lib.Seq.{sets}
 use Rattle.words.specs.Words.{le, le_bytes}
 use Rattle.chs.specs.Chs.{in_limits}
 use Rattle.drive.specs.Drive.{drive_of, tail_of, same, i2o, bus_ok, interface_ok, is_i2o, zero_tail, kind_ok, geometry_fits, fields_ok, in_store, overlap}
-use Rattle.convert.specs.Convert.{is_record, sound_record, shared, up_bytes, up_ok, up_answer, up_out, down_bytes, down_ok, down_answer, down_out}
+use Rattle.convert.specs.Convert.{conversion_number, is_record, sound_record, shared, up_bytes, up_ok, up_answer, up_out, down_bytes, down_ok, down_answer, down_out}
 
 -- ---- both ways
 
@@ -26,12 +26,12 @@ wide = 76 ∷ 0 ∷ 2 ∷ 0 ∷ 1 ∷ 2 ∷ 3 ∷ 4 ∷ 5 ∷ 6 ∷ 7 ∷ 8 ∷ 
 abbrev blank : ℕ → List ℕ
 blank n = replicate n 255
 
-pub up-own : (up_answer own 76 ≡ 0) × (up_out own (blank 76) ≡ wide)
-unfolding le le_bytes in_limits drive_of tail_of same bus_ok interface_ok is_i2o zero_tail kind_ok geometry_fits fields_ok is_record sound_record shared up_bytes up_ok up_answer up_out
+pub up-own : (conversion_number (up_answer own 76) ≡ 0) × (up_out own (blank 76) ≡ wide)
+unfolding le le_bytes in_limits drive_of tail_of same bus_ok interface_ok is_i2o zero_tail kind_ok geometry_fits fields_ok is_record sound_record shared up_bytes conversion_number up_ok up_answer up_out
 up-own = (refl, refl)
 
-pub down-wide : (down_answer wide 68 ≡ 0) × (down_out wide (blank 68) ≡ own)
-unfolding le le_bytes in_limits drive_of tail_of same bus_ok interface_ok is_i2o zero_tail kind_ok geometry_fits fields_ok is_record sound_record shared down_bytes down_ok down_answer down_out
+pub down-wide : (conversion_number (down_answer wide 68) ≡ 0) × (down_out wide (blank 68) ≡ own)
+unfolding le le_bytes in_limits drive_of tail_of same bus_ok interface_ok is_i2o zero_tail kind_ok geometry_fits fields_ok is_record sound_record shared down_bytes conversion_number down_ok down_answer down_out
 down-wide = (refl, refl)
 
 -- ---- refusals
@@ -42,10 +42,10 @@ with at bytes r = sets r at bytes
 
 -- the answer, and what is then in the buffer
 abbrev up_told : List ℕ × ℕ → ℕ × List ℕ
-up_told (r, room) = (up_answer r room, up_out r (blank room))
+up_told (r, room) = (conversion_number (up_answer r room), up_out r (blank room))
 
 abbrev down_told : List ℕ × ℕ → ℕ × List ℕ
-down_told (r, room) = (down_answer r room, down_out r (blank room))
+down_told (r, room) = (conversion_number (down_answer r room), down_out r (blank room))
 
 abbrev refused : List ℕ × ℕ → ℕ × List ℕ
 refused (r, room) = (10, blank room)
@@ -78,7 +78,7 @@ abbrev ups : List (List ℕ × ℕ)
 ups = (take 67 own, 76) ∷ (own ++ (0 ∷ []), 76) ∷ (own, 75) ∷ (own, 77) ∷ (own, 68) ∷ (wide, 68) ∷ (wide, 76) ∷ (take 67 (with 0 (67 ∷ []) own), 76) ∷ (with 0 (76 ∷ []) own, 76) ∷ (with 0 (67 ∷ []) own, 76) ∷ (with 1 (1 ∷ []) own, 76) ∷ (with 2 (0 ∷ []) own, 76) ∷ (with 2 (2 ∷ []) own, 76) ∷ (with 3 (1 ∷ []) own, 76) ∷ (with 44 i2o own, 76) ∷ (with 44 (83 ∷ 67 ∷ 83 ∷ 73 ∷ 32 ∷ 32 ∷ 32 ∷ 32 ∷ []) own, 76) ∷ (with 16 (replicate 8 0) own, 76) ∷ (with 32 (128 ∷ []) own, 76) ∷ (with 34 (replicate 2 0) own, 76) ∷ (with 16 (le_bytes 8 4999999) own, 76) ∷ (with 39 (2 ∷ []) own, 76) ∷ (with 40 (replicate 4 0) own, 76) ∷ ([], 76) ∷ []
 
 pub ups_refused : map up_told ups ≡ map refused ups
-unfolding le le_bytes in_limits drive_of tail_of same bus_ok interface_ok is_i2o zero_tail kind_ok geometry_fits fields_ok is_record sound_record shared up_bytes up_ok up_answer up_out
+unfolding le le_bytes in_limits drive_of tail_of same bus_ok interface_ok is_i2o zero_tail kind_ok geometry_fits fields_ok is_record sound_record shared up_bytes conversion_number up_ok up_answer up_out
 ups_refused = refl
 
 -- of what does not go down
@@ -105,7 +105,7 @@ abbrev downs : List (List ℕ × ℕ)
 downs = (take 75 wide, 68) ∷ (wide ++ (0 ∷ []), 68) ∷ (wide, 67) ∷ (wide, 69) ∷ (wide, 76) ∷ (own, 76) ∷ (own, 68) ∷ (take 75 (with 0 (75 ∷ []) wide), 68) ∷ (with 0 (77 ∷ []) wide ++ (0 ∷ []), 68) ∷ (with 0 (68 ∷ []) wide, 68) ∷ (with 1 (1 ∷ []) wide, 68) ∷ (with 2 (1 ∷ []) wide, 68) ∷ (with 2 (3 ∷ []) wide, 68) ∷ (with 3 (1 ∷ []) wide, 68) ∷ (with 16 (replicate 8 0) wide, 68) ∷ (with 39 (2 ∷ []) wide, 68) ∷ (with 44 (replicate 8 0) wide, 68) ∷ (with 44 (73 ∷ 50 ∷ 79 ∷ 32 ∷ 32 ∷ 32 ∷ 32 ∷ 32 ∷ []) wide, 68) ∷ ([], 68) ∷ []
 
 pub downs_refused : map down_told downs ≡ map refused downs
-unfolding le le_bytes in_limits drive_of tail_of same bus_ok interface_ok is_i2o zero_tail kind_ok geometry_fits fields_ok is_record sound_record shared down_bytes down_ok down_answer down_out
+unfolding le le_bytes in_limits drive_of tail_of same bus_ok interface_ok is_i2o zero_tail kind_ok geometry_fits fields_ok is_record sound_record shared down_bytes conversion_number down_ok down_answer down_out
 downs_refused = refl
 
 -- and of what is sound, but kind 1 cannot say it
@@ -117,11 +117,11 @@ abbrev wides : List (List ℕ × ℕ)
 wides = (with 44 i2o wide, 68) ∷ (with 68 (1 ∷ []) wide, 68) ∷ (with 75 (1 ∷ []) wide, 68) ∷ (with 75 (1 ∷ []) (with 44 i2o wide), 68) ∷ []
 
 pub wides_sound : map (λ (x : List ℕ × ℕ). sound_record 2 x.0) wides ≡ true ∷ true ∷ true ∷ true ∷ []
-unfolding le le_bytes in_limits drive_of tail_of same bus_ok interface_ok is_i2o zero_tail kind_ok geometry_fits fields_ok is_record sound_record shared down_bytes down_ok down_answer down_out
+unfolding le le_bytes in_limits drive_of tail_of same bus_ok interface_ok is_i2o zero_tail kind_ok geometry_fits fields_ok is_record sound_record shared down_bytes conversion_number down_ok down_answer down_out
 wides_sound = refl
 
 pub wides_refused : map down_told wides ≡ map refused wides
-unfolding le le_bytes in_limits drive_of tail_of same bus_ok interface_ok is_i2o zero_tail kind_ok geometry_fits fields_ok is_record sound_record shared down_bytes down_ok down_answer down_out
+unfolding le le_bytes in_limits drive_of tail_of same bus_ok interface_ok is_i2o zero_tail kind_ok geometry_fits fields_ok is_record sound_record shared down_bytes conversion_number down_ok down_answer down_out
 wides_refused = refl
 
 -- ---- where its blocks lie is no matter
@@ -134,6 +134,6 @@ pub far_outside : (in_store (drive_of far) 18446744073709551615 ≡ false) × (o
 unfolding drive_of le in_store overlap
 far_outside = (refl, refl)
 
-pub far_converted : (up_answer far 76 ≡ 0) × ((up_out far (blank 76) ≡ with 24 (replicate 8 255) wide) × (down_answer (up_bytes far) 68 ≡ 0))
-unfolding le le_bytes in_limits drive_of tail_of same bus_ok interface_ok is_i2o zero_tail kind_ok geometry_fits fields_ok is_record sound_record shared up_bytes up_ok up_answer up_out down_bytes down_ok down_answer down_out
+pub far_converted : (conversion_number (up_answer far 76) ≡ 0) × ((up_out far (blank 76) ≡ with 24 (replicate 8 255) wide) × (conversion_number (down_answer (up_bytes far) 68) ≡ 0))
+unfolding le le_bytes in_limits drive_of tail_of same bus_ok interface_ok is_i2o zero_tail kind_ok geometry_fits fields_ok is_record sound_record shared up_bytes up_ok up_answer up_out down_bytes conversion_number down_ok down_answer down_out
 far_converted = (refl, (refl, refl))

@@ -1,89 +1,62 @@
 // The converter of a drive's record (document 02, 2026-06): from kind 1 to kind 2, whose device path has sixteen bytes, and back.
 #![tactic(auto)]
 
-ghost use Rattle.std.specs.Prelude.{◌≡◌, ◌≤◌, length};
-ghost use Rattle.std.proofs.lemmas.List.Edits.{sets};
-ghost use Rattle.convert.specs.Convert.{is_record, shared, up_ok, up_answer, up_out, down_ok, down_answer, down_out};
+ghost use Rattle.std.specs.Prelude.{◌≡◌, length};
+ghost use Rattle.logic.specs.Logic.{pick};
+ghost use Rattle.convert.specs.Convert.{answer, is_record, converts, converted_bytes, up_answer, up_out, down_answer, down_out};
 
 // The number of a refusal.
 pub const CONVERSION: u8 = 10;
 
+// A record that cannot be converted, or a buffer of another size: refused with 10.
+#[derive(Clone, Copy, PartialEq, Eq, Debug)]
+pub struct Unconvertible;
+
 // The bytes are as many as a record of that kind has, and say so.
+#[tactic(auto, using(crate::proofs::ConvertLaws::least), unfolding(crate::specs::Convert::is_record))]
 fn is_record(r: &[u8], kind: u16) -> bool
     ensures { result ≡ is_record kind r.now }
 {
     let size = drive::length_of(kind);
-    if r.len() != size as usize {
-        return false;
-    }
-    logic::and(words::get16(r, 0) == size, words::get16(r, 2) == kind)
+    r.len() == size as usize && words::get::<u16>(r, 0) == size && words::get::<u16>(r, 2) == kind
 }
 
-// What a record of either kind has, laid from the start on: a length and a kind of their own, and the 64 bytes behind them.
-fn put_shared(r: &[u8], out: &mut [u8], kind: u16)
-    requires { (68 ≤ length r.now) × (68 ≤ length out.old) }
-    ensures { out.new ≡ sets out.old 0 (shared kind r.now) }
+// From one kind to another: a sound record of the one whose drive the other can say too, and room for it. Kind 1
+// cannot say the last eight bytes of the device path, nor the type I2O; a sound record of kind 1 has neither. Else
+// refused, and nothing is written.
+#[tactic(auto, using(crate::proofs::ConvertLaws::decodable), unfolding(crate::specs::Convert::converts, crate::specs::Convert::sound_record, crate::specs::Convert::converted_bytes))]
+fn convert(r: &[u8], from: u16, to: u16, out: &mut [u8]) -> Result<(), Unconvertible>
+    ensures { (result ≡ answer (converts from to r.now (length out.old))) × (out.new ≡ pick (converts from to r.now (length out.old)) (converted_bytes to r.now) out.old) }
 {
-    let from = 4;
-    let end = 68;
-    words::store16(out, 0, drive::length_of(kind));
-    words::store16(out, 2, kind);
-    words::store(out, 4, &r[from..end]);
-}
-
-// ---- from kind 1 to kind 2
-
-// A sound record of kind 1, and room for one of kind 2.
-fn goes_up(r: &[u8], room: usize) -> bool
-    ensures { result ≡ up_ok r.now room }
-{
-    if room != drive::WIDE_LENGTH as usize {
-        return false;
+    if out.len() != drive::length_of(to) as usize {
+        return Err(Unconvertible);
     }
-    if !is_record(r, drive::DRIVE_KIND) {
-        return false;
-    }
-    drive::fields_ok(drive::decode(r))
-}
-
-// 0, or 10 and nothing written.
-pub fn up(r: &[u8], out: &mut [u8]) -> u8
-    ensures { (result ≡ up_answer r.now (length out.old)) × (out.new ≡ up_out r.now out.old) }
-{
-    if !goes_up(r, out.len()) {
-        return CONVERSION;
-    }
-    put_shared(r, out, drive::WIDE_KIND);
-    words::store8(out, 68, [0u8; 8]);
-    0
-}
-
-// ---- from kind 2 to kind 1
-
-// A sound record of kind 2 that one of kind 1 can say, and room for that one.
-fn goes_down(r: &[u8], room: usize) -> bool
-    ensures { result ≡ down_ok r.now room }
-{
-    if room != drive::DRIVE_LENGTH as usize {
-        return false;
-    }
-    if !is_record(r, drive::WIDE_KIND) {
-        return false;
+    if !is_record(r, from) {
+        return Err(Unconvertible);
     }
     let d = drive::decode(r);
-    logic::and(
-        drive::fields_ok(d),
-        logic::and(drive::zero_tail(d), !drive::is_i2o(d)),
-    )
+    if !(drive::fields_ok(d) && drive::zero_tail(d) && !drive::is_i2o(d)) {
+        return Err(Unconvertible);
+    }
+    words::put(out, 0, drive::length_of(to));
+    words::put(out, 2, to);
+    words::store(out, 4, &r[4..68]);
+    out[68..].fill(0);
+    Ok(())
 }
 
-// 0, or 10 and nothing written.
-pub fn down(r: &[u8], out: &mut [u8]) -> u8
+// From kind 1 to kind 2.
+#[tactic(auto, using(crate::proofs::ConvertLaws::up_converts, crate::proofs::ConvertLaws::up_converted), unfolding(crate::specs::Convert::up_answer, crate::specs::Convert::up_out))]
+pub fn up(r: &[u8], out: &mut [u8]) -> Result<(), Unconvertible>
+    ensures { (result ≡ up_answer r.now (length out.old)) × (out.new ≡ up_out r.now out.old) }
+{
+    convert(r, drive::DRIVE_KIND, drive::WIDE_KIND, out)
+}
+
+// From kind 2 to kind 1.
+#[tactic(auto, using(crate::proofs::ConvertLaws::down_converts, crate::proofs::ConvertLaws::down_converted), unfolding(crate::specs::Convert::down_answer, crate::specs::Convert::down_out))]
+pub fn down(r: &[u8], out: &mut [u8]) -> Result<(), Unconvertible>
     ensures { (result ≡ down_answer r.now (length out.old)) × (out.new ≡ down_out r.now out.old) }
 {
-    if !goes_down(r, out.len()) {
-        return CONVERSION;
-    }
-    put_shared(r, out, drive::DRIVE_KIND);
-    0
+    convert(r, drive::WIDE_KIND, drive::DRIVE_KIND, out)
 }

@@ -14,7 +14,7 @@ use Rattle.drive.specs.Drive.{drive_of, record_of, geometry_bytes, size_bytes, n
 use Rattle.attached.specs.Parameters.{parameters_record}
 use Rattle.attached.specs.Bad.{bad_count, bad_length_ok, bads_in, held_of, bad_record, ascends, are_blocks, list_ok, zero_past, bads_ok, is_bad, good as good_blocks}
 use Rattle.table.specs.declared.Table.{Table}
-use Rattle.table.specs.Table.{empty_table, zero_drive, header_of, header_at, overlaps_any, refusal, record_refusal, parameters_refusal, bads_refusal, with_record, record_step, end_step, step_of, step_at, read_from, read_table, record_numbers, numbers_from, table_numbers, records_of, bytes_of, table_of, write_answer, write_out, written_numbers, sound_to, blank_to, attached_to, listed_to, is_sound, parameters_to}
+use Rattle.table.specs.Table.{empty_table, zero_drive, header_of, header_at, overlaps_any, refusal, record_refusal, parameters_refusal, bads_refusal, with_record, record_step, end_step, step_of, step_at, read_from, read_table, record_numbers, numbers_from, table_numbers, records_of, bytes_of, table_of, write_answer, write_out, sound_to, blank_to, attached_to, listed_to, is_sound, parameters_to}
 use Rattle.memory.specs.Window.{span_length, window_of, with_window}
 use Rattle.memory.proofs.WindowLaws.{length-window, with_window-same}
 use Rattle.memory.specs.Blocks.{blocks}
@@ -27,15 +27,17 @@ use Rattle.desk.specs.declared.Row.{Row}
 use Rattle.desk.specs.declared.Stage.{Stage}
 use Rattle.desk.specs.declared.Stage.TheVariants.{Vacant, Waiting, Finished}
 use Rattle.desk.specs.declared.Desk.{Desk}
-use Rattle.desk.specs.declared.OpenAnswer.TheVariants.{Opened, Refused as OpenRefused}
-use Rattle.desk.specs.declared.PostAnswer.TheVariants.{Waits as PostWaits}
-use Rattle.desk.specs.declared.TurnAnswer.TheVariants.{Served}
-use Rattle.desk.specs.declared.CollectAnswer.TheVariants.{Given as CollectGiven}
-use Rattle.desk.specs.declared.WithdrawAnswer.TheVariants.{Given as WithdrawGiven}
+use Rattle.std.specs.Prelude.{Ok, Err, Some, None}
+use Rattle.table.specs.declared.Refusal.TheVariants.{PastStore}
+use Rattle.desk.specs.Calls.{TurnAnswer}
 use Rattle.desk.specs.Parts.{vacant_row}
 use Rattle.desk.specs.Acceptable.{request_ok, rows_ok, place_ok, placements_ok, accept}
 use Rattle.desk.specs.Calls.{done, open_of, written_of, written_out, post_of, first_waiting, moves_now, stage_after, turn_of, collect_of, withdraw_of}
-use Rattle.desk.specs.Numbers.{open_given, turn_given}
+use Rattle.desk.specs.Numbers.{written_numbers, open_given, turn_given}
+
+-- a turn that served a guest
+abbrev served : ℕ → ℕ → TurnAnswer
+served guest moved = Ok (Some (record { guest = guest; moved = moved }))
 
 -- ---- the table: two drives, of 4000 blocks from store block 5 and of 300 from 4010; C x H x S 459 and 280; the second is protected
 
@@ -388,13 +390,13 @@ abbrev fresh : Table → ℕ → ℕ → Desk
 fresh b pointer store =
     record { rows = replicate 8 vacant_row; pointer = pointer; table = b; arena = 560005; store = store; placed = replicate 8 false; addresses = replicate 8 0 }
 
-pub opening : open_of table_bytes 560005 2207235 ≡ record { desk = fresh (table (places second_drive zero_drive) 2) 0 2207235; answer = Opened }
+pub opening : open_of table_bytes 560005 2207235 ≡ record { desk = fresh (table (places second_drive zero_drive) 2) 0 2207235; answer = Ok tt }
 unfolding open_of le drive_of read_table read_from step_at step_of end_step record_step with_record record_refusal parameters_refusal bads_refusal bads_in bad_count bad_length_ok list_ok ascends are_blocks held_of header_at header_of refusal overlaps_any overlap in_store fields_ok geometry_fits in_limits bus_ok interface_ok same tail_of is_i2o zero_tail kind_ok
 opening = refl
 
 -- a store of one byte less than its 4310 blocks: refused at the second drive's record, and the desk is of no use. By the second promise too
 pub opening_short : open_of table_bytes 560005 2206719
-    ≡ record { desk = fresh empty_table 8 2206719; answer = OpenRefused 6 110 }
+    ≡ record { desk = fresh empty_table 8 2206719; answer = Err (record { refusal = PastStore; place = 110 }) }
 unfolding open_of le drive_of read_table read_from step_at step_of end_step record_step with_record record_refusal parameters_refusal bads_refusal bads_in bad_count bad_length_ok list_ok ascends are_blocks held_of header_at header_of refusal overlaps_any overlap in_store fields_ok geometry_fits in_limits bus_ok interface_ok same tail_of is_i2o zero_tail kind_ok
 opening_short = refl
 
@@ -435,7 +437,7 @@ after pointer g stage = desk (places second_drive zero_drive) 2 pointer 560005 2
 module _ (arena store : List ℕ) (la : length arena ≡ 560005) (ls : length store ≡ 2207235) where
   -- the turn at the pointer, and the number of blocks; the pointer goes to the guest after, from 7 to 0; all moved, the row is finished
   pub turns : map (λ (p : ℕ). (turn_of (good p) arena store).answer) (0 ∷ 1 ∷ 2 ∷ 3 ∷ 4 ∷ 5 ∷ 6 ∷ 7 ∷ [])
-      ≡ Served 0 16 ∷ Served 1 1 ∷ Served 2 16 ∷ Served 3 1 ∷ Served 6 2 ∷ Served 6 2 ∷ Served 6 2 ∷ Served 7 3 ∷ []
+      ≡ served 0 16 ∷ served 1 1 ∷ served 2 16 ∷ served 3 1 ∷ served 6 2 ∷ served 6 2 ∷ served 6 2 ∷ served 7 3 ∷ []
   unfolding turn_of first_waiting moves_now bads_of good_blocks is_bad held_of le accept rows_ok request_ok placements_ok place_ok parameters_to is_drive
   turns = rw (sound, la, ls)
 
@@ -443,7 +445,7 @@ module _ (arena store : List ℕ) (la : length arena ≡ 560005) (ls : length st
   abbrev lone : Desk
   lone = desk (places second_drive zero_drive) 2 5 560005 2207235 (set (replicate 8 vacant_row) 4 (waits 0x420B 0x80 5 3 68464 33 0))
 
-  pub turn_round : (turn_of lone arena store).answer ≡ Served 4 3
+  pub turn_round : (turn_of lone arena store).answer ≡ served 4 3
   unfolding turn_of first_waiting moves_now bads_of good_blocks is_bad held_of le accept rows_ok request_ok placements_ok place_ok parameters_to is_drive
   turn_round = rw (sound, la, ls)
 
@@ -484,7 +486,7 @@ module _ (arena store : List ℕ) (la : length arena ≡ 560005) (ls : length st
 
   -- withdrawals: AH 80h and carry set; 02h and 03h have the blocks moved in AL, 42h and 43h in the word at packet + 2
   pub withdrawals : map (λ (g : ℕ). (withdraw_of (good 7) g arena store).answer) (0 ∷ 1 ∷ 2 ∷ 3 ∷ [])
-      ≡ map (λ (ax : ℕ). WithdrawGiven (registers ax)) (0x8070 ∷ 0x8010 ∷ 0x8007 ∷ 0x8008 ∷ [])
+      ≡ map (λ (ax : ℕ). Ok (registers ax)) (0x8070 ∷ 0x8010 ∷ 0x8007 ∷ 0x8008 ∷ [])
   unfolding withdraw_of accept rows_ok request_ok placements_ok place_ok parameters_to is_drive
   withdrawals = rw (sound, la, ls)
 
@@ -517,7 +519,7 @@ module _ (arena store : List ℕ) (la : length arena ≡ 560005) (ls : length st
       ∷ worn 2 (waits 0x4207 0x81 41 20 4464 69984 0) ∷ [])
 
   pub worn_turns : map (λ (d : Desk). (turn_of d arena store).answer) reached
-      ≡ Served 7 16 ∷ Served 7 1 ∷ Served 7 15 ∷ Served 7 16 ∷ Served 7 0 ∷ Served 7 0 ∷ Served 7 3 ∷ Served 7 4 ∷ Served 0 2 ∷ Served 1 2 ∷ Served 3 1 ∷ Served 2 2 ∷ []
+      ≡ served 7 16 ∷ served 7 1 ∷ served 7 15 ∷ served 7 16 ∷ served 7 0 ∷ served 7 0 ∷ served 7 3 ∷ served 7 4 ∷ served 0 2 ∷ served 1 2 ∷ served 3 1 ∷ served 2 2 ∷ []
   unfolding turn_of first_waiting moves_now bads_of good_blocks is_bad held_of le accept rows_ok request_ok placements_ok place_ok parameters_to is_drive
   worn_turns = rw (sound, la, ls)
 
@@ -576,7 +578,7 @@ module _ (arena store : List ℕ) (la : length arena ≡ 560005) (ls : length st
 
   -- a withdrawal before it is reached is as ever: 80h, and the blocks moved
   pub worn_withdrawn : withdraw_of (worn 7 (reading 3953 16)) 7 arena store
-      ≡ done (after 7 7 Vacant) (WithdrawGiven (registers 0x800B)) (with_window arena 7 70000 (sets (window_of arena 7 70000) 23 (16 ∷ 0 ∷ []))) store
+      ≡ done (after 7 7 Vacant) (Ok (registers 0x800B)) (with_window arena 7 70000 (sets (window_of arena 7 70000) 23 (16 ∷ 0 ∷ []))) store
   unfolding withdraw_of reported le_bytes accept rows_ok request_ok placements_ok place_ok parameters_to is_drive
   worn_withdrawn = rw (sound, la, ls)
 
@@ -587,12 +589,12 @@ module _ (arena store : List ℕ) (la : length arena ≡ 560005) (ls : length st
   unfolding span_length
   window_5 = length-window arena 5 70000 ∙ rw la
 
-  pub post-waits : ((post_of (good 7) 5 call arena store).answer ≡ PostWaits)
+  pub post-waits : ((post_of (good 7) 5 call arena store).answer ≡ Ok None)
       × ((post_of (good 7) 5 call arena store).desk ≡ after 7 5 (Waiting (record { job = asked; moved = 0 })))
   unfolding post_of begin steps sectors block_of is_valid in_limits accept rows_ok request_ok placements_ok place_ok parameters_to is_drive
   post-waits = (rw (window_5, sound, la, ls), rw (window_5, sound, la, ls))
 
 -- collect: the finished registers as they stand, and the row is vacant
-pub collected : collect_of (good 7) 4 [] [] ≡ done (after 7 4 Vacant) (CollectGiven (registers 0x4809)) [] []
+pub collected : collect_of (good 7) 4 [] [] ≡ done (after 7 4 Vacant) (Ok (registers 0x4809)) [] []
 unfolding collect_of accept rows_ok request_ok placements_ok place_ok parameters_to is_drive
 collected = rw sound

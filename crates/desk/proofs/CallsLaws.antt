@@ -10,14 +10,14 @@ use Prim.Native.Nat.{ℕ, zero, suc, ◌+◌, ◌/◌, ◌^◌, ◌≤◌, ◌<�
 use native.Mathlib.Omega.{arith}
 use lib.ListN.{length}
 use lib.Dec.{ltb, eqb}
-use borrow.Author.Tests.{eqb-true}
+use borrow.Author.Tests.{ltb-true, eqb-true}
 use Rattle.logic.specs.Logic.{pick}
 use Rattle.logic.proofs.LogicLaws.{both_true, impossible}
 use Rattle.memory.specs.Window.{window_length, window_of, with_window}
 use Rattle.memory.proofs.WindowLaws.{length-with_window}
 use Rattle.attached.specs.declared.Bads.{Bads}
 use Rattle.attached.proofs.BadLaws.{good-most}
-use Rattle.table.specs.declared.Written.TheVariants.{Refused as WriteRefused}
+use Rattle.std.specs.Prelude.{Result, Ok, Err, Option, Some, None}
 use Rattle.table.specs.Table.{write_answer, write_out}
 use Rattle.int13.specs.declared.Registers.{Registers}
 use Rattle.int13.specs.declared.Outcome.{Outcome}
@@ -33,20 +33,11 @@ use Rattle.desk.specs.declared.Stage.TheVariants.{Vacant, Waiting, Finished}
 use Rattle.desk.specs.declared.Row.{Row}
 use Rattle.desk.specs.declared.Desk.{Desk}
 use Rattle.desk.specs.declared.Service.{Service}
-use Rattle.desk.specs.declared.Next.{Next}
-use Rattle.desk.specs.declared.Next.TheVariants.{Guest, Nobody}
-use Rattle.desk.specs.declared.PostAnswer.{PostAnswer}
-use Rattle.desk.specs.declared.PostAnswer.TheVariants.{Refused as PostRefused}
-use Rattle.desk.specs.declared.TurnAnswer.{TurnAnswer}
-use Rattle.desk.specs.declared.TurnAnswer.TheVariants.{Served, Idle, Refused as TurnRefused}
-use Rattle.desk.specs.declared.CollectAnswer.TheVariants.{Given as CollectGiven, Refused as CollectRefused}
-use Rattle.desk.specs.declared.WithdrawAnswer.{WithdrawAnswer}
-use Rattle.desk.specs.declared.WithdrawAnswer.TheVariants.{Refused as WithdrawRefused}
-use Rattle.desk.specs.declared.PlaceAnswer.{PlaceAnswer}
-use Rattle.desk.specs.declared.PlaceAnswer.TheVariants.{Placed, Refused as PlaceRefused}
+use Rattle.desk.specs.declared.HouseNumber.{HouseNumber}
+use Rattle.desk.specs.declared.HouseNumber.TheVariants.{NotVacant, NotFinished, NotWaiting, BadPlace}
 use Rattle.desk.specs.Parts.{window_size, own_window, with_own, stage_in, stage_at, with_stage, is_waiting, next, with_pointer, placement_at, with_placement}
 use Rattle.desk.specs.Acceptable.{packet_ok, place_ok, accept, Servable, InRange}
-use Rattle.desk.specs.Calls.{house_tests, house_number, is_lent, done, written_of, written_out, post_checked, post_row, post_of, first_waiting, quota, moves_now, service_of, beside, bads_for, moved_from, Transferred, serve_by, serve_stage, turn_next, turn_of, collect_stage, collect_of, withdrawn_window, withdraw_stage, withdraw_of, tables_in, place_tables, place_stage, place_of}
+use Rattle.desk.specs.Calls.{PostAnswer, TurnAnswer, WithdrawAnswer, PlaceAnswer, house_tests, house_answer, is_lent, done, table_written, written_of, written_out, post_checked, post_row, post_of, first_waiting, quota, moves_now, service_of, beside, bads_for, moved_from, Transferred, serve_by, serve_stage, turn_next, turn_of, collect_stage, collect_of, withdrawn_window, withdraw_stage, withdraw_of, tables_in, place_tables, place_stage, place_of}
 use Rattle.desk.proofs.AcceptableLaws.{accept_true, rows_ok_at, Waits, waits_facts, not-waiting, drive-obeys, waits_servable}
 use Rattle.desk.proofs.Transfers.{length_moved, ending_laid}
 
@@ -62,18 +53,18 @@ not_vacant-tag Vacant n = absurd (n refl)
 not_vacant-tag (Waiting q) n = inl refl
 not_vacant-tag (Finished r) n = inr refl
 
-collect-stage : (s : Stage) (d : Desk) (g : ℕ) (arena store : List ℕ) → OneOf (0 ∷ 1 ∷ []) (tag_of stage.the_type s) → done d (CollectRefused 22) arena store ≡ collect_stage d g s arena store
+collect-stage : (s : Stage) (d : Desk) (g : ℕ) (arena store : List ℕ) → OneOf (0 ∷ 1 ∷ []) (tag_of stage.the_type s) → done d (Err NotFinished) arena store ≡ collect_stage d g s arena store
 collect-stage Vacant d g arena store k = refl
 collect-stage (Waiting q) d g arena store k = refl
 collect-stage (Finished r) d g arena store k = absurd (⊎_elim (λ w. omega arith) (λ w. omega arith) k)
 
-post_stage : (s : Stage) (d : Desk) (g : ℕ) (r : Registers) (arena store : List ℕ) → OneOf (1 ∷ 2 ∷ []) (tag_of stage.the_type s) → done d (PostRefused 21) arena store ≡ post_row d g r arena store s
+post_stage : (s : Stage) (d : Desk) (g : ℕ) (r : Registers) (arena store : List ℕ) → OneOf (1 ∷ 2 ∷ []) (tag_of stage.the_type s) → done d (Err NotVacant) arena store ≡ post_row d g r arena store s
 post_stage Vacant d g r arena store k = absurd (⊎_elim (λ w. omega arith) (λ w. omega arith) k)
 post_stage (Waiting q) d g r arena store k = refl
 post_stage (Finished x) d g r arena store k = refl
 
 -- a place is looked at for every row but a waiting one
-place-stage : (s : Stage) (d : Desk) (g address : ℕ) (arena store : List ℕ) → is_waiting s ≡ true → done d (PlaceRefused 21) arena store ≡ place_stage d g address s arena store
+place-stage : (s : Stage) (d : Desk) (g address : ℕ) (arena store : List ℕ) → is_waiting s ≡ true → done d (Err NotVacant) arena store ≡ place_stage d g address s arena store
 place-stage Vacant d g address arena store e = impossible (cc)
 place-stage (Waiting q) d g address arena store e = refl
 place-stage (Finished r) d g address arena store e = impossible (cc)
@@ -103,67 +94,74 @@ own-length d arena store e = ap window_length (lent_arena d arena store e)
 
 -- ---- the tests before the row's
 
--- a number that is not 0 is the refusal
-pub house-refused : {A : Type 0} {n : ℕ} (a l g : Bool) (f : ℕ → A) (x : A) → n ≡ house_number a l g → (n ≡ 0 → ⊥) → f n ≡ house_tests a l g f x
-unfolding house_number
-house-refused false l g f x e z = ap f e
-house-refused true false g f x e z = ap f e
-house-refused true true false f x e z = ap f e
-house-refused true true true f x e z = absurd (z e)
+-- a refusal of the tests is the call's
+house-refused : {A : Type 0} {e : HouseNumber} (a l g : Bool) (f : HouseNumber → A) (x : A) → house_answer a l g ≡ Err e → f e ≡ house_tests a l g f x
+unfolding house_answer
+house-refused false l g f x q = ap f (cc)
+house-refused true false g f x q = ap f (cc)
+house-refused true true false f x q = ap f (cc)
+house-refused true true true f x q = impossible (cc)
 
--- the tests as the code has them
-pub house-tests : {n : ℕ} {a l g a' l' g' : Bool} → n ≡ house_number a l g → a ≡ a' → l ≡ l' → g ≡ g' → n ≡ house_number a' l' g'
-house-tests e ea el eg = rw (← ea, ← el, ← eg) e
+-- as a `?` in the code hands it on
+pub refused_by : {A X : Type 0} {h : Result (Unit {0}) HouseNumber} {e y : HouseNumber} {r : Result X HouseNumber} (a l g : Bool) (f : Result X HouseNumber → A) (x : A)
+    → h ≡ house_answer a l g → h ≡ Err e → r ≡ Err y → y ≡ e → f r ≡ house_tests a l g (λ e. f (Err e)) x
+refused_by a l g f x p q s t = rw (s, t) (house-refused a l g (λ e. f (Err e)) x (sym p ∙ q))
 
 pub record Passed (a l g : Bool) : Type 0 where
   pub acceptable : a ≡ true
   pub lent : l ≡ true
   pub guest : g ≡ true
 
--- at 0 all of them pass
-pub house_passed : {n : ℕ} (a l g : Bool) → n ≡ house_number a l g → n ≡ 0 → Passed a l g
-unfolding house_number
-house_passed false l g e z = absurd (omega arith)
-house_passed true false g e z = absurd (omega arith)
-house_passed true true false e z = absurd (omega arith)
-house_passed true true true e z = record { acceptable = refl; lent = refl; guest = refl }
+-- where there is none all of them pass
+house_passed : {u : Unit {0}} (a l g : Bool) → house_answer a l g ≡ Ok u → Passed a l g
+unfolding house_answer
+house_passed false l g q = impossible (cc)
+house_passed true false g q = impossible (cc)
+house_passed true true false q = impossible (cc)
+house_passed true true true q = record { acceptable = refl; lent = refl; guest = refl }
 
-pub house_on : {A : Type 0} {a l g : Bool} (f : ℕ → A) (x : A) → Passed a l g → x ≡ house_tests a l g f x
+pub passed_by : {h : Result (Unit {0}) HouseNumber} {u : Unit {0}} (a l g : Bool) → h ≡ house_answer a l g → h ≡ Ok u → Passed a l g
+passed_by a l g p q = house_passed a l g (sym p ∙ q)
+
+pub passed-below : {a l : Bool} (g : ℕ) → Passed a l (ltb g 8) → g < 8
+passed-below g p = ltb-true g 8 p.guest
+
+pub house_on : {A : Type 0} {a l g : Bool} (f : HouseNumber → A) (x : A) → Passed a l g → x ≡ house_tests a l g f x
 house_on f x p = rw (p.acceptable, p.lent, p.guest)
 
 -- ---- the calls that pass, by the row
 
-pub write-table : (d : Desk) (out : List ℕ) → Passed (accept d) true true → (write_answer d.table (length out) ≡ written_of d (length out)) × (write_out d.table out ≡ written_out d out)
+pub write-table : (d : Desk) (out : List ℕ) → Passed (accept d) true true → (table_written (write_answer d.table (length out)) ≡ written_of d (length out)) × (write_out d.table out ≡ written_out d out)
 unfolding written_of written_out
-write-table d out p = (house_on WriteRefused _ p, house_on (λ n. out) _ p)
+write-table d out p = (house_on Err _ p, house_on (λ e. out) _ p)
 
 module _ (d : Desk) (g : ℕ) (arena store : List ℕ) (p : Passed (accept d) true (ltb g 8)) where
   collect_row : collect_stage d g (stage_at d g) arena store ≡ collect_of d g arena store
   unfolding collect_of
-  collect_row = house_on (λ n. done d (CollectRefused n) arena store) _ p
+  collect_row = house_on (λ e. done d (Err e) arena store) _ p
 
-  pub collect-other : OneOf (0 ∷ 1 ∷ []) (tag_of stage.the_type (stage_at d g)) → done d (CollectRefused 22) arena store ≡ collect_of d g arena store
+  pub collect-other : OneOf (0 ∷ 1 ∷ []) (tag_of stage.the_type (stage_at d g)) → done d (Err NotFinished) arena store ≡ collect_of d g arena store
   collect-other k = collect-stage (stage_at d g) d g arena store k ∙ collect_row
 
-  pub collect-finished : (r : Registers) → stage_at d g ≡ Finished r → done (with_stage d g Vacant) (CollectGiven r) arena store ≡ collect_of d g arena store
+  pub collect-finished : (r : Registers) → stage_at d g ≡ Finished r → done (with_stage d g Vacant) (Ok r) arena store ≡ collect_of d g arena store
   collect-finished r e = ap (λ (s : Stage). collect_stage d g s arena store) (sym e) ∙ collect_row
 
 module _ (d : Desk) (arena store : List ℕ) (p : Passed (accept d) (is_lent d arena store) true) where
   turn-next : turn_next d (first_waiting d.rows 8 d.pointer) arena store ≡ turn_of d arena store
   unfolding turn_of
-  turn-next = house_on (λ n. done d (TurnRefused n) arena store) _ p
+  turn-next = house_on (λ e. done d (Err e) arena store) _ p
 
-  pub turn_nobody : first_waiting d.rows 8 d.pointer ≡ Nobody → done d Idle arena store ≡ turn_of d arena store
-  turn_nobody e = ap (λ (n : Next). turn_next d n arena store) (sym e) ∙ turn-next
+  pub turn_nobody : first_waiting d.rows 8 d.pointer ≡ None → done d (Ok None) arena store ≡ turn_of d arena store
+  turn_nobody e = ap (λ (n : Option ℕ). turn_next d n arena store) (sym e) ∙ turn-next
 
-  pub turn-guest : (g : ℕ) → first_waiting d.rows 8 d.pointer ≡ Guest g → serve_stage d g (stage_at d g) arena store ≡ turn_of d arena store
-  turn-guest g e = ap (λ (n : Next). turn_next d n arena store) (sym e) ∙ turn-next
+  pub turn-guest : (g : ℕ) → first_waiting d.rows 8 d.pointer ≡ Some g → serve_stage d g (stage_at d g) arena store ≡ turn_of d arena store
+  turn-guest g e = ap (λ (n : Option ℕ). turn_next d n arena store) (sym e) ∙ turn-next
 
-  pub turn-other : (g : ℕ) → first_waiting d.rows 8 d.pointer ≡ Guest g → OneOf (0 ∷ 2 ∷ []) (tag_of stage.the_type (stage_at d g)) → done d Idle arena store ≡ turn_of d arena store
+  pub turn-other : (g : ℕ) → first_waiting d.rows 8 d.pointer ≡ Some g → OneOf (0 ∷ 2 ∷ []) (tag_of stage.the_type (stage_at d g)) → done d (Ok None) arena store ≡ turn_of d arena store
   turn-other g e k = not-waiting (λ s. serve_stage d g s arena store) (stage_at d g) k refl (λ r. refl) ∙ turn-guest g e
 
-  pub turn-served : {s : Service} {desk : Desk} {answer : TurnAnswer} {arena₁ arena' store' : List ℕ} (g : ℕ) (q : Request) → first_waiting d.rows 8 d.pointer ≡ Guest g → stage_at d g ≡ Waiting q
-      → s ≡ service_of (bads_for d q) q → desk ≡ with_pointer (with_stage d g s.stage) (next g) → answer ≡ Served g s.moved
+  pub turn-served : {s : Service} {desk : Desk} {answer : TurnAnswer} {arena₁ arena' store' : List ℕ} (g : ℕ) (q : Request) → first_waiting d.rows 8 d.pointer ≡ Some g → stage_at d g ≡ Waiting q
+      → s ≡ service_of (bads_for d q) q → desk ≡ with_pointer (with_stage d g s.stage) (next g) → answer ≡ Ok (Some (record { guest = g; moved = s.moved }))
       → Transferred (drive_at d.table q.job.drive).first q s.moved g arena store arena₁ store'
       → arena' ≡ with_own arena₁ g (beside q s.moved (own_window arena₁ g))
       → done desk answer arena' store' ≡ turn_of d arena store
@@ -180,9 +178,9 @@ module _ (d : Desk) (arena store : List ℕ) (p : Passed (accept d) (is_lent d a
 module _ (d : Desk) (g : ℕ) (arena store : List ℕ) (p : Passed (accept d) (is_lent d arena store) (ltb g 8)) where
   post-row : (r : Registers) → post_row d g r arena store (stage_at d g) ≡ post_of d g r arena store
   unfolding post_of
-  post-row r = house_on (λ n. done d (PostRefused n) arena store) _ p
+  post-row r = house_on (λ e. done d (Err e) arena store) _ p
 
-  pub post-other : (r : Registers) → OneOf (1 ∷ 2 ∷ []) (tag_of stage.the_type (stage_at d g)) → done d (PostRefused 21) arena store ≡ post_of d g r arena store
+  pub post-other : (r : Registers) → OneOf (1 ∷ 2 ∷ []) (tag_of stage.the_type (stage_at d g)) → done d (Err NotVacant) arena store ≡ post_of d g r arena store
   post-other r k = post_stage (stage_at d g) d g r arena store k ∙ post-row r
 
   pub post-vacant : {desk : Desk} {answer : PostAnswer} {outcome : Outcome} {w : List ℕ} (r : Registers) → stage_at d g ≡ Vacant
@@ -198,9 +196,9 @@ module _ (d : Desk) (g : ℕ) (arena store : List ℕ) (p : Passed (accept d) (i
 
   withdraw_row : withdraw_stage d g (stage_at d g) arena store ≡ withdraw_of d g arena store
   unfolding withdraw_of
-  withdraw_row = house_on (λ n. done d (WithdrawRefused n) arena store) _ p
+  withdraw_row = house_on (λ e. done d (Err e) arena store) _ p
 
-  pub withdraw-other : OneOf (0 ∷ 2 ∷ []) (tag_of stage.the_type (stage_at d g)) → done d (WithdrawRefused 23) arena store ≡ withdraw_of d g arena store
+  pub withdraw-other : OneOf (0 ∷ 2 ∷ []) (tag_of stage.the_type (stage_at d g)) → done d (Err NotWaiting) arena store ≡ withdraw_of d g arena store
   withdraw-other k = not-waiting (λ s. withdraw_stage d g s arena store) (stage_at d g) k refl (λ r. refl) ∙ withdraw_row
 
   pub withdraw_waiting : {desk : Desk} {answer : WithdrawAnswer} {arena' : List ℕ} (q : Request) → stage_at d g ≡ Waiting q
@@ -214,36 +212,36 @@ module _ (d : Desk) (g : ℕ) (arena store : List ℕ) (p : Passed (accept d) (i
 
   place_row : (address : ℕ) → place_stage d g address (stage_at d g) arena store ≡ place_of d g address arena store
   unfolding place_of
-  place_row address = house_on (λ n. done d (PlaceRefused n) arena store) _ p
+  place_row address = house_on (λ e. done d (Err e) arena store) _ p
 
-  pub place_waiting : (address : ℕ) → is_waiting (stage_at d g) ≡ true → done d (PlaceRefused 21) arena store ≡ place_of d g address arena store
+  pub place_waiting : (address : ℕ) → is_waiting (stage_at d g) ≡ true → done d (Err NotVacant) arena store ≡ place_of d g address arena store
   place_waiting address w = place-stage (stage_at d g) d g address arena store w ∙ place_row address
 
   pub place-bad : (address : ℕ) → is_waiting (stage_at d g) ≡ false → place_ok (table_count d.table) (window_size d) address ≡ false
-      → done d (PlaceRefused 26) arena store ≡ place_of d g address arena store
+      → done d (Err BadPlace) arena store ≡ place_of d g address arena store
   place-bad address w e =
-      let t : done d (PlaceRefused 26) arena store ≡ place_tables d g address arena store = rw e in
+      let t : done d (Err BadPlace) arena store ≡ place_tables d g address arena store = rw e in
       t ∙ place_other (stage_at d g) d g address arena store w ∙ place_row address
 
   pub place-done : {desk : Desk} {answer : PlaceAnswer} {arena' : List ℕ} (address : ℕ) → is_waiting (stage_at d g) ≡ false
-      → place_ok (table_count d.table) (window_size d) address ≡ true → desk ≡ with_placement d g address → answer ≡ Placed
+      → place_ok (table_count d.table) (window_size d) address ≡ true → desk ≡ with_placement d g address → answer ≡ Ok tt
       → arena' ≡ with_own arena g (tables_in d.table address (own_window arena g))
       → done desk answer arena' store ≡ place_of d g address arena store
   place-done address w e e₁ e₂ e₃ =
       let laid : ℕ → List ℕ = λ n. with_window arena g n (tables_in d.table address (window_of arena g n)) in
-      let t : done (with_placement d g address) Placed (laid (window_size d)) store ≡ place_tables d g address arena store = rw e in
+      let t : done (with_placement d g address) (Ok tt) (laid (window_size d)) store ≡ place_tables d g address arena store = rw e in
       rw (e₁, e₂, e₃)
-      (ap (λ (n : ℕ). done (with_placement d g address) Placed (laid n) store) (own-length d arena store p.lent)
+      (ap (λ (n : ℕ). done (with_placement d g address) (Ok tt) (laid n) store) (own-length d arena store p.lent)
       ∙ t ∙ place_other (stage_at d g) d g address arena store w ∙ place_row address)
 
 -- ---- the guest that a search finds
 
-pub seek-below : (rows : List Row) (k p g : ℕ) → p < 8 → first_waiting rows k p ≡ Guest g → g < 8
+pub seek-below : (rows : List Row) (k p g : ℕ) → p < 8 → first_waiting rows k p ≡ Some g → g < 8
 unfolding first_waiting
 seek-below rows zero p g h e = impossible (cc)
 seek-below rows (suc k) p g h e = by_row (is_waiting (stage_in rows p)) e (λ q. seek-below rows k (next p) g (omega arith) q)
   where
-    by_row : (t : Bool) → pick t (Guest p) (first_waiting rows k (next p)) ≡ Guest g → (first_waiting rows k (next p) ≡ Guest g → g < 8) → g < 8
+    by_row : (t : Bool) → pick t (Some p) (first_waiting rows k (next p)) ≡ Some g → (first_waiting rows k (next p) ≡ Some g → g < 8) → g < 8
     by_row true q f = let s : p ≡ g = cc in omega arith
     by_row false q f = f q
 

@@ -22,7 +22,8 @@ use Rattle.int13.specs.Steps.{is_drive, shown_of, extensions, result_into, steps
 use Rattle.desk.specs.declared.Row.{Row}
 use Rattle.desk.specs.declared.Stage.TheVariants.{Vacant, Waiting, Finished}
 use Rattle.desk.specs.declared.Desk.{Desk}
-use Rattle.desk.specs.declared.PlaceAnswer.TheVariants.{Placed, Refused as PlaceRefused}
+use Rattle.std.specs.Prelude.{Ok, Err}
+use Rattle.desk.specs.declared.HouseNumber.TheVariants.{NotVacant, BadPlace}
 use Rattle.desk.specs.Parts.{vacant_row}
 use Rattle.desk.specs.Acceptable.{request_ok, rows_ok, place_ok, placements_ok, accept}
 use Rattle.desk.specs.Calls.{done, post_of, place_tables, place_of}
@@ -131,12 +132,12 @@ module _ (arena store : List ℕ) (la : length arena ≡ 4355) (ls : length stor
 
   -- a refusal changes nothing
   pub place-refused : place_of (at mixed 7) 3 32 arena store ∷ place_of (at mixed 7) 5 40 arena store ∷ place_of (at mixed 7) 5 528 arena store ∷ []
-      ≡ done (at mixed 7) (PlaceRefused 21) arena store ∷ done (at mixed 7) (PlaceRefused 26) arena store ∷ done (at mixed 7) (PlaceRefused 26) arena store ∷ []
+      ≡ done (at mixed 7) (Err NotVacant) arena store ∷ done (at mixed 7) (Err BadPlace) arena store ∷ done (at mixed 7) (Err BadPlace) arena store ∷ []
   unfolding place_of accept rows_ok request_ok placements_ok place_ok parameters_to is_drive
   place-refused = rw (sound, la, ls)
 
   -- so there are placements at which the pointer leads to the table: for a finished row, by an arena whose last three bytes are nobody's
-  placed_there : (place_of (at mixed 7) 4 32 arena store).answer ≡ Placed
+  placed_there : (place_of (at mixed 7) 4 32 arena store).answer ≡ Ok tt
   unfolding place_of accept rows_ok request_ok placements_ok place_ok parameters_to is_drive
   placed_there = rw (sound, la, ls)
 
@@ -224,13 +225,13 @@ small placed addresses = desk (replicate 8 vacant_row) 7 515 placed addresses
 
 -- guest 2's tables stand one after another from address 16 on, and nothing else changes; guest 5's placement stays
 pub tables-written : place_of (small marks places) 2 16 before zeros
-    ≡ done (small (set marks 2 true) (set places 2 16)) Placed (around (replicate 16 5 ++ (first_table ++ (last_table ++ replicate 16 7)))) zeros
+    ≡ done (small (set marks 2 true) (set places 2 16)) (Ok tt) (around (replicate 16 5 ++ (first_table ++ (last_table ++ replicate 16 7)))) zeros
 unfolding place_of tables_to parameter_table placed_bytes sum span_start span_length accept rows_ok request_ok placements_ok place_ok parameters_to is_drive
 tables-written = rw sound
 
 -- placed anew, at address 0: the new address stands for the old one, and the bytes of the old tables stay where no new ones are laid
 pub placed_anew : place_of (small (set marks 2 true) (set places 2 16)) 2 0 (around (replicate 16 5 ++ (first_table ++ (last_table ++ replicate 16 7)))) zeros
-    ≡ done (small (set marks 2 true) places) Placed (around (first_table ++ (last_table ++ (last_table ++ replicate 16 7)))) zeros
+    ≡ done (small (set marks 2 true) places) (Ok tt) (around (first_table ++ (last_table ++ (last_table ++ replicate 16 7)))) zeros
 unfolding place_of tables_to parameter_table placed_bytes sum span_start span_length accept rows_ok request_ok placements_ok place_ok parameters_to is_drive
 placed_anew = rw sound
 
@@ -238,7 +239,7 @@ placed_anew = rw sound
 pub none_written : place_tables (bare none 515) 2 64 before []
     ≡ done
     (record { rows = replicate 8 vacant_row; pointer = 0; table = marked none; arena = 515; store = 0; placed = set none 2 true; addresses = set (replicate 8 0) 2 64 })
-    Placed before []
+    (Ok tt) before []
 unfolding tables_to span_start span_length place_ok parameters_to
 none_written = refl
 

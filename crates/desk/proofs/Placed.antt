@@ -23,7 +23,6 @@ use Rattle.table.specs.declared.Table.{Table}
 use Rattle.table.specs.Table.{has_parameters, parameters_at, parameters_to}
 use Rattle.layout.specs.ParameterTable.{parameter_table}
 use Rattle.int13.specs.declared.Placement.{Placement}
-use Rattle.int13.specs.declared.Shown.{Shown}
 use Rattle.int13.specs.Placement.{tables_to, tables_of, table_count, table_address, placed_at, shown_in, pointer_of, not_shown}
 use Rattle.int13.specs.Steps.{is_drive, shown_of}
 use Rattle.int13.proofs.StepsLaws.{count_most, is_drive_true}
@@ -32,11 +31,10 @@ use Rattle.layout.proofs.ParameterTableLaws.{parameter_tables}
 use Rattle.desk.specs.declared.Desk.{Desk}
 use Rattle.desk.specs.declared.Stage.{Stage}
 use Rattle.desk.specs.declared.Stage.TheVariants.{Vacant, Waiting, Finished}
-use Rattle.desk.specs.declared.PlaceAnswer.{PlaceAnswer}
-use Rattle.desk.specs.declared.PlaceAnswer.TheVariants.{Placed}
+use Rattle.std.specs.Prelude.{Ok, Option, Some}
 use Rattle.desk.specs.Parts.{window_size, stage_at, placement_at, with_placement}
 use Rattle.desk.specs.Acceptable.{place_ok, accept}
-use Rattle.desk.specs.Calls.{Done, is_lent, tables_in, place_tables, place_stage, place_of}
+use Rattle.desk.specs.Calls.{PlaceAnswer, Done, is_lent, tables_in, place_tables, place_stage, place_of}
 use Rattle.desk.specs.Placed.{behind, Demand2}
 use Rattle.desk.proofs.Places.{GoodPlace, place_facts}
 
@@ -114,7 +112,7 @@ record Made (d : Desk) (g address : ℕ) (arena : List ℕ) (o : Done PlaceAnswe
 
 module _ (d : Desk) (g address : ℕ) (arena store : List ℕ) where
   abbrev Makes : Done PlaceAnswer → Type 0
-  Makes o = o.answer ≡ Placed → Made d g address arena o
+  Makes o = o.answer ≡ Ok tt → Made d g address arena o
 
   made_tables : g < 8 → length arena ≡ d.arena → Makes (place_tables d g address arena store)
   made_tables b l =
@@ -172,13 +170,13 @@ leads d g address arena store l x =
     ap (λ (y : Table). shown_of y (placement_at o.desk g) n) table ∙ ap (λ (p : Placement). shown_of b p n) placement
     ∙ ap (λ (t : Bool). pick t (shown_in b (placed_at address) (n - 128)) not_shown) e in
     record {
-      offset = λ n e h. ap (λ (s : Shown). (pointer_of s).offset) (shown n e) ∙ rw h refl;
+      offset = λ n e h. ap (λ (s : Option ℕ). (pointer_of s).offset) (shown n e) ∙ rw h refl;
       table = λ n e h.
           let i : ℕ = n - 128 in
           let v : List ℕ = window_of o.arena g M in
           let below : i < 8 = slot_below b n l.drives e in
-          let given : shown_of o.desk.table (placement_at o.desk g) n ≡ record { table = true; segment = table_address b address i / 16 % 65536 } = shown n e ∙ rw h refl in
-          ap (λ (s : Shown). behind (pointer_of s) v) given
+          let given : shown_of o.desk.table (placement_at o.desk g) n ≡ Some (table_address b address i / 16 % 65536) = shown n e ∙ rw h refl in
+          ap (λ (s : Option ℕ). behind (pointer_of s) v) given
           ∙ ap (part 16 v) (segment_back b M address i m.found below h)
           ∙ ap (λ (u : List ℕ). part 16 u (table_address b address i)) after
           ∙ table_at b i address w l.parameters below h (omega (arith, m.found.inside, long));

@@ -12,7 +12,7 @@ use Rattle.layout.specs.Packet.{read_packet}
 use Rattle.layout.specs.ResultBuffer.{returned_size, parameter_bytes, block_bytes, interface_bytes, path_bytes, sum, whole_result, result_bytes, result_answer, padded, wide_interface_bytes, wide_path_bytes, summed_bytes}
 use Rattle.drive.specs.Drive.{drive_of, is_blank, blank_numbers, blank_names, same, bus_ok, interface_ok, geometry_fits, fields_ok, in_store, overlap, is_i2o, kind_ok, tail_of, zero_tail}
 use Rattle.attached.specs.Bad.{held_of, ascends, are_blocks, list_ok, zero_past, bads_ok, is_bad, good}
-use Rattle.table.specs.Table.{empty_table, header_of, header_at, overlaps_any, refusal, record_refusal, with_record, record_step, end_step, step_of, step_at, read_from, read_table, records_of, bytes_of, table_of, write_answer, write_out, written_numbers, write_numbers, sound_to, blank_to, attached_to, listed_to, is_sound}
+use Rattle.table.specs.Table.{empty_table, header_of, header_at, overlaps_any, refusal, record_refusal, with_record, record_step, end_step, step_of, step_at, read_from, read_table, records_of, bytes_of, table_of, write_answer, write_out, write_numbers, sound_to, blank_to, attached_to, listed_to, is_sound}
 use Rattle.words.specs.Words.{le}
 use Rattle.int13.specs.declared.Registers.{Registers}
 use Rattle.int13.specs.declared.Outcome.{Outcome}
@@ -25,13 +25,11 @@ use Rattle.desk.specs.declared.Row.{Row}
 use Rattle.desk.specs.declared.Stage.{Stage}
 use Rattle.desk.specs.declared.Stage.TheVariants.{Vacant, Waiting, Finished}
 use Rattle.desk.specs.declared.Desk.{Desk}
-use Rattle.desk.specs.declared.Next.TheVariants.{Guest}
-use Rattle.desk.specs.declared.PostAnswer.TheVariants.{Waits as PostWaits}
-use Rattle.desk.specs.declared.TurnAnswer.TheVariants.{Served}
+use Rattle.std.specs.Prelude.{Ok, Some, None}
 use Rattle.desk.specs.Parts.{vacant_row}
 use Rattle.desk.specs.Acceptable.{rows_ok, placements_ok, accept}
 use Rattle.desk.specs.Calls.{open_of, written_of, written_out, post_vacant, post_row, post_of, first_waiting, turn_of, collect_stage, collect_of, withdraw_stage, withdraw_of}
-use Rattle.desk.specs.Numbers.{open_numbers, post_numbers, turn_numbers, collect_numbers, withdraw_numbers, write_given, post_row_given, post_given, turn_row_given, turn_given, collect_row_given, collect_given, withdraw_row_given, withdraw_given}
+use Rattle.desk.specs.Numbers.{open_numbers, written_numbers, post_numbers, turn_numbers, collect_numbers, withdraw_numbers, write_given, post_row_given, post_given, turn_row_given, turn_given, collect_row_given, collect_given, withdraw_row_given, withdraw_given}
 
 -- 41h of drive 80h
 abbrev registers : Registers
@@ -104,7 +102,7 @@ waiting = row (Waiting (record { job = record { registers = registers; drive = 0
 
 -- the search begins at the pointer, that row included, and goes round; a finished row is passed over
 pub searches : map (first_waiting (set (set (set (replicate 8 vacant_row) 0 waiting) 7 waiting) 3 (row (Finished registers))) 8) (7 ∷ 0 ∷ 1 ∷ 3 ∷ [])
-    ≡ Guest 7 ∷ Guest 0 ∷ Guest 7 ∷ Guest 7 ∷ []
+    ≡ Some 7 ∷ Some 0 ∷ Some 7 ∷ Some 7 ∷ []
 unfolding first_waiting
 searches = refl
 
@@ -172,8 +170,8 @@ pub waiting_given : post_row_given small 1 registers (replicate 128 7) (partly p
     ∷ withdraw_row_given (partly sector_call 0)
     ∷ withdraw_row_given (partly packet_call 0)
     ∷ turn_row_given empty_table 3 (partly packet_call 0)
-    ∷ turn_numbers (Served 3 16)
-    ∷ post_numbers PostWaits
+    ∷ turn_numbers (Ok (Some (record { guest = 3; moved = 16 })))
+    ∷ post_numbers (Ok None)
     ∷ []
     ≡ (21 ∷ [])
     ∷ (22 ∷ [])

@@ -1,12 +1,12 @@
 -- Document 01, "Forms we want to see": for every case of an answer, the paper's number and values. 0 stands before the values of a call
 -- that was done, a refusal's number stands for itself, and 256 says that there is nothing to hand out yet.
 -- Assumes nothing.
-use Rattle.std.specs.Prelude.{ℕ, ◌+◌, ◌-◌, ◌*◌, ◌/◌, ◌%◌, min, Bool, true, false, not, List, [], ◌∷◌, get_or, leb, ltb, eqb}
+use Rattle.std.specs.Prelude.{ℕ, ◌+◌, ◌-◌, ◌*◌, ◌/◌, ◌%◌, min, Bool, true, false, not, List, [], ◌∷◌, get_or, leb, ltb, eqb, Ok, Err, Option, Some, None}
 use Rattle.logic.specs.Logic.{pick, both, either}
 use Rattle.memory.specs.Window.{window_of}
 use Rattle.attached.specs.Bad.{good}
 use Rattle.table.specs.declared.Table.{Table}
-use Rattle.table.specs.Table.{parameters_to, table_numbers, write_numbers}
+use Rattle.table.specs.Table.{parameters_to, table_numbers, write_numbers, number as table_number}
 use Rattle.int13.specs.declared.Registers.{Registers}
 use Rattle.int13.specs.Answers.{ah, al, is_sectors, nothing_yet, register_numbers}
 use Rattle.int13.specs.Steps.{bads_of}
@@ -14,57 +14,48 @@ use Rattle.int13.specs.Numbers.{begin_given}
 use Rattle.desk.specs.declared.Stage.{Stage}
 use Rattle.desk.specs.declared.Stage.TheVariants.{Vacant, Waiting, Finished}
 use Rattle.desk.specs.declared.Desk.{Desk}
-use Rattle.desk.specs.declared.Next.{Next}
-use Rattle.desk.specs.declared.Next.TheVariants.{Guest, Nobody}
-use Rattle.desk.specs.declared.OpenAnswer.{OpenAnswer}
-use Rattle.desk.specs.declared.OpenAnswer.TheVariants.{Opened, Refused as OpenRefused}
-use Rattle.desk.specs.declared.PostAnswer.{PostAnswer}
-use Rattle.desk.specs.declared.PostAnswer.TheVariants.{Answered, Waits, Refused as PostRefused}
-use Rattle.desk.specs.declared.TurnAnswer.{TurnAnswer}
-use Rattle.desk.specs.declared.TurnAnswer.TheVariants.{Served, Idle, Refused as TurnRefused}
-use Rattle.desk.specs.declared.CollectAnswer.{CollectAnswer}
-use Rattle.desk.specs.declared.CollectAnswer.TheVariants.{Given as CollectGiven, Refused as CollectRefused}
-use Rattle.desk.specs.declared.WithdrawAnswer.{WithdrawAnswer}
-use Rattle.desk.specs.declared.WithdrawAnswer.TheVariants.{Given as WithdrawGiven, Refused as WithdrawRefused}
-use Rattle.desk.specs.declared.PlaceAnswer.{PlaceAnswer}
-use Rattle.desk.specs.declared.PlaceAnswer.TheVariants.{Placed, Refused as PlaceRefused}
 use Rattle.desk.specs.Parts.{stage_at}
 use Rattle.desk.specs.Acceptable.{accept}
-use Rattle.desk.specs.Calls.{is_lent, first_waiting}
+use Rattle.desk.specs.Calls.{OpenAnswer, WriteAnswer, PostAnswer, TurnAnswer, CollectAnswer, WithdrawAnswer, PlaceAnswer, number, is_lent, first_waiting}
 
 -- ---- "Forms we want to see": the answers as numbers
 
 -- open as numbers: 0, or the table's number and the place
 unfoldable pub open_numbers : OpenAnswer → List ℕ
-open_numbers Opened = 0 ∷ []
-open_numbers (OpenRefused n place) = n ∷ place ∷ []
+open_numbers (Ok x) = 0 ∷ []
+open_numbers (Err e) = table_number e.refusal ∷ e.place ∷ []
+
+-- write as numbers: 0 and how many bytes, or the house number
+unfoldable pub written_numbers : WriteAnswer → List ℕ
+written_numbers (Ok n) = 0 ∷ n ∷ []
+written_numbers (Err e) = number e ∷ []
 
 -- post as numbers: 0 and the registers, 256 where the row waits, or the house number
 unfoldable pub post_numbers : PostAnswer → List ℕ
-post_numbers (Answered r) = 0 ∷ register_numbers r
-post_numbers Waits = nothing_yet ∷ []
-post_numbers (PostRefused n) = n ∷ []
+post_numbers (Ok (Some r)) = 0 ∷ register_numbers r
+post_numbers (Ok None) = nothing_yet ∷ []
+post_numbers (Err e) = number e ∷ []
 
 -- turn as numbers: 0, the guest and the number moved, 256 where idle, or the house number
 unfoldable pub turn_numbers : TurnAnswer → List ℕ
-turn_numbers (Served guest moved) = 0 ∷ guest ∷ moved ∷ []
-turn_numbers Idle = nothing_yet ∷ []
-turn_numbers (TurnRefused n) = n ∷ []
+turn_numbers (Ok (Some s)) = 0 ∷ s.guest ∷ s.moved ∷ []
+turn_numbers (Ok None) = nothing_yet ∷ []
+turn_numbers (Err e) = number e ∷ []
 
 -- collect as numbers: 0 and the registers, or the house number
 unfoldable pub collect_numbers : CollectAnswer → List ℕ
-collect_numbers (CollectGiven r) = 0 ∷ register_numbers r
-collect_numbers (CollectRefused n) = n ∷ []
+collect_numbers (Ok r) = 0 ∷ register_numbers r
+collect_numbers (Err e) = number e ∷ []
 
 -- withdraw as numbers: 0 and the registers, or the house number
 unfoldable pub withdraw_numbers : WithdrawAnswer → List ℕ
-withdraw_numbers (WithdrawGiven r) = 0 ∷ register_numbers r
-withdraw_numbers (WithdrawRefused n) = n ∷ []
+withdraw_numbers (Ok r) = 0 ∷ register_numbers r
+withdraw_numbers (Err e) = number e ∷ []
 
 -- place as numbers: 0, or the house number
 unfoldable pub place_numbers : PlaceAnswer → List ℕ
-place_numbers Placed = 0 ∷ []
-place_numbers (PlaceRefused n) = n ∷ []
+place_numbers (Ok x) = 0 ∷ []
+place_numbers (Err e) = number e ∷ []
 
 -- ---- "Calls the host makes", the numbers that each call gives, in the paper's order and as they are printed there
 
@@ -102,9 +93,9 @@ turn_row_given b g (Waiting q) = 0 ∷ g ∷ good (bads_of b q.job.drive) (q.job
 turn_row_given b g (Finished r) = 256 ∷ []
 
 -- of the first waiting row at or after the pointer; 256 where no row waits
-abbrev pub turn_next_given : Desk → Next → List ℕ
-turn_next_given d Nobody = 256 ∷ []
-turn_next_given d (Guest g) = turn_row_given d.table g (stage_at d g)
+abbrev pub turn_next_given : Desk → Option ℕ → List ℕ
+turn_next_given d None = 256 ∷ []
+turn_next_given d (Some g) = turn_row_given d.table g (stage_at d g)
 
 -- turn: 25, 24, then the row
 unfoldable pub turn_given : Desk → List ℕ → List ℕ → List ℕ

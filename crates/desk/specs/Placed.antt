@@ -1,6 +1,6 @@
 -- Demand 2, of placing (document 02, 2026-01): what a guest finds in its window once its tables are placed.
 -- Assumes nothing.
-use Rattle.std.specs.Prelude.{ℕ, ◌+◌, ◌-◌, ◌*◌, ◌≤◌, ◌<◌, ◌≡◌, ◌⊎◌, true, false, List, length, get_or}
+use Rattle.std.specs.Prelude.{ℕ, ◌+◌, ◌-◌, ◌*◌, ◌≤◌, ◌<◌, ◌≡◌, ◌⊎◌, true, false, List, length, get_or, Ok}
 use Rattle.words.specs.Words.{part}
 use Rattle.memory.specs.Window.{window_of}
 use Rattle.table.specs.declared.Table.{Table}
@@ -12,10 +12,8 @@ use Rattle.layout.specs.ParameterTable.{parameter_table}
 use Rattle.int13.specs.Placement.{table_count, pointer_of}
 use Rattle.int13.specs.Steps.{is_drive, shown_of}
 use Rattle.desk.specs.declared.Desk.{Desk}
-use Rattle.desk.specs.declared.PlaceAnswer.{PlaceAnswer}
-use Rattle.desk.specs.declared.PlaceAnswer.TheVariants.{Placed}
 use Rattle.desk.specs.Parts.{window_size, placement_at}
-use Rattle.desk.specs.Calls.{Done, place_of}
+use Rattle.desk.specs.Calls.{PlaceAnswer, Done, place_of}
 
 -- ---- "2026-01", the pointer leads to the table
 
@@ -47,5 +45,5 @@ pub record Lists (d : Desk) : Type 0 where
 
 -- of every placement that is done
 abbrev pub Demand2 : Type 0
-Demand2 = (d : Desk) (g address : ℕ) (arena store : List ℕ) → Lists d → (place_of d g address arena store).answer ≡ Placed
+Demand2 = (d : Desk) (g address : ℕ) (arena store : List ℕ) → Lists d → (place_of d g address arena store).answer ≡ Ok tt
     → Leads d.table g (window_size d) address (window_of arena g (window_size d)) (place_of d g address arena store)

@@ -2,13 +2,12 @@
 // handed back with the answer.
 #![tactic(auto)]
 
-ghost use Rattle.std.specs.Prelude.{◌≡◌, true, false, ℕ, ◌+◌, ◌-◌, ◌*◌, ◌^◌, ◌≤◌, ◌<◌, leb, ltb, eqb, length, List, []};
+ghost use Rattle.std.specs.Prelude.{◌≡◌, true, false, ℕ, ◌+◌, ◌-◌, ◌*◌, ◌^◌, ◌≤◌, ◌<◌, leb, ltb, eqb, length, List, [], Ok, Err, Some};
 ghost use Rattle.logic.specs.Logic.{pick, both};
 ghost use Rattle.chs.specs.Chs.{size};
 ghost use Rattle.drive.specs.Drive.{geometry_of};
 ghost use Rattle.desk.specs.Parts.{own_window, with_own, stage_in, with_stage, is_waiting, next, with_pointer, placement_at, with_placement};
 ghost use Rattle.desk.specs.Acceptable.{packet_ok, moved_ok, job_rules, request_ok, stage_ok, rows_ok, place_ok, placement_ok, placements_ok, accept, Servable, InRange};
-ghost use Rattle.table.specs.Table.{written_numbers};
 ghost use Rattle.layout.specs.Packet.{packet_length};
 ghost use Rattle.memory.specs.Window.{guests, window_length, span_length};
 ghost use Rattle.memory.specs.Blocks.{block_length};
@@ -16,14 +15,14 @@ ghost use Rattle.int13.specs.Answers.{ah, withdraw};
 ghost use Rattle.int13.specs.Placement.{table_count};
 ghost use Rattle.int13.specs.Steps.{most_blocks, most_run, fed, begin};
 ghost use Rattle.int13.specs.Alone.{reported};
-ghost use Rattle.desk.specs.declared.TurnAnswer.TheVariants.{Served};
-ghost use Rattle.desk.specs.Calls.{house_number, done, opened, open_of, written_of, written_out, post_checked, post_of, first_waiting, quota, moves_now, goes_on, service_of, beside, Copied, Transferred, turn_of, collect_of, withdraw_of, tables_in, place_of};
-ghost use Rattle.desk.specs.Numbers.{open_numbers, post_numbers, turn_numbers, collect_numbers, withdraw_numbers, place_numbers, open_given, write_given, post_given, turn_given, collect_given, withdraw_given, place_given};
+ghost use Rattle.desk.specs.declared.HouseNumber.TheVariants.{ShortBuffer as NoRoom};
+ghost use Rattle.desk.specs.Calls.{number, number_of, house_number, house_answer, done, opened, open_of, written_of, written_out, post_checked, post_of, first_waiting, quota, moves_now, goes_on, service_of, beside, Copied, Transferred, turn_of, collect_of, withdraw_of, tables_in, place_of};
+ghost use Rattle.desk.specs.Numbers.{open_numbers, written_numbers, post_numbers, turn_numbers, collect_numbers, withdraw_numbers, place_numbers, open_given, write_given, post_given, turn_given, collect_given, withdraw_given, place_given};
 
 use attached::Bads;
 use drive::Drive;
 use int13::{Job, Outcome, Placement, Registers};
-use table::{Answer, Table, Written};
+use table::{Refused, ShortBuffer, Table};
 
 // A request with the number of blocks that have moved.
 #[derive(Clone, Copy)]
@@ -47,6 +46,7 @@ pub struct Row {
 
 // One row for each guest, the turn pointer, the drives, the lengths of arena and store that it was opened with, and for each guest whether its
 // parameter tables are placed in its window, and from which address on.
+// Stays: marks and addresses are two arrays and no Options, since accept answers on an unplaced address other than 0.
 #[derive(Clone, Copy)]
 pub struct Desk {
     pub rows: [Row; 8],
@@ -65,103 +65,58 @@ pub struct Service {
     pub stage: Stage,
 }
 
-// The answers. Refused holds a house number; an opening's also a table number with its place.
-#[derive(Clone, Copy)]
-pub enum OpenAnswer {
-    Opened,
-    Refused(u8, usize),
+// The guest that a turn served, and the blocks that it moved.
+#[derive(Clone, Copy, PartialEq, Eq, Debug)]
+pub struct Served {
+    pub guest: usize,
+    pub moved: u64,
 }
 
+// A refusal by the desk: document 01's house numbers.
+#[derive(Clone, Copy, PartialEq, Eq, Debug)]
+pub enum HouseNumber {
+    NoGuest,
+    NotVacant,
+    NotFinished,
+    NotWaiting,
+    OtherLength,
+    NotAcceptable,
+    BadPlace,
+    ShortBuffer,
+}
+
+// What a call leaves: the desk to go on with, which a refusal hands back as it was, and the answer.
 #[derive(Clone, Copy)]
-pub struct Opening {
+pub struct After<A> {
     pub desk: Desk,
-    pub answer: OpenAnswer,
+    pub answer: A,
 }
 
-#[derive(Clone, Copy)]
-pub enum PostAnswer {
-    Answered(Registers),
-    Waits,
-    Refused(u8),
+impl HouseNumber {
+    // The paper's number.
+    pub fn number(self) -> u8
+        ensures { result ≡ number self }
+    {
+        match self {
+            Self::NoGuest => 20,
+            Self::NotVacant => 21,
+            Self::NotFinished => 22,
+            Self::NotWaiting => 23,
+            Self::OtherLength => 24,
+            Self::NotAcceptable => 25,
+            Self::BadPlace => 26,
+            Self::ShortBuffer => table::SHORT_BUFFER,
+        }
+    }
 }
 
-#[derive(Clone, Copy)]
-pub struct Posted {
-    pub desk: Desk,
-    pub answer: PostAnswer,
+impl From<ShortBuffer> for HouseNumber {
+    ghost from_gives = { λ _ r. r ≡ NoRoom };
+
+    fn from(_short: ShortBuffer) -> HouseNumber {
+        HouseNumber::ShortBuffer
+    }
 }
-
-// The guest served and the number of blocks moved.
-#[derive(Clone, Copy)]
-pub enum TurnAnswer {
-    Served(usize, u64),
-    Idle,
-    Refused(u8),
-}
-
-#[derive(Clone, Copy)]
-pub struct Turned {
-    pub desk: Desk,
-    pub answer: TurnAnswer,
-}
-
-#[derive(Clone, Copy)]
-pub enum CollectAnswer {
-    Given(Registers),
-    Refused(u8),
-}
-
-#[derive(Clone, Copy)]
-pub struct Collected {
-    pub desk: Desk,
-    pub answer: CollectAnswer,
-}
-
-#[derive(Clone, Copy)]
-pub enum WithdrawAnswer {
-    Given(Registers),
-    Refused(u8),
-}
-
-#[derive(Clone, Copy)]
-pub struct Withdrawn {
-    pub desk: Desk,
-    pub answer: WithdrawAnswer,
-}
-
-#[derive(Clone, Copy)]
-pub enum PlaceAnswer {
-    Placed,
-    Refused(u8),
-}
-
-#[derive(Clone, Copy)]
-pub struct Placing {
-    pub desk: Desk,
-    pub answer: PlaceAnswer,
-}
-
-// The first waiting guest, if there is one.
-#[derive(Clone, Copy)]
-pub enum Next {
-    Guest(usize),
-    Nobody,
-}
-
-// Document 01's house numbers.
-const NO_GUEST: u8 = 20;
-
-pub const NOT_VACANT: u8 = 21;
-
-pub const NOT_FINISHED: u8 = 22;
-
-pub const NOT_WAITING: u8 = 23;
-
-const OTHER_LENGTH: u8 = 24;
-
-pub const NOT_ACCEPTABLE: u8 = 25;
-
-pub const BAD_PLACE: u8 = 26;
 
 // Blocks that a turn moves at most, bytes of a block, bytes of a packet.
 const TURN_BLOCKS: u64 = 16;
@@ -183,20 +138,23 @@ const GUESTS: usize = memory::GUESTS;
 
 // ---- the tests before the row's
 
-// The first house number that a call comes to, 0 where it passes: the only place that knows their order.
-pub fn house_number(acceptable: bool, lent: bool, guest: bool) -> u8
-    ensures { result ≡ house_number acceptable lent guest }
+// Stays: a guest is a number and no type of its own, since it comes so through the C interface, and 8 and more is 20.
+
+// The first refusal that a call comes to: the only place that knows their order.
+#[tactic(auto, unfolding(crate::specs::Calls::house_answer, crate::specs::Calls::house_number))]
+pub fn house_tests(acceptable: bool, lent: bool, guest: bool) -> Result<(), HouseNumber>
+    ensures { (result ≡ house_answer acceptable lent guest) × (number_of result ≡ house_number acceptable lent guest) }
 {
     if !acceptable {
-        return NOT_ACCEPTABLE;
+        return Err(HouseNumber::NotAcceptable);
     }
     if !lent {
-        return OTHER_LENGTH;
+        return Err(HouseNumber::OtherLength);
     }
     if !guest {
-        return NO_GUEST;
+        return Err(HouseNumber::NoGuest);
     }
-    0
+    Ok(())
 }
 
 // ---- acceptable desks
@@ -204,10 +162,7 @@ pub fn house_number(acceptable: bool, lent: bool, guest: bool) -> u8
 fn count_ok(sectors: bool, n: u64) -> bool
     ensures { result ≡ leb n (pick sectors most_run most_blocks) }
 {
-    if sectors {
-        return n <= MOST_RUN;
-    }
-    n <= MOST_BLOCKS
+    n <= if sectors { MOST_RUN } else { MOST_BLOCKS }
 }
 
 fn packet_ok(sectors: bool, place: u64, m: u64) -> bool
@@ -222,20 +177,14 @@ fn packet_ok(sectors: bool, place: u64, m: u64) -> bool
 fn range_ok(d: Drive, sectors: bool, start: u64, count: u64) -> bool
     ensures { result ≡ both (leb (start + count) d.blocks) (pick sectors (leb (start + count) (size (geometry_of d))) true) }
 {
-    let inside = logic::ends_by(start, count, d.blocks);
-    if sectors {
-        return logic::and(
-            inside,
-            logic::ends_by(start, count, drive::geometry_size(d)),
-        );
-    }
-    logic::and(inside, true)
+    logic::ends_by(start, count, d.blocks)
+        && (!sectors || logic::ends_by(start, count, drive::geometry_size(d)))
 }
 
 fn moved_ok(moved: u64, count: u64) -> bool
     ensures { result ≡ moved_ok moved count }
 {
-    logic::and(moved % TURN_BLOCKS == 0, moved < count)
+    moved % TURN_BLOCKS == 0 && moved < count
 }
 
 // The count first, so that its bytes do not wrap.
@@ -244,24 +193,22 @@ fn job_ok(d: Drive, m: u64, j: Job) -> bool
 {
     let f = int13::function_of(j.registers);
     let sectors = int13::is_sectors(f);
-    if !count_ok(sectors, j.count) {
-        return false;
-    }
-    let transfer = logic::or(sectors, logic::or(f == 0x42, f == 0x43));
-    let protected = logic::and(int13::is_write(f), drive::is_protected(d));
-    let places = logic::and(
-        logic::ends_by(j.buffer, BLOCK_LENGTH * j.count, m),
-        logic::and(packet_ok(sectors, j.packet, m), !protected),
-    );
-    let blocks = logic::and(range_ok(d, sectors, j.start, j.count), places);
-    logic::and(transfer, blocks)
+    let transfer = sectors || matches!(f, 0x42 | 0x43);
+    let protected = int13::is_write(f) && drive::is_protected(d);
+    count_ok(sectors, j.count)
+        && transfer
+        && range_ok(d, sectors, j.start, j.count)
+        && logic::ends_by(j.buffer, BLOCK_LENGTH * j.count, m)
+        && packet_ok(sectors, j.packet, m)
+        && !protected
 }
 
 // What is asked of a waiting request on its drive, in windows of m bytes.
+#[tactic(auto, unfolding(crate::specs::Acceptable::request_ok))]
 pub fn request_ok(d: Drive, m: u64, q: Request) -> bool
     ensures { result ≡ request_ok d m q }
 {
-    logic::and(job_ok(d, m, q.job), moved_ok(q.moved, q.job.count))
+    job_ok(d, m, q.job) && moved_ok(q.moved, q.job.count)
 }
 
 fn stage_ok(b: Table, m: u64, stage: Stage) -> bool
@@ -281,15 +228,7 @@ fn stage_ok(b: Table, m: u64, stage: Stage) -> bool
 fn rows_ok(rows: [Row; 8], b: Table, m: u64) -> bool
     ensures { result ≡ rows_ok guests rows b m }
 {
-    let mut good = true;
-    let mut i: usize = 0;
-    while i < GUESTS {
-        let row = rows[i];
-        let stage = row.stage;
-        good = logic::and(stage_ok(b, m, stage), good);
-        i += 1;
-    }
-    good
+    rows.iter().all(|row| stage_ok(b, m, row.stage))
 }
 
 // ---- places for parameter tables
@@ -298,13 +237,14 @@ fn rows_ok(rows: [Row; 8], b: Table, m: u64) -> bool
 const SEGMENTS: u64 = 0x10000;
 
 // Whether so many tables may stand from an address on, in windows of m bytes.
+#[tactic(auto, unfolding(crate::specs::Acceptable::place_ok))]
 pub fn place_ok(tables: u8, m: u64, address: u64) -> bool
     ensures { result ≡ place_ok tables m address }
 {
     let n = tables as u64;
-    let inside = logic::ends_by(address, PARAMETER_SIZE * n, m);
-    let segment = logic::or(n == 0, address / 16 + n <= SEGMENTS);
-    logic::and(address % 16 == 0, logic::and(inside, segment))
+    address % 16 == 0
+        && logic::ends_by(address, PARAMETER_SIZE * n, m)
+        && (n == 0 || address / 16 + n <= SEGMENTS)
 }
 
 // A good place, or 0 where nothing is placed.
@@ -323,11 +263,9 @@ impl Desk {
         requires { guest < guests }
         ensures { result ≡ placement_at self guest }
     {
-        let placed = self.placed;
-        let addresses = self.addresses;
         Placement {
-            placed: placed[guest],
-            address: addresses[guest],
+            placed: self.placed[guest],
+            address: self.addresses[guest],
         }
     }
 
@@ -337,24 +275,19 @@ impl Desk {
         let b = self.table;
         let tables = int13::table_count(b);
         let m = self.arena / 8;
-        let mut good = true;
-        let mut g: usize = 0;
-        while g < GUESTS {
-            good = logic::and(placement_ok(tables, m, self.placement(g)), good);
-            g += 1;
-        }
-        good
+        (0..GUESTS).all(|g| placement_ok(tables, m, self.placement(g)))
     }
 
     // A table that obeys the rules, a pointer below 8, every waiting row in range, and good places; any other desk is 25.
+    #[tactic(auto, unfolding(crate::specs::Acceptable::accept))]
     pub fn accept(self) -> bool
         ensures { result ≡ accept self }
     {
-        let rows = self.rows;
         let b = self.table;
-        let sound = table::is_sound(b, self.store / BLOCK_LENGTH);
-        let good = logic::and(rows_ok(rows, b, self.arena / 8), self.placements_ok());
-        logic::and(sound, logic::and(self.pointer < GUESTS, good))
+        table::is_sound(b, self.store / BLOCK_LENGTH)
+            && self.pointer < GUESTS
+            && rows_ok(self.rows, b, self.arena / 8)
+            && self.placements_ok()
     }
 }
 
@@ -365,8 +298,7 @@ fn stage_in(rows: [Row; 8], guest: usize) -> Stage
     requires { guest < guests }
     ensures { result ≡ stage_in rows guest }
 {
-    let row = rows[guest];
-    row.stage
+    rows[guest].stage
 }
 
 // ---- the turn's search
@@ -374,30 +306,21 @@ fn stage_in(rows: [Row; 8], guest: usize) -> Stage
 fn waits(stage: Stage) -> bool
     ensures { result ≡ is_waiting stage }
 {
-    match stage {
-        Stage::Waiting(_) => true,
-        Stage::Vacant => false,
-        Stage::Finished(_) => false,
-    }
+    matches!(stage, Stage::Waiting(_))
 }
 
 // The first waiting row at or after the pointer, which `accept` has found below 8.
-fn next_waiting(rows: [Row; 8], pointer: usize) -> Next
+fn next_waiting(rows: [Row; 8], pointer: usize) -> Option<usize>
     requires { pointer < guests }
     ensures { result ≡ first_waiting rows guests pointer }
 {
-    let mut guest = pointer;
-    let mut left: usize = GUESTS;
-    while 0 < left {
-        let row = rows[guest];
-        let stage = row.stage;
-        if waits(stage) {
-            return Next::Guest(guest);
+    for i in 0..GUESTS {
+        let guest = (pointer + i) % GUESTS;
+        if waits(stage_in(rows, guest)) {
+            return Some(guest);
         }
-        guest = (guest + 1) % GUESTS;
-        left -= 1;
     }
-    Next::Nobody
+    None
 }
 
 // ---- what a turn does to a request
@@ -406,18 +329,12 @@ fn next_waiting(rows: [Row; 8], pointer: usize) -> Next
 fn quota_of(q: Request) -> u64
     ensures { result ≡ quota q }
 {
-    if q.job.count < q.moved {
-        return 0;
-    }
-    let left = q.job.count - q.moved;
-    if left < TURN_BLOCKS {
-        left
-    } else {
-        TURN_BLOCKS
-    }
+    let left = q.job.count.saturating_sub(q.moved);
+    left.min(TURN_BLOCKS)
 }
 
 // The same before the first bad block of its drive. Its blocks have been found in range, so that their numbers do not wrap.
+#[tactic(auto, unfolding(crate::specs::Calls::moves_now))]
 fn moves_now(q: Request, bads: Bads) -> u64
     requires { Servable q }
     ensures { (result ≡ moves_now bads q) × (result ≤ quota q) }
@@ -430,28 +347,23 @@ fn goes_on(q: Request, k: u64) -> bool
     requires { q.moved + k < 2 ^ 64 }
     ensures { result ≡ goes_on q k }
 {
-    logic::and(quota_of(q) <= k, q.moved + k < q.job.count)
+    quota_of(q) <= k && q.moved + k < q.job.count
 }
 
 // What a turn does to a request on a drive with those bad blocks. Acceptance has found it in range.
+#[tactic(auto, unfolding(crate::specs::Calls::stage_after))]
 pub fn service_of(q: Request, bads: Bads) -> Service
     requires { Servable q }
     ensures { result ≡ service_of bads q }
 {
     let k = moves_now(q, bads);
     let moved = q.moved + k;
-    let job = q.job;
-    if goes_on(q, k) {
-        return Service {
-            moved: k,
-            stage: Stage::Waiting(Request { job, moved }),
-        };
-    }
-    let registers = job.registers;
-    Service {
-        moved: k,
-        stage: Stage::Finished(int13::ended(job.count, moved, registers)),
-    }
+    let stage = if goes_on(q, k) {
+        Stage::Waiting(Request { moved, ..q })
+    } else {
+        Stage::Finished(int13::ended(q.job.count, moved, q.job.registers))
+    };
+    Service { moved: k, stage }
 }
 
 // Where the next blocks of a request stand in the window and in the store, in bytes. The request is in range, so that neither wraps.
@@ -496,11 +408,9 @@ pub fn transfer(first: u64, q: Request, k: u64, guest: usize, arena: &mut [u8], 
     requires { InRange first q k guest (length arena.old) (length store.old) }
     ensures { Transferred first q k guest arena.old store.old arena.new store.new }
 {
-    let job = q.job;
-    let at = window_place(job.buffer, q.moved);
-    let place = store_place(first, job.start, q.moved);
-    let registers = job.registers;
-    let write = int13::is_write(int13::function_of(registers));
+    let at = window_place(q.job.buffer, q.moved);
+    let place = store_place(first, q.job.start, q.moved);
+    let write = int13::is_write(int13::function_of(q.job.registers));
     move_blocks(write, guest, at, place, k as usize, arena, store);
 }
 
@@ -520,8 +430,7 @@ pub fn report_moved(job: Job, moved: u64, guest: usize, arena: &mut [u8])
     requires { (guest < guests) × (packet_ok (ah job.registers) job.packet (window_length (length arena.old)) ≡ true) × (moved ≤ most_run) }
     ensures { arena.new ≡ with_own arena.old guest (reported job moved (own_window arena.old guest)) }
 {
-    let registers = job.registers;
-    if int13::is_sectors(int13::function_of(registers)) {
+    if int13::is_sectors(int13::function_of(job.registers)) {
         return;
     }
     let m = memory::window_length(arena.len());
@@ -538,11 +447,10 @@ pub fn report_ending(q: Request, k: u64, guest: usize, arena: &mut [u8])
         return;
     }
     let moved = q.moved + k;
-    let job = q.job;
-    if job.count <= moved {
+    if q.job.count <= moved {
         return;
     }
-    report_moved(job, moved, guest, arena);
+    report_moved(q.job, moved, guest, arena);
 }
 
 // ---- what a withdrawal gives back
@@ -551,9 +459,7 @@ pub fn given_back(q: Request) -> Registers
     requires { q.moved < most_run }
     ensures { result ≡ withdraw q.moved q.job.registers }
 {
-    let job = q.job;
-    let registers = job.registers;
-    int13::withdraw(q.moved as u8, registers)
+    int13::withdraw(q.moved as u8, q.job.registers)
 }
 
 // ---- what placing writes
@@ -575,17 +481,16 @@ pub fn lay_tables(b: Table, guest: usize, address: u64, arena: &mut [u8])
 fn vacant(pointer: usize, b: Table, arena: u64, store: u64) -> Desk
     ensures { result ≡ with_pointer (opened b arena store) pointer }
 {
-    let row = Row {
-        stage: Stage::Vacant,
-    };
     Desk {
-        rows: [row; 8],
+        rows: [Row {
+            stage: Stage::Vacant,
+        }; GUESTS],
         pointer,
         table: b,
         arena,
         store,
-        placed: [false; 8],
-        addresses: [0u64; 8],
+        placed: [false; GUESTS],
+        addresses: [0; GUESTS],
     }
 }
 
@@ -601,257 +506,253 @@ fn begin_own(
 {
     let m = memory::window_length(arena.len());
     let span = memory::span_of(arena.len(), guest, m);
-    let start = span.start;
-    let end = span.end;
-    int13::begin(b, placement, registers, &mut arena[start..end])
+    int13::begin(b, placement, registers, &mut arena[span])
 }
 
 impl Desk {
-    // The house number of a call that is lent an arena and a store of these lengths.
-    fn house(self, arena: usize, store: usize, guest: bool) -> u8
-        ensures { result ≡ house_number (accept self) (both (eqb arena self.arena) (eqb store self.store)) guest }
+    // The tests of a call that is lent an arena and a store of these lengths.
+    fn house(self, arena: usize, store: usize, guest: bool) -> Result<(), HouseNumber>
+        ensures { result ≡ house_answer (accept self) (both (eqb arena self.arena) (eqb store self.store)) guest }
     {
-        let lent = logic::and(arena as u64 == self.arena, store as u64 == self.store);
-        house_number(self.accept(), lent, guest)
+        let lent = arena as u64 == self.arena && store as u64 == self.store;
+        house_tests(self.accept(), lent, guest)
     }
 
-    // The desk with another stage in the guest's row.
-    fn with_stage(self, guest: usize, stage: Stage) -> Desk
+    // The guest's row gets another stage.
+    fn set_stage(&mut self, guest: usize, stage: Stage)
         requires { guest < guests }
-        ensures { result ≡ with_stage self guest stage }
+        ensures { self.new ≡ with_stage self.old guest stage }
     {
-        let mut next = self;
-        next.rows[guest] = Row { stage };
-        next
+        self.rows[guest] = Row { stage };
     }
 
     // Reads the table; a desk with all rows vacant, or the table's refusal with its place and a desk at which every call is 25.
-    pub fn open(t: &[u8], arena: u64, store: u64) -> Opening
+    pub fn open(t: &[u8], arena: u64, store: u64) -> After<Result<(), Refused>>
         ensures { (result ≡ open_of t.now arena store) × (open_numbers result.answer ≡ open_given t.now store) }
     {
         let reading = table::read_table(t, store / BLOCK_LENGTH);
         let answer = reading.answer;
-        match answer {
-            Answer::Accepted => {
-                let b = reading.table;
-                Opening {
-                    desk: vacant(0, b, arena, store),
-                    answer: OpenAnswer::Opened,
-                }
-            }
-            Answer::Refused(n, place) => {
-                let none = table::empty_table();
-                Opening {
-                    desk: vacant(GUESTS, none, arena, store),
-                    answer: OpenAnswer::Refused(n, place),
-                }
-            }
-        }
+        let desk = match answer {
+            Ok(()) => vacant(0, reading.table, arena, store),
+            Err(_) => vacant(GUESTS, table::empty_table(), arena, store),
+        };
+        After { desk, answer }
     }
 
     // Lays the drives out as a table again.
-    pub fn write(self, out: &mut [u8]) -> Written
+    pub fn write(self, out: &mut [u8]) -> Result<usize, HouseNumber>
         ensures { (result ≡ written_of self (length out.old)) × (out.new ≡ written_out self out.old) × (written_numbers result ≡ write_given self (length out.old)) }
     {
-        let number = house_number(self.accept(), true, true);
-        if number != 0 {
-            return Written::Refused(number);
-        }
-        let b = self.table;
-        table::write_table(b, out)
+        house_tests(self.accept(), true, true)?;
+        let written = table::write_table(self.table, out)?;
+        Ok(written)
     }
 
-    // The row waits with no block moved, or stays vacant.
-    fn posted(self, guest: usize, outcome: Outcome) -> Posted
+    // Each call below is written over a desk that is lent for change, which a refusal leaves as it was. The call of the
+    // same name takes the desk and hands it back with the answer.
+
+    // What the steps make of a post: the row stays vacant, or waits with no block moved.
+    fn posted(&mut self, guest: usize, outcome: Outcome) -> Option<Registers>
         requires { guest < guests }
-        ensures { (result.desk ≡ (post_checked self guest [] [] outcome []).desk) × (result.answer ≡ (post_checked self guest [] [] outcome []).answer) }
+        ensures { (self.new ≡ (post_checked self.old guest [] [] outcome []).desk) × (Ok result ≡ (post_checked self.old guest [] [] outcome []).answer) }
     {
         match outcome {
-            Outcome::Answered(r) => Posted {
-                desk: self,
-                answer: PostAnswer::Answered(r),
-            },
-            Outcome::Waits(job) => Posted {
-                desk: self.with_stage(guest, Stage::Waiting(Request { job, moved: 0 })),
-                answer: PostAnswer::Waits,
-            },
+            Outcome::Answered(registers) => Some(registers),
+            Outcome::Waits(job) => {
+                self.set_stage(guest, Stage::Waiting(Request { job, moved: 0 }));
+                None
+            }
         }
+    }
+
+    fn post_lent(
+        &mut self,
+        guest: usize,
+        registers: Registers,
+        arena: &mut [u8],
+        store: &[u8],
+    ) -> Result<Option<Registers>, HouseNumber>
+        ensures { (done self.new result arena.new store.now ≡ post_of self.old guest registers arena.old store.now) × (post_numbers result ≡ post_given self.old guest registers arena.old store.now) }
+    {
+        self.house(arena.len(), store.len(), guest < GUESTS)?;
+        let Stage::Vacant = stage_in(self.rows, guest) else {
+            return Err(HouseNumber::NotVacant);
+        };
+        let outcome = begin_own(self.table, self.placement(guest), registers, guest, arena);
+        let answer = self.posted(guest, outcome);
+        Ok(answer)
     }
 
     // A guest's call: answered at once, or the row waits.
-    pub fn post(self, guest: usize, registers: Registers, arena: &mut [u8], store: &[u8]) -> Posted
+    pub fn post(
+        self,
+        guest: usize,
+        registers: Registers,
+        arena: &mut [u8],
+        store: &[u8],
+    ) -> After<Result<Option<Registers>, HouseNumber>>
         ensures { (done result.desk result.answer arena.new store.now ≡ post_of self guest registers arena.old store.now) × (post_numbers result.answer ≡ post_given self guest registers arena.old store.now) }
     {
-        let number = self.house(arena.len(), store.len(), guest < GUESTS);
-        if number != 0 {
-            return Posted {
-                desk: self,
-                answer: PostAnswer::Refused(number),
-            };
-        }
-        let rows = self.rows;
-        let stage = stage_in(rows, guest);
-        let Stage::Vacant = stage else {
-            return Posted {
-                desk: self,
-                answer: PostAnswer::Refused(NOT_VACANT),
-            };
-        };
-        let b = self.table;
-        let outcome = begin_own(b, self.placement(guest), registers, guest, arena);
-        self.posted(guest, outcome)
+        let mut desk = self;
+        let answer = desk.post_lent(guest, registers, arena, store);
+        After { desk, answer }
     }
 
     // The desk after the blocks of a turn have moved.
-    fn served(self, guest: usize, service: Service) -> Turned
+    fn served(&mut self, guest: usize, service: Service) -> Served
         requires { guest < guests }
-        ensures { (result.desk ≡ with_pointer (with_stage self guest service.stage) (next guest)) × (result.answer ≡ Served guest service.moved) }
+        ensures { (self.new ≡ with_pointer (with_stage self.old guest service.stage) (next guest)) × (result ≡ record { guest = guest; moved = service.moved }) }
     {
-        let stage = service.stage;
-        let mut next = self.with_stage(guest, stage);
-        next.pointer = (guest + 1) % GUESTS;
-        Turned {
-            desk: next,
-            answer: TurnAnswer::Served(guest, service.moved),
+        self.set_stage(guest, service.stage);
+        self.pointer = (guest + 1) % GUESTS;
+        Served {
+            guest,
+            moved: service.moved,
         }
     }
 
-    // Serves the first waiting row at or after the pointer.
-    pub fn turn(self, arena: &mut [u8], store: &mut [u8]) -> Turned
-        ensures { (done result.desk result.answer arena.new store.new ≡ turn_of self arena.old store.old) × (turn_numbers result.answer ≡ turn_given self arena.old store.old) }
+    fn serve_next(
+        &mut self,
+        arena: &mut [u8],
+        store: &mut [u8],
+    ) -> Result<Option<Served>, HouseNumber>
+        ensures { ((done self.new result arena.new store.new) ≡ turn_of self.old arena.old store.old) × (turn_numbers result ≡ turn_given self.old arena.old store.old) }
     {
-        let number = self.house(arena.len(), store.len(), true);
-        if number != 0 {
-            return Turned {
-                desk: self,
-                answer: TurnAnswer::Refused(number),
-            };
-        }
-        let rows = self.rows;
-        let found = next_waiting(rows, self.pointer);
-        let Next::Guest(guest) = found else {
-            return Turned {
-                desk: self,
-                answer: TurnAnswer::Idle,
-            };
+        self.house(arena.len(), store.len(), true)?;
+        let Some(guest) = next_waiting(self.rows, self.pointer) else {
+            return Ok(None);
         };
-        let stage = stage_in(rows, guest);
-        let Stage::Waiting(q) = stage else {
-            return Turned {
-                desk: self,
-                answer: TurnAnswer::Idle,
-            };
+        let Stage::Waiting(q) = stage_in(self.rows, guest) else {
+            return Ok(None);
         };
         let b = self.table;
         let d = int13::drive_at(b, q.job.drive);
         let service = service_of(q, int13::bads_of(b, q.job.drive));
         transfer(d.first, q, service.moved, guest, arena, store);
         report_ending(q, service.moved, guest, arena);
-        self.served(guest, service)
+        Ok(Some(self.served(guest, service)))
     }
 
-    // A turn over a desk that is lent for change.
-    pub fn turn_lent(&mut self, arena: &mut [u8], store: &mut [u8]) -> TurnAnswer
+    // Serves the first waiting row at or after the pointer.
+    pub fn turn(
+        self,
+        arena: &mut [u8],
+        store: &mut [u8],
+    ) -> After<Result<Option<Served>, HouseNumber>>
+        ensures { (done result.desk result.answer arena.new store.new ≡ turn_of self arena.old store.old) × (turn_numbers result.answer ≡ turn_given self arena.old store.old) }
+    {
+        let mut desk = self;
+        let answer = desk.serve_next(arena, store);
+        After { desk, answer }
+    }
+
+    // Stays: document 01 has the turn over a lent desk call the one by value and store what it hands back.
+    pub fn turn_lent(
+        &mut self,
+        arena: &mut [u8],
+        store: &mut [u8],
+    ) -> Result<Option<Served>, HouseNumber>
         ensures { (done self.new result arena.new store.new ≡ turn_of self.old arena.old store.old) × (turn_numbers result ≡ turn_given self.old arena.old store.old) }
     {
-        let d = *self;
-        let t = d.turn(arena, store);
-        *self = t.desk;
-        t.answer
+        let after = self.turn(arena, store);
+        *self = after.desk;
+        after.answer
+    }
+
+    fn collect_lent(&mut self, guest: usize) -> Result<Registers, HouseNumber>
+        ensures { ((arena store : List ℕ) → done self.new result arena store ≡ collect_of self.old guest arena store) × (collect_numbers result ≡ collect_given self.old guest) }
+    {
+        house_tests(self.accept(), true, guest < GUESTS)?;
+        let Stage::Finished(registers) = stage_in(self.rows, guest) else {
+            return Err(HouseNumber::NotFinished);
+        };
+        self.set_stage(guest, Stage::Vacant);
+        Ok(registers)
     }
 
     // Hands the finished registers out and vacates the row.
-    pub fn collect(self, guest: usize) -> Collected
+    pub fn collect(self, guest: usize) -> After<Result<Registers, HouseNumber>>
         ensures { ((arena store : List ℕ) → done result.desk result.answer arena store ≡ collect_of self guest arena store) × (collect_numbers result.answer ≡ collect_given self guest) }
     {
-        let number = house_number(self.accept(), true, guest < GUESTS);
-        if number != 0 {
-            return Collected {
-                desk: self,
-                answer: CollectAnswer::Refused(number),
-            };
-        }
-        let rows = self.rows;
-        let stage = stage_in(rows, guest);
-        let Stage::Finished(registers) = stage else {
-            return Collected {
-                desk: self,
-                answer: CollectAnswer::Refused(NOT_FINISHED),
-            };
+        let mut desk = self;
+        let answer = desk.collect_lent(guest);
+        After { desk, answer }
+    }
+
+    fn withdraw_lent(
+        &mut self,
+        guest: usize,
+        arena: &mut [u8],
+        store: &[u8],
+    ) -> Result<Registers, HouseNumber>
+        ensures { (done self.new result arena.new store.now ≡ withdraw_of self.old guest arena.old store.now) × (withdraw_numbers result ≡ withdraw_given self.old guest arena.old store.now) }
+    {
+        self.house(arena.len(), store.len(), guest < GUESTS)?;
+        let Stage::Waiting(q) = stage_in(self.rows, guest) else {
+            return Err(HouseNumber::NotWaiting);
         };
-        Collected {
-            desk: self.with_stage(guest, Stage::Vacant),
-            answer: CollectAnswer::Given(registers),
-        }
+        report_moved(q.job, q.moved, guest, arena);
+        self.set_stage(guest, Stage::Vacant);
+        Ok(given_back(q))
     }
 
     // Ends a waiting request: the row is vacant at once, and the registers say what was moved.
-    pub fn withdraw(self, guest: usize, arena: &mut [u8], store: &[u8]) -> Withdrawn
+    pub fn withdraw(
+        self,
+        guest: usize,
+        arena: &mut [u8],
+        store: &[u8],
+    ) -> After<Result<Registers, HouseNumber>>
         ensures { (done result.desk result.answer arena.new store.now ≡ withdraw_of self guest arena.old store.now) × (withdraw_numbers result.answer ≡ withdraw_given self guest arena.old store.now) }
     {
-        let number = self.house(arena.len(), store.len(), guest < GUESTS);
-        if number != 0 {
-            return Withdrawn {
-                desk: self,
-                answer: WithdrawAnswer::Refused(number),
-            };
-        }
-        let rows = self.rows;
-        let stage = stage_in(rows, guest);
-        let Stage::Waiting(q) = stage else {
-            return Withdrawn {
-                desk: self,
-                answer: WithdrawAnswer::Refused(NOT_WAITING),
-            };
-        };
-        report_moved(q.job, q.moved, guest, arena);
-        Withdrawn {
-            desk: self.with_stage(guest, Stage::Vacant),
-            answer: WithdrawAnswer::Given(given_back(q)),
-        }
+        let mut desk = self;
+        let answer = desk.withdraw_lent(guest, arena, store);
+        After { desk, answer }
     }
 
-    // The desk with a guest's tables placed from an address on.
-    fn with_placement(self, guest: usize, address: u64) -> Desk
+    // A guest's tables are placed from an address on.
+    fn set_placement(&mut self, guest: usize, address: u64)
         requires { guest < guests }
-        ensures { result ≡ with_placement self guest address }
+        ensures { self.new ≡ with_placement self.old guest address }
     {
-        let mut next = self;
-        next.placed[guest] = true;
-        next.addresses[guest] = address;
-        next
+        self.placed[guest] = true;
+        self.addresses[guest] = address;
     }
 
-    // Places the parameter tables of all drives in a guest's window, from an address on.
-    pub fn place(self, guest: usize, address: u64, arena: &mut [u8], store: &[u8]) -> Placing
-        ensures { (done result.desk result.answer arena.new store.now ≡ place_of self guest address arena.old store.now) × (place_numbers result.answer ≡ place_given self guest address arena.old store.now) }
+    fn place_lent(
+        &mut self,
+        guest: usize,
+        address: u64,
+        arena: &mut [u8],
+        store: &[u8],
+    ) -> Result<(), HouseNumber>
+        ensures { (done self.new result arena.new store.now ≡ place_of self.old guest address arena.old store.now) × (place_numbers result ≡ place_given self.old guest address arena.old store.now) }
     {
-        let number = self.house(arena.len(), store.len(), guest < GUESTS);
-        if number != 0 {
-            return Placing {
-                desk: self,
-                answer: PlaceAnswer::Refused(number),
-            };
-        }
-        let rows = self.rows;
-        let stage = stage_in(rows, guest);
-        if waits(stage) {
-            return Placing {
-                desk: self,
-                answer: PlaceAnswer::Refused(NOT_VACANT),
-            };
+        self.house(arena.len(), store.len(), guest < GUESTS)?;
+        if waits(stage_in(self.rows, guest)) {
+            return Err(HouseNumber::NotVacant);
         }
         let b = self.table;
         if !place_ok(int13::table_count(b), self.arena / 8, address) {
-            return Placing {
-                desk: self,
-                answer: PlaceAnswer::Refused(BAD_PLACE),
-            };
+            return Err(HouseNumber::BadPlace);
         }
         lay_tables(b, guest, address, arena);
-        Placing {
-            desk: self.with_placement(guest, address),
-            answer: PlaceAnswer::Placed,
-        }
+        self.set_placement(guest, address);
+        Ok(())
+    }
+
+    // Places the parameter tables of all drives in a guest's window, from an address on.
+    pub fn place(
+        self,
+        guest: usize,
+        address: u64,
+        arena: &mut [u8],
+        store: &[u8],
+    ) -> After<Result<(), HouseNumber>>
+        ensures { (done result.desk result.answer arena.new store.now ≡ place_of self guest address arena.old store.now) × (place_numbers result.answer ≡ place_given self guest address arena.old store.now) }
+    {
+        let mut desk = self;
+        let answer = desk.place_lent(guest, address, arena, store);
+        After { desk, answer }
     }
 }

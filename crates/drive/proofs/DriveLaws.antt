@@ -6,17 +6,22 @@ use mathlib.Core.List.{List, [], ◌∷◌, ◌++◌, append_assoc, append-nil}
 use Prim.Native.Nat.{ℕ, zero, suc, ◌+◌, ◌-◌, ◌≤◌, ◌<◌}
 use native.Mathlib.Omega.{arith}
 use mathlib.Core.Bool.{Bool, true, false}
+use lib.Pointwise.{pointwise, bytes_decides}
 use lib.Dec.{leb, ltb, eqb}
-use borrow.Author.Tests.{eq-eqb, eqb-true, eqb-false, le-leb, lt-leb, leb-true, leb-false, lt-ltb, ltb-true}
+use borrow.Author.Tests.{eq-eqb, eqb-true, le-leb, lt-leb, leb-true, leb-false, lt-ltb, ltb-true}
 use Rattle.logic.specs.Logic.{pick, both, either}
-use Rattle.logic.proofs.LogicLaws.{impossible, both_true, pick-cases, leb_iff}
-use lib.ListN.{length, get_or, set, take, drop, replicate, length-append, length-drop}
-use lib.Seq.{sets, take_at, drop-append-add, drop-drop, take_all, take-add, drop-cons, length-take-le}
+use Rattle.logic.proofs.LogicLaws.{impossible, both_true, both_assoc, both_false, pick-cases, true_iff, leb_iff}
+use lib.ListN.{length, set, take, drop, replicate, length-append, length-drop}
+use lib.Seq.{sets, ext_get_or, take_at, drop-append-add, take_all, length-take-le}
+use Rattle.std.specs.Prelude.{slice_index}
+use Rattle.std.specs.Int.{byte_worth, sum_through}
+use Rattle.std.specs.Array.{AllOfLen}
+use Rattle.std.proofs.lemmas.List.{get_or-replicate, length-replicate}
 use Rattle.chs.specs.Chs.{in_limits, size}
 use Rattle.words.specs.Words.{Bytes, le, le_bytes, part}
-use Rattle.words.proofs.WordsLaws.{sets-append, sets-whole, length-le_bytes, read-write, write_read, same_bytes, le_lt}
+use Rattle.words.proofs.WordsLaws.{sum_bytes, same_bytes, glue, glue_one, sets-append, sets-whole, length-le_bytes, read-write, write_read, le_lt}
 use Rattle.drive.specs.declared.Drive.{Drive}
-use Rattle.drive.specs.Drive.{is_drive_kind, drive_length, tail_of, drive_of, record_of, geometry_bytes, size_bytes, name_bytes, tail_bytes, Fits, Holds, same, bus_ok, interface_ok, is_i2o, zero_tail, kind_ok, geometry_of, geometry_fits, fields_ok, overlap}
+use Rattle.drive.specs.Drive.{is_drive_kind, drive_length, tail_of, drive_of, record_of, geometry_bytes, size_bytes, name_bytes, tail_bytes, Fits, Holds, same, bus_ok, interface_ok, is_i2o, zero_tail, kind_ok, zero_drive, blank_numbers, blank_names, is_blank, geometry_of, geometry_fits, fields_ok, overlap}
 
 -- ---- the lengths of a record
 
@@ -35,21 +40,6 @@ pub record Arrays (d : Drive) : Type 0 where
   pub path : length d.path ≡ 8
   pub device : length d.device ≡ 8
   pub tail : length d.tail ≡ 8
-
-pub geometry_stores : (s : List ℕ) (d : Drive) → sets s 0 (geometry_bytes d)
-    ≡ sets (sets (sets (sets (sets s 0 (le_bytes 2 (drive_length d.kind))) 2 (le_bytes 2 d.kind)) 4 (le_bytes 4 d.cylinders)) 8 (le_bytes 4 d.heads)) 12 (le_bytes 4 d.sectors)
-unfolding geometry_bytes
-geometry_stores s d = simp (sets-append, length-le_bytes)
-
-pub size_stores : (s : List ℕ) (d : Drive) → sets s 16 (size_bytes d)
-    ≡ sets (sets (sets (sets (sets s 16 (le_bytes 8 d.blocks)) 24 (le_bytes 8 d.first)) 32 (le_bytes 2 d.flags)) 34 (le_bytes 2 d.c)) 36 (le_bytes 2 d.h)
-unfolding size_bytes
-size_stores s d = simp (sets-append, length-le_bytes)
-
-pub name_stores : (s : List ℕ) (d : Drive) → Arrays d → sets s 38 (name_bytes d)
-    ≡ sets (sets (sets (sets (set (set s 38 d.s) 39 d.protection) 40 d.bus) 44 d.interface) 52 d.path) 60 d.device
-unfolding name_bytes
-name_stores s d f = simp (sets-append, f.bus, f.interface, f.path)
 
 length_geometry : (d : Drive) → length (geometry_bytes d) ≡ 16
 unfolding geometry_bytes
@@ -82,14 +72,20 @@ length-record d f =
 abbrev pub tailed : Drive → List ℕ
 tailed d = geometry_bytes d ++ (size_bytes d ++ (name_bytes d ++ d.tail))
 
-pub record_stores : {o₁ o₂ o₃ o₄ : List ℕ} (s : List ℕ) (d : Drive) → Arrays d → length s ≡ 76
-    → o₁ ≡ sets s 0 (geometry_bytes d) → o₂ ≡ sets o₁ 16 (size_bytes d) → o₃ ≡ sets o₂ 38 (name_bytes d) → o₄ ≡ sets o₃ 68 d.tail → o₄ ≡ tailed d
-record_stores s d f l e₁ e₂ e₃ e₄ =
-    let n : length (tailed d) ≡ 76 = simp (length-append, length_geometry, length-sizes, length-names d f, f.tail) in
+-- what `encode` lays, offset by offset
+abbrev laid : List ℕ → Drive → List ℕ
+laid s d =
+    let words : List ℕ = sets (sets (sets (sets (sets s 0 (le_bytes 2 (drive_length d.kind))) 2 (le_bytes 2 d.kind)) 4 (le_bytes 4 d.cylinders)) 8 (le_bytes 4 d.heads)) 12 (le_bytes 4 d.sectors) in
+    let sizes : List ℕ = sets (sets (sets (sets (sets words 16 (le_bytes 8 d.blocks)) 24 (le_bytes 8 d.first)) 32 (le_bytes 2 d.flags)) 34 (le_bytes 2 d.c)) 36 (le_bytes 2 d.h) in
+    sets (sets (sets (sets (sets (set (set sizes 38 d.s) 39 d.protection) 40 d.bus) 44 d.interface) 52 d.path) 60 d.device) 68 d.tail
+
+pub record_laid : (s : List ℕ) (d : Drive) → length s ≡ 76 → length d.bus ≡ 4 → length d.interface ≡ 8 → length d.path ≡ 8 → length d.device ≡ 8 → length d.tail ≡ 8 → laid s d ≡ tailed d
+unfolding geometry_bytes size_bytes name_bytes
+record_laid s d l bus interface path device tail =
+    let n : length (tailed d) ≡ 76 = simp (length-append, length-le_bytes, bus, interface, path, device, tail) in
     let w : sets s 0 (tailed d) ≡ tailed d = sets-whole s (tailed d) (l ∙ sym n) in
-    let a : sets s 0 (tailed d) ≡ sets (sets (sets (sets s 0 (geometry_bytes d)) 16 (size_bytes d)) 38 (name_bytes d)) 68 d.tail =
-    simp (sets-append, length_geometry, length-sizes, length-names d f) in
-    rw (e₄, e₃, e₂, e₁) (sym a ∙ w)
+    let a : sets s 0 (tailed d) ≡ laid s d = simp (sets-append, length-append, length-le_bytes, bus, interface, path, device) in
+    sym a ∙ w
 
 -- of which the record is as much as its length says
 pub record-taken : (d : Drive) → Arrays d → take (drive_length d.kind) (tailed d) ≡ record_of d
@@ -110,14 +106,6 @@ record-taken d f = by_kind (eqb d.kind 2) refl
     by_kind false e = ap (take 68) (split d.tail) ∙ take_at front d.tail 68 long ∙ sym (append-nil front) ∙ sym (split [])
 
 -- ---- from bytes to a drive and back
-
-module _ (r : List ℕ) where
-  -- adjoining parts are one
-  glue : (k n at : ℕ) {x y : List ℕ} → x ≡ part k r at → y ≡ part n r (at + k) → x ++ y ≡ part (k + n) r at
-  glue k n at p q = rw (p, q, take-add k n (drop at r), drop-drop k at r)
-
-  glue_one : (n at : ℕ) {y : List ℕ} → at < length r → y ≡ part n r (suc at) → get_or r at 0 ∷ y ≡ part (suc n) r at
-  glue_one n at l q = rw (q, drop-cons r at 0 l)
 
 -- the bytes of a record are those of its drive
 pub record-drive : (r : List ℕ) → Bytes r → length r ≡ drive_length (le 2 r 2) → le 2 r 0 ≡ drive_length (le 2 r 2) → record_of (drive_of r) ≡ r
@@ -352,17 +340,10 @@ drive-kind d h = by_kind (eqb d.kind 2) refl (kind-good d h)
     by_kind true e g = either_true_right (eqb d.kind 1)
     by_kind false e g = rw (both_true (eqb d.kind 1) _ g).0 refl
 
--- equal words are the same bytes
-pub same_value : (k : ℕ) (a b : List ℕ) → length a ≡ k → length b ≡ k → Bytes a → Bytes b → eqb (le k a 0) (le k b 0) ≡ same a b
-same_value k a b la lb ha hb = by_value (eqb (le k a 0) (le k b 0)) refl
-  where
-    by_value : (t : Bool) → eqb (le k a 0) (le k b 0) ≡ t → eqb (le k a 0) (le k b 0) ≡ same a b
-    by_value true e = e ∙ sym (rw (same_bytes k a b la lb ha hb (eqb-true _ _ e)) (same_refl b))
-    by_value false e = e ∙ sym (differ (same a b) refl)
-      where
-        differ : (t : Bool) → same a b ≡ t → t ≡ false
-        differ true q = absurd (eqb-false _ _ e (ap (λ (l : List ℕ). le k l 0) (same_true a b q)))
-        differ false q = refl
+-- the test that `==` of arrays makes
+pub pointwise_same : (a b : List ℕ) → pointwise eqb a b ≡ same a b
+pointwise_same a b =
+    true_iff (pointwise eqb a b) (same a b) (λ e. rw ((bytes_decides a b).0 e) (same_refl b)) (λ e. (bytes_decides a b).1 (same_true a b e))
 
 -- a test, computed over a whole name, that its elements are bytes
 abbrev pub all_bytes : List ℕ → Bool
@@ -374,19 +355,73 @@ all_bytes_true [] e i = omega arith
 all_bytes_true (x ∷ l) e zero = ltb-true x 256 (both_true (ltb x 256) (all_bytes l) e).0
 all_bytes_true (x ∷ l) e (suc i) = all_bytes_true l (both_true (ltb x 256) (all_bytes l) e).1 i
 
--- bytes that are compared with a name by their words
-pub named : (k : ℕ) (b name : List ℕ) → length b ≡ k → length name ≡ k → Bytes b → all_bytes name ≡ true → eqb (le k b 0) (le k name 0) ≡ same b name
-named k b name lb ln hb t = same_value k b name lb ln hb (all_bytes_true name t)
+-- and bytes that are compared with a name by their words
+pub named : {v : ℕ} (k : ℕ) (b name : List ℕ) → v ≡ sum_through (λ i. byte_worth i (slice_index b i)) k → length b ≡ suc k → Bytes b → length name ≡ suc k
+    → all_bytes name ≡ true → eqb (sum_through (λ i. byte_worth i (slice_index name i)) k) v ≡ same b name
+named {v = v} k b name e lb hb ln t =
+    true_iff (eqb (sum_through (λ i. byte_worth i (slice_index name i)) k) v) (same b name)
+    (λ q.
+    let p : le (suc k) b 0 ≡ le (suc k) name 0 = sym (sum_bytes k b) ∙ sym e ∙ sym (eqb-true _ _ q) ∙ sum_bytes k name in
+    rw (same_bytes (suc k) b name lb ln hb (all_bytes_true name t) p) (same_refl name))
+    (λ q. eq-eqb _ _ (ap (λ (l : List ℕ). sum_through (λ i. byte_worth i (slice_index l i)) k) (sym (same_true b name q)) ∙ sym e))
+
+-- ---- every field zero
+
+-- each byte of an array is zero
+abbrev Zeros : List ℕ → ℕ → Type 0
+Zeros l n = AllOfLen (λ (x : ℕ). x ≡ 0) l n
+
+zeros : (l : List ℕ) (n : ℕ) → Zeros l n → l ≡ replicate n 0
+zeros l n z =
+    ext_get_or 0 l (replicate n 0) (z.long ∙ sym (length-replicate n 0)) (λ i h.
+    let k : i < n = rw z.long at h in
+    z.at i 0 k ∙ sym (get_or-replicate n i 0 0 k))
+
+-- what `Drive::default` says of each field
+pub zero_fields : (d : Drive)
+    → (d.cylinders ≡ 0) × ((d.heads ≡ 0) × ((d.sectors ≡ 0) × ((d.blocks ≡ 0) × ((d.first ≡ 0) × ((d.flags ≡ 0) × ((d.c ≡ 0) × ((d.h ≡ 0) × ((d.s ≡ 0) × (
+    (d.protection ≡ 0) × (Zeros d.bus 4 × (Zeros d.interface 8 × (Zeros d.path 8 × (Zeros d.device 8 × ((d.kind ≡ 0) × (Zeros d.tail 8))))))))))))))) → d ≡ zero_drive
+zero_fields d (cylinders, (heads, (sectors, (blocks, (first, (flags, (c, (h, (s, (protection, (bus, (interface, (path, (device, (kind, tail))))))))))))))) = λ i. record {
+  cylinders = cylinders i;
+  heads = heads i;
+  sectors = sectors i;
+  blocks = blocks i;
+  first = first i;
+  flags = flags i;
+  c = c i;
+  h = h i;
+  s = s i;
+  protection = protection i;
+  bus = zeros d.bus 4 bus i;
+  interface = zeros d.interface 8 interface i;
+  path = zeros d.path 8 path i;
+  device = zeros d.device 8 device i;
+  kind = kind i;
+  tail = zeros d.tail 8 tail i;
+}
+
+-- the tests of `is_blank` in the order of the fields
+pub blank_fields : (d : Drive) → is_blank d
+    ≡ both (eqb d.cylinders 0) (both (eqb d.heads 0) (both (eqb d.sectors 0) (both (eqb d.blocks 0) (both (eqb d.first 0) (both (eqb d.flags 0) (both (eqb d.c 0) (both (eqb d.h 0)
+    (both (eqb d.s 0) (both (eqb d.protection 0) (both (same d.bus (replicate 4 0)) (both (same d.interface (replicate 8 0)) (both (same d.path (replicate 8 0))
+    (both (same d.device (replicate 8 0)) (both (eqb d.kind 0) (same d.tail (replicate 8 0))))))))))))))))
+unfolding is_blank blank_numbers blank_names zero_tail
+blank_fields d =
+    simp (both_assoc, kind_last (eqb d.kind 0) (same d.bus (replicate 4 0)) (same d.interface (replicate 8 0)) (same d.path (replicate 8 0)) (same d.device (replicate 8 0)) (same d.tail (replicate 8 0)))
+  where
+    kind_last : (k b i p v t : Bool) → both k (both b (both i (both p (both v t)))) ≡ both b (both i (both p (both v (both k t))))
+    kind_last true b i p v t = refl
+    kind_last false b i p v t = rw (both_false v, both_false p, both_false i, both_false b)
 
 -- ---- two drives, by differences
 
 -- the one run of blocks begins first, or the other does
 module _ (first blocks other others : ℕ) where
-  pub overlap-before : first ≤ other → ltb (other - first) blocks ≡ pick (leb first other) (ltb other (first + blocks)) (ltb first (other + others))
-  overlap-before h = rw (le-leb first other h) (leb_iff (suc (other - first)) blocks (suc other) (first + blocks) (λ q. omega arith) (λ q. omega arith))
+  pub overlap_before : first ≤ other → ltb (other - first) blocks ≡ pick (leb first other) (ltb other (first + blocks)) (ltb first (other + others))
+  overlap_before h = rw (le-leb first other h) (leb_iff (suc (other - first)) blocks (suc other) (first + blocks) (λ q. omega arith) (λ q. omega arith))
 
-  pub overlap-after : other < first → ltb (first - other) others ≡ pick (leb first other) (ltb other (first + blocks)) (ltb first (other + others))
-  overlap-after h = rw (lt-leb first other h) (leb_iff (suc (first - other)) others (suc first) (other + others) (λ q. omega arith) (λ q. omega arith))
+  pub overlap_after : other < first → ltb (first - other) others ≡ pick (leb first other) (ltb other (first + blocks)) (ltb first (other + others))
+  overlap_after h = rw (lt-leb first other h) (leb_iff (suc (first - other)) others (suc first) (other + others) (λ q. omega arith) (λ q. omega arith))
 
 -- drives of at least one block overlap exactly where some store block is in both
 pub overlap_common : (a b : Drive) → 1 ≤ a.blocks → 1 ≤ b.blocks → (overlap a b ≡ true) ↔ ((n : ℕ) × (Holds a n × Holds b n))

@@ -195,6 +195,27 @@ overlap a b = pick (leb a.first b.first) (ltb b.first (a.first + a.blocks)) (ltb
 abbrev pub is_protected : Drive → Bool
 is_protected d = eqb d.protection 1
 
+-- a slot of the table that holds no drive
+abbrev pub zero_drive : Drive
+zero_drive = record {
+  cylinders = 0;
+  heads = 0;
+  sectors = 0;
+  blocks = 0;
+  first = 0;
+  flags = 0;
+  c = 0;
+  h = 0;
+  s = 0;
+  protection = 0;
+  bus = replicate 4 0;
+  interface = replicate 8 0;
+  path = replicate 8 0;
+  device = replicate 8 0;
+  kind = 0;
+  tail = replicate 8 0;
+}
+
 -- every number is zero, as in a slot of the table that holds no drive
 unfoldable pub blank_numbers : Drive → Bool
 blank_numbers d =

@@ -10,7 +10,7 @@ ghost use Rattle.drive.specs.Drive.{is_drive_kind, drive_length, tail_of, drive_
 use chs::Geometry;
 
 // The fields of a record in the paper's order. Flags and the protection byte are kept as the table has them.
-#[derive(Clone, Copy)]
+#[derive(Clone, Copy, PartialEq, Eq, Default, Debug)]
 pub struct Drive {
     // physical geometry, any
     pub cylinders: u32,
@@ -32,12 +32,14 @@ pub struct Drive {
     // interface path and device path, any bytes
     pub path: [u8; 8],
     pub device: [u8; 8],
+    // Stays: a tail beside the kind, since `decode` promises `drive_of` for any kind, and `Demand2` names both.
     // the record's kind, 1 or 2, and in kind 2 the last eight of the device path's sixteen bytes, which else are zero
     pub kind: u16,
     pub tail: [u8; 8],
 }
 
 // A drive's record: its kind, and how long it is.
+// Stays: kinds are numbers, since a record says any word there, and `decode` and `length_of` promise an answer for it.
 pub const DRIVE_KIND: u16 = 1;
 
 pub const DRIVE_LENGTH: u16 = 68;
@@ -68,91 +70,67 @@ pub fn length_of(kind: u16) -> u16
 // ---- the record
 
 // The last eight bytes of the device path, of a record of that kind.
+#[tactic(auto, unfolding(crate::specs::Drive::tail_of))]
 fn tail_of(r: &[u8], kind: u16) -> [u8; 8]
     requires { (drive_length (le 2 r.now 2) ≤ length r.now) × (kind ≡ le 2 r.now 2) }
     ensures { result ≡ tail_of r.now }
 {
     if kind == WIDE_KIND {
-        return words::load8(r, 68);
+        return words::load(r, 68);
     }
-    [0u8; 8]
+    [0; 8]
 }
 
 // The drive of a whole record. The table reader has seen that all bytes of its kind are there.
+#[tactic(auto, unfolding(crate::specs::Drive::drive_of))]
 pub fn decode(r: &[u8]) -> Drive
     requires { (68 ≤ length r.now) × (drive_length (le 2 r.now 2) ≤ length r.now) }
     ensures { result ≡ drive_of r.now }
 {
-    let kind = words::get16(r, 2);
+    let kind = words::get(r, 2);
     Drive {
-        cylinders: words::get32(r, 4),
-        heads: words::get32(r, 8),
-        sectors: words::get32(r, 12),
-        blocks: words::get64(r, 16),
-        first: words::get64(r, 24),
-        flags: words::get16(r, 32),
-        c: words::get16(r, 34),
-        h: words::get16(r, 36),
+        cylinders: words::get(r, 4),
+        heads: words::get(r, 8),
+        sectors: words::get(r, 12),
+        blocks: words::get(r, 16),
+        first: words::get(r, 24),
+        flags: words::get(r, 32),
+        c: words::get(r, 34),
+        h: words::get(r, 36),
         s: r[38],
         protection: r[39],
-        bus: words::load4(r, 40),
-        interface: words::load8(r, 44),
-        path: words::load8(r, 52),
-        device: words::load8(r, 60),
+        bus: words::load(r, 40),
+        interface: words::load(r, 44),
+        path: words::load(r, 52),
+        device: words::load(r, 60),
         kind,
         tail: tail_of(r, kind),
     }
 }
 
-// The three runs of a record of either kind are written in a buffer of 76 bytes, which `encode` makes.
-fn put_geometry(d: Drive, out: &mut [u8])
-    requires { 68 ≤ length out.old }
-    ensures { out.new ≡ sets out.old 0 (geometry_bytes d) }
-{
-    words::store16(out, 0, length_of(d.kind));
-    words::store16(out, 2, d.kind);
-    words::store32(out, 4, d.cylinders);
-    words::store32(out, 8, d.heads);
-    words::store32(out, 12, d.sectors);
-}
-
-fn put_sizes(d: Drive, out: &mut [u8])
-    requires { 68 ≤ length out.old }
-    ensures { out.new ≡ sets out.old 16 (size_bytes d) }
-{
-    words::store64(out, 16, d.blocks);
-    words::store64(out, 24, d.first);
-    words::store16(out, 32, d.flags);
-    words::store16(out, 34, d.c);
-    words::store16(out, 36, d.h);
-}
-
-fn put_names(d: Drive, out: &mut [u8])
-    requires { 68 ≤ length out.old }
-    ensures { out.new ≡ sets out.old 38 (name_bytes d) }
-{
-    words::put_byte(out, 38, d.s);
-    words::put_byte(out, 39, d.protection);
-    let bus = d.bus;
-    let interface = d.interface;
-    let path = d.path;
-    let device = d.device;
-    words::store4(out, 40, bus);
-    words::store8(out, 44, interface);
-    words::store8(out, 52, path);
-    words::store8(out, 60, device);
-}
-
 // The record of a drive as one of kind 2 would be: the record of kind 1 is its first 68 bytes.
+#[tactic(auto, using(crate::proofs::DriveLaws::record_laid))]
 fn encode(d: Drive) -> [u8; 76]
     ensures { result ≡ geometry_bytes d ++ (size_bytes d ++ (name_bytes d ++ d.tail)) }
 {
-    let tail = d.tail;
-    let mut r = [0u8; 76];
-    put_geometry(d, &mut r);
-    put_sizes(d, &mut r);
-    put_names(d, &mut r);
-    words::store8(&mut r, 68, tail);
+    let mut r = [0; 76];
+    words::put(&mut r, 0, length_of(d.kind));
+    words::put(&mut r, 2, d.kind);
+    words::put(&mut r, 4, d.cylinders);
+    words::put(&mut r, 8, d.heads);
+    words::put(&mut r, 12, d.sectors);
+    words::put(&mut r, 16, d.blocks);
+    words::put(&mut r, 24, d.first);
+    words::put(&mut r, 32, d.flags);
+    words::put(&mut r, 34, d.c);
+    words::put(&mut r, 36, d.h);
+    words::put_byte(&mut r, 38, d.s);
+    words::put_byte(&mut r, 39, d.protection);
+    words::store(&mut r, 40, &d.bus);
+    words::store(&mut r, 44, &d.interface);
+    words::store(&mut r, 52, &d.path);
+    words::store(&mut r, 60, &d.device);
+    words::store(&mut r, 68, &d.tail);
     r
 }
 
@@ -175,70 +153,64 @@ pub fn put_record(d: Drive, out: &mut [u8], at: usize)
 
 // ---- the rules of the fields
 
-// Names as words, lowest byte first.
-const ISA: u32 = 0x0041_5349;
+// Names, padded with NUL.
+const ISA: [u8; 4] = *b"ISA\0";
 
-const PCI: u32 = 0x0049_4350;
+const PCI: [u8; 4] = *b"PCI\0";
 
-const ATA: u64 = 0x0041_5441;
+const ATA: [u8; 8] = *b"ATA\0\0\0\0\0";
 
-const ATAPI: u64 = 0x0049_5041_5441;
+const ATAPI: [u8; 8] = *b"ATAPI\0\0\0";
 
-const SCSI: u64 = 0x4953_4353;
+const SCSI: [u8; 8] = *b"SCSI\0\0\0\0";
 
-const USB: u64 = 0x0042_5355;
+const USB: [u8; 8] = *b"USB\0\0\0\0\0";
 
-const IEEE1394: u64 = 0x3439_3331;
+const IEEE1394: [u8; 8] = *b"1394\0\0\0\0";
 
-const FIBRE: u64 = 0x0045_5242_4946;
+const FIBRE: [u8; 8] = *b"FIBRE\0\0\0";
 
-const I2O: u64 = 0x004F_3249;
+const I2O: [u8; 8] = *b"I2O\0\0\0\0\0";
 
+// Stays: names are compared as words. `contains` takes twice as long on the arrays, and each call judges eight drives.
 fn bus_ok(b: [u8; 4]) -> bool
     ensures { result ≡ bus_ok b }
 {
-    let v = words::value4(b);
-    logic::or(v == ISA, v == PCI)
+    let v = u32::from_le_bytes(b);
+    [ISA, PCI].iter().any(|name| u32::from_le_bytes(*name) == v)
 }
 
 fn interface_ok(b: [u8; 8]) -> bool
     ensures { result ≡ interface_ok b }
 {
-    let v = words::value8(b);
-    logic::or(
-        v == ATA,
-        logic::or(
-            v == ATAPI,
-            logic::or(
-                v == SCSI,
-                logic::or(v == USB, logic::or(v == IEEE1394, v == FIBRE)),
-            ),
-        ),
-    )
+    let v = u64::from_le_bytes(b);
+    [ATA, ATAPI, SCSI, USB, IEEE1394, FIBRE]
+        .iter()
+        .any(|name| u64::from_le_bytes(*name) == v)
 }
 
 // The interface type is I2O, which only a drive of kind 2 has.
+#[tactic(auto, using(crate::proofs::DriveLaws::pointwise_same), unfolding(crate::specs::Drive::is_i2o))]
 pub fn is_i2o(d: Drive) -> bool
     ensures { result ≡ is_i2o d }
 {
-    let interface = d.interface;
-    words::value8(interface) == I2O
+    d.interface == I2O
 }
 
 // The last eight bytes of the device path are zero.
+#[tactic(auto, using(crate::proofs::DriveLaws::pointwise_same), unfolding(crate::specs::Drive::zero_tail))]
 pub fn zero_tail(d: Drive) -> bool
     ensures { result ≡ zero_tail d }
 {
-    let tail = d.tail;
-    blank8(tail)
+    d.tail == [0; 8]
 }
 
 // What the kind allows: the interface types, and what stands behind the device path's eighth byte.
+#[tactic(auto, unfolding(crate::specs::Drive::kind_ok))]
 fn kind_ok(d: Drive) -> bool
     ensures { result ≡ kind_ok d }
 {
-    let interface = d.interface;
-    let six = interface_ok(interface);
+    let six = interface_ok(d.interface);
     if d.kind == WIDE_KIND {
         return logic::or(six, is_i2o(d));
     }
@@ -263,6 +235,7 @@ pub fn geometry_size(d: Drive) -> u64
     d.c as u64 * d.h as u64 * d.s as u64
 }
 
+#[tactic(auto, unfolding(crate::specs::Drive::geometry_fits))]
 fn geometry_fits(d: Drive) -> bool
     ensures { result ≡ geometry_fits d }
 {
@@ -271,11 +244,11 @@ fn geometry_fits(d: Drive) -> bool
 }
 
 // Every field is as the table's rules say.
+#[tactic(auto, unfolding(crate::specs::Drive::fields_ok))]
 pub fn fields_ok(d: Drive) -> bool
     ensures { result ≡ fields_ok d }
 {
-    let bus = d.bus;
-    let names = logic::and(bus_ok(bus), kind_ok(d));
+    let names = logic::and(bus_ok(d.bus), kind_ok(d));
     let bytes = logic::and(d.protection <= 1, names);
     logic::and(
         1 <= d.blocks,
@@ -286,15 +259,18 @@ pub fn fields_ok(d: Drive) -> bool
 // ---- the rules of the store
 
 // The drive ends inside a store of that many blocks.
+#[tactic(auto, unfolding(crate::specs::Drive::in_store))]
 pub fn in_store(d: Drive, store: u64) -> bool
     ensures { result ≡ in_store d store }
 {
     logic::ends_by(d.first, d.blocks, store)
 }
 
-// The two drives share a block. Tested by differences, since first + blocks may not fit a word.
-pub fn overlaps(a: Drive, b: Drive) -> bool
-    ensures { result ≡ overlap a b }
+// The two drives share a block. Tested by differences, since first + blocks may not fit a word. They are lent: a copy
+// of each drive would be most of what a reading costs.
+#[tactic(auto, using(crate::proofs::DriveLaws::overlap_before, crate::proofs::DriveLaws::overlap_after), unfolding(crate::specs::Drive::overlap))]
+pub fn overlaps(a: &Drive, b: &Drive) -> bool
+    ensures { result ≡ overlap a.now b.now }
 {
     if a.first <= b.first {
         b.first - a.first < a.blocks
@@ -310,47 +286,9 @@ pub fn is_protected(d: Drive) -> bool
     d.protection == 1
 }
 
-fn blank4(a: [u8; 4]) -> bool
-    ensures { result ≡ same a (replicate 4 0) }
-{
-    words::value4(a) == 0
-}
-
-fn blank8(a: [u8; 8]) -> bool
-    ensures { result ≡ same a (replicate 8 0) }
-{
-    words::value8(a) == 0
-}
-
-fn blank_numbers(d: Drive) -> bool
-    ensures { result ≡ blank_numbers d }
-{
-    let physical = logic::and(d.cylinders == 0, logic::and(d.heads == 0, d.sectors == 0));
-    let run = logic::and(d.blocks == 0, d.first == 0);
-    let words = logic::and(d.flags == 0, logic::and(d.c == 0, d.h == 0));
-    let bytes = logic::and(d.s == 0, logic::and(d.protection == 0, d.kind == 0));
-    logic::and(physical, logic::and(run, logic::and(words, bytes)))
-}
-
-fn blank_names(d: Drive) -> bool
-    ensures { result ≡ blank_names d }
-{
-    let bus = d.bus;
-    let interface = d.interface;
-    let path = d.path;
-    let device = d.device;
-    logic::and(
-        blank4(bus),
-        logic::and(
-            blank8(interface),
-            logic::and(blank8(path), logic::and(blank8(device), zero_tail(d))),
-        ),
-    )
-}
-
 // Every field is zero.
 pub fn is_blank(d: Drive) -> bool
     ensures { result ≡ is_blank d }
 {
-    logic::and(blank_numbers(d), blank_names(d))
+    d == Drive::default()
 }

@@ -6,6 +6,9 @@ use mathlib.Core.Bool.{Bool, true, false}
 use mathlib.Core.List.{List}
 use Prim.Native.Nat.{ℕ, ◌<◌}
 use lib.Dec.{eqb}
+use lib.ListN.{length}
+use Rattle.std.specs.Prelude.{Result, Err, Option}
+use Rattle.words.specs.Words.{Bytes}
 use Rattle.logic.specs.Logic.{pick, both}
 use Rattle.drive.specs.declared.Drive.{Drive}
 use Rattle.attached.specs.declared.Bads.{Bads}
@@ -14,23 +17,35 @@ use Rattle.int13.specs.Placement.{table_count}
 use Rattle.int13.specs.Steps.{first_drive, is_drive, drive_at, bads_of}
 use Rattle.desk.specs.declared.Stage.{Stage}
 use Rattle.desk.specs.declared.Desk.{Desk}
-use Rattle.desk.specs.declared.Next.{Next}
+use Rattle.desk.specs.declared.HouseNumber.{HouseNumber}
+use Rattle.desk.specs.declared.HouseNumber.TheVariants.{NotAcceptable}
 use Rattle.desk.specs.Parts.{stage_at, with_stage, is_waiting, next, with_pointer, with_placement}
 use Rattle.desk.specs.Acceptable.{accept}
-use Rattle.desk.specs.Calls.{house_number, first_waiting}
+use Rattle.desk.specs.Calls.{house_answer, first_waiting}
 use Rattle.desk.proofs.AcceptableLaws.{accept_true}
-use Rattle.image.specs.Image.{read_desk, desk_of, accepted, laid, put_stage, put_pointer, put_placement}
+use Rattle.image.specs.Image.{desk_size, read_desk, desk_of, accepted, laid, put_stage, put_pointer, put_placement}
 use Rattle.image.proofs.ImageLaws.{AcceptedBlock, accepted-read}
+use Rattle.image.proofs.Judged.{judged-size}
 use Rattle.image.proofs.Puts.{put-stage, put_both, put-placement}
 
 pub block : (b : List ℕ) → accept (desk_of b) ≡ true → AcceptedBlock b
 unfolding accepted
 block b a = accepted-read b a
 
+-- the tests of an acceptable block are those of its desk
+pub tested : {h : Result (Unit {0}) HouseNumber} {a : Bool} (b : List ℕ) (l g : Bool) → h ≡ house_answer a l g → a ≡ accepted b → h ≡ house_answer (accept (desk_of b)) l g
+unfolding accepted
+tested b l g p e = p ∙ ap (λ (x : Bool). house_answer x l g) e
+
 -- any tests that follow are not looked at where the block is none
-pub no_desk : {n : ℕ} (b : List ℕ) (l g : Bool) → n ≡ house_number false false false → accept (desk_of b) ≡ false → n ≡ house_number (accept (desk_of b)) l g
-unfolding house_number
+pub no_desk : {h : Result (Unit {0}) HouseNumber} (b : List ℕ) (l g : Bool) → h ≡ house_answer false false false → accept (desk_of b) ≡ false → h ≡ house_answer (accept (desk_of b)) l g
+unfolding house_answer
 no_desk b l g e bad = rw bad e
+
+-- a block of another size is none
+pub no_block : (b : List ℕ) (l g : Bool) → Bytes b → (length b ≡ desk_size → ⊥) → Err NotAcceptable ≡ house_answer (accept (desk_of b)) l g
+unfolding accepted house_answer
+no_block b l g h n = rw (← judged-size b h n)
 
 module _ (b : List ℕ) (a : accept (desk_of b) ≡ true) where
   -- ---- what is read
@@ -41,7 +56,7 @@ module _ (b : List ℕ) (a : accept (desk_of b) ≡ true) where
   pub pointer_read : (read_desk b).pointer < 8
   pointer_read = (accept_true (read_desk b) (block b a).accept).pointer
 
-  pub next-read : {n : Next} → n ≡ first_waiting (read_desk b).rows 8 (read_desk b).pointer → n ≡ first_waiting (desk_of b).rows 8 (desk_of b).pointer
+  pub next-read : {n : Option ℕ} → n ≡ first_waiting (read_desk b).rows 8 (read_desk b).pointer → n ≡ first_waiting (desk_of b).rows 8 (desk_of b).pointer
   next-read e = e ∙ ap (λ (d : Desk). first_waiting d.rows 8 d.pointer) (sym (block b a).desk)
 
   pub stage_read : {s : Stage} (g : ℕ) → s ≡ stage_at (read_desk b) g → s ≡ stage_at (desk_of b) g

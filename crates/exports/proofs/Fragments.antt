@@ -7,15 +7,15 @@ use Prim.Native.Nat.{ℕ, zero, suc, ◌/◌, ◌^◌, ◌<◌}
 use native.Mathlib.Omega.{arith}
 use lib.ListN.{length, drop}
 use lib.Dec.{ltb}
+use Rattle.std.specs.Prelude.{Result, Ok, Err}
 use borrow.Author.Tests.{eq-eqb}
 use Rattle.logic.specs.Logic.{pick}
 use Rattle.words.specs.Words.{Bytes}
 use Rattle.memory.specs.Blocks.{block_length}
 use Rattle.table.specs.declared.Table.{Table}
-use Rattle.table.specs.declared.Answer.{Answer}
-use Rattle.table.specs.declared.Answer.TheVariants.{Accepted, Refused}
-use Rattle.table.specs.declared.Written.TheVariants.{Bytes as WrittenBytes, Refused as WriteRefused}
-use Rattle.table.specs.Table.{read_table, table_of, answer_numbers, written_numbers, write_answer, write_out}
+use Rattle.table.specs.declared.Refused.{Refused}
+use Rattle.table.specs.declared.ShortBuffer.{ShortBuffer}
+use Rattle.table.specs.Table.{number, read_table, table_of, answer_numbers, written_numbers, write_answer, write_out}
 use Rattle.table.proofs.WriteRead.{write-read-table}
 use Rattle.feed.specs.declared.Feed.{Feed}
 use Rattle.feed.specs.declared.Fed.{Fed}
@@ -101,10 +101,10 @@ bytes-joined (l ∷ ls) h i = bytes-append l (joined ls) h.0 (bytes-joined ls h.
 
 -- ---- the answers
 
-told-numbers : (a : Answer) → fed_numbers (told a) ≡ answer_numbers a
+told-numbers : (a : Result (Unit {0}) Refused) → fed_numbers (told a) ≡ answer_numbers a
 unfolding fed_numbers answer_numbers
-told-numbers Accepted = refl
-told-numbers (Refused n at) = refl
+told-numbers (Ok x) = refl
+told-numbers (Err e) = refl
 
 -- a table written, by its bytes
 written_is : {b : Table} {t : List ℕ} (f : Feed) (out : List ℕ) (written : ℕ) → f.table ≡ b → table_of b ≡ t
@@ -113,7 +113,7 @@ written_is : {b : Table} {t : List ℕ} (f : Feed) (out : List ℕ) (written : �
 unfolding reader_write_effect write_answer write_out over written_numbers
 written_is {b} {t} f out written e q = rw (e, q) (by_room (ltb (length out) (length t)))
   where
-    by_room : (x : Bool) → effect (over (written_numbers (pick x (WriteRefused 19) (WrittenBytes (length t)))) (0 ∷ written ∷ [])) (pick x out (t ++ drop (length t) out) ∷ [])
+    by_room : (x : Bool) → effect (over (written_numbers (pick {A = Result ℕ ShortBuffer} x (Err (record {})) (Ok (length t)))) (0 ∷ written ∷ [])) (pick x out (t ++ drop (length t) out) ∷ [])
         ≡ pick x (effect (19 ∷ written ∷ []) (out ∷ [])) (effect (0 ∷ length t ∷ []) ((t ++ drop (length t) out) ∷ []))
     by_room true = refl
     by_room false = refl
@@ -168,8 +168,8 @@ fragments b store fs e h each =
           write-is j out written
           ∙ ap (λ (x : Fed). reader_write_effect x (end_feed f) out written) (a.answer ∙ ap told q)
           ∙ written_is (end_feed f) out written a.drives (write-read-table (joined fs) n (bytes-joined fs each) q);
-      refused = λ m at q out written.
+      refused = λ r q out written.
           write-is j out written
           ∙ ap (λ (x : Fed). reader_write_effect x (end_feed f) out written) (a.answer ∙ ap told q)
-          ∙ unwritten-is (end_feed f) out written m at;
+          ∙ unwritten-is (end_feed f) out written (number r.refusal) r.place;
     }

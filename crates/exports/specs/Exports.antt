@@ -2,7 +2,7 @@
 -- needs. Each is document 01's call at the desk whose image the block is; those of the reader of fragments (document 02, 2026-03) are over a
 -- reader block, and the converters (2026-06) over records. What stands behind a pointer afterwards is a value of the answer, or what stood there.
 -- Assumes nothing.
-use Rattle.std.specs.Prelude.{ℕ, ◌/◌, false, List, [], ◌∷◌, length, get_or, eqb}
+use Rattle.std.specs.Prelude.{ℕ, ◌/◌, false, Ok, Err, Some, None, List, [], ◌∷◌, length, get_or, eqb}
 use Rattle.logic.specs.Logic.{pick}
 use Rattle.chs.specs.declared.Geometry.{Geometry}
 use Rattle.chs.specs.declared.Address.{Address}
@@ -13,26 +13,14 @@ use Rattle.table.specs.Table.{written_numbers, write_answer, write_out}
 use Rattle.int13.specs.declared.Registers.{Registers}
 use Rattle.int13.specs.Answers.{nothing_yet}
 use Rattle.desk.specs.declared.Desk.{Desk}
-use Rattle.desk.specs.declared.OpenAnswer.{OpenAnswer}
-use Rattle.desk.specs.declared.OpenAnswer.TheVariants.{Opened, Refused as OpenRefused}
-use Rattle.desk.specs.declared.PostAnswer.{PostAnswer}
-use Rattle.desk.specs.declared.PostAnswer.TheVariants.{Answered, Waits, Refused as PostRefused}
-use Rattle.desk.specs.declared.TurnAnswer.{TurnAnswer}
-use Rattle.desk.specs.declared.TurnAnswer.TheVariants.{Served, Idle, Refused as TurnRefused}
-use Rattle.desk.specs.declared.CollectAnswer.{CollectAnswer}
-use Rattle.desk.specs.declared.CollectAnswer.TheVariants.{Given as CollectGiven, Refused as CollectRefused}
-use Rattle.desk.specs.declared.WithdrawAnswer.{WithdrawAnswer}
-use Rattle.desk.specs.declared.WithdrawAnswer.TheVariants.{Given as WithdrawGiven, Refused as WithdrawRefused}
-use Rattle.desk.specs.declared.PlaceAnswer.{PlaceAnswer}
-use Rattle.desk.specs.declared.PlaceAnswer.TheVariants.{Placed, Refused as PlaceRefused}
-use Rattle.desk.specs.Calls.{Done, not_acceptable, open_of, written_of, written_out, post_of, turn_of, collect_of, withdraw_of, place_of}
-use Rattle.desk.specs.Numbers.{open_numbers, post_numbers, turn_numbers, collect_numbers, withdraw_numbers, place_numbers}
+use Rattle.desk.specs.Calls.{Done, OpenAnswer, PostAnswer, TurnAnswer, CollectAnswer, WithdrawAnswer, PlaceAnswer, not_acceptable, open_of, written_of, written_out, post_of, turn_of, collect_of, withdraw_of, place_of}
+use Rattle.desk.specs.Numbers.{open_numbers, written_numbers as house_written_numbers, post_numbers, turn_numbers, collect_numbers, withdraw_numbers, place_numbers}
 use Rattle.image.specs.Image.{desk_size, desk_of, laid}
 use Rattle.feed.specs.declared.Feed.{Feed}
 use Rattle.feed.specs.declared.Fed.{Fed}
 use Rattle.feed.specs.declared.Fed.TheVariants.{More, Accepted as FedAccepted, Refused as FedRefused}
 use Rattle.feed.specs.Feed.{opened, feed_all, end_feed, answer_of, fed_numbers}
-use Rattle.convert.specs.Convert.{up_answer, up_out, down_answer, down_out}
+use Rattle.convert.specs.Convert.{up_answer, up_out, down_answer, down_out, conversion_number}
 use Rattle.reader.specs.Reader.{reader_size, read_reader, accepted as reader_accepted, laid as reader_laid}
 
 -- ---- the version, ours and in no paper: a block is for the library of its version, since a change request may give it another form
@@ -62,8 +50,8 @@ over (n ∷ ns) (x ∷ xs) = n ∷ over ns xs
 
 -- an opening that passed lays its desk out in the block; refused, it changes nothing
 abbrev pub open_block : List ℕ → Desk → OpenAnswer → List ℕ
-open_block b d Opened = laid b d
-open_block b d (OpenRefused n place) = b
+open_block b d (Ok x) = laid b d
+open_block b d (Err e) = b
 
 -- open: 25 for a block of another size, before the table is looked at; the place is written only where the table is refused
 unfoldable pub open_call : List ℕ → List ℕ → ℕ → ℕ → ℕ → Effect
@@ -79,15 +67,15 @@ open_call b t arena store place =
 -- write at the desk of the block: the length written where it was done, and the buffer
 unfoldable pub write_call : List ℕ → List ℕ → ℕ → Effect
 write_call b out written =
-    effect (over (written_numbers (written_of (desk_of b) (length out))) (0 ∷ written ∷ [])) (written_out (desk_of b) out ∷ [])
+    effect (over (house_written_numbers (written_of (desk_of b) (length out))) (0 ∷ written ∷ [])) (written_out (desk_of b) out ∷ [])
 
 -- ---- post: the block changes only where the row waits
 
 -- the block after a post: only a row that waits changes it
 abbrev pub post_block : List ℕ → Done PostAnswer → PostAnswer → List ℕ
-post_block b o (Answered r) = b
-post_block b o Waits = laid b o.desk
-post_block b o (PostRefused n) = b
+post_block b o (Ok (Some r)) = b
+post_block b o (Ok None) = laid b o.desk
+post_block b o (Err e) = b
 
 -- registers as they come from C: carry's value is never read
 abbrev pub given : ℕ → ℕ → ℕ → ℕ → ℕ → ℕ → ℕ → Registers
@@ -110,9 +98,9 @@ post_call b arena store guest ax bx cx dx ds si es carry =
 
 -- the block after a turn: only a served row changes it
 abbrev pub turn_block : List ℕ → Done TurnAnswer → TurnAnswer → List ℕ
-turn_block b o (Served guest moved) = laid b o.desk
-turn_block b o Idle = b
-turn_block b o (TurnRefused n) = b
+turn_block b o (Ok (Some s)) = laid b o.desk
+turn_block b o (Ok None) = b
+turn_block b o (Err e) = b
 
 -- a turn leaves the guest and the number moved where a row was served, the block, the arena and the store
 abbrev pub turn_effect : List ℕ → Done TurnAnswer → ℕ → ℕ → Effect
@@ -126,8 +114,8 @@ turn_call b arena store guest moved = turn_effect b (turn_of (desk_of b) arena s
 
 -- the block after a collect: only registers handed out change it
 abbrev pub collect_block : List ℕ → Done CollectAnswer → CollectAnswer → List ℕ
-collect_block b o (CollectGiven r) = laid b o.desk
-collect_block b o (CollectRefused n) = b
+collect_block b o (Ok r) = laid b o.desk
+collect_block b o (Err e) = b
 
 -- a collect leaves the eight registers where they were handed out, and the block
 abbrev pub collect_effect : List ℕ → Done CollectAnswer → List ℕ → Effect
@@ -141,8 +129,8 @@ collect_call b guest stood = collect_effect b (collect_of (desk_of b) guest [] [
 
 -- the block after a withdrawal: only one that was done changes it
 abbrev pub withdraw_block : List ℕ → Done WithdrawAnswer → WithdrawAnswer → List ℕ
-withdraw_block b o (WithdrawGiven r) = laid b o.desk
-withdraw_block b o (WithdrawRefused n) = b
+withdraw_block b o (Ok r) = laid b o.desk
+withdraw_block b o (Err e) = b
 
 -- a withdrawal leaves the eight registers where it was done, the block and the arena
 abbrev pub withdraw_effect : List ℕ → Done WithdrawAnswer → List ℕ → Effect
@@ -156,8 +144,8 @@ withdraw_call b arena store guest stood = withdraw_effect b (withdraw_of (desk_o
 
 -- the block after a placement: only one that was done changes it
 abbrev pub place_block : List ℕ → Done PlaceAnswer → PlaceAnswer → List ℕ
-place_block b o Placed = laid b o.desk
-place_block b o (PlaceRefused n) = b
+place_block b o (Ok x) = laid b o.desk
+place_block b o (Err e) = b
 
 -- a placement leaves its number, the block and the arena
 abbrev pub place_effect : List ℕ → Done PlaceAnswer → Effect
@@ -218,8 +206,8 @@ address_call g block cylinder head sector = effect (over (address_numbers (addre
 
 -- to kind 2
 unfoldable pub up_call : List ℕ → List ℕ → Effect
-up_call bytes out = effect (up_answer bytes (length out) ∷ []) (up_out bytes out ∷ [])
+up_call bytes out = effect (conversion_number (up_answer bytes (length out)) ∷ []) (up_out bytes out ∷ [])
 
 -- and back
 unfoldable pub down_call : List ℕ → List ℕ → Effect
-down_call bytes out = effect (down_answer bytes (length out) ∷ []) (down_out bytes out ∷ [])
+down_call bytes out = effect (conversion_number (down_answer bytes (length out)) ∷ []) (down_out bytes out ∷ [])

@@ -1,13 +1,13 @@
 -- Document 02, 2026-03, at a reader block: what the calls for C say and leave, for every list of fragments after an opening. Each is said in terms
 -- of reading all bytes at once. `proofs/Fragments.antt` proves it.
 -- Assumes nothing.
-use Rattle.std.specs.Prelude.{ℕ, ◌/◌, ◌^◌, ◌<◌, ◌≡◌, List, [], ◌∷◌, ◌++◌, length, get_or, drop, ltb}
+use Rattle.std.specs.Prelude.{ℕ, ◌/◌, ◌^◌, ◌<◌, ◌≡◌, Ok, Err, List, [], ◌∷◌, ◌++◌, length, get_or, drop, ltb}
 use Rattle.logic.specs.Logic.{pick}
 use Rattle.words.specs.Words.{Bytes}
 use Rattle.memory.specs.Blocks.{block_length}
 use Rattle.table.specs.declared.Reading.{Reading}
-use Rattle.table.specs.declared.Answer.TheVariants.{Accepted, Refused}
-use Rattle.table.specs.Table.{short_buffer, read_table, answer_numbers}
+use Rattle.table.specs.declared.Refused.{Refused}
+use Rattle.table.specs.Table.{short_buffer, number, read_table, answer_numbers}
 use Rattle.int13.specs.Answers.{nothing_yet}
 use Rattle.feed.specs.declared.Fed.TheVariants.{More, Refused as FedRefused}
 use Rattle.feed.specs.Feed.{fed_numbers}
@@ -67,13 +67,13 @@ pub record Fragments (b : List ℕ) (store : ℕ) (fs : List (List ℕ)) : Type 
   pub unwritten : (n at : ℕ) → so_far (whole fs store).answer ≡ FedRefused n at → (out : List ℕ) (written : ℕ)
       → reader_write_call (arrived b store fs) out written ≡ effect (n ∷ written ∷ []) (out ∷ [])
   -- an accepted table is written byte for byte as it was fed, if there is room for it
-  pub written : (whole fs store).answer ≡ Accepted → (out : List ℕ) (written : ℕ)
+  pub written : (whole fs store).answer ≡ Ok tt → (out : List ℕ) (written : ℕ)
       → reader_write_call (ended_block b store fs) out written
       ≡ pick (ltb (length out) (length (joined fs))) (effect (short_buffer ∷ written ∷ []) (out ∷ []))
       (effect (0 ∷ length (joined fs) ∷ []) ((joined fs ++ drop (length (joined fs)) out) ∷ []))
   -- a refused one is not
-  pub refused : (n at : ℕ) → (whole fs store).answer ≡ Refused n at → (out : List ℕ) (written : ℕ)
-      → reader_write_call (ended_block b store fs) out written ≡ effect (n ∷ written ∷ []) (out ∷ [])
+  pub refused : (e : Refused) → (whole fs store).answer ≡ Err e → (out : List ℕ) (written : ℕ)
+      → reader_write_call (ended_block b store fs) out written ≡ effect (number e.refusal ∷ written ∷ []) (out ∷ [])
 
 -- for every block of the size, whatever it held, every store, and every list of fragments
 abbrev pub EveryFragments : Type 0

@@ -1,5 +1,7 @@
-// The archive for C programs: the calls that include/edd_desk.h declares, under their names. A static library is none that another crate
-// can rest on, so the calls themselves are functions of `exports`; each here is one call of its like there, and promises the same words.
+// The archive for C programs: the calls that include/edd_desk.h declares, under their names. The calls themselves are
+// functions of `exports`; each here is one call of its like there, and promises the same words.
+// Stays: each call stands twice, here and in `exports`, because a static library is none that another crate can rest
+// on.
 #![tactic(auto)]
 
 ghost use Rattle.std.specs.Prelude.{◌≡◌, [], ◌∷◌};

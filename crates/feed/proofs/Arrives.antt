@@ -1,5 +1,6 @@
 -- However the bytes of a drive table are cut, the reader that is fed them says what the reading of the whole says.
 -- Assumes nothing.
+use Rattle.std.specs.Prelude.{Ok, Err}
 use Prim.Native.Nat.{ℕ, zero, suc, ◌+◌, ◌≤◌, ◌<◌}
 use mathlib.Core.Path.{◌≡◌, refl, sym, ap, ◌∙◌, subst}
 use mathlib.Core.Logic.{◌≢◌}
@@ -14,16 +15,15 @@ use Rattle.words.specs.Words.{Bytes}
 use Rattle.table.specs.declared.Table.{Table}
 use Rattle.table.specs.declared.Step.TheVariants.{Next, Done, Refused as StepRefused}
 use Rattle.table.specs.declared.Stepped.{Stepped}
-use Rattle.table.specs.declared.Answer.TheVariants.{Accepted as TableAccepted, Refused as TableRefused}
 use Rattle.table.specs.declared.Reading.{Reading as TableReading}
-use Rattle.table.specs.Table.{stepped, step_at, reading, go_on, read_from, read_table, next_place}
+use Rattle.table.specs.Table.{number, named, refused, stepped, step_at, reading, go_on, read_from, read_table, next_place}
 use Rattle.table.proofs.Enough.{one_more}
 use Rattle.table.proofs.Sound.{So, so_empty}
 use Rattle.table.proofs.Places.{Taken, Steps, place_empty, place-most, begin-few, Begin, begin-none, begin_last, begun-cases}
 use Rattle.feed.specs.declared.Course.{Course}
 use Rattle.feed.specs.declared.Course.TheVariants.{Reading, Closed, Accepted, Refused}
 use Rattle.feed.specs.declared.Feed.{Feed}
-use Rattle.feed.specs.declared.Fed.TheVariants.{More, Refused as FedRefused}
+use Rattle.feed.specs.declared.Fed.TheVariants.{More, Accepted as FedAccepted, Refused as FedRefused}
 use Rattle.feed.specs.Feed.{opened, cleared, held_with, holding, after_step, held_byte, by_course, feed_byte, feed_all, feeds, end_by, end_feed, refused_at, answer_by, answer_of}
 use Rattle.feed.proofs.FeedLaws.{refused-fed, accepted-fed}
 use Rattle.feed.specs.Arrives.{joined, told, so_far, Settles, Stays, Arrives}
@@ -41,16 +41,21 @@ record IsReading (t : List ℕ) (f : Feed) : Type 0 where
 
 -- behind the end record: a table, and 8 with any byte more
 record IsClosed (t : List ℕ) (f : Feed) : Type 0 where
-  whole : read_table t f.store ≡ reading TableAccepted f.table
-  byte : (x : ℕ) (q : List ℕ) → read_table (t ++ (x ∷ q)) f.store ≡ reading (TableRefused 8 (next_place f.table + 4)) f.table
+  whole : read_table t f.store ≡ reading (Ok tt) f.table
+  byte : (x : ℕ) (q : List ℕ) → read_table (t ++ (x ∷ q)) f.store ≡ reading (Err (refused 8 (next_place f.table + 4))) f.table
   few : length t ≤ 1844
   bare : f.filled ≡ 0
 
 -- refused: so is whatever they begin
 record IsRefused (n : ℕ) (t : List ℕ) (f : Feed) : Type 0 where
+  named : number (named n) ≡ n
   other : n ≢ 1
-  reads : (q : List ℕ) → read_table (t ++ q) f.store ≡ reading (TableRefused n (refused_at n f.table)) f.table
+  reads : (q : List ℕ) → read_table (t ++ q) f.store ≡ reading (Err (refused n (refused_at n f.table))) f.table
   bare : f.filled ≡ 0
+
+place-else : (n : ℕ) (b : Table) → n ≢ 8 → refused_at n b ≡ next_place b
+unfolding refused_at
+place-else n b z = rw (ne_eqb n 8 z)
 
 -- by the course; no bytes alone lead to acceptance
 abbrev By : Course → List ℕ → Feed → Type 0
@@ -105,13 +110,12 @@ module _ (t : List ℕ) (f : Feed) (x : ℕ) (i : IsReading t f) where
         by = record { so = i.so; room = length-set f.held f.filled x ∙ i.room; all = all-bytes; rest = follows; part = e; reads = on };
       }
 
-  byte-refused : (n : ℕ) → n ≢ 1 → n ≢ 8 → Steps begins f.table f.store (λ (p : ℕ). stepped (StepRefused n p) f.table)
+  byte-refused : (n : ℕ) → number (named n) ≡ n → n ≢ 1 → n ≢ 8 → Steps begins f.table f.store (λ (p : ℕ). stepped (StepRefused n p) f.table)
       → Tracks f.store bytes (cleared f f.table (Refused n))
-  unfolding refused_at
-  byte-refused n z y steps =
+  byte-refused n m z y steps =
       record {
         kept = refl;
-        by = record { other = z; reads = λ q. rw (ne_eqb n 8 y) (sym (on q) ∙ read_step _ (bytes ++ q) f.store at f.table (steps (bytes ++ q) q at (follows_on q))); bare = refl };
+        by = record { named = m; other = z; reads = λ q. rw (place-else n f.table y) (sym (on q) ∙ read_step _ (bytes ++ q) f.store at f.table (steps (bytes ++ q) q at (follows_on q))); bare = refl };
       }
 
   byte-closed : length begins ≡ 4 → ((s : List ℕ) (p : ℕ) → drop p s ≡ begins → step_at s p f.table f.store ≡ stepped Done f.table)
@@ -153,16 +157,16 @@ module _ (t : List ℕ) (f : Feed) (x : ℕ) (i : IsReading t f) where
   byte-held =
       begun-cases (λ (s : Stepped). Tracks f.store bytes (after_step f x s.step s.table)) (take f.filled f.held) x begins f.table f.store begins-whole i.so i.part
       byte-stays
-      (λ n z y steps. rw (ne_eqb n 1 z) (byte-refused n z y steps))
+      (λ n m z y steps. rw (ne_eqb n 1 z) (byte-refused n m z y steps))
       byte-closed
       byte-taken
 
 byte_by : (t : List ℕ) (f : Feed) (x : ℕ) (c : Course) → f.course ≡ c → By c t f → Tracks f.store (t ++ (x ∷ [])) (by_course c f x)
 unfolding by_course refused_at
 byte_by t f x Reading e i = rw (lt-ltb f.filled 134 (in_room t f x i)) (byte-held t f x i)
-byte_by t f x Closed e i = record { kept = refl; by = record { other = λ z. omega arith; reads = λ q. rw (append_assoc t (x ∷ []) q) (i.byte x q); bare = refl } }
+byte_by t f x Closed e i = record { kept = refl; by = record { named = refl; other = λ z. omega arith; reads = λ q. rw (append_assoc t (x ∷ []) q) (i.byte x q); bare = refl } }
 byte_by t f x Accepted e i = absurd i
-byte_by t f x (Refused n) e i = record { kept = refl; by = rw e (record { other = i.other; reads = λ q. rw (append_assoc t (x ∷ []) q) (i.reads ((x ∷ []) ++ q)); bare = i.bare }) }
+byte_by t f x (Refused n) e i = record { kept = refl; by = rw e (record { named = i.named; other = i.other; reads = λ q. rw (append_assoc t (x ∷ []) q) (i.reads ((x ∷ []) ++ q)); bare = i.bare }) }
 
 -- ---- a fragment, and fragments
 
@@ -212,20 +216,23 @@ accepted-stays f e = record { fed = accepted-fed f e; end = ap (λ (c : Course).
 
 module _ (t : List ℕ) (f : Feed) where
   -- while it reads they are cut off
-  cut : IsReading t f → read_table t f.store ≡ reading (TableRefused 1 (next_place f.table)) f.table
+  cut : IsReading t f → read_table t f.store ≡ reading (Err (refused 1 (next_place f.table))) f.table
   cut i =
       rw append-nil at (sym (i.reads [])) ∙ read_step _ t f.store (next_place f.table) f.table
       (begin_last t (take f.filled f.held) (next_place f.table) f.table f.store i.rest i.part)
 
-  refusal : (n : ℕ) → IsRefused n t f → read_table t f.store ≡ reading (TableRefused n (refused_at n f.table)) f.table
+  refusal : (n : ℕ) → IsRefused n t f → read_table t f.store ≡ reading (Err (refused n (refused_at n f.table))) f.table
   refusal n i = rw append-nil at (i.reads [])
+
+  told_refused : (n : ℕ) → IsRefused n t f → told (read_table t f.store).answer ≡ FedRefused n (refused_at n f.table)
+  told_refused n i = ap (λ (r : TableReading). told r.answer) (refusal n i) ∙ ap (λ (x : ℕ). FedRefused x (refused_at n f.table)) i.named
 
   answer-by : (c : Course) → f.course ≡ c → By c t f → answer_of (end_by c f) ≡ told (read_table t f.store).answer
   unfolding end_by answer_of answer_by refused_at
   answer-by Reading e i = rw (cut i)
   answer-by Closed e i = rw i.whole
   answer-by Accepted e i = absurd i
-  answer-by (Refused n) e i = rw (refusal n i, e)
+  answer-by (Refused n) e i = rw e (sym (told_refused n i))
 
   drives_by : (c : Course) → By c t f → (end_by c f).table ≡ (read_table t f.store).table
   unfolding end_by
@@ -246,7 +253,7 @@ module _ (t : List ℕ) (f : Feed) where
   before_by Reading i = rw (cut i)
   before_by Closed i = rw i.whole
   before_by Accepted i = absurd i
-  before_by (Refused n) i = rw (refusal n i, ne_eqb n 1 i.other)
+  before_by (Refused n) i = rw (refusal n i, i.named, ne_eqb n 1 i.other)
 
   taken_by : (c : Course) → By c t f → f.table ≡ (read_table t f.store).table
   taken_by Reading i = rw (cut i)
@@ -259,10 +266,8 @@ module _ (t : List ℕ) (f : Feed) where
   settled_by Reading i n at z = impossible (cc)
   settled_by Closed i n at z = impossible (cc)
   settled_by Accepted i n at z = absurd i
-  settled_by (Refused m) i n at z = λ q. ap (λ (r : TableReading). r.answer) (i.reads q) ∙ same m (refused_at m f.table) n at z
-    where
-      same : (m p n q : ℕ) → FedRefused m p ≡ FedRefused n q → TableRefused m p ≡ TableRefused n q
-      same m p n q e = let x : m ≡ n = cc in let y : p ≡ q = cc in rw (x, y)
+  settled_by (Refused m) i n at z =
+      λ q. ap (λ (r : TableReading). told r.answer) (i.reads q) ∙ ap (λ (x : ℕ). FedRefused x (refused_at m f.table)) i.named ∙ z
 
   refused_by : (c : Course) → f.course ≡ c → By c t f → (n at : ℕ) → answer_by c f.table ≡ FedRefused n at → Stays f
   unfolding answer_by
@@ -288,7 +293,7 @@ module _ (t : List ℕ) (f : Feed) where
 
 -- whatever bytes follow
 abbrev Follows : List ℕ → ℕ → ℕ → ℕ → Type 0
-Follows t store n at = (q : List ℕ) → Bytes q → (read_table (t ++ q) store).answer ≡ TableRefused n at
+Follows t store n at = (q : List ℕ) → Bytes q → told (read_table (t ++ q) store).answer ≡ FedRefused n at
 
 zeros : (n : ℕ) → Bytes (replicate n 0)
 zeros zero i = omega arith
@@ -296,14 +301,14 @@ zeros (suc n) zero = omega arith
 zeros (suc n) (suc i) = zeros n i
 
 -- as many bytes as a table of eight drives and one record more are not cut off
-long : (t : List ℕ) (f : Feed) (c : Course) → By c t f → 1974 ≤ length t → (p : ℕ) → (read_table t f.store).answer ≡ TableRefused 1 p → ⊥
+long : (t : List ℕ) (f : Feed) (c : Course) → By c t f → 1974 ≤ length t → (p : ℕ) → told (read_table t f.store).answer ≡ FedRefused 1 p → ⊥
 long t f Reading i l p e = omega (arith, l, i.all, place-most f.store f.table i.so, in_room t f 0 i)
 long t f Closed i l p e = omega (arith, l, i.few)
 long t f Accepted i l p e = absurd i
-long t f (Refused n) i l p e = i.other (number n (refused_at n f.table) 1 p (sym (ap (λ (r : TableReading). r.answer) (refusal t f n i)) ∙ e))
+long t f (Refused n) i l p e = i.other (number-same n (refused_at n f.table) 1 p (sym (told_refused t f n i) ∙ e))
   where
-    number : (n p m q : ℕ) → TableRefused n p ≡ TableRefused m q → n ≡ m
-    number n p m q e = cc
+    number-same : (n p m q : ℕ) → FedRefused n p ≡ FedRefused m q → n ≡ m
+    number-same n p m q e = cc
 
 -- so 1 is never settled
 cut_unsettled : (t : List ℕ) (f : Feed) (q : List ℕ) → 1974 ≤ length q → Bytes q → Tracks f.store t f → (p : ℕ) → Follows t f.store 1 p → ⊥
@@ -315,18 +320,14 @@ unsettled_by : (t : List ℕ) (f : Feed) (c : Course) → By c t f → Tracks f.
 unfolding answer_by
 unsettled_by t f c i s n at z = by-course c i (rw (append-nil t) at (z [] (zeros 0)))
   where
-    by-course : (c : Course) → By c t f → (read_table t f.store).answer ≡ TableRefused n at → answer_by c f.table ≡ FedRefused n at
+    by-course : (c : Course) → By c t f → told (read_table t f.store).answer ≡ FedRefused n at → answer_by c f.table ≡ FedRefused n at
     by-course Reading i e =
-        let cut-off : TableRefused 1 (next_place f.table) ≡ TableRefused n at = sym (ap (λ (r : TableReading). r.answer) (cut t f i)) ∙ e in
+        let cut-off : FedRefused 1 (next_place f.table) ≡ FedRefused n at = sym (ap (λ (r : TableReading). told r.answer) (cut t f i)) ∙ e in
         let one : 1 ≡ n = cc in
         absurd (cut_unsettled t f (replicate 1974 0) (rw length-replicate (omega arith)) (zeros 1974) s at (rw one z))
-    by-course Closed i e = let accepted : TableAccepted ≡ TableRefused n at = sym (ap (λ (r : TableReading). r.answer) i.whole) ∙ e in impossible (cc)
+    by-course Closed i e = let accepted : FedAccepted ≡ FedRefused n at = sym (ap (λ (r : TableReading). told r.answer) i.whole) ∙ e in impossible (cc)
     by-course Accepted i e = absurd i
-    by-course (Refused m) i e =
-        let same : TableRefused m (refused_at m f.table) ≡ TableRefused n at = sym (ap (λ (r : TableReading). r.answer) (refusal t f m i)) ∙ e in
-        let number : m ≡ n = cc in
-        let place : refused_at m f.table ≡ at = cc in
-        λ j. FedRefused (number j) (place j)
+    by-course (Refused m) i e = sym (told_refused t f m i) ∙ e
 
 -- ---- however the bytes are cut
 

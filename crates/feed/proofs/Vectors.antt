@@ -1,6 +1,7 @@
 -- The reader that is fed by number: document 01's 72 bytes however they are cut, each refusal at the byte that settles it, records of bad blocks and
 -- of kind 2, and what is said once the end is told.
 -- Assumes nothing.
+use Rattle.std.specs.Prelude.{Ok, Err}
 use mathlib.Core.Path.{◌≡◌, refl}
 use mathlib.Core.Bool.{true, false}
 use mathlib.Core.List.{List, [], ◌∷◌, ◌++◌, map}
@@ -14,8 +15,7 @@ use Rattle.drive.specs.Drive.{drive_of, record_of, geometry_bytes, size_bytes, n
 use Rattle.attached.specs.Parameters.{parameters_record}
 use Rattle.attached.specs.Bad.{bad_count, bad_length_ok, bads_in, held_of, bad_record, ascends, are_blocks, list_ok}
 use Rattle.table.specs.declared.Table.{Table}
-use Rattle.table.specs.declared.Answer.TheVariants.{Accepted as TableAccepted, Refused as TableRefused}
-use Rattle.table.specs.Table.{empty_table, header_of, header_at, is_unfinished, overlaps_any, refusal, parameters_refusal, bads_refusal, record_refusal, with_record, record_step, end_step, step_of, step_at, read_from, read_table, records_of, next_place}
+use Rattle.table.specs.Table.{refused, empty_table, header_of, header_at, is_unfinished, overlaps_any, refusal, parameters_refusal, bads_refusal, record_refusal, with_record, record_step, end_step, step_of, step_at, read_from, read_table, records_of, next_place}
 use Rattle.table.proofs.Vectors.{record₁, record₂, end, store, but, from, wide, drives, given-bytes, attach, bads, sixteen, full as most}
 use Rattle.feed.specs.declared.Course.TheVariants.{Reading, Closed, Accepted, Refused}
 use Rattle.feed.specs.declared.Feed.{Feed}
@@ -384,8 +384,8 @@ unfolding joined
 joins = refl
 
 -- accepted, 1 at 68, 2 at 68, 8 at 72: once the end was told, and before it, where 1 and acceptance are not said
-pub answers : map (λ a. fed_numbers (answer_told a)) (TableAccepted ∷ TableRefused 1 68 ∷ TableRefused 2 68 ∷ TableRefused 8 72 ∷ [])
-    ++ map (λ a. fed_numbers (so_far a)) (TableAccepted ∷ TableRefused 1 68 ∷ TableRefused 2 68 ∷ TableRefused 8 72 ∷ [])
+pub answers : map (λ a. fed_numbers (answer_told a)) (Ok tt ∷ Err (refused 1 68) ∷ Err (refused 2 68) ∷ Err (refused 8 72) ∷ [])
+    ++ map (λ a. fed_numbers (so_far a)) (Ok tt ∷ Err (refused 1 68) ∷ Err (refused 2 68) ∷ Err (refused 8 72) ∷ [])
     ≡ (0 ∷ []) ∷ (1 ∷ 68 ∷ []) ∷ (2 ∷ 68 ∷ []) ∷ (8 ∷ 72 ∷ []) ∷ (256 ∷ []) ∷ (256 ∷ []) ∷ (2 ∷ 68 ∷ []) ∷ (8 ∷ 72 ∷ []) ∷ []
 unfolding fed_numbers
 answers = refl

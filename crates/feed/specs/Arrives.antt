@@ -1,12 +1,11 @@
 -- Document 02, 2026-03: "However the bytes are cut, drives, refusal number and place must equal those of reading the whole." `proofs/Arrives.antt`
 -- proves it.
 -- Assumes nothing.
-use Rattle.std.specs.Prelude.{ℕ, ◌+◌, ◌-◌, ◌<◌, ◌≡◌, List, [], ◌∷◌, ◌++◌, length, take, drop, eqb}
+use Rattle.std.specs.Prelude.{ℕ, ◌+◌, ◌-◌, ◌<◌, ◌≡◌, Result, Ok, Err, List, [], ◌∷◌, ◌++◌, length, take, drop, eqb}
 use Rattle.logic.specs.Logic.{pick}
 use Rattle.words.specs.Words.{Bytes}
-use Rattle.table.specs.declared.Answer.{Answer}
-use Rattle.table.specs.declared.Answer.TheVariants.{Accepted as TableAccepted, Refused as TableRefused}
-use Rattle.table.specs.Table.{cut_off, end_length, longest_record, longest_table, next_place, read_table}
+use Rattle.table.specs.declared.Refused.{Refused as RefusedAt}
+use Rattle.table.specs.Table.{number, cut_off, end_length, longest_record, longest_table, next_place, read_table}
 use Rattle.feed.specs.declared.Course.TheVariants.{Reading}
 use Rattle.feed.specs.declared.Feed.{Feed}
 use Rattle.feed.specs.declared.Fed.{Fed}
@@ -19,18 +18,18 @@ joined [] = []
 joined (l ∷ ls) = l ++ joined ls
 
 -- a table's answer, once the end was told
-abbrev pub told : Answer → Fed
-told TableAccepted = FedAccepted
-told (TableRefused n at) = FedRefused n at
+abbrev pub told : Result Unit RefusedAt → Fed
+told (Ok x) = FedAccepted
+told (Err e) = FedRefused (number e.refusal) e.place
 
 -- and before that: "missing bytes are reported only at the end of input", and so is acceptance, which a further byte would change
-abbrev pub so_far : Answer → Fed
-so_far TableAccepted = More
-so_far (TableRefused n at) = pick (eqb n cut_off) More (FedRefused n at)
+abbrev pub so_far : Result Unit RefusedAt → Fed
+so_far (Ok x) = More
+so_far (Err e) = pick (eqb (number e.refusal) cut_off) More (FedRefused (number e.refusal) e.place)
 
 -- a refusal that the bytes so far settle: whatever follows them, it is that of the whole
 abbrev pub Settles : List ℕ → ℕ → ℕ → ℕ → Type 0
-Settles t store n at = (q : List ℕ) → (read_table (t ++ q) store).answer ≡ TableRefused n at
+Settles t store n at = (q : List ℕ) → told (read_table (t ++ q) store).answer ≡ FedRefused n at
 
 -- "keeps at most one unfinished record": a reader that holds the bytes behind the records of its drives, fewer than a record may have
 pub record Holds (f : Feed) (t : List ℕ) : Type 0 where
@@ -53,7 +52,7 @@ pub record Arrives (store : ℕ) (fs : List (List ℕ)) : Type 0 where
   pub taken : (feeds (opened store) fs).table ≡ (read_table (joined fs) store).table
   -- a refusal is said exactly when the bytes so far settle it, for which bytes that follow are enough to look at
   pub settled : (n at : ℕ) → answer_of (feeds (opened store) fs) ≡ FedRefused n at → Settles (joined fs) store n at
-  pub unsettled : (n at : ℕ) → ((q : List ℕ) → Bytes q → (read_table (joined fs ++ q) store).answer ≡ TableRefused n at) → answer_of (feeds (opened store) fs) ≡ FedRefused n at
+  pub unsettled : (n at : ℕ) → ((q : List ℕ) → Bytes q → told (read_table (joined fs ++ q) store).answer ≡ FedRefused n at) → answer_of (feeds (opened store) fs) ≡ FedRefused n at
   -- and then it stays
   pub refused : (n at : ℕ) → answer_of (feeds (opened store) fs) ≡ FedRefused n at → Stays (feeds (opened store) fs)
   -- of the bytes so far those are held that follow the records of its drives, fewer than the longest record has, and while it reads only

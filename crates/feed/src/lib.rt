@@ -15,7 +15,9 @@ const CUT_OFF: u8 = table::CUT_OFF;
 const BYTE_FOLLOWS: u8 = table::BYTE_FOLLOWS;
 
 // How the reading goes: it reads; it has read the end record; the end was told and the table is accepted; or it is refused.
-#[derive(Clone, Copy)]
+// Stays: a refusal here is any byte, since a course is made of the byte that a reader block holds
+// (`reader::course_ok` judges it).
+#[derive(Clone, Copy, PartialEq, Eq, Debug)]
 pub enum Course {
     Reading,
     Closed,
@@ -35,7 +37,8 @@ pub struct Feed {
 }
 
 // What a reader says: nothing is settled, the table is accepted, or refusal number and place.
-#[derive(Clone, Copy)]
+// Stays: it says the number of a `Course`, which may be any byte.
+#[derive(Clone, Copy, PartialEq, Eq, Debug)]
 pub enum Fed {
     More,
     Accepted,
@@ -43,15 +46,15 @@ pub enum Fed {
 }
 
 // The reader with those drives on that course, and no byte held.
-fn cleared(f: Feed, b: Table, course: Course) -> Feed
-    ensures { result ≡ cleared f b course }
+fn cleared(f: Feed, table: Table, course: Course) -> Feed
+    ensures { result ≡ cleared f table course }
 {
     Feed {
-        table: b,
-        store: f.store,
-        held: [0u8; table::LONGEST_RECORD],
+        table,
+        held: [0; table::LONGEST_RECORD],
         filled: 0,
         course,
+        ..f
     }
 }
 
@@ -60,16 +63,14 @@ fn holding(f: Feed, x: u8) -> Feed
     requires { f.filled < longest_record }
     ensures { result ≡ holding f x }
 {
-    let b = f.table;
     let n = f.filled;
     let mut held = f.held;
     held[n] = x;
     Feed {
-        table: b,
-        store: f.store,
         held,
         filled: n + 1,
         course: Course::Reading,
+        ..f
     }
 }
 
@@ -85,9 +86,10 @@ pub fn begun(held: [u8; table::LONGEST_RECORD], n: usize, b: Table, store: u64) 
         table: b,
     };
     let next = table::advance(&held[..n], c, store);
-    let step = next.step;
-    let after = next.table;
-    Stepped { step, table: after }
+    Stepped {
+        step: next.step,
+        table: next.table,
+    }
 }
 
 // A byte more of a record.
@@ -97,77 +99,56 @@ fn held_byte(f: Feed, x: u8) -> Feed
     ensures { result ≡ held_byte f x }
 {
     let more = holding(f, x);
-    let held = more.held;
-    let b = f.table;
-    let r = begun(held, more.filled, b, f.store);
-    let step = r.step;
-    let after = r.table;
-    match step {
-        Step::Next(_) => cleared(f, after, Course::Reading),
-        Step::Done => cleared(f, after, Course::Closed),
+    let r = begun(more.held, more.filled, f.table, f.store);
+    match r.step {
+        Step::Next(_) => cleared(f, r.table, Course::Reading),
+        Step::Done => cleared(f, r.table, Course::Closed),
         Step::Refused(number, _) => {
             if number == CUT_OFF {
                 return more;
             }
-            cleared(f, after, Course::Refused(number))
+            cleared(f, r.table, Course::Refused(number))
         }
     }
 }
 
+#[tactic(auto, unfolding(crate::specs::Feed::feed_byte, crate::specs::Feed::by_course))]
 fn byte(f: Feed, x: u8) -> Feed
     ensures { result ≡ feed_byte f x }
 {
-    let course = f.course;
-    match course {
-        Course::Reading => {
-            if f.filled < table::LONGEST_RECORD {
-                return held_byte(f, x);
-            }
-            f
-        }
-        Course::Closed => {
-            let b = f.table;
-            cleared(f, b, Course::Refused(BYTE_FOLLOWS))
-        }
-        Course::Accepted => f,
-        Course::Refused(_) => f,
+    match f.course {
+        Course::Reading if f.filled < table::LONGEST_RECORD => held_byte(f, x),
+        Course::Closed => cleared(f, f.table, Course::Refused(BYTE_FOLLOWS)),
+        _ => f,
     }
 }
 
 // Whether a byte leaves the record that n bytes begin unfinished.
-fn leaves_open(held: [u8; table::LONGEST_RECORD], n: usize, x: u8) -> bool
-    ensures { result ≡ stays_open Reading held n x }
+fn leaves_open(held: &[u8; table::LONGEST_RECORD], n: usize, x: u8) -> bool
+    ensures { result ≡ stays_open Reading held.now n x }
 {
     if table::LONGEST_RECORD <= n {
         return false;
     }
-    let mut more = held;
+    let mut more = *held;
     more[n] = x;
     let end = n + 1;
     table::is_unfinished(&more[..end])
 }
 
-fn stays_open(course: Course, held: [u8; table::LONGEST_RECORD], n: usize, x: u8) -> bool
-    ensures { result ≡ stays_open course held n x }
+#[tactic(auto, unfolding(crate::specs::Feed::stays_open))]
+fn stays_open(course: Course, held: &[u8; table::LONGEST_RECORD], n: usize, x: u8) -> bool
+    ensures { result ≡ stays_open course held.now n x }
 {
-    match course {
-        Course::Reading => leaves_open(held, n, x),
-        Course::Closed => false,
-        Course::Accepted => false,
-        Course::Refused(_) => false,
-    }
+    course == Course::Reading && leaves_open(held, n, x)
 }
 
 // Whether bytes are ignored.
+#[tactic(auto, unfolding(crate::specs::Feed::is_over))]
 fn is_over(course: Course) -> bool
     ensures { result ≡ is_over course }
 {
-    match course {
-        Course::Reading => false,
-        Course::Closed => false,
-        Course::Accepted => true,
-        Course::Refused(_) => true,
-    }
+    matches!(course, Course::Accepted | Course::Refused(_))
 }
 
 // Where a refusal with that number is, after those drives.
@@ -183,13 +164,14 @@ fn refused_at(number: u8, b: Table) -> usize
 
 impl Feed {
     // A reader for a store of that many blocks.
+    #[tactic(auto, unfolding(crate::specs::Feed::opened))]
     pub fn open(store: u64) -> Self
         ensures { result ≡ opened store }
     {
         Feed {
             table: table::empty_table(),
             store,
-            held: [0u8; table::LONGEST_RECORD],
+            held: [0; table::LONGEST_RECORD],
             filled: 0,
             course: Course::Reading,
         }
@@ -201,52 +183,42 @@ impl Feed {
         ensures { result ≡ feed_all self bytes.now }
     {
         let mut f = self;
-        let mut i = 0;
-        while i < bytes.len() {
-            let course = f.course;
-            if is_over(course) {
+        for &x in bytes {
+            if is_over(f.course) {
                 return f;
             }
-            let x = bytes[i];
-            let held = f.held;
             let n = f.filled;
-            if stays_open(course, held, n, x) {
+            if stays_open(f.course, &f.held, n, x) {
                 f.held[n] = x;
                 f.filled = n + 1;
-                i += 1;
-                continue;
+            } else {
+                f = byte(f, x);
             }
-            f = byte(f, x);
-            i += 1;
         }
         f
     }
 
     // The reader once the input has ended.
+    #[tactic(auto, unfolding(crate::specs::Feed::end_feed, crate::specs::Feed::end_by))]
     pub fn end(self) -> Self
         ensures { result ≡ end_feed self }
     {
-        let course = self.course;
-        let b = self.table;
-        match course {
-            Course::Reading => cleared(self, b, Course::Refused(CUT_OFF)),
-            Course::Closed => cleared(self, b, Course::Accepted),
-            Course::Accepted => self,
-            Course::Refused(_) => self,
+        match self.course {
+            Course::Reading => cleared(self, self.table, Course::Refused(CUT_OFF)),
+            Course::Closed => cleared(self, self.table, Course::Accepted),
+            Course::Accepted | Course::Refused(_) => self,
         }
     }
 
     // What it says.
+    #[tactic(auto, unfolding(crate::specs::Feed::answer_of, crate::specs::Feed::answer_by))]
     pub fn answer(self) -> Fed
         ensures { result ≡ answer_of self }
     {
-        let course = self.course;
-        let b = self.table;
-        match course {
-            Course::Reading => Fed::More,
-            Course::Closed => Fed::More,
+        match self.course {
+            Course::Reading | Course::Closed => Fed::More,
             Course::Accepted => Fed::Accepted,
-            Course::Refused(n) => Fed::Refused(n, refused_at(n, b)),
+            Course::Refused(n) => Fed::Refused(n, refused_at(n, self.table)),
         }
     }
 }

@@ -4,14 +4,17 @@ use Prim.Native.Nat.{ℕ, zero, suc, ◌+◌, ◌-◌, ◌*◌, ◌/◌, ◌%◌
 use native.Mathlib.Nat.{add-zero, zero-add}
 use native.Mathlib.Numerals.{add-one}
 use native.Mathlib.Omega.{arith}
-use mathlib.Core.Path.{◌≡◌, refl, sym, ◌∙◌, ap}
+use mathlib.Core.Path.{◌≡◌, refl, sym, ◌∙◌, ap, subst}
+use mathlib.Core.Logic.{inl, inr}
 use mathlib.Core.Bool.{Bool, true, false}
 use mathlib.Core.List.{List, [], ◌∷◌}
+use denote.Param.Members.{Mut, Called}
+use Rattle.std.specs.Array.{IsFromFnResult, IsFromFnResultFrom}
 use lib.ListN.{length, take, drop, get_or, length-take}
 use lib.Seq.{ext_get_or, get_or-take, get_or-drop, take-take, drop-drop}
 use lib.Dec.{leb, ltb, eqb}
 use Rattle.logic.specs.Logic.{pick, both}
-use Rattle.logic.proofs.LogicLaws.{impossible, both_true, all_ext}
+use Rattle.logic.proofs.LogicLaws.{impossible, both_true, all_ext, lt_or_le}
 use Rattle.words.specs.Words.{le, part}
 use Rattle.drive.specs.declared.Drive.{Drive}
 use Rattle.attached.specs.declared.Bads.{Bads}
@@ -19,7 +22,7 @@ use Rattle.attached.specs.Bad.{bads_ok}
 use Rattle.table.specs.declared.Table.{Table}
 use Rattle.table.specs.Table.{no_drive, has_parameters, attached_at, bads_at, listed_at, parameters_to}
 use Rattle.int13.specs.declared.Placement.{Placement}
-use Rattle.int13.specs.declared.Shown.{Shown}
+use Rattle.std.specs.Prelude.{Some}
 use Rattle.int13.specs.Placement.{not_shown}
 use Rattle.int13.specs.Steps.{first_drive, drive_count, is_drive, shown_of}
 use Rattle.int13.proofs.StepsLaws.{is_drive_true}
@@ -46,6 +49,20 @@ listed-is f l n e m h =
     ext_get_or e (listed f 0 n) l (length-listed f 0 n ∙ sym m) (λ k q.
     let r : k < n = omega (arith, length-listed f 0 n) in
     listed-at f 0 n k e r ∙ ap f (zero-add k) ∙ h k r)
+
+-- an array that is made of the answers of a closure that changes nothing
+module _ {F A : Type 0} {g : Mut F (ℕ × Unit {0}) A} {f : F} {n : ℕ} (v : ℕ → A) (e : A) (h : (k : ℕ) (x : A) (q : F) → k < n → Called g f (k, tt) x q → (x ≡ v k) × (q ≡ f)) where
+  made_at : (l : List A) (m i : ℕ) (p : F) → p ≡ f → i + m ≤ n → IsFromFnResultFrom g p l i m → (k : ℕ) → i ≤ k → k < i + m → get_or l k e ≡ v k
+  made_at l zero i p z b r k a c = absurd (omega arith)
+  made_at l (suc m) i p z b (q, y, el, c, r) k a d =
+      let w = h i y q (omega arith) (subst (λ (u : F). Called g u (i, tt) y q) z c) in
+      elim (lt_or_le i k) [
+        | inl t ↦ made_at l m (i + 1) q w.1 (omega arith) r k (omega arith) (omega arith)
+        | inr t ↦ let same : i ≡ k = omega arith in subst (λ (u : ℕ). get_or l u e ≡ v u) same (el.1 e ∙ w.0)
+      ]
+
+  pub made-is : {l : List A} → IsFromFnResult g f l n → l ≡ listed v 0 n
+  made-is {l} m = sym (listed-is v l n e m.long (λ k q. sym (made_at l n 0 f refl (omega arith) m.each k (omega arith) (omega arith))))
 
 -- one word for each mark
 mark_words : (marks : List Bool) (k : ℕ) → k < length marks → get_or (marks_words marks) k 0 ≡ pick (get_or marks k false) 1 0
@@ -162,12 +179,12 @@ module _ (b : Table) (n : ℕ) {p q : Placement} {k r : Bool} (e : p ≡ q) (a :
         let none : not_shown ≡ shown_of b p n = rw (sym a ∙ w.1, w.0, sym h ∙ f) in
         none ∙ ap (λ (x : Placement). shown_of b x n) e
 
-    pub shown-table : {s : Shown} {before : ℕ} → m ≡ true → before ≡ parameters_to (n - first_drive) b
-        → s ≡ record { table = true; segment = (p.address + 16 * before) / 16 % 65536 } → s ≡ shown_of b q n
+    pub shown-table : {s before : ℕ} → m ≡ true → before ≡ parameters_to (n - first_drive) b
+        → s ≡ (p.address + 16 * before) / 16 % 65536 → Some s ≡ shown_of b q n
     unfolding shown_of
     shown-table {s} f t d =
         let w = both_true p.placed k (sym c ∙ z) in
-        let shown : s ≡ shown_of b p n = rw (sym a ∙ w.1, w.0, sym h ∙ f, ← t) d in
+        let shown : Some s ≡ shown_of b p n = rw (sym a ∙ w.1, w.0, sym h ∙ f, ← t) (ap (λ (x : ℕ). Some x) d) in
         shown ∙ ap (λ (x : Placement). shown_of b x n) e
 
 -- a row waits by its number

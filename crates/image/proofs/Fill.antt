@@ -42,6 +42,12 @@ module _ {A : Type 0} (f : A → List ℕ) where
         more : (m : ℕ) {a b : ℕ} → a ≡ n → b ≡ n * m → a + b ≡ n * suc m
         more m p q = rw (p, q) (omega arith)
 
+-- each number for itself
+pub each_same : (l : List ℕ) → each (λ x. x ∷ []) l ≡ l
+unfolding each
+each_same [] = refl
+each_same (x ∷ l) = ap (λ (t : List ℕ). x ∷ t) (each_same l)
+
 -- a run of stores, and the one that follows it
 pub sets-next : (s : List ℕ) (at n : ℕ) (a b : List ℕ) → length a ≡ n → sets (sets s at a) (at + n) b ≡ sets s at (a ++ b)
 sets-next s at n a b e = subst (λ (m : ℕ). sets (sets s at a) (at + m) b ≡ sets s at (a ++ b)) e (sym (sets-append s at a b))

@@ -719,6 +719,15 @@ below_more {u = u} m n end b at e f g =
     ∙ ap (both (all_below m word)) (f ∙ all_ext n (λ j. ltb (le 8 b (at + 8 * m + 8 * j)) end) (λ j. word (m + j)) (λ j h. ap (λ (k : ℕ). ltb (le 8 b k) end) (omega arith)))
     ∙ sym (all-add m n word)
 
+-- zeros tested slot by slot, of sixteen words each
+pub below_slots : (n : ℕ) (b : List ℕ) (at : ℕ) → all_below n (λ i. below 16 1 b (at + 128 * i)) ≡ below (16 * n) 1 b at
+unfolding below
+below_slots zero b at = refl
+below_slots (suc n) b at =
+    both_comm (below 16 1 b (at + 128 * n)) (all_below n (λ i. below 16 1 b (at + 128 * i)))
+    ∙ below_more (16 * n) 16 1 b at (below_slots n b at) (ap (λ (k : ℕ). below 16 1 b k) (omega arith)) refl
+    ∙ ap (λ (m : ℕ). below m 1 b at) (omega arith)
+
 -- n words that are all zero
 module _ (b : List ℕ) (at n : ℕ) (e : below n 1 b at ≡ true) where
   word_zero : (j : ℕ) → j < n → le 8 b (at + 8 * j) ≡ 0
@@ -805,26 +814,6 @@ judged-is b h = go (eqb (length b) desk_size) (eqb-true (length b) desk_size) �
     go false l = refl
 
 -- ---- the tests of the code
-
-module _ (n : ℕ) (b : List ℕ) where
-  past : ℕ → Bool
-  past i = either (ltb i n) (below 16 1 b (slot_at i))
-
-  past_is : {a : Bool} (i : ℕ) → n ≤ i → a ≡ below 16 1 b (slot_at i) → a ≡ past i
-  unfolding past
-  past_is i l e = rw (le-ltb i n l) e
-
-  pub rest-none : true ≡ rest_zero n n b
-  unfolding rest_zero past
-  rest-none = sym (all_intro n past (λ i l. rw (lt-ltb i n l)))
-
-  pub rest-bad : {a : Bool} (i : ℕ) → n ≤ i → i < 8 → a ≡ below 16 1 b (slot_at i) → a ≡ false → false ≡ rest_zero 8 n b
-  unfolding rest_zero past
-  rest-bad i l m e z = all_fails 8 i past m (past_is i l e) z
-
-  pub rest-next : {a : Bool} (i : ℕ) → n ≤ i → true ≡ rest_zero i n b → a ≡ below 16 1 b (slot_at i) → a ≡ true → true ≡ rest_zero (i + 1) n b
-  unfolding rest_zero past
-  rest-next i l p e z = all-next i past p (past_is i l e) z
 
 module _ (b : List ℕ) (M i : ℕ) where
   pub waiting_unknown : (q : Request) → q ≡ request_at b (request_place i) → is_drive (read_desk b).table q.job.drive ≡ false → false ≡ waiting_good b M i

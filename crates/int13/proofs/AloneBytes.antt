@@ -15,8 +15,8 @@ use borrow.Author.Tests.{leb-true, ltb-true, lt-ltb, le-ltb, ltb-false, eqb-true
 use Rattle.logic.specs.Logic.{pick, both, either}
 use Rattle.logic.proofs.LogicLaws.{both_true, either_true, pick-cases, some_ext, true≢false}
 use Rattle.words.specs.Words.{le, le_bytes, part}
-use Rattle.chs.specs.declared.ToBlock.{ToBlock}
-use Rattle.chs.specs.declared.ToBlock.TheVariants.{Block, Refused as NoBlock}
+use Rattle.std.specs.Prelude.{Result, Ok, Err, Option}
+use Rattle.chs.specs.declared.Outside.{Outside}
 use Rattle.chs.specs.Chs.{size, block_of, address_in}
 use Rattle.drive.specs.Drive.{geometry_of, is_protected}
 use Rattle.drive.proofs.DriveLaws.{geometry_inside}
@@ -28,10 +28,7 @@ use Rattle.table.specs.Table.{no_drive, bads_at, read_table}
 use Rattle.table.proofs.TableLaws.{le-part}
 use Rattle.table.proofs.Sound.{Obeys, Good, sound_rules, good-obeys, accepted-good}
 use Rattle.layout.specs.declared.Packet.{Packet}
-use Rattle.layout.specs.declared.PacketRead.{PacketRead}
-use Rattle.layout.specs.declared.PacketRead.TheVariants.{Whole, Refused as NoPacket}
-use Rattle.layout.specs.declared.ResultAnswer.{ResultAnswer}
-use Rattle.layout.specs.declared.ResultAnswer.TheVariants.{Written, Refused as NoResult}
+use Rattle.layout.specs.declared.BadParameter.{BadParameter}
 use Rattle.layout.specs.Packet.{packet_at, read_packet}
 use Rattle.layout.specs.ResultBuffer.{result_answer}
 use Rattle.memory.specs.Blocks.{blocks}
@@ -39,7 +36,6 @@ use Rattle.memory.proofs.BlocksLaws.{blocks-length, get_or-blocks_outside, part-
 use Rattle.int13.specs.declared.Registers.{Registers}
 use Rattle.int13.specs.declared.Job.{Job}
 use Rattle.int13.specs.declared.Placement.{Placement}
-use Rattle.int13.specs.declared.Shown.{Shown}
 use Rattle.int13.specs.declared.Outcome.{Outcome}
 use Rattle.int13.specs.declared.Outcome.TheVariants.{Answered, Waits}
 use Rattle.int13.specs.declared.Plan.{Plan}
@@ -89,7 +85,7 @@ module _ (b : Table) (r : Registers) (w : List ℕ) where
   known = is_drive b (dl r)
 
   sectors_asks : (n : ℕ) → is_sectors (ah r) ≡ true → known ≡ true → eqb (al r) 0 ≡ false → ltb 128 (al r) ≡ false
-      → block_of (geometry_of (drive_named b r)) (address_in r.cx r.dx) ≡ Block n
+      → block_of (geometry_of (drive_named b r)) (address_in r.cx r.dx) ≡ Ok n
       → ltb (size (geometry_of (drive_named b r))) (n + al r) ≡ false → ltb (length w) (sector_buffer r + 512 * al r) ≡ false → Asks (sector_job r n)
   sectors_asks n s d z u e i f =
       let ne : al r ≡ 0 → ⊥ = eqb-false (al r) 0 z in
@@ -119,10 +115,10 @@ module _ (b : Table) (r : Registers) (w : List ℕ) where
       pick-cases Tells (both (is_write (ah r)) (is_protected (drive_named b r))) _ _ (λ e. tt) (λ e₄.
       run e₁ e₂ e₃ (block_of (geometry_of (drive_named b r)) (address_in r.cx r.dx)) refl))))
     where
-      run : not known ≡ false → eqb (al r) 0 ≡ false → ltb 128 (al r) ≡ false → (x : ToBlock)
+      run : not known ≡ false → eqb (al r) 0 ≡ false → ltb 128 (al r) ≡ false → (x : Result ℕ Outside)
           → block_of (geometry_of (drive_named b r)) (address_in r.cx r.dx) ≡ x → Tells (sector_run (drive_named b r) r (length w) x)
-      run e₁ e₂ e₃ (NoBlock code) e = tt
-      run e₁ e₂ e₃ (Block n) e =
+      run e₁ e₂ e₃ (Err x) e = tt
+      run e₁ e₂ e₃ (Ok n) e =
           pick-cases Tells (ltb (size (geometry_of (drive_named b r))) (n + al r)) _ _ (λ e. tt) (λ e₅.
           pick-cases Tells (ltb (length w) (sector_buffer r + 512 * al r)) _ _ (λ e. tt) (λ e₆.
           sectors_asks n s (not-false _ e₁) e₂ e₃ e e₅ e₆))
@@ -182,7 +178,7 @@ module _ (b : Table) (r : Registers) (w : List ℕ) where
   extended_tell l s x =
       pick-cases Plans (not known) _ _ (λ e. tt) (λ e₁.
       pick-cases Plans (both (is_write (ah r)) (not (verify_ok (al r) (drive_named b r).flags))) _ _ (λ e. tt) (λ e₂.
-      pick-cases (λ (p : PacketRead). Plans (packet_read (drive_named b r) l r (length w) p)) (leb (packet_place r + 16) (length w)) _ _
+      pick-cases (λ (p : Result Packet BadParameter). Plans (packet_read (drive_named b r) l r (length w) p)) (leb (packet_place r + 16) (length w)) _ _
       (λ e₃. pick-cases Plans (ltb packet.size 16) _ _ (λ e. tt) (λ e₄. packet_tell l s x (not-false _ e₁) (leb-true (packet_place r + 16) (length w) e₃)))
       (λ e₃. tt)))
 
@@ -192,26 +188,26 @@ module _ (b : Table) (r : Registers) (w : List ℕ) where
   unfolding seek
   seek_tell = pick-cases Tells (not known) _ _ (λ e. tt) (λ e. by_packet (read_packet w (packet_place r)))
     where
-      by_packet : (p : PacketRead) → Tells (seek_read (drive_named b r) r p)
-      by_packet (NoPacket code) = tt
-      by_packet (Whole p) = pick-cases Tells (ltb p.size 16) _ _ (λ e. tt) (λ e. pick-cases Tells (leb (drive_named b r).blocks p.start) _ _ (λ e. tt) (λ e. tt))
+      by_packet : (p : Result Packet BadParameter) → Tells (seek_read (drive_named b r) r p)
+      by_packet (Err x) = tt
+      by_packet (Ok p) = pick-cases Tells (ltb p.size 16) _ _ (λ e. tt) (λ e. pick-cases Tells (leb (drive_named b r).blocks p.start) _ _ (λ e. tt) (λ e. tt))
 
-  result_tell : (s : Shown) → TellsAll (result_into known (drive_named b r) s r w)
+  result_tell : (s : Option ℕ) → TellsAll (result_into known (drive_named b r) s r w)
   unfolding result_into
   result_tell s =
       pick-cases TellsAll (not known) _ _ (λ e. tt) (λ e.
       pick-cases TellsAll (ltb (length w) (packet_place r + 2)) _ _ (λ e. tt) (λ e.
       by_answer (result_answer (drive_named b r) (le 2 w (packet_place r)) (length (drop (packet_place r) w)))))
     where
-      by_answer : (x : ResultAnswer) → Tells (result_given x r)
-      by_answer (NoResult code) = tt
-      by_answer (Written n) = tt
+      by_answer : (x : Result ℕ BadParameter) → Tells (result_given x r)
+      by_answer (Err x) = tt
+      by_answer (Ok n) = tt
 
   parameters_tell : Tells (parameters known (drive_count b) (drive_named b r) r)
   unfolding parameters
   parameters_tell = pick-cases Tells known _ _ (λ e. tt) (λ e. tt)
 
-  extensions_tell : (s : Shown) → Tells (extensions known s r)
+  extensions_tell : (s : Option ℕ) → Tells (extensions known s r)
   unfolding extensions
   extensions_tell s = pick-cases Tells (both known (eqb r.bx 0x55AA)) _ _ (λ e. tt) (λ e. tt)
 
@@ -614,7 +610,7 @@ module _ (b : Table) (r : Registers) (m : Memory) (store : ℕ) (g : Good b stor
   plan_says =
       pick-cases Carried (not (is_drive b (dl r))) _ _ (λ e. refusal_says 0x01 _ (inl refl)) (λ e₁.
       pick-cases Carried (both (is_write (ah r)) (not (verify_ok (al r) (drive_named b r).flags))) _ _ (λ e. refusal_says 0x01 _ (inl refl)) (λ e₂.
-      pick-cases (λ (p : PacketRead). Carried (packet_read (drive_named b r) (bads_of b (dl r)) r (length m.window) p))
+      pick-cases (λ (p : Result Packet BadParameter). Carried (packet_read (drive_named b r) (bads_of b (dl r)) r (length m.window) p))
       (leb (packet_place r + 16) (length m.window)) _ _
       (λ e₃. pick-cases Carried (ltb asks.size 16) _ _ (λ e. refusal_says 0x01 _ (inl refl))
       (λ e₄. tests_say (not-false _ e₁) (leb-true (packet_place r + 16) (length m.window) e₃)))

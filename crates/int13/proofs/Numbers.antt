@@ -10,8 +10,8 @@ use lib.ListN.{length, get_or, drop}
 use lib.Dec.{leb, ltb, eqb}
 use Rattle.logic.specs.Logic.{pick, both, either}
 use Rattle.words.specs.Words.{le}
-use Rattle.chs.specs.declared.ToBlock.{ToBlock}
-use Rattle.chs.specs.declared.ToBlock.TheVariants.{Block}
+use Rattle.std.specs.Prelude.{Result, Ok, Err, Option, is_some}
+use Rattle.chs.specs.declared.Outside.{Outside}
 use Rattle.chs.specs.Chs.{in_limits, is_valid, block_of, address_in, number as block_number}
 use Rattle.drive.specs.declared.Drive.{Drive}
 use Rattle.drive.specs.Drive.{geometry_of, is_protected}
@@ -19,13 +19,11 @@ use Rattle.attached.specs.declared.Bads.{Bads}
 use Rattle.attached.specs.Bad.{good}
 use Rattle.table.specs.declared.Table.{Table}
 use Rattle.layout.specs.declared.Packet.{Packet}
-use Rattle.layout.specs.declared.PacketRead.{PacketRead}
-use Rattle.layout.specs.declared.ResultAnswer.{ResultAnswer}
+use Rattle.layout.specs.declared.BadParameter.{BadParameter}
 use Rattle.layout.specs.Packet.{packet_at, read_packet}
 use Rattle.layout.specs.ResultBuffer.{returned_size, result_answer}
 use Rattle.int13.specs.declared.Registers.{Registers}
 use Rattle.int13.specs.declared.Placement.{Placement}
-use Rattle.int13.specs.declared.Shown.{Shown}
 use Rattle.int13.specs.declared.Outcome.{Outcome}
 use Rattle.int13.specs.declared.Outcome.TheVariants.{Answered, Waits}
 use Rattle.int13.specs.declared.Plan.{Plan}
@@ -97,7 +95,7 @@ through f false a b = b
 
 -- ---- the numbers of each function
 
-run-numbers : (d : Drive) (r : Registers) (M n : ℕ) → outcome_numbers (sector_run d r M (Block n)) ≡ run_given d r M n
+run-numbers : (d : Drive) (r : Registers) (M n : ℕ) → outcome_numbers (sector_run d r M (Ok n)) ≡ run_given d r M n
 run-numbers d r M n =
     through outcome_numbers (ltb (d.c * d.h * d.s) (n + al r)) (refused 0x04 r)
     (through outcome_numbers (ltb M (16 * r.es + r.bx + 512 * al r)) (refused 0x09 r) (waits n (al r) (16 * r.es + r.bx) 0 r))
@@ -109,14 +107,14 @@ sectors-numbers known d r M =
     (through outcome_numbers (eqb (al r) 0) (refused 0x01 r)
     (through outcome_numbers (ltb 128 (al r)) (refused 0x09 r)
     (through outcome_numbers (both (is_write (ah r)) (is_protected d)) (refused 0x03 r)
-    (through (λ (x : ToBlock). outcome_numbers (sector_run d r M x)) (both (in_limits (geometry_of d)) (is_valid (geometry_of d) (address_in r.cx r.dx)))
+    (through (λ (x : Result ℕ Outside). outcome_numbers (sector_run d r M x)) (both (in_limits (geometry_of d)) (is_valid (geometry_of d) (address_in r.cx r.dx)))
     (run-numbers d r M (block_number (geometry_of d) (address_in r.cx r.dx))) (refused 0x04 r)))))
 
 parameters-numbers : (known : Bool) (count : ℕ) (d : Drive) (r : Registers) → outcome_numbers (parameters known count d r) ≡ parameters_given known count d r
 unfolding parameters parameters_given
 parameters-numbers known count d r = through outcome_numbers known (given (geometry_given d count r)) (refused 0x07 r)
 
-extensions-numbers : (known : Bool) (s : Shown) (r : Registers) → outcome_numbers (extensions known s r) ≡ check_given known s.table r
+extensions-numbers : (known : Bool) (s : Option ℕ) (r : Registers) → outcome_numbers (extensions known s r) ≡ check_given known (is_some s) r
 unfolding extensions check_given
 extensions-numbers known s r = through outcome_numbers (both known (eqb r.bx 0x55AA)) (given (extensions_given s r)) (refused 0x01 r)
 
@@ -140,7 +138,7 @@ packet-numbers : (d : Drive) (l : Bads) (r : Registers) (w : List ℕ) (place : 
     → planned r w (packet_read d l r (length w) (read_packet w place)) ≡ packet_numbers_at d l r w place
 unfolding read_packet packet_at packet_numbers_at
 packet-numbers d l r w place =
-    through (λ (p : PacketRead). planned r w (packet_read d l r (length w) p)) (leb (place + 16) (length w))
+    through (λ (p : Result Packet BadParameter). planned r w (packet_read d l r (length w) p)) (leb (place + 16) (length w))
     (through (planned r w) (ltb (get_or w place 0) 16) (refused 0x01 r) (tests_numbers d l r w (length w) (packet_at w place))) (refused 0x01 r)
 
 extended-numbers : (known : Bool) (d : Drive) (l : Bads) (r : Registers) (w : List ℕ) → planned r w (packet_plan known d l r w) ≡ extended_given known d l r w
@@ -153,7 +151,7 @@ seek-numbers : (known : Bool) (d : Drive) (r : Registers) (w : List ℕ) → out
 unfolding seek seek_given read_packet packet_at
 seek-numbers known d r w =
     through outcome_numbers (not known) (refused 0x01 r)
-    (through (λ (p : PacketRead). outcome_numbers (seek_read d r p)) (leb (16 * r.ds + r.si + 16) (length w))
+    (through (λ (p : Result Packet BadParameter). outcome_numbers (seek_read d r p)) (leb (16 * r.ds + r.si + 16) (length w))
     (through outcome_numbers (ltb (get_or w (16 * r.ds + r.si) 0) 16) (refused 0x01 r)
     (through outcome_numbers (leb d.blocks (le 8 w (16 * r.ds + r.si + 8))) (refused 0x04 r) (finished r)))
     (refused 0x01 r))
@@ -162,17 +160,17 @@ seek-numbers known d r w =
 abbrev checked : Checked → List ℕ
 checked c = outcome_numbers c.outcome
 
-result-numbers : (known : Bool) (d : Drive) (s : Shown) (r : Registers) (w : List ℕ) → checked (result_into known d s r w) ≡ buffer_given known d r w
+result-numbers : (known : Bool) (d : Drive) (s : Option ℕ) (r : Registers) (w : List ℕ) → checked (result_into known d s r w) ≡ buffer_given known d r w
 unfolding result_into buffer_given result_answer
 result-numbers known d s r w =
     let asked = le 2 w (16 * r.ds + r.si) in
     through checked (not known) (refused 0x01 r)
     (through checked (ltb (length w) (16 * r.ds + r.si + 2)) (refused 0x01 r)
-    (through (λ (x : ResultAnswer). outcome_numbers (result_given x r)) (both (leb 26 asked) (leb (returned_size d asked) (length (drop (16 * r.ds + r.si) w))))
+    (through (λ (x : Result ℕ BadParameter). outcome_numbers (result_given x r)) (both (leb 26 asked) (leb (returned_size d asked) (length (drop (16 * r.ds + r.si) w))))
     (finished r) (refused 0x01 r)))
 
-steps-numbers : (known : Bool) (count : ℕ) (d : Drive) (l : Bads) (s : Shown) (r : Registers) (w : List ℕ)
-    → checked (steps known count d l s r w) ≡ steps_given known count d l s.table r w
+steps-numbers : (known : Bool) (count : ℕ) (d : Drive) (l : Bads) (s : Option ℕ) (r : Registers) (w : List ℕ)
+    → checked (steps known count d l s r w) ≡ steps_given known count d l (is_some s) r w
 unfolding steps steps_given
 steps-numbers known count d l s r w =
     through checked (either (eqb (ah r) 0x02) (eqb (ah r) 0x03)) (sectors-numbers known d r (length w))
@@ -185,9 +183,9 @@ steps-numbers known count d l s r w =
 
 -- whoever answers with the definition answers with the paper's numbers
 
-pub steps_answered : {o : Outcome} {v : List ℕ} {k : Checked} (known : Bool) (count : ℕ) (d : Drive) (l : Bads) (s : Shown) (r : Registers) (w : List ℕ)
+pub steps_answered : {o : Outcome} {v : List ℕ} {k : Checked} (known : Bool) (count : ℕ) (d : Drive) (l : Bads) (s : Option ℕ) (r : Registers) (w : List ℕ)
     → steps known count d l s r w ≡ k → o ≡ k.outcome → v ≡ k.window
-    → (o ≡ (steps known count d l s r w).outcome) × (v ≡ (steps known count d l s r w).window) × (outcome_numbers o ≡ steps_given known count d l s.table r w)
+    → (o ≡ (steps known count d l s r w).outcome) × (v ≡ (steps known count d l s r w).window) × (outcome_numbers o ≡ steps_given known count d l (is_some s) r w)
 steps_answered known count d l s r w q e f =
     let outcome = e ∙ ap (λ (k : Checked). k.outcome) (sym q) in
     (outcome, f ∙ ap (λ (k : Checked). k.window) (sym q), ap outcome_numbers outcome ∙ steps-numbers known count d l s r w)

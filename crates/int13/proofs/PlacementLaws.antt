@@ -1,12 +1,15 @@
 -- Laws of the device parameter tables in a guest's window, and of what a guest is shown of them.
 -- Assumes nothing.
 use Prim.Native.Nat.{ℕ, zero, suc, ◌+◌, ◌-◌, ◌*◌, ◌/◌, ◌%◌, ◌≤◌, ◌<◌}
-use mathlib.Core.Path.{◌≡◌, refl, sym, ◌∙◌}
+use Rattle.std.specs.Prelude.{Some, is_some}
+use Rattle.std.specs.List.{count_by}
+use Rattle.std.proofs.lemmas.List.Sums.{count_by_more_yes, count_by_more_no}
+use mathlib.Core.Path.{◌≡◌, refl, sym, ap, ◌∙◌}
 use mathlib.Core.Bool.{Bool, true, false}
 use mathlib.Core.List.{List, [], append-nil}
 use native.Mathlib.Numerals.{add-one}
 use native.Mathlib.Omega.{arith}
-use lib.ListN.{length, drop, length-append, length-drop}
+use lib.ListN.{length, take, drop, length-append, length-drop}
 use lib.Seq.{sets, length-take-le}
 use Rattle.logic.specs.Logic.{pick, both}
 use Rattle.words.proofs.WordsLaws.{sets-append}
@@ -34,6 +37,21 @@ parameters_to-most (suc n) b = by_test (has_parameters b n) (parameters_to-most 
 pub counted : (b : Table) (i : ℕ) (t : Bool) → has_parameters b i ≡ t → parameters_to (i + 1) b ≡ parameters_to i b + pick t 1 0
 unfolding parameters_to
 counted b i t e = rw (add-one, e)
+
+-- the marks that are set among the first n
+pub counted_to : (n : ℕ) (b : Table) → n ≤ length b.present → count_by (λ (t : Bool). t) (take n b.present) ≡ parameters_to n b
+unfolding parameters_to
+counted_to zero b h = refl
+counted_to (suc n) b h = by_test (has_parameters b n) refl (counted_to n b (omega arith))
+  where
+    by_test : (t : Bool) → has_parameters b n ≡ t → count_by (λ (t : Bool). t) (take n b.present) ≡ parameters_to n b
+        → count_by (λ (t : Bool). t) (take (suc n) b.present) ≡ parameters_to n b + pick (has_parameters b n) 1 0
+    by_test true e k =
+        let more = count_by_more_yes (λ (t : Bool). t) b.present n false (omega arith) e in
+        rw e ((rw add-one at more) ∙ ap (λ (k : ℕ). k + 1) k)
+    by_test false e k =
+        let more = count_by_more_no (λ (t : Bool). t) b.present n false (omega arith) e in
+        rw e ((rw add-one at more) ∙ omega (arith, k))
 
 -- ---- their bytes
 
@@ -72,11 +90,11 @@ laid_one {at = at} s b i l h e o a p q =
 -- ---- what a guest is shown
 
 -- it finds a table of a drive that has a record, where it has a placement
-pub shown-table : (b : Table) (p : Placement) (n : ℕ) → (shown_of b p n).table ≡ both (is_drive b n) (both p.placed (has_parameters b (n - first_drive)))
+pub shown-table : (b : Table) (p : Placement) (n : ℕ) → is_some (shown_of b p n) ≡ both (is_drive b n) (both p.placed (has_parameters b (n - first_drive)))
 unfolding shown_of
 shown-table b p n = by_tests (is_drive b n) (both p.placed (has_parameters b (n - first_drive))) (table_address b p.address (n - first_drive) / 16 % 65536)
   where
-    by_tests : (known found : Bool) (x : ℕ) → (pick known (pick found (record { table = true; segment = x }) not_shown) not_shown).table ≡ both known found
+    by_tests : (known found : Bool) (x : ℕ) → is_some (pick known (pick found (Some x) not_shown) not_shown) ≡ both known found
     by_tests true true x = refl
     by_tests true false x = refl
     by_tests false found x = refl

@@ -9,6 +9,7 @@ use native.Mathlib.Omega.{arith}
 use lib.ListN.{length, get_or, take, drop, length-take, length-drop, drop_of_length-le}
 use lib.Seq.{take_all}
 use lib.Dec.{leb, ltb, eqb}
+use Rattle.std.proofs.Common.{tests, ◌≢◌}
 use borrow.Author.Tests.{leb-true, leb-false, ltb-true, lt-ltb, le-ltb, eqb-true, ne_eqb}
 use Rattle.logic.specs.Logic.{pick, both, either}
 use Rattle.logic.proofs.LogicLaws.{both_true, either_true, impossible}
@@ -16,11 +17,10 @@ use Rattle.drive.specs.declared.Drive.{Drive}
 use Rattle.attached.specs.declared.Bads.{Bads}
 use Rattle.table.specs.declared.Table.{Table}
 use Rattle.table.specs.Table.{no_drive}
-use Rattle.layout.specs.declared.PacketRead.TheVariants.{Whole, Refused as NoPacket}
+use Rattle.std.specs.Prelude.{Ok, Err, Option}
 use Rattle.layout.specs.Packet.{bad_parameter, packet_length, packet_at, read_packet}
 use Rattle.int13.specs.declared.Registers.{Registers}
 use Rattle.int13.specs.declared.Placement.{Placement}
-use Rattle.int13.specs.declared.Shown.{Shown}
 use Rattle.int13.specs.declared.Outcome.TheVariants.{Answered}
 use Rattle.int13.specs.declared.Plan.TheVariants.{Refuse, Clear}
 use Rattle.int13.specs.Answers.{ah, al, dl, is_sectors, is_write, refuse}
@@ -48,16 +48,6 @@ drive-in b n l e =
     let p : n % 8 ≡ n - 128 = omega (arith, count_most b l) in
     ap (λ (i : ℕ). get_or b.drives i no_drive) p
 
--- ---- ranges
-
--- "not at most" is "below"
-pub not-leb : (m n : ℕ) → not (leb m n) ≡ ltb n m
-not-leb m n = by_test (leb m n) refl
-  where
-    by_test : (t : Bool) → leb m n ≡ t → not t ≡ ltb n m
-    by_test true e = sym (le-ltb n m (leb-true m n e))
-    by_test false e = sym (lt-ltb n m (leb-false m n e))
-
 -- ---- 42h, 43h, 44h
 
 -- the count word is set only where the whole packet is inside the window
@@ -68,24 +58,32 @@ plan_clear known d l r w code n h = by_tests known (both (is_write (ah r)) (not 
   where
     by_tests : (known verify inside : Bool) → leb (packet_place r + packet_length) (length w) ≡ inside
         → pick (not known) (Refuse bad_parameter) (pick verify (Refuse bad_parameter)
-        (packet_read d l r (length w) (pick inside (Whole (packet_at w (packet_place r))) (NoPacket bad_parameter)))) ≡ Clear code n
+        (packet_read d l r (length w) (pick inside (Ok (packet_at w (packet_place r))) (Err (record {}))))) ≡ Clear code n
         → packet_place r + packet_length ≤ length w
     by_tests false verify inside e q = impossible (cc)
     by_tests true true inside e q = impossible (cc)
     by_tests true false false e q = impossible (cc)
     by_tests true false true e q = leb-true (packet_place r + packet_length) (length w) e
 
--- ---- 48h: the window from a place to its end, lent and put back
-
-pub lent_rest : (w : List ℕ) (place : ℕ) → take (length w - place) (drop place w) ≡ drop place w
-lent_rest w place = take_all (length w - place) (drop place w) (omega (arith, length-drop place w))
-
-pub put_rest : (w out : List ℕ) (place : ℕ) → take place w ++ (out ++ drop (length w - place) (drop place w)) ≡ take place w ++ out
-put_rest w out place = rw (drop_of_length-le (drop place w) {i = length w - place} (omega (arith, length-drop place w)), append-nil)
-
 -- ---- every function by its number
 
-module _ (known : Bool) (count : ℕ) (d : Drive) (l : Bads) (s : Shown) (r : Registers) (w : List ℕ) {f : ℕ} (q : f ≡ ah r) where
+-- the numbers from 02h to 03h, and from 42h to 44h
+pub sectors_named : (f : ℕ) → 2 ≤ f → f < 4 → is_sectors f ≡ true
+sectors_named f a b = grind (arith, tests)
+
+pub extended_named : (f : ℕ) → 66 ≤ f → f < 69 → either (eqb f 0x42) (either (eqb f 0x43) (eqb f 0x44)) ≡ true
+extended_named f a b = grind (arith, tests)
+
+-- any other number
+pub record Unnamed (f : ℕ) : Type 0 where
+  pub sectors : 2 ≤ f → 4 ≤ f
+  pub n08 : f ≢ 0x08
+  pub n41 : f ≢ 0x41
+  pub packet : 66 ≤ f → 69 ≤ f
+  pub n47 : f ≢ 0x47
+  pub n48 : f ≢ 0x48
+
+module _ (known : Bool) (count : ℕ) (d : Drive) (l : Bads) (s : Option ℕ) (r : Registers) (w : List ℕ) {f : ℕ} (q : f ≡ ah r) where
   pub steps_02_03 : is_sectors f ≡ true → steps known count d l s r w ≡ unchanged w (sectors known d r (length w))
   unfolding steps
   steps_02_03 e = rw (← q, e)
@@ -113,21 +111,21 @@ module _ (known : Bool) (count : ℕ) (d : Drive) (l : Bads) (s : Shown) (r : Re
   unfolding steps
   steps_48 e = rw (sym q ∙ e)
 
-  pub steps-other : is_sectors f ≡ false → (f ≡ 0x08 → ⊥) → (f ≡ 0x41 → ⊥) → either (eqb f 0x42) (either (eqb f 0x43) (eqb f 0x44)) ≡ false
-      → (f ≡ 0x47 → ⊥) → (f ≡ 0x48 → ⊥) → steps known count d l s r w ≡ unchanged w (Answered (refuse bad_parameter r))
+  pub steps-unnamed : Unnamed f → steps known count d l s r w ≡ unchanged w (Answered (refuse bad_parameter r))
   unfolding steps
-  steps-other e₁ n₂ n₃ e₄ n₅ n₆ = rw (← q, e₁, ne_eqb f 0x08 n₂, ne_eqb f 0x41 n₃, e₄, ne_eqb f 0x47 n₅, ne_eqb f 0x48 n₆)
+  steps-unnamed u =
+      rw (← q, ne_eqb f 0x02 (λ e. omega (arith, u.sectors (omega arith))), ne_eqb f 0x03 (λ e. omega (arith, u.sectors (omega arith))), ne_eqb f 0x08 u.n08, ne_eqb f 0x41 u.n41, ne_eqb f 0x42 (λ e. omega (arith, u.packet (omega arith))), ne_eqb f 0x43 (λ e. omega (arith, u.packet (omega arith))), ne_eqb f 0x44 (λ e. omega (arith, u.packet (omega arith))), ne_eqb f 0x47 u.n47, ne_eqb f 0x48 u.n48)
 
 -- ---- the drive is not looked at where it is not known
 
-pub steps-drive : (known : Bool) (count : ℕ) (d e : Drive) (l : Bads) (s : Shown) (r : Registers) (w : List ℕ) → (known ≡ true → d ≡ e)
+pub steps-drive : (known : Bool) (count : ℕ) (d e : Drive) (l : Bads) (s : Option ℕ) (r : Registers) (w : List ℕ) → (known ≡ true → d ≡ e)
     → steps known count d l s r w ≡ steps known count e l s r w
 unfolding steps sectors parameters extensions packet_plan seek result_into
 steps-drive true count d e l s r w h = ap (λ (x : Drive). steps true count x l s r w) (h refl)
 steps-drive false count d e l s r w h = refl
 
 -- the steps over any drive that is the one which DL names, if it names one
-pub begin-steps : {known : Bool} {count : ℕ} {d : Drive} {l : Bads} {s : Shown} (b : Table) (p : Placement) (r : Registers) (w : List ℕ) → known ≡ is_drive b (dl r)
+pub begin-steps : {known : Bool} {count : ℕ} {d : Drive} {l : Bads} {s : Option ℕ} (b : Table) (p : Placement) (r : Registers) (w : List ℕ) → known ≡ is_drive b (dl r)
     → count ≡ drive_count b → (is_drive b (dl r) ≡ true → d ≡ drive_named b r) → l ≡ bads_of b (dl r) → s ≡ shown_of b p (dl r) → steps known count d l s r w ≡ begin (fed b p) r w
 unfolding begin
 begin-steps {known} {count} {d} {l} {s} b p r w k n h f e = steps-drive known count d (drive_named b r) l s r w (λ t. h (sym k ∙ t)) ∙ cc

@@ -2,6 +2,7 @@
 -- faults that show the order of the tests; then three drives that differ in everything, of them two with parameter tables, two of
 -- kind 2, and all with bad blocks.
 -- Assumes nothing.
+use Rattle.std.specs.Prelude.{is_some, unwrap_or}
 use mathlib.Core.Path.{◌≡◌, refl, ap}
 use mathlib.Core.Bool.{Bool, true, false}
 use mathlib.Core.List.{List, [], ◌∷◌, ◌++◌, map}
@@ -841,7 +842,7 @@ paths80 = 0xDD ∷ 0xBE ∷ 0x24 ∷ 0 ∷ 0 ∷ 0 ∷ 80 ∷ 67 ∷ 73 ∷ 0 �
 
 -- what a guest is shown, as numbers
 abbrev shown : Table → Placement → ℕ → List ℕ
-shown b p n = bit (shown_of b p n).table ∷ (shown_of b p n).segment ∷ []
+shown b p n = bit (is_some (shown_of b p n)) ∷ unwrap_or (shown_of b p n) 0 ∷ []
 
 -- 48h of a drive for a result of n bytes, which must be l
 abbrev result19 : Placement → ℕ → ℕ → List ℕ → Case

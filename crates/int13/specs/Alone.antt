@@ -1,11 +1,10 @@
 -- Document 01, "The words of demand 3", and document 02, 2026-04: a request's own words, and served alone, a plain machine of registers, window
 -- and store.
 -- Assumes nothing.
-use Rattle.std.specs.Prelude.{ℕ, ◌+◌, ◌*◌, ◌/◌, List, length, ltb}
+use Rattle.std.specs.Prelude.{ℕ, ◌+◌, ◌*◌, ◌/◌, List, length, ltb, Result, Ok, Err}
 use Rattle.logic.specs.Logic.{pick}
 use Rattle.words.specs.Words.{le}
-use Rattle.chs.specs.declared.ToBlock.{ToBlock}
-use Rattle.chs.specs.declared.ToBlock.TheVariants.{Block, Refused as NoBlock}
+use Rattle.chs.specs.declared.Outside.{Outside}
 use Rattle.chs.specs.Chs.{block_of, address_in}
 use Rattle.drive.specs.Drive.{geometry_of}
 use Rattle.attached.specs.Bad.{good}
@@ -26,9 +25,9 @@ abbrev pub asked : Registers → List ℕ → ℕ
 asked r w = pick (is_sectors (ah r)) (al r) (le 2 w (packet_place r + 2))
 
 -- the block of an address that is valid
-abbrev pub block_number : ToBlock → ℕ
-block_number (Block n) = n
-block_number (NoBlock code) = 0
+abbrev pub block_number : Result ℕ Outside → ℕ
+block_number (Ok n) = n
+block_number (Err e) = 0
 
 -- the first of its blocks, of the drive: from start, for 02h and 03h from its address's block
 abbrev pub asked_start : Table → Registers → List ℕ → ℕ

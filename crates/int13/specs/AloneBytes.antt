@@ -2,11 +2,10 @@
 -- and a 44h.
 -- The numbers of the papers stand here as they are there, so that nothing below is proved against itself.
 -- Assumes nothing.
-use Rattle.std.specs.Prelude.{ℕ, ◌+◌, ◌-◌, ◌*◌, ◌/◌, ◌%◌, ◌≤◌, ◌<◌, ◌≡◌, ◌⊎◌, Bool, true, false, List, length, get_or, eqb}
+use Rattle.std.specs.Prelude.{ℕ, ◌+◌, ◌-◌, ◌*◌, ◌/◌, ◌%◌, ◌≤◌, ◌<◌, ◌≡◌, ◌⊎◌, Bool, true, false, List, length, get_or, eqb, Ok}
 use Rattle.logic.specs.Logic.{pick, some_below}
 use Rattle.words.specs.Words.{le}
 use Rattle.table.specs.declared.Table.{Table}
-use Rattle.table.specs.declared.Answer.TheVariants.{Accepted}
 use Rattle.table.specs.Table.{read_table}
 use Rattle.int13.specs.declared.Registers.{Registers}
 use Rattle.int13.specs.declared.Job.{Job}
@@ -109,7 +108,7 @@ pub record AloneBytes (b : Table) (r : Registers) (m : Memory) (s : Served) : Ty
 abbrev pub AloneMoves : Type 0
 AloneMoves =
     (t : List ℕ) (p : Placement) (r : Registers) (m : Memory) (j : Job)
-    → (read_table t (length m.store / 512)).answer ≡ Accepted
+    → (read_table t (length m.store / 512)).answer ≡ Ok tt
     → (begin (fed (read_table t (length m.store / 512)).table p) r m.window).outcome ≡ Waits j
     → AloneBytes (read_table t (length m.store / 512)).table r m (alone (fed t p) r m)
 
@@ -148,6 +147,6 @@ pub record VerifyBytes (b : Table) (p : Placement) (r : Registers) (m : Memory) 
 abbrev pub AloneVerifies : Type 0
 AloneVerifies =
     (t : List ℕ) (p : Placement) (r : Registers) (m : Memory)
-    → (read_table t (length m.store / 512)).answer ≡ Accepted
+    → (read_table t (length m.store / 512)).answer ≡ Ok tt
     → ah r ≡ 0x44
     → VerifyBytes (read_table t (length m.store / 512)).table p r m (alone (fed t p) r m)

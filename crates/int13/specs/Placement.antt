@@ -1,6 +1,6 @@
 -- Document 02, 2026-01: the device parameter tables in a guest's window, and the pointer that 48h gives for them.
 -- Assumes nothing.
-use Rattle.std.specs.Prelude.{ℕ, zero, suc, ◌+◌, ◌*◌, ◌/◌, ◌%◌, true, false, List, [], ◌++◌}
+use Rattle.std.specs.Prelude.{ℕ, zero, suc, ◌+◌, ◌*◌, ◌/◌, ◌%◌, true, false, List, [], ◌++◌, Option, Some, None}
 use Rattle.logic.specs.Logic.{pick, both}
 use Rattle.table.specs.declared.Table.{Table}
 use Rattle.table.specs.Table.{most_drives, has_parameters, parameters_at, parameters_to}
@@ -8,7 +8,6 @@ use Rattle.layout.specs.declared.Pointer.{Pointer}
 use Rattle.layout.specs.ResultBuffer.{no_pointer}
 use Rattle.layout.specs.ParameterTable.{parameter_size, parameter_table}
 use Rattle.int13.specs.declared.Placement.{Placement}
-use Rattle.int13.specs.declared.Shown.{Shown}
 
 -- ---- "2026-01", a guest's placement
 
@@ -42,14 +41,15 @@ table_address b address i = address + parameter_size * parameters_to i b
 -- ---- "2026-01", "a pointer of offset 0 and segment its table's address / 16"
 
 -- no table, or none placed
-abbrev pub not_shown : Shown
-not_shown = record { table = false; segment = 0 }
+abbrev pub not_shown : Option ℕ
+not_shown = None
 
--- what a guest with that placement is shown of slot i: whether it finds a table there, and its segment, of which a word has room for sixteen bits
-abbrev pub shown_in : Table → Placement → ℕ → Shown
-shown_in b p i =
-    pick (both p.placed (has_parameters b i)) (record { table = true; segment = table_address b p.address i / 16 % 65536 }) not_shown
+-- what a guest with that placement is shown of slot i: the segment of its table, if it finds one there, of which a word
+-- has room for sixteen bits
+abbrev pub shown_in : Table → Placement → ℕ → Option ℕ
+shown_in b p i = pick (both p.placed (has_parameters b i)) (Some (table_address b p.address i / 16 % 65536)) not_shown
 
 -- "Drives without one, and guests without placement, keep FFFFh:FFFFh"
-abbrev pub pointer_of : Shown → Pointer
-pointer_of s = pick s.table (record { offset = 0; segment = s.segment }) no_pointer
+abbrev pub pointer_of : Option ℕ → Pointer
+pointer_of None = no_pointer
+pointer_of (Some segment) = record { offset = 0; segment = segment }

@@ -2,12 +2,11 @@
 -- of the guest's window; `known`: whether the table has the drive; d: that drive, any one where it is not known; s: what the guest is shown of
 -- the drive's parameter table (document 02, 2026-01); l: the drive's bad blocks (document 02, 2026-04).
 -- Assumes nothing.
-use Rattle.std.specs.Prelude.{ℕ, ◌+◌, ◌-◌, ◌*◌, ◌/◌, ◌%◌, Bool, false, not, List, ◌++◌, length, get_or, take, drop, leb, ltb, eqb}
+use Rattle.std.specs.Prelude.{ℕ, ◌+◌, ◌-◌, ◌*◌, ◌/◌, ◌%◌, Bool, false, not, List, ◌++◌, length, get_or, take, drop, leb, ltb, eqb, Result, Ok, Err, Option, Some, None, is_some, unwrap_or}
 use Rattle.std.proofs.lemmas.List.Edits.{sets}
 use Rattle.logic.specs.Logic.{pick, both, either}
 use Rattle.words.specs.Words.{le, le_bytes}
-use Rattle.chs.specs.declared.ToBlock.{ToBlock}
-use Rattle.chs.specs.declared.ToBlock.TheVariants.{Block, Refused as NoBlock}
+use Rattle.chs.specs.declared.Outside.{Outside}
 use Rattle.chs.specs.Chs.{outside, size, block_of, address_in, pack}
 use Rattle.drive.specs.declared.Drive.{Drive}
 use Rattle.drive.specs.Drive.{geometry_of, is_protected}
@@ -16,17 +15,13 @@ use Rattle.attached.specs.Bad.{no_bads, good}
 use Rattle.table.specs.declared.Table.{Table}
 use Rattle.table.specs.Table.{most_drives, drives_of, no_drive, bads_at}
 use Rattle.layout.specs.declared.Packet.{Packet}
-use Rattle.layout.specs.declared.PacketRead.{PacketRead}
-use Rattle.layout.specs.declared.PacketRead.TheVariants.{Whole, Refused as NoPacket}
-use Rattle.layout.specs.declared.ResultAnswer.{ResultAnswer}
-use Rattle.layout.specs.declared.ResultAnswer.TheVariants.{Written, Refused as NoResult}
+use Rattle.layout.specs.declared.BadParameter.{BadParameter}
 use Rattle.layout.specs.Packet.{linear, bad_parameter, packet_length, read_packet}
 use Rattle.layout.specs.ResultBuffer.{result_answer, result_out}
 use Rattle.memory.specs.Blocks.{block_length}
 use Rattle.int13.specs.declared.Registers.{Registers}
 use Rattle.int13.specs.declared.Job.{Job}
 use Rattle.int13.specs.declared.Placement.{Placement}
-use Rattle.int13.specs.declared.Shown.{Shown}
 use Rattle.int13.specs.declared.Outcome.{Outcome}
 use Rattle.int13.specs.declared.Outcome.TheVariants.{Answered, Waits}
 use Rattle.int13.specs.declared.Plan.{Plan}
@@ -77,6 +72,10 @@ drive_at b n = get_or b.drives (n - first_drive) no_drive
 abbrev pub drive_in : Table → ℕ → Drive
 drive_in b n = get_or b.drives (n % most_drives) no_drive
 
+-- which drive it is, where there is one; else any one, which is not looked at
+abbrev pub named : Option Drive → Drive
+named d = unwrap_or d no_drive
+
 -- the drive that DL names
 abbrev pub drive_named : Table → Registers → Drive
 drive_named b r = drive_at b (dl r)
@@ -86,7 +85,7 @@ unfoldable pub bads_of : Table → ℕ → Bads
 bads_of b n = pick (is_drive b n) (bads_at b (n - first_drive)) no_bads
 
 -- what a guest with that placement is shown of the drive of a number; of a number that is no drive's, nothing
-unfoldable pub shown_of : Table → Placement → ℕ → Shown
+unfoldable pub shown_of : Table → Placement → ℕ → Option ℕ
 shown_of b p n = pick (is_drive b n) (shown_in b p (n - first_drive)) not_shown
 
 -- ---- "Steps of each function", 42h, 43h, 44h
@@ -123,9 +122,9 @@ packet_tests d l r M p =
     (Wait (packet_job r p)))))))
 
 -- 16 packet bytes inside the window, size byte at least 16
-abbrev pub packet_read : Drive → Bads → Registers → ℕ → PacketRead → Plan
-packet_read d l r M (NoPacket code) = Refuse code
-packet_read d l r M (Whole p) = pick (ltb p.size packet_length) (Refuse bad_parameter) (packet_tests d l r M p)
+abbrev pub packet_read : Drive → Bads → Registers → ℕ → Result Packet BadParameter → Plan
+packet_read d l r M (Err e) = Refuse bad_parameter
+packet_read d l r M (Ok p) = pick (ltb p.size packet_length) (Refuse bad_parameter) (packet_tests d l r M p)
 
 -- drive, then AL for 43h, then the packet, which is read once
 unfoldable pub packet_plan : Bool → Drive → Bads → Registers → List ℕ → Plan
@@ -152,9 +151,9 @@ extended known d l r w = carry_out (packet_plan known d l r w) r w
 -- ---- "Steps of each function", 47h
 
 -- packet and size as above; start below the drive's blocks; count ignored
-abbrev pub seek_read : Drive → Registers → PacketRead → Outcome
-seek_read d r (NoPacket code) = Answered (refuse code r)
-seek_read d r (Whole p) =
+abbrev pub seek_read : Drive → Registers → Result Packet BadParameter → Outcome
+seek_read d r (Err e) = Answered (refuse bad_parameter r)
+seek_read d r (Ok p) =
     pick (ltb p.size packet_length) (Answered (refuse bad_parameter r))
     (pick (leb d.blocks p.start) (Answered (refuse outside r))
     (Answered (succeed r)))
@@ -180,9 +179,9 @@ abbrev pub sector_job : Registers → ℕ → Job
 sector_job r n = record { registers = posted r; drive = dl r; start = n; count = al r; buffer = sector_buffer r; packet = 0 }
 
 -- the run from the address's block may cross tracks, but block + AL is at most C x H x S; then the buffer
-abbrev pub sector_run : Drive → Registers → ℕ → ToBlock → Outcome
-sector_run d r M (NoBlock code) = Answered (refuse code r)
-sector_run d r M (Block n) =
+abbrev pub sector_run : Drive → Registers → ℕ → Result ℕ Outside → Outcome
+sector_run d r M (Err e) = Answered (refuse outside r)
+sector_run d r M (Ok n) =
     pick (ltb (size (geometry_of d)) (n + al r)) (Answered (refuse outside r))
     (pick (ltb M (sector_buffer r + block_length * al r)) (Answered (refuse bad_buffer r))
     (Waits (sector_job r n)))
@@ -209,22 +208,22 @@ parameters known count d r = pick known (Answered (geometry_given d count r)) (A
 -- ---- "Steps of each function", 41h
 
 -- AX = 3000h, BX = AA55h, CX = 0001h, with bit 2 too where the guest finds the drive's parameter table (document 02, 2026-01)
-abbrev pub extensions_given : Shown → Registers → Registers
-extensions_given s r = record { ax = 0x3000; bx = 0xAA55; cx = pick s.table 0x0005 0x0001; dx = r.dx; ds = r.ds; si = r.si; es = r.es; carry = false }
+abbrev pub extensions_given : Option ℕ → Registers → Registers
+extensions_given s r = record { ax = 0x3000; bx = 0xAA55; cx = pick (is_some s) 0x0005 0x0001; dx = r.dx; ds = r.ds; si = r.si; es = r.es; carry = false }
 
 -- 41h: drive known and BX = 55AAh, else 01h
-unfoldable pub extensions : Bool → Shown → Registers → Outcome
+unfoldable pub extensions : Bool → Option ℕ → Registers → Outcome
 extensions known s r = pick (both known (eqb r.bx 0x55AA)) (Answered (extensions_given s r)) (Answered (refuse bad_parameter r))
 
 -- ---- "Steps of each function", 48h
 
 -- the result was written, or refused
-abbrev pub result_given : ResultAnswer → Registers → Outcome
-result_given (NoResult code) r = Answered (refuse code r)
-result_given (Written n) r = Answered (succeed r)
+abbrev pub result_given : Result ℕ BadParameter → Registers → Outcome
+result_given (Err e) r = Answered (refuse bad_parameter r)
+result_given (Ok n) r = Answered (succeed r)
 
 -- the word at a place is the buffer's size; the result goes there, and what stands before and behind it stays
-abbrev pub result_steps : Drive → Shown → Registers → List ℕ → ℕ → Checked
+abbrev pub result_steps : Drive → Option ℕ → Registers → List ℕ → ℕ → Checked
 result_steps d s r w place =
     record {
       outcome = result_given (result_answer d (le 2 w place) (length (drop place w))) r;
@@ -232,7 +231,7 @@ result_steps d s r w place =
     }
 
 -- 48h: drive; the word at DS:SI inside the window; then the result
-unfoldable pub result_into : Bool → Drive → Shown → Registers → List ℕ → Checked
+unfoldable pub result_into : Bool → Drive → Option ℕ → Registers → List ℕ → Checked
 result_into known d s r w =
     pick (not known) (unchanged w (Answered (refuse bad_parameter r)))
     (pick (ltb (length w) (packet_place r + 2)) (unchanged w (Answered (refuse bad_parameter r)))
@@ -242,7 +241,7 @@ result_into known d s r w =
 
 -- the steps of a call over one drive: whether DL names it, of how many, which it is, its bad blocks, and what the guest is shown of its parameter
 -- table; an unknown function is 01h
-unfoldable pub steps : Bool → ℕ → Drive → Bads → Shown → Registers → List ℕ → Checked
+unfoldable pub steps : Bool → ℕ → Drive → Bads → Option ℕ → Registers → List ℕ → Checked
 steps known count d l s r w =
     pick (either (eqb (ah r) 0x02) (eqb (ah r) 0x03)) (unchanged w (sectors known d r (length w)))
     (pick (eqb (ah r) 0x08) (unchanged w (parameters known count d r))

@@ -1,22 +1,21 @@
-// INT 13h: registers, requests, and the steps of each function, over one drive and one guest's window. A step function is told whether
-// DL names a drive (`known`) and is handed that drive; where it is not known `d` is any drive, and is not looked at. Where the guest can see
-// the drive's parameter table it is told what the guest is shown of it (`shown`); where bad blocks count it is handed those of the drive (`bads`).
+// INT 13h: registers, requests, and the steps of each function, over one drive and one guest's window.
+// A step function is handed the drive that DL names, if it names one. Where the guest can see the drive's parameter
+// table it is told the segment of that table (`shown`); where bad blocks count it is handed those of the drive
+// (`bads`).
 #![tactic(auto)]
 
-ghost use Rattle.std.specs.Prelude.{◌≡◌, true, ◌+◌, ◌-◌, ◌*◌, ◌/◌, ◌%◌, ◌≤◌, ◌<◌, length, replicate, ltb, eqb};
+ghost use Rattle.std.specs.Prelude.{◌≡◌, true, ◌+◌, ◌-◌, ◌*◌, ◌/◌, ◌%◌, ◌≤◌, ◌<◌, length, replicate, ltb, eqb, Ok, is_some};
 ghost use Rattle.std.proofs.lemmas.List.Edits.{sets};
 ghost use Rattle.logic.specs.Logic.{pick, either};
 ghost use Rattle.table.specs.Table.{parameters_to};
-ghost use Rattle.chs.specs.declared.ToBlock.TheVariants.{Block};
 ghost use Rattle.int13.specs.Answers.{ah, al, dl, is_sectors, is_write, answer, succeed, stop, refuse, withdraw, bad_code, ended, posted, outcome_numbers};
 ghost use Rattle.int13.specs.Placement.{tables_of, table_count, pointer_of};
-ghost use Rattle.int13.specs.Steps.{drive_count, is_drive, drive_at, drive_in, bads_of, shown_of, fed, packet_place, verify_ok, packet_job, verified, packet_tests, packet_read, packet_plan, extended, seek_read, seek, sector_buffer, sector_job, sector_run, sectors, geometry_given, parameters, extensions_given, extensions, result_given, result_into, steps, begin};
+ghost use Rattle.int13.specs.Steps.{named, drive_count, is_drive, drive_at, drive_in, bads_of, shown_of, fed, packet_place, verify_ok, packet_job, verified, packet_tests, packet_read, packet_plan, extended, seek_read, seek, sector_buffer, sector_job, sector_run, sectors, geometry_given, parameters, extensions_given, extensions, result_given, result_into, steps, begin};
 ghost use Rattle.int13.specs.Numbers.{steps_given, begin_given};
 
 use attached::Bads;
-use chs::ToBlock;
 use drive::Drive;
-use layout::{Packet, PacketRead, Pointer, ResultAnswer};
+use layout::{BadParameter, Packet, Pointer};
 use table::Table;
 
 // The registers of a call.
@@ -48,20 +47,15 @@ pub struct Job {
 }
 
 // Where a guest's device parameter tables stand in its window, if the host has placed them: address 0 is a place. Without placement it is 0.
+// Stays: a mark beside the address and no Option, since desk::accept answers on an unplaced address other than 0.
 #[derive(Clone, Copy)]
 pub struct Placement {
     pub placed: bool,
     pub address: u64,
 }
 
-// What a guest is shown of a drive: whether it finds a parameter table of it in its window, and the segment of that table, else 0.
-#[derive(Clone, Copy)]
-pub struct Shown {
-    pub table: bool,
-    pub segment: u16,
-}
-
 // A call is answered at once, or it waits.
+// Stays: neither case is an error, so that a Result would say less.
 #[derive(Clone, Copy)]
 pub enum Outcome {
     Answered(Registers),
@@ -78,6 +72,8 @@ pub enum Plan {
 }
 
 // ---- document 01, "Numbers given back": the codes in AH
+
+// Stays: codes and functions are numbers, since the public refuse, stop, is_sectors and is_write take any byte of AH.
 
 const BAD_PARAMETER: u8 = layout::BAD_PARAMETER;
 
@@ -120,14 +116,14 @@ const GET_RESULT: u8 = 0x48;
 pub fn is_sectors(f: u8) -> bool
     ensures { result ≡ is_sectors f }
 {
-    logic::or(f == READ_SECTORS, f == WRITE_SECTORS)
+    matches!(f, READ_SECTORS | WRITE_SECTORS)
 }
 
 // 03h and 43h, which write the drive.
 pub fn is_write(f: u8) -> bool
     ensures { result ≡ is_write f }
 {
-    logic::or(f == WRITE_SECTORS, f == EXTENDED_WRITE)
+    matches!(f, WRITE_SECTORS | EXTENDED_WRITE)
 }
 
 // ---- halves of the registers
@@ -160,13 +156,8 @@ fn answer(carry: bool, code: u8, low: u8, r: Registers) -> Registers
 {
     Registers {
         ax: 256 * (code as u16) + low as u16,
-        bx: r.bx,
-        cx: r.cx,
-        dx: r.dx,
-        ds: r.ds,
-        si: r.si,
-        es: r.es,
-        carry: carry,
+        carry,
+        ..r
     }
 }
 
@@ -211,6 +202,7 @@ fn bad_code(r: Registers) -> u8
 }
 
 // A request of n blocks that ends after some of them: all, and it succeeds, or those before a bad block. A request moves no more than a byte counts.
+#[tactic(auto, unfolding(crate::specs::Answers::ended))]
 pub fn ended(n: u64, moved: u64, r: Registers) -> Registers
     requires { moved < 256 }
     ensures { result ≡ ended n moved r }
@@ -225,16 +217,7 @@ pub fn ended(n: u64, moved: u64, r: Registers) -> Registers
 fn posted(r: Registers) -> Registers
     ensures { result ≡ posted r }
 {
-    Registers {
-        ax: r.ax,
-        bx: r.bx,
-        cx: r.cx,
-        dx: r.dx,
-        ds: r.ds,
-        si: r.si,
-        es: r.es,
-        carry: false,
-    }
+    Registers { carry: false, ..r }
 }
 
 // ---- drives and ranges
@@ -249,23 +232,33 @@ fn drive_count(b: Table) -> u8
 }
 
 // Whether the table has a drive of that number. DL below 80h is never one.
+#[tactic(auto, unfolding(crate::specs::Steps::is_drive))]
 pub fn is_drive(b: Table, n: u8) -> bool
     ensures { result ≡ is_drive b n }
 {
     let end = FIRST_DRIVE + drive_count(b);
-    logic::and(FIRST_DRIVE <= n, n < end)
+    FIRST_DRIVE <= n && n < end
 }
 
 // The drive in the place of a number, which is the drive of that number where there is one: 80h is a multiple of eight.
 pub fn drive_at(b: Table, n: u8) -> Drive
     ensures { (result ≡ drive_in b n) × (is_drive b n ≡ true → result ≡ drive_at b n) }
 {
-    let drives = b.drives;
-    let place = (n % 8) as usize;
-    drives[place]
+    b.drives[(n % 8) as usize]
+}
+
+// The drive of a number, where it is one.
+fn drive_of(b: Table, n: u8) -> Option<Drive>
+    ensures { (is_some result ≡ is_drive b n) × (is_drive b n ≡ true → named result ≡ drive_at b n) }
+{
+    if is_drive(b, n) {
+        return Some(drive_at(b, n));
+    }
+    None
 }
 
 // The bad blocks of the drive of a number; a number that is no drive's has none.
+#[tactic(auto, unfolding(crate::specs::Steps::bads_of))]
 pub fn bads_of(b: Table, n: u8) -> Bads
     ensures { result ≡ bads_of b n }
 {
@@ -280,25 +273,14 @@ pub fn bads_of(b: Table, n: u8) -> Bads
 // Bytes of a table.
 const PARAMETER_SIZE: usize = layout::PARAMETER_SIZE;
 
-const NOT_SHOWN: Shown = Shown {
-    table: false,
-    segment: 0,
-};
-
 // How many of the first n slots have a table. Its callers ask for at most eight.
 fn tables_before(b: Table, n: usize) -> u8
     requires { n ≤ 8 }
     ensures { (result ≡ parameters_to n b) × (result ≤ n) }
 {
-    let mut count = 0u8;
-    let mut i = 0;
-    while i < n {
-        if b.present[i] {
-            count += 1;
-        }
-        i += 1;
-    }
-    count
+    // a reference into the table would copy all of it
+    let marks = b.present;
+    marks[..n].iter().filter(|present| **present).count() as u8
 }
 
 // How many tables there are.
@@ -308,47 +290,46 @@ pub fn table_count(b: Table) -> u8
     tables_before(b, 8)
 }
 
-// What a guest whose tables stand from an address on is shown of a drive that has so many of them before it.
-pub fn shown_at(address: u64, before: u8) -> Shown
-    ensures { result ≡ record { table = true; segment = (address + 16 * before) / 16 % 65536 } }
+// The segment of a drive's table, for a guest whose tables stand from an address on, where so many stand before it.
+pub fn shown_at(address: u64, before: u8) -> u16
+    ensures { result ≡ (address + 16 * before) / 16 % 65536 }
 {
-    Shown {
-        table: true,
-        segment: ((address / 16 + before as u64) % 65536) as u16,
-    }
+    ((address / 16 + before as u64) % 65536) as u16
 }
 
-// What a guest with that placement is shown of the drive of a number.
-pub fn shown_of(b: Table, placement: Placement, n: u8) -> Shown
+// The segment of the table of the drive of a number, if a guest with that placement is shown one.
+#[tactic(auto, unfolding(crate::specs::Steps::shown_of))]
+pub fn shown_of(b: Table, placement: Placement, n: u8) -> Option<u16>
     ensures { result ≡ shown_of b placement n }
 {
     if !is_drive(b, n) {
-        return NOT_SHOWN;
+        return None;
     }
     let slot = n - FIRST_DRIVE;
     let i = slot as usize;
-    let present = b.present;
-    if !logic::and(placement.placed, present[i]) {
-        return NOT_SHOWN;
+    if !(placement.placed && b.present[i]) {
+        return None;
     }
     let before = tables_before(b, i);
-    shown_at(placement.address, before)
+    Some(shown_at(placement.address, before))
 }
 
 // All tables, one after another in drive order, and zeros behind them.
+// Stays: the bytes come in an array of the most that there can be, since there is no heap; table_count counts the
+// tables.
 pub fn tables_of(b: Table) -> [u8; 128]
     ensures { (result ≡ sets (replicate 128 0) 0 (tables_of b)) × (length (tables_of b) ≡ 16 * table_count b) }
 {
+    // an index into the table would copy all of it
+    let marks = b.present;
     let mut out = [0u8; 128];
     let mut at: usize = 0;
-    let mut i = 0;
-    while i < 8 {
-        if b.present[i] {
+    for i in 0..8 {
+        if marks[i] {
             let r = layout::parameter_table(table::parameters_at(b, i));
             words::store(&mut out, at, &r);
             at += PARAMETER_SIZE;
         }
-        i += 1;
     }
     out
 }
@@ -392,7 +373,7 @@ fn sector_job(r: Registers, start: u32) -> Job
 
 // The run of AL blocks from a block of the geometry.
 fn sector_run(d: Drive, r: Registers, window: usize, start: u32) -> Outcome
-    ensures { result ≡ sector_run d r window (Block start) }
+    ensures { result ≡ sector_run d r window (Ok start) }
 {
     let count = al(r) as u64;
     let end = drive::geometry_size(d);
@@ -405,12 +386,13 @@ fn sector_run(d: Drive, r: Registers, window: usize, start: u32) -> Outcome
     Outcome::Waits(sector_job(r, start))
 }
 
-fn sectors_02_03(known: bool, d: Drive, r: Registers, window: usize) -> Outcome
-    ensures { result ≡ sectors known d r window }
+#[tactic(auto, unfolding(crate::specs::Steps::sectors))]
+fn sectors_02_03(drive: Option<Drive>, r: Registers, window: usize) -> Outcome
+    ensures { result ≡ sectors (is_some drive) (named drive) r window }
 {
-    if !known {
+    let Some(d) = drive else {
         return Outcome::Answered(refuse(BAD_PARAMETER, r));
-    }
+    };
     let count = al(r);
     if count == 0 {
         return Outcome::Answered(refuse(BAD_PARAMETER, r));
@@ -418,24 +400,17 @@ fn sectors_02_03(known: bool, d: Drive, r: Registers, window: usize) -> Outcome
     if MOST_RUN < count {
         return Outcome::Answered(refuse(BAD_BUFFER, r));
     }
-    if logic::and(is_write(function_of(r)), drive::is_protected(d)) {
+    if is_write(function_of(r)) && drive::is_protected(d) {
         return Outcome::Answered(refuse(WRITE_PROTECTED, r));
     }
     let block = chs::block_of(drive::geometry_of(d), chs::address_in(r.cx, r.dx));
     match block {
-        ToBlock::Refused(code) => Outcome::Answered(refuse(code, r)),
-        ToBlock::Block(start) => sector_run(d, r, window, start),
+        Err(_) => Outcome::Answered(refuse(OUTSIDE, r)),
+        Ok(start) => sector_run(d, r, window, start),
     }
 }
 
 // ---- 08h: get drive parameters
-
-// One less, and 0 for 0.
-fn less_one(n: u16) -> u16
-    ensures { result ≡ n - 1 }
-{
-    if n == 0 { 0 } else { n - 1 }
-}
 
 // CH and CL hold C - 1 and S; DH = H - 1; DL = the number of drives.
 fn geometry_given(d: Drive, n: u8, r: Registers) -> Registers
@@ -443,22 +418,20 @@ fn geometry_given(d: Drive, n: u8, r: Registers) -> Registers
 {
     Registers {
         ax: 0,
-        bx: r.bx,
-        cx: chs::pack(less_one(d.c), d.s as u16),
-        dx: 256 * (less_one(d.h) % 256) + n as u16,
-        ds: r.ds,
-        si: r.si,
-        es: r.es,
+        cx: chs::pack(d.c.saturating_sub(1), d.s as u16),
+        dx: 256 * (d.h.saturating_sub(1) % 256) + n as u16,
         carry: false,
+        ..r
     }
 }
 
-fn parameters_08(known: bool, count: u8, d: Drive, r: Registers) -> Outcome
-    ensures { result ≡ parameters known count d r }
+#[tactic(auto, unfolding(crate::specs::Steps::parameters))]
+fn parameters_08(drive: Option<Drive>, count: u8, r: Registers) -> Outcome
+    ensures { result ≡ parameters (is_some drive) count (named drive) r }
 {
-    if !known {
+    let Some(d) = drive else {
         return Outcome::Answered(refuse(NO_PARAMETERS, r));
-    }
+    };
     Outcome::Answered(geometry_given(d, count, r))
 }
 
@@ -482,25 +455,23 @@ fn support(table: bool) -> u16
     if table { ACCESS_AND_TABLE } else { ACCESS }
 }
 
-fn extensions_given(shown: Shown, r: Registers) -> Registers
+fn extensions_given(shown: Option<u16>, r: Registers) -> Registers
     ensures { result ≡ extensions_given shown r }
 {
     Registers {
         ax: VERSION,
         bx: PRESENT,
-        cx: support(shown.table),
-        dx: r.dx,
-        ds: r.ds,
-        si: r.si,
-        es: r.es,
+        cx: support(shown.is_some()),
         carry: false,
+        ..r
     }
 }
 
-fn extensions_41(known: bool, shown: Shown, r: Registers) -> Outcome
+#[tactic(auto, unfolding(crate::specs::Steps::extensions))]
+fn extensions_41(known: bool, shown: Option<u16>, r: Registers) -> Outcome
     ensures { result ≡ extensions known shown r }
 {
-    if logic::and(known, r.bx == ASKED) {
+    if known && r.bx == ASKED {
         return Outcome::Answered(extensions_given(shown, r));
     }
     Outcome::Answered(refuse(BAD_PARAMETER, r))
@@ -522,10 +493,11 @@ fn packet_place(r: Registers) -> usize
 }
 
 // AL of 43h: 0 and 1, or 2 where information flag bit 3 is set.
+#[tactic(auto, unfolding(crate::specs::Steps::verify_ok))]
 fn verify_ok(low: u8, flags: u16) -> bool
     ensures { result ≡ verify_ok low flags }
 {
-    logic::or(low < 2, logic::and(low == 2, flags / 8 % 2 == 1))
+    low < 2 || (low == 2 && flags / 8 % 2 == 1)
 }
 
 fn packet_job(r: Registers, p: Packet) -> Job
@@ -542,6 +514,7 @@ fn packet_job(r: Registers, p: Packet) -> Job
 }
 
 // What 44h does, of whose blocks so many come before the first bad one.
+#[tactic(auto, unfolding(crate::specs::Steps::verified))]
 fn verified(good: u64, count: u16) -> Plan
     ensures { result ≡ verified good count }
 {
@@ -552,6 +525,7 @@ fn verified(good: u64, count: u16) -> Plan
 }
 
 // The tests of a packet whose size byte is good: from here a refusal sets the count word.
+#[tactic(auto, unfolding(crate::specs::Steps::packet_tests))]
 fn packet_tests(d: Drive, bads: Bads, r: Registers, window: usize, p: Packet) -> Plan
     ensures { result ≡ packet_tests d bads r window p }
 {
@@ -559,7 +533,7 @@ fn packet_tests(d: Drive, bads: Bads, r: Registers, window: usize, p: Packet) ->
         return Plan::Clear(BAD_PARAMETER, 0);
     }
     let f = function_of(r);
-    if logic::and(is_write(f), drive::is_protected(d)) {
+    if is_write(f) && drive::is_protected(d) {
         return Plan::Clear(WRITE_PROTECTED, 0);
     }
     let count = p.count as u64;
@@ -578,12 +552,18 @@ fn packet_tests(d: Drive, bads: Bads, r: Registers, window: usize, p: Packet) ->
     Plan::Wait(packet_job(r, p))
 }
 
-fn packet_read(d: Drive, bads: Bads, r: Registers, window: usize, read: PacketRead) -> Plan
+fn packet_read(
+    d: Drive,
+    bads: Bads,
+    r: Registers,
+    window: usize,
+    read: Result<Packet, BadParameter>,
+) -> Plan
     ensures { result ≡ packet_read d bads r window read }
 {
     match read {
-        PacketRead::Refused(code) => Plan::Refuse(code),
-        PacketRead::Whole(p) => {
+        Err(_) => Plan::Refuse(BAD_PARAMETER),
+        Ok(p) => {
             if p.size < PACKET_LENGTH {
                 return Plan::Refuse(BAD_PARAMETER);
             }
@@ -593,28 +573,28 @@ fn packet_read(d: Drive, bads: Bads, r: Registers, window: usize, read: PacketRe
 }
 
 // All tests in the paper's order; the packet is read once, here.
-fn packet_plan(known: bool, d: Drive, bads: Bads, r: Registers, window: &[u8]) -> Plan
-    ensures { result ≡ packet_plan known d bads r window.now }
+#[tactic(auto, unfolding(crate::specs::Steps::packet_plan))]
+fn packet_plan(drive: Option<Drive>, bads: Bads, r: Registers, window: &[u8]) -> Plan
+    ensures { result ≡ packet_plan (is_some drive) (named drive) bads r window.now }
 {
-    if !known {
+    let Some(d) = drive else {
         return Plan::Refuse(BAD_PARAMETER);
-    }
-    let verify = verify_ok(al(r), d.flags);
-    if logic::and(is_write(function_of(r)), !verify) {
+    };
+    if is_write(function_of(r)) && !verify_ok(al(r), d.flags) {
         return Plan::Refuse(BAD_PARAMETER);
     }
     let read = layout::read_packet(window, packet_place(r));
     packet_read(d, bads, r, window.len(), read)
 }
 
-fn extended_42_43_44(known: bool, d: Drive, bads: Bads, r: Registers, window: &mut [u8]) -> Outcome
-    ensures { (result ≡ (extended known d bads r window.old).outcome) × (window.new ≡ (extended known d bads r window.old).window) }
+fn extended_42_43_44(drive: Option<Drive>, bads: Bads, r: Registers, window: &mut [u8]) -> Outcome
+    ensures { (result ≡ (extended (is_some drive) (named drive) bads r window.old).outcome) × (window.new ≡ (extended (is_some drive) (named drive) bads r window.old).window) }
 {
-    let plan = packet_plan(known, d, bads, r, window);
+    let plan = packet_plan(drive, bads, r, window);
     match plan {
         Plan::Refuse(code) => Outcome::Answered(refuse(code, r)),
         Plan::Clear(code, n) => {
-            words::store16(window, packet_place(r) + 2, n);
+            words::put(window, packet_place(r) + 2, n);
             Outcome::Answered(refuse(code, r))
         }
         Plan::Finish => Outcome::Answered(succeed(r)),
@@ -624,12 +604,12 @@ fn extended_42_43_44(known: bool, d: Drive, bads: Bads, r: Registers, window: &m
 
 // ---- 47h: extended seek
 
-fn seek_read(d: Drive, r: Registers, read: PacketRead) -> Outcome
+fn seek_read(d: Drive, r: Registers, read: Result<Packet, BadParameter>) -> Outcome
     ensures { result ≡ seek_read d r read }
 {
     match read {
-        PacketRead::Refused(code) => Outcome::Answered(refuse(code, r)),
-        PacketRead::Whole(p) => {
+        Err(_) => Outcome::Answered(refuse(BAD_PARAMETER, r)),
+        Ok(p) => {
             if p.size < PACKET_LENGTH {
                 return Outcome::Answered(refuse(BAD_PARAMETER, r));
             }
@@ -641,24 +621,25 @@ fn seek_read(d: Drive, r: Registers, read: PacketRead) -> Outcome
     }
 }
 
-fn seek_47(known: bool, d: Drive, r: Registers, window: &[u8]) -> Outcome
-    ensures { result ≡ seek known d r window.now }
+#[tactic(auto, unfolding(crate::specs::Steps::seek))]
+fn seek_47(drive: Option<Drive>, r: Registers, window: &[u8]) -> Outcome
+    ensures { result ≡ seek (is_some drive) (named drive) r window.now }
 {
-    if !known {
+    let Some(d) = drive else {
         return Outcome::Answered(refuse(BAD_PARAMETER, r));
-    }
+    };
     let read = layout::read_packet(window, packet_place(r));
     seek_read(d, r, read)
 }
 
 // ---- 48h: get drive parameters, the result buffer
 
-fn result_given(given: ResultAnswer, r: Registers) -> Outcome
+fn result_given(given: Result<u16, BadParameter>, r: Registers) -> Outcome
     ensures { result ≡ result_given given r }
 {
     match given {
-        ResultAnswer::Refused(code) => Outcome::Answered(refuse(code, r)),
-        ResultAnswer::Written(_size) => Outcome::Answered(succeed(r)),
+        Err(_) => Outcome::Answered(refuse(BAD_PARAMETER, r)),
+        Ok(_size) => Outcome::Answered(succeed(r)),
     }
 }
 
@@ -666,82 +647,61 @@ fn result_given(given: ResultAnswer, r: Registers) -> Outcome
 const NO_POINTER: u16 = 0xFFFF;
 
 // The pointer of a result: offset 0 and the table's segment, or none.
-fn pointer_of(shown: Shown) -> Pointer
+fn pointer_of(shown: Option<u16>) -> Pointer
     ensures { result ≡ pointer_of shown }
 {
-    if shown.table {
-        return Pointer {
-            offset: 0,
-            segment: shown.segment,
-        };
-    }
-    Pointer {
-        offset: NO_POINTER,
-        segment: NO_POINTER,
+    match shown {
+        Some(segment) => Pointer { offset: 0, segment },
+        None => Pointer {
+            offset: NO_POINTER,
+            segment: NO_POINTER,
+        },
     }
 }
 
-fn result_48(known: bool, d: Drive, shown: Shown, r: Registers, window: &mut [u8]) -> Outcome
-    ensures { (result ≡ (result_into known d shown r window.old).outcome) × (window.new ≡ (result_into known d shown r window.old).window) }
+#[tactic(auto, unfolding(crate::specs::Steps::result_into))]
+fn result_48(drive: Option<Drive>, shown: Option<u16>, r: Registers, window: &mut [u8]) -> Outcome
+    ensures { (result ≡ (result_into (is_some drive) (named drive) shown r window.old).outcome) × (window.new ≡ (result_into (is_some drive) (named drive) shown r window.old).window) }
 {
-    if !known {
+    let Some(d) = drive else {
         return Outcome::Answered(refuse(BAD_PARAMETER, r));
-    }
+    };
     let place = packet_place(r);
     if window.len() < place + 2 {
         return Outcome::Answered(refuse(BAD_PARAMETER, r));
     }
-    let asked = words::get16(window, place);
+    let asked = words::get(window, place);
     let given = layout::write_result(d, pointer_of(shown), asked, &mut window[place..]);
     result_given(given, r)
 }
 
 // ---- every function by AH
 
-fn is_extended(f: u8) -> bool
-    ensures { result ≡ either (eqb f 0x42) (either (eqb f 0x43) (eqb f 0x44)) }
-{
-    logic::or(
-        f == EXTENDED_READ,
-        logic::or(f == EXTENDED_WRITE, f == EXTENDED_VERIFY),
-    )
-}
-
-// What a call comes to, for any drive, registers and window: answered at once, or it waits. `known`: whether DL names a drive of the
-// table; `count`: how many drives there are; `d`: the drive that DL names, any one where there is none; `bads`: its bad blocks; `shown`: what the
-// guest is shown of its parameter table. The window is written by 48h and by a refused 42h, 43h or 44h only. A function that is not named here is
-// refused with 01h.
+// What a call comes to, for any drive, registers and window: answered at once, or it waits. `drive`: the drive that DL
+// names, if the table has it; `count`: how many drives there are; `bads`: its bad blocks; `shown`: the segment of its
+// parameter table, if the guest is shown one. The window is written by 48h and by a refused 42h, 43h or 44h only. A
+// function that is not named here is refused with 01h.
 pub fn steps(
-    known: bool,
+    drive: Option<Drive>,
     count: u8,
-    d: Drive,
     bads: Bads,
-    shown: Shown,
+    shown: Option<u16>,
     r: Registers,
     window: &mut [u8],
 ) -> Outcome
-    ensures { (result ≡ (steps known count d bads shown r window.old).outcome) × (window.new ≡ (steps known count d bads shown r window.old).window) × (outcome_numbers result ≡ steps_given known count d bads shown.table r window.old) }
+    ensures { (result ≡ (steps (is_some drive) count (named drive) bads shown r window.old).outcome) × (window.new ≡ (steps (is_some drive) count (named drive) bads shown r window.old).window) × (outcome_numbers result ≡ steps_given (is_some drive) count (named drive) bads (is_some shown) r window.old) }
 {
-    let f = function_of(r);
-    if is_sectors(f) {
-        return sectors_02_03(known, d, r, window.len());
+    match function_of(r) {
+        READ_SECTORS | WRITE_SECTORS => sectors_02_03(drive, r, window.len()),
+        GET_PARAMETERS => parameters_08(drive, count, r),
+        CHECK_EXTENSIONS => extensions_41(drive.is_some(), shown, r),
+        EXTENDED_READ | EXTENDED_WRITE | EXTENDED_VERIFY => extended_42_43_44(
+            drive, bads, r, window,
+        ),
+        EXTENDED_SEEK => seek_47(drive, r, window),
+        GET_RESULT => result_48(drive, shown, r, window),
+        _ => Outcome::Answered(refuse(BAD_PARAMETER, r)),
     }
-    if f == GET_PARAMETERS {
-        return parameters_08(known, count, d, r);
-    }
-    if f == CHECK_EXTENSIONS {
-        return extensions_41(known, shown, r);
-    }
-    if is_extended(f) {
-        return extended_42_43_44(known, d, bads, r, window);
-    }
-    if f == EXTENDED_SEEK {
-        return seek_47(known, d, r, window);
-    }
-    if f == GET_RESULT {
-        return result_48(known, d, shown, r, window);
-    }
-    Outcome::Answered(refuse(BAD_PARAMETER, r))
 }
 
 // A call begun at a whole table, by a guest with that placement: the steps over the drive that DL names, with what they write.
@@ -749,10 +709,8 @@ pub fn begin(b: Table, placement: Placement, r: Registers, window: &mut [u8]) ->
     ensures { (result ≡ (begin (fed b placement) r window.old).outcome) × (window.new ≡ (begin (fed b placement) r window.old).window) × (outcome_numbers result ≡ begin_given b placement.placed r window.old) }
 {
     let n = dl(r);
-    let known = is_drive(b, n);
-    let count = drive_count(b);
-    let d = drive_at(b, n);
+    let drive = drive_of(b, n);
     let bads = bads_of(b, n);
     let shown = shown_of(b, placement, n);
-    steps(known, count, d, bads, shown, r, window)
+    steps(drive, drive_count(b), bads, shown, r, window)
 }

@@ -9,11 +9,10 @@ use native.Mathlib.Omega.{arith}
 use lib.ListN.{length, replicate, get_or-replicate, get_or-eq_default}
 use lib.Dec.{ltb}
 use borrow.Author.Tests.{lt-ltb}
+use Rattle.std.specs.Prelude.{Ok}
 use Rattle.logic.specs.Logic.{both}
-use Rattle.logic.proofs.LogicLaws.{both_intro, all_intro, all_at, lt_or_le, impossible}
+use Rattle.logic.proofs.LogicLaws.{both_intro, all_intro, all_at, lt_or_le}
 use Rattle.table.specs.declared.Table.{Table}
-use Rattle.table.specs.declared.Answer.{Answer}
-use Rattle.table.specs.declared.Answer.TheVariants.{Accepted, Refused as TableRefused}
 use Rattle.table.specs.Table.{is_sound, read_table}
 use Rattle.memory.specs.Window.{guests}
 use Rattle.memory.specs.Blocks.{block_length}
@@ -25,10 +24,9 @@ use Rattle.desk.specs.declared.Request.{Request}
 use Rattle.desk.specs.declared.Stage.TheVariants.{Vacant, Waiting}
 use Rattle.desk.specs.declared.Row.{Row}
 use Rattle.desk.specs.declared.Desk.{Desk}
-use Rattle.desk.specs.declared.OpenAnswer.TheVariants.{Opened}
 use Rattle.desk.specs.Parts.{window_size, store_blocks, vacant_row, stage_in, stage_at, placement_at}
 use Rattle.desk.specs.Acceptable.{turn_blocks, packet_ok, job_ok, stage_ok, rows_ok, placement_ok, placements_ok, accept}
-use Rattle.desk.specs.Calls.{opened, open_desk, open_answer, open_of}
+use Rattle.desk.specs.Calls.{OpenAnswer, opened, open_desk, open_of}
 use Rattle.table.proofs.Sound.{Good, accepted-good}
 use Rattle.desk.proofs.AcceptableLaws.{accept_true, job_facts, rows_ok_at, Waits, waits_facts}
 use Rattle.isolation.proofs.Check.{known}
@@ -113,22 +111,18 @@ none-placed b arena store g =
     placement : Bool → ℕ → Placement
     placement m a = record { placed = m; address = a }
 
-passed : (x : Answer) → open_answer x ≡ Opened → x ≡ Accepted
-passed Accepted e = refl
-passed (TableRefused n at) e = impossible (cc)
-
 -- an opening that passed gives such a desk
-pub opened-desk : (t : List ℕ) (arena store : ℕ) → (open_of t arena store).answer ≡ Opened → (open_of t arena store).desk ≡ opened (read_table t (store / block_length)).table arena store
+pub opened-desk : (t : List ℕ) (arena store : ℕ) → (open_of t arena store).answer ≡ Ok tt → (open_of t arena store).desk ≡ opened (read_table t (store / block_length)).table arena store
 unfolding open_of
 opened-desk t arena store e =
-    ap (λ (x : Answer). open_desk x (read_table t (store / block_length)).table arena store) (passed (read_table t (store / block_length)).answer e)
+    ap (λ (x : OpenAnswer). open_desk x (read_table t (store / block_length)).table arena store) e
 
 -- its table was accepted
-pub opened-table : (t : List ℕ) (arena store : ℕ) → (open_of t arena store).answer ≡ Opened → (read_table t (store / block_length)).answer ≡ Accepted
+pub opened-table : (t : List ℕ) (arena store : ℕ) → (open_of t arena store).answer ≡ Ok tt → (read_table t (store / block_length)).answer ≡ Ok tt
 unfolding open_of
-opened-table t arena store e = passed (read_table t (store / block_length)).answer e
+opened-table t arena store e = e
 
-pub inv_opened : (t : List ℕ) (arena store : ℕ) → (open_of t arena store).answer ≡ Opened → Inv (open_of t arena store).desk
+pub inv_opened : (t : List ℕ) (arena store : ℕ) → (open_of t arena store).answer ≡ Ok tt → Inv (open_of t arena store).desk
 inv_opened t arena store e =
     subst Inv (sym (opened-desk t arena store e))
     (record {

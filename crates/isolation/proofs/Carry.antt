@@ -6,26 +6,23 @@ use mathlib.Core.Bool.{Bool, not}
 use mathlib.Core.List.{List}
 use lib.ListN.{length, drop}
 use lib.Dec.{ltb, eqb}
+use Rattle.std.specs.Prelude.{Result, Ok, Err, Option}
 use Rattle.logic.specs.Logic.{pick, both, either}
 use Rattle.words.specs.Words.{le}
-use Rattle.chs.specs.declared.ToBlock.{ToBlock}
-use Rattle.chs.specs.declared.ToBlock.TheVariants.{Block, Refused as NoBlock}
+use Rattle.chs.specs.declared.Outside.{Outside}
+use Rattle.layout.specs.declared.Packet.{Packet}
+use Rattle.layout.specs.declared.BadParameter.{BadParameter}
 use Rattle.chs.specs.Chs.{block_of, address_in}
 use Rattle.drive.specs.declared.Drive.{Drive}
 use Rattle.drive.specs.Drive.{geometry_of, is_protected}
 use Rattle.table.specs.Table.{read_table}
 use Rattle.attached.specs.declared.Bads.{Bads}
 use Rattle.table.specs.declared.Table.{Table}
-use Rattle.layout.specs.declared.PacketRead.{PacketRead}
-use Rattle.layout.specs.declared.PacketRead.TheVariants.{Whole, Refused as NoPacket}
-use Rattle.layout.specs.declared.ResultAnswer.{ResultAnswer}
-use Rattle.layout.specs.declared.ResultAnswer.TheVariants.{Written, Refused as NoResult}
 use Rattle.layout.specs.Packet.{bad_parameter, read_packet}
 use Rattle.layout.specs.ResultBuffer.{result_answer}
 use Rattle.memory.specs.Blocks.{block_length}
 use Rattle.int13.specs.declared.Registers.{Registers}
 use Rattle.int13.specs.declared.Placement.{Placement}
-use Rattle.int13.specs.declared.Shown.{Shown}
 use Rattle.int13.specs.declared.Outcome.{Outcome}
 use Rattle.int13.specs.declared.Outcome.TheVariants.{Answered}
 use Rattle.int13.specs.declared.Plan.{Plan}
@@ -35,10 +32,10 @@ use Rattle.int13.specs.Steps.{Checked, unchanged, fed, is_drive, drive_count, dr
 use Rattle.int13.specs.Alone.{finish, alone}
 use Rattle.isolation.specs.Exported.{CarryUnread}
 
-module _ (known : Bool) (count : ℕ) (d : Drive) (l : Bads) (s : Shown) (r : Registers) (w : List ℕ) where
-  run : (M : ℕ) (x : ToBlock) → sector_run d r M x ≡ sector_run d (posted r) M x
-  run M (NoBlock code) = refl
-  run M (Block n) = refl
+module _ (known : Bool) (count : ℕ) (d : Drive) (l : Bads) (s : Option ℕ) (r : Registers) (w : List ℕ) where
+  run : (M : ℕ) (x : Result ℕ Outside) → sector_run d r M x ≡ sector_run d (posted r) M x
+  run M (Err e) = refl
+  run M (Ok n) = refl
 
   by_sectors : sectors known d r (length w) ≡ sectors known d (posted r) (length w)
   unfolding sectors
@@ -49,10 +46,10 @@ module _ (known : Bool) (count : ℕ) (d : Drive) (l : Bads) (s : Shown) (r : Re
       (pick (both (is_write (ah r)) (is_protected d)) (Answered (refuse write_protected r)) o))))
       (run (length w) (block_of (geometry_of d) (address_in r.cx r.dx)))
 
-  read : (M : ℕ) (x : PacketRead) → packet_read d l r M x ≡ packet_read d l (posted r) M x
+  read : (M : ℕ) (x : Result Packet BadParameter) → packet_read d l r M x ≡ packet_read d l (posted r) M x
   unfolding packet_tests
-  read M (NoPacket code) = refl
-  read M (Whole p) = refl
+  read M (Err e) = refl
+  read M (Ok p) = refl
 
   by_plan : packet_plan known d l r w ≡ packet_plan known d l (posted r) w
   unfolding packet_plan
@@ -67,17 +64,17 @@ module _ (known : Bool) (count : ℕ) (d : Drive) (l : Bads) (s : Shown) (r : Re
   carried Finish = refl
   carried (Wait j) = refl
 
-  seeks : (x : PacketRead) → seek_read d r x ≡ seek_read d (posted r) x
-  seeks (NoPacket code) = refl
-  seeks (Whole p) = refl
+  seeks : (x : Result Packet BadParameter) → seek_read d r x ≡ seek_read d (posted r) x
+  seeks (Err e) = refl
+  seeks (Ok p) = refl
 
   by_seek : seek known d r w ≡ seek known d (posted r) w
   unfolding seek
   by_seek = ap (λ (o : Outcome). pick (not known) (Answered (refuse bad_parameter r)) o) (seeks (read_packet w (packet_place r)))
 
-  given : (x : ResultAnswer) → result_given x r ≡ result_given x (posted r)
-  given (NoResult code) = refl
-  given (Written n) = refl
+  given : (x : Result ℕ BadParameter) → result_given x r ≡ result_given x (posted r)
+  given (Err e) = refl
+  given (Ok n) = refl
 
   by_result : result_into known d s r w ≡ result_into known d s (posted r) w
   unfolding result_into

@@ -10,28 +10,24 @@ use lib.ListN.{length, take, drop, length-append, length-drop, length-take}
 use lib.Seq.{length-sets}
 use lib.Dec.{leb, ltb, eqb}
 use borrow.Author.Tests.{leb-true, ltb-true, ltb-false, le-leb, eqb-false, not-false}
+use Rattle.std.specs.Prelude.{Result, Ok, Err, Option}
 use Rattle.logic.specs.Logic.{both, either}
 use Rattle.logic.proofs.LogicLaws.{both_true, pick-cases}
 use Rattle.words.specs.Words.{le, le_bytes}
-use Rattle.chs.specs.declared.ToBlock.{ToBlock}
-use Rattle.chs.specs.declared.ToBlock.TheVariants.{Block, Refused as NoBlock}
+use Rattle.chs.specs.declared.Outside.{Outside}
+use Rattle.layout.specs.declared.BadParameter.{BadParameter}
 use Rattle.chs.specs.Chs.{size, block_of, address_in}
 use Rattle.drive.specs.Drive.{geometry_of, is_protected}
 use Rattle.drive.proofs.DriveLaws.{Arrays}
 use Rattle.attached.specs.Bad.{good}
 use Rattle.table.specs.declared.Table.{Table}
 use Rattle.layout.specs.declared.Packet.{Packet}
-use Rattle.layout.specs.declared.PacketRead.{PacketRead}
-use Rattle.layout.specs.declared.PacketRead.TheVariants.{Whole, Refused as NoPacket}
-use Rattle.layout.specs.declared.ResultAnswer.{ResultAnswer}
-use Rattle.layout.specs.declared.ResultAnswer.TheVariants.{Written, Refused as NoResult}
 use Rattle.layout.specs.Packet.{packet_at, read_packet}
 use Rattle.layout.specs.ResultBuffer.{result_answer, result_out}
 use Rattle.layout.proofs.ResultBufferLaws.{length-out}
 use Rattle.memory.specs.Blocks.{block_length}
 use Rattle.int13.specs.declared.Registers.{Registers}
 use Rattle.int13.specs.declared.Placement.{Placement}
-use Rattle.int13.specs.declared.Shown.{Shown}
 use Rattle.int13.specs.declared.Job.{Job}
 use Rattle.int13.specs.declared.Outcome.{Outcome}
 use Rattle.int13.specs.declared.Outcome.TheVariants.{Answered, Waits}
@@ -86,7 +82,7 @@ module _ (b : Table) (store : ℕ) (g : Good b store) (r : Registers) (w : List 
 
   sectors_wait : (n : ℕ) → is_sectors (ah r) ≡ true → is_drive b (dl r) ≡ true → eqb (al r) 0 ≡ false → ltb 128 (al r) ≡ false
       → both (is_write (ah r)) (is_protected (drive_named b r)) ≡ false
-      → block_of (geometry_of (drive_named b r)) (address_in r.cx r.dx) ≡ Block n
+      → block_of (geometry_of (drive_named b r)) (address_in r.cx r.dx) ≡ Ok n
       → ltb (size (geometry_of (drive_named b r))) (n + al r) ≡ false → ltb (length w) (sector_buffer r + block_length * al r) ≡ false
       → Fresh b r w (sector_job r n)
   unfolding job_ok
@@ -115,9 +111,9 @@ module _ (b : Table) (store : ℕ) (g : Good b store) (r : Registers) (w : List 
       run e₁ e₂ e₃ e₄ (block_of (geometry_of (drive_named b r)) (address_in r.cx r.dx)) refl))))
     where
       run : not (is_drive b (dl r)) ≡ false → eqb (al r) 0 ≡ false → ltb 128 (al r) ≡ false → both (is_write (ah r)) (is_protected (drive_named b r)) ≡ false
-          → (x : ToBlock) → block_of (geometry_of (drive_named b r)) (address_in r.cx r.dx) ≡ x → Stays (sector_run (drive_named b r) r (length w) x)
-      run e₁ e₂ e₃ e₄ (NoBlock code) e = refl
-      run e₁ e₂ e₃ e₄ (Block n) e =
+          → (x : Result ℕ Outside) → block_of (geometry_of (drive_named b r)) (address_in r.cx r.dx) ≡ x → Stays (sector_run (drive_named b r) r (length w) x)
+      run e₁ e₂ e₃ e₄ (Err code) e = refl
+      run e₁ e₂ e₃ e₄ (Ok n) e =
           pick-cases Stays (ltb (size (geometry_of (drive_named b r))) (n + al r)) _ _ (λ e. refl) (λ e₅.
           pick-cases Stays (ltb (length w) (sector_buffer r + block_length * al r)) _ _ (λ e. refl) (λ e₆.
           (sectors_wait n s (not-false _ e₁) e₂ e₃ e₄ e e₅ e₆, refl)))
@@ -177,7 +173,7 @@ module _ (b : Table) (store : ℕ) (g : Good b store) (r : Registers) (w : List 
   extended_says s x =
       pick-cases Plans (not (is_drive b (dl r))) _ _ (λ e. refl) (λ e₁.
       pick-cases Plans (both (is_write (ah r)) (not (verify_ok (al r) (drive_named b r).flags))) _ _ (λ e. refl) (λ e₂.
-      pick-cases (λ (p : PacketRead). Plans (packet_read (drive_named b r) (bads_of b (dl r)) r (length w) p)) (leb (packet_place r + 16) (length w)) _ _
+      pick-cases (λ (p : Result Packet BadParameter). Plans (packet_read (drive_named b r) (bads_of b (dl r)) r (length w) p)) (leb (packet_place r + 16) (length w)) _ _
       (λ e₃. pick-cases Plans (ltb packet.size 16) _ _ (λ e. refl) (λ e₄. packet_says s x (not-false _ e₁) e₃))
       (λ e₃. refl)))
 
@@ -187,19 +183,19 @@ module _ (b : Table) (store : ℕ) (g : Good b store) (r : Registers) (w : List 
   unfolding seek
   seek_says = pick-cases Stays (not (is_drive b (dl r))) _ _ (λ e. refl) (λ e. by_packet (read_packet w (packet_place r)))
     where
-      by_packet : (p : PacketRead) → Stays (seek_read (drive_named b r) r p)
-      by_packet (NoPacket code) = refl
-      by_packet (Whole p) = pick-cases Stays (ltb p.size 16) _ _ (λ e. refl) (λ e. pick-cases Stays (leb (drive_named b r).blocks p.start) _ _ (λ e. refl) (λ e. refl))
+      by_packet : (p : Result Packet BadParameter) → Stays (seek_read (drive_named b r) r p)
+      by_packet (Err e) = refl
+      by_packet (Ok p) = pick-cases Stays (ltb p.size 16) _ _ (λ e. refl) (λ e. pick-cases Stays (leb (drive_named b r).blocks p.start) _ _ (λ e. refl) (λ e. refl))
 
   parameters_says : Stays (parameters (is_drive b (dl r)) (drive_count b) (drive_named b r) r)
   unfolding parameters
   parameters_says = pick-cases Stays (is_drive b (dl r)) _ _ (λ e. refl) (λ e. refl)
 
-  extensions_says : (s : Shown) → Stays (extensions (is_drive b (dl r)) s r)
+  extensions_says : (s : Option ℕ) → Stays (extensions (is_drive b (dl r)) s r)
   unfolding extensions
   extensions_says s = pick-cases Stays (both (is_drive b (dl r)) (eqb r.bx 0x55AA)) _ _ (λ e. refl) (λ e. refl)
 
-  result_says : (s : Shown) → After (result_into (is_drive b (dl r)) (drive_named b r) s r w)
+  result_says : (s : Option ℕ) → After (result_into (is_drive b (dl r)) (drive_named b r) s r w)
   unfolding result_into
   result_says s =
       pick-cases After (not (is_drive b (dl r))) _ _ (λ e. refl) (λ e₁.
@@ -216,10 +212,10 @@ module _ (b : Table) (store : ℕ) (g : Good b store) (r : Registers) (w : List 
           = length-out (drive_named b r) (pointer_of s) (le 2 w place) (drop place w) (known b store (dl r) g d).arrays ∙ length-drop place w in
           length-append (take place w) (result_out (drive_named b r) (pointer_of s) (le 2 w place) (drop place w)) ∙ omega (arith, l, n, length-take place w)
 
-      by_answer : (x : ResultAnswer) → length (take place w ++ result_out (drive_named b r) (pointer_of s) (le 2 w place) (drop place w)) ≡ length w
+      by_answer : (x : Result ℕ BadParameter) → length (take place w ++ result_out (drive_named b r) (pointer_of s) (le 2 w place) (drop place w)) ≡ length w
           → Says b r w (result_given x r) (take place w ++ result_out (drive_named b r) (pointer_of s) (le 2 w place) (drop place w))
-      by_answer (NoResult code) e = e
-      by_answer (Written n) e = e
+      by_answer (Err code) e = e
+      by_answer (Ok n) e = e
 
   -- ---- every function
 

@@ -9,6 +9,7 @@ use native.Mathlib.Omega.{arith}
 use lib.Dec.{leb, eqb}
 use lib.ListN.{length, get_or, get_or-eq_default}
 use borrow.Author.Tests.{eq-eqb, ne_eqb, eqb-true, leb-true}
+use Rattle.std.specs.Prelude.{Ok, Err}
 use Rattle.logic.specs.Logic.{pick}
 use Rattle.logic.proofs.LogicLaws.{both_true, pick-cases, lt_or_le, impossible}
 use Rattle.words.specs.Words.{Bytes}
@@ -17,12 +18,10 @@ use Rattle.drive.proofs.DriveLaws.{Arrays}
 use Rattle.table.specs.Table.{no_drive, is_sound}
 use Rattle.desk.specs.declared.Row.{Row}
 use Rattle.desk.specs.declared.Desk.{Desk}
-use Rattle.desk.specs.declared.OpenAnswer.{OpenAnswer}
-use Rattle.desk.specs.declared.OpenAnswer.TheVariants.{Opened, Refused as OpenRefused}
 use Rattle.desk.specs.Parts.{window_size, store_blocks, vacant_row, stage_at, placement_at}
 use Rattle.desk.specs.Acceptable.{stage_ok, accept}
 use Rattle.desk.proofs.AcceptableLaws.{closed-refused}
-use Rattle.desk.specs.Calls.{open_of, written_of, written_out, post_of, turn_of, collect_of, withdraw_of, place_of}
+use Rattle.desk.specs.Calls.{OpenAnswer, open_of, written_of, written_out, post_of, turn_of, collect_of, withdraw_of, place_of}
 use Rattle.image.specs.Image.{image, desk_size, is_image, desk_of, accepted, laid, FitsDesk}
 use Rattle.image.proofs.ImageLaws.{length-image, desk-image, exact}
 use Rattle.isolation.specs.Lists.{Op, open_table, post, turn, collect, withdraw, write, place, Call, Answer, opening, Out, opened_desk, step_of, step, Event, run, after}
@@ -35,7 +34,7 @@ use Rattle.isolation.proofs.Bound.{opens_front}
 use Rattle.isolation.proofs.Posts.{never as never_did}
 use Rattle.isolation.proofs.Fits.{fits-opened, by_opening, opening_case, fits-step}
 use Rattle.isolation.proofs.Theorem.{demand}
-use Rattle.isolation.proofs.Refusals.{LowOpening, opening-low}
+use Rattle.isolation.proofs.Refusals.{number-low}
 
 -- ---- one call
 
@@ -70,24 +69,24 @@ block_did d c o l (placing g address e b t v k) = laid-image (image d) _ l
 
 -- an opening that passes, at any block: the block becomes the image of the desk that was opened
 record Opens (t : List ℕ) (a s : ℕ) (o : OutBlock) : Type 0 where
-  pub passed : (open_of t a s).answer ≡ Opened
+  pub passed : (open_of t a s).answer ≡ Ok tt
   pub block : o.block ≡ image (open_of t a s).desk
 
-opens-block : (b t : List ℕ) (a s : ℕ) (arena store : List ℕ) → (step_block_of b (open_table t a s) arena store).answer ≡ opening Opened
+opens-block : (b t : List ℕ) (a s : ℕ) (arena store : List ℕ) → (step_block_of b (open_table t a s) arena store).answer ≡ opening (Ok tt)
     → Opens t a s (step_block_of b (open_table t a s) arena store)
 opens-block b t a s arena store =
-    pick-cases (λ (o : OutBlock). o.answer ≡ opening Opened → Opens t a s o) (eqb (length b) desk_size) _ _
+    pick-cases (λ (o : OutBlock). o.answer ≡ opening (Ok tt) → Opens t a s o) (eqb (length b) desk_size) _ _
     (λ l e.
-    let x : (open_of t a s).answer ≡ Opened = cc in
+    let x : (open_of t a s).answer ≡ Ok tt = cc in
     let y : block_after b (opened_desk (desk_of b) (open_of t a s).desk (open_of t a s).answer) (kind_of (opening (open_of t a s).answer)) ≡ laid b (open_of t a s).desk
     = ap (λ (y : OpenAnswer). block_after b (opened_desk (desk_of b) (open_of t a s).desk y) (kind_of (opening y))) x in
     record { passed = x; block = y ∙ laid-image b (open_of t a s).desk (eqb-true (length b) desk_size l) })
     (λ l e. impossible cc)
 
-opens-first : (b t : List ℕ) (a s : ℕ) (c : Call) → c.op ≡ open_table t a s → (step_block b c).answer ≡ opening Opened → Opens t a s (step_block b c)
+opens-first : (b t : List ℕ) (a s : ℕ) (c : Call) → c.op ≡ open_table t a s → (step_block b c).answer ≡ opening (Ok tt) → Opens t a s (step_block b c)
 unfolding step_block
 opens-first b t a s c e =
-    subst (λ (o : Op). (step_block_of b o c.arena c.store).answer ≡ opening Opened → Opens t a s (step_block_of b o c.arena c.store)) (sym e)
+    subst (λ (o : Op). (step_block_of b o c.arena c.store).answer ≡ opening (Ok tt) → Opens t a s (step_block_of b o c.arena c.store)) (sym e)
     (opens-block b t a s c.arena c.store)
 
 -- ---- 25
@@ -118,9 +117,9 @@ unfolding accepted desk_of is_image
 other-size b c n = is_25 b c (rw (ne_eqb (length b) desk_size n) (closed-refused 0 0)) (λ t a s o l. n l)
 
 -- a table's number is none
-low_25 : (y : OpenAnswer) → LowOpening y → number_of (opening y) ≡ 25 → ⊥
-low_25 Opened l x = omega arith
-low_25 (OpenRefused n at) l x = omega arith
+low_25 : (y : OpenAnswer) → number_of (opening y) ≡ 25 → ⊥
+low_25 (Ok u) x = omega arith
+low_25 (Err e) x = omega (arith, number-low e.refusal)
 
 -- a call at a desk that is no 25 by its house number is none
 never_25 : (d : Desk) (c : Call) → (house_number (step d c).answer ≡ 25 → ⊥) → number_of (step d c).answer ≡ 25 → ⊥
@@ -128,7 +127,7 @@ unfolding step
 never_25 d c n x = by_op c.op n x
   where
     by_op : (o : Op) → (house_number (step_of d o c.arena c.store).answer ≡ 25 → ⊥) → number_of (step_of d o c.arena c.store).answer ≡ 25 → ⊥
-    by_op (open_table t a s) n x = low_25 (open_of t a s).answer (opening-low t a s) x
+    by_op (open_table t a s) n x = low_25 (open_of t a s).answer x
     by_op (post g r) n x = n x
     by_op turn n x = n x
     by_op (collect g) n x = n x
@@ -193,7 +192,7 @@ opens-image (e ∷ es) n = (n.0, opens-image es n.1)
 
 -- ---- the claim
 
-module _ (t : List ℕ) (arena store : ℕ) (calls : List Call) (passed : (open_of t arena store).answer ≡ Opened) (held : Held (open_of t arena store).desk)
+module _ (t : List ℕ) (arena store : ℕ) (calls : List Call) (passed : (open_of t arena store).answer ≡ Ok tt) (held : Held (open_of t arena store).desk)
     (fit : FitsCalls calls) (none : NoneOpens (run (open_of t arena store).desk calls)) where
   abbrev d₀ : Desk
   d₀ = (open_of t arena store).desk
@@ -227,7 +226,7 @@ module _ (t : List ℕ) (arena store : ℕ) (calls : List Call) (passed : (open_
         demand = demand t arena store calls passed none;
       }
 
-held-opened : (t : List ℕ) (arena store : ℕ) → FitsOp (open_table t arena store) → (open_of t arena store).answer ≡ Opened → Held (open_of t arena store).desk
+held-opened : (t : List ℕ) (arena store : ℕ) → FitsOp (open_table t arena store) → (open_of t arena store).answer ≡ Ok tt → Held (open_of t arena store).desk
 held-opened t arena store f e = record { inv = inv_opened t arena store e; fits = fits-opened t arena store f.0 f.1 f.2 e }
 
 -- DEMAND 3 on blocks of bytes
@@ -241,7 +240,7 @@ demand-block b t arena store first calls e f x fit none =
 
 -- its last condition, from the same one of the desks
 pub none-block : (b t : List ℕ) (arena store : ℕ) (first : Call) (calls : List Call) → first.op ≡ open_table t arena store → FitsOp first.op
-    → (step_block b first).answer ≡ opening Opened → FitsCalls calls
+    → (step_block b first).answer ≡ opening (Ok tt) → FitsCalls calls
     → NoneOpens (run (open_of t arena store).desk calls) → NoneOpensBlock (run_block (step_block b first).block calls)
 none-block b t arena store first calls e f x fit none =
     let o = opens-first b t arena store first e x in
@@ -330,7 +329,7 @@ kept b c h f e = ap (λ (o : OutBlock). accepted o.block) (step-at b d c w.size 
     after_call : List ℕ
     after_call = block_after b (step d c).desk (kind_of (step d c).answer)
 
-    opened : (step d c).answer ≡ opening Opened → accepted after_call ≡ true
+    opened : (step d c).answer ≡ opening (Ok tt) → accepted after_call ≡ true
     opened x =
         ap (λ (y : Answer). accepted (block_after b (step d c).desk (kind_of y))) x
         ∙ ap accepted (laid-image b (step d c).desk w.size)
@@ -362,7 +361,7 @@ never b c h e x =
 openings : (b : List ℕ) (c : Call) (t : List ℕ) (a s : ℕ) → c.op ≡ open_table t a s → length b ≡ desk_size → number_of (step_block b c).answer ≡ 25 → ⊥
 unfolding step_block
 openings b c t a s e l x =
-    low_25 (open_of t a s).answer (opening-low t a s)
+    low_25 (open_of t a s).answer
     (sym (ap (λ (o : Op). number_of (step_block_of b o c.arena c.store).answer) e ∙ ap (λ (y : Bool). number_of (pick y here (left25 b (open_table t a s) c.arena c.store)).answer) (eq-eqb (length b) desk_size l)) ∙ x)
   where
     here : OutBlock

@@ -5,12 +5,12 @@ use mathlib.Core.Path.{◌≡◌, refl, sym, ap, subst}
 use mathlib.Core.List.{List}
 use native.Mathlib.Omega.{arith}
 use lib.ListN.{length, replicate}
+use Rattle.std.specs.Prelude.{Ok}
 use Rattle.words.specs.Words.{Bytes, le, le_bytes}
 use Rattle.words.proofs.WordsLaws.{bytes-le_bytes}
 use Rattle.memory.specs.Window.{window_of}
-use Rattle.desk.specs.declared.Opening.{Opening}
-use Rattle.desk.specs.declared.OpenAnswer.TheVariants.{Opened}
-use Rattle.desk.specs.Calls.{open_of}
+use Rattle.desk.specs.declared.After.{After}
+use Rattle.desk.specs.Calls.{OpenAnswer, open_of}
 use Rattle.image.specs.Image.{desk_size, FitsRegisters}
 use Rattle.isolation.specs.Lists.{open_table, Call, opening, run}
 use Rattle.isolation.specs.Words.{NoneOpens}
@@ -35,9 +35,9 @@ module _ (a s : List ℕ) (la : length a ≡ arena_length) (ls : length s ≡ st
   abbrev first : Call
   first = record { op = open_table table_bytes arena_length store_length; arena = a; store = s }
 
-  passes : (step_block zeros first).answer ≡ opening Opened
+  passes : (step_block zeros first).answer ≡ opening (Ok tt)
   unfolding step_block
-  passes = ap (λ (o : Opening). opening o.answer) opens-table
+  passes = ap (λ (o : After OpenAnswer). opening o.answer) opens-table
 
   fit : FitsCalls list
   fit =
@@ -53,7 +53,7 @@ module _ (a s : List ℕ) (la : length a ≡ arena_length) (ls : length s ≡ st
       fits_extends = record { ax = omega arith; bx = omega arith; cx = omega arith; dx = omega arith; ds = omega arith; si = omega arith; es = omega arith }
 
   none : NoneOpens (run (open_of table_bytes arena_length store_length).desk list)
-  none = subst (λ (o : Opening). NoneOpens (run o.desk list)) (sym opens-table) (closed-later (p₀ a s la ls held) ahead (story a s la ls held) (z₀ a s la ls held) (aheads a s la ls held))
+  none = subst (λ (o : After OpenAnswer). NoneOpens (run o.desk list)) (sym opens-table) (closed-later (p₀ a s la ls held) ahead (story a s la ls held) (z₀ a s la ls held) (aheads a s la ls held))
 
   pub example_block : ClaimBlock table_bytes (open_of table_bytes arena_length store_length).desk M (step_block zeros first).block list
   example_block =

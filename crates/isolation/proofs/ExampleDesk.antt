@@ -8,6 +8,7 @@ use mathlib.Core.List.{List, [], ◌∷◌, ◌++◌}
 use native.Mathlib.Omega.{arith}
 use native.Mathlib.Decide.{ℕ_discrete}
 use lib.ListN.{length, replicate, length-replicate, length-append}
+use Rattle.std.specs.Prelude.{Ok}
 use Rattle.logic.proofs.LogicLaws.{lt_or_le}
 use Rattle.words.specs.Words.{le, le_bytes}
 use Rattle.chs.specs.Chs.{in_limits}
@@ -16,14 +17,12 @@ use Rattle.drive.specs.Drive.{drive_of, same, bus_ok, interface_ok, geometry_fit
 use Rattle.table.specs.declared.Table.{Table}
 use Rattle.table.specs.Table.{zero_drive, header_of, header_at, overlaps_any, refusal, parameters_refusal, record_refusal, with_record, record_step, end_step, step_of, step_at, read_from, read_table}
 use Rattle.layout.specs.declared.Packet.{Packet}
-use Rattle.layout.specs.declared.PacketRead.TheVariants.{Whole}
+use Rattle.desk.specs.declared.After.{After}
 use Rattle.layout.specs.Packet.{packet_length, packet_at, read_packet}
 use Rattle.memory.specs.Window.{guests, span_length, window_of, with_window}
 use Rattle.memory.proofs.WindowLaws.{span_in, length-with_window, window_with_same, window_with_other}
 use Rattle.desk.specs.declared.Desk.{Desk}
-use Rattle.desk.specs.declared.Opening.{Opening}
-use Rattle.desk.specs.declared.OpenAnswer.TheVariants.{Opened}
-use Rattle.desk.specs.Calls.{opened, open_of}
+use Rattle.desk.specs.Calls.{OpenAnswer, opened, open_of}
 use Rattle.isolation.specs.Lists.{Call, run}
 use Rattle.isolation.specs.Words.{NoneOpens}
 use Rattle.isolation.specs.Demand.{Claim}
@@ -105,24 +104,24 @@ table = record { drives = guarded ∷ plain ∷ replicate 6 zero_drive; count = 
 abbrev pub d₀ : Desk
 d₀ = opened table arena_length store_length
 
-pub opening : open_of table_bytes arena_length store_length ≡ record { desk = d₀; answer = Opened }
+pub opening : open_of table_bytes arena_length store_length ≡ record { desk = d₀; answer = Ok tt }
 unfolding open_of le le_bytes in_limits drive_of same bus_ok interface_ok geometry_fits fields_ok in_store overlap header_of header_at overlaps_any refusal parameters_refusal record_refusal with_record record_step end_step step_of step_at read_from read_table tail_of is_i2o zero_tail kind_ok
 opening = refl
 
 pub inv₀ : Inv d₀
-inv₀ = subst (λ (o : Opening). Inv o.desk) opening (inv_opened table_bytes arena_length store_length (ap (λ (o : Opening). o.answer) opening))
+inv₀ = subst (λ (o : After OpenAnswer). Inv o.desk) opening (inv_opened table_bytes arena_length store_length (ap (λ (o : After OpenAnswer). o.answer) opening))
 
 -- demand 3 of a list of calls at it
 pub claimed : (calls : List Call) → NoneOpens (run d₀ calls) → Claim table_bytes d₀ M calls
 claimed calls =
-    subst (λ (o : Opening). NoneOpens (run o.desk calls) → Claim table_bytes o.desk M calls) opening
-    (demand table_bytes arena_length store_length calls (ap (λ (o : Opening). o.answer) opening))
+    subst (λ (o : After OpenAnswer). NoneOpens (run o.desk calls) → Claim table_bytes o.desk M calls) opening
+    (demand table_bytes arena_length store_length calls (ap (λ (o : After OpenAnswer). o.answer) opening))
 
 -- ---- the packet at 0001:0008 of a window
 
-pub read-packet : (w : List ℕ) (p : Packet) → length w ≡ M → packet_at w 24 ≡ p → read_packet w 24 ≡ Whole p
+pub read-packet : (w : List ℕ) (p : Packet) → length w ≡ M → packet_at w 24 ≡ p → read_packet w 24 ≡ Ok p
 unfolding read_packet
-read-packet w p l e = rw l (ap Whole e)
+read-packet w p l e = rw l (ap Ok e)
 
 -- 16 bytes there, and zeros around them
 abbrev pub window_with : List ℕ → List ℕ

@@ -9,11 +9,11 @@ use mathlib.Core.List.{List, [], ◌∷◌, ◌++◌}
 use native.Mathlib.Omega.{arith}
 use native.Mathlib.Nat.{zero-add, add-zero, one-mul}
 use lib.ListN.{length, get_or, replicate}
+use Rattle.std.specs.Prelude.{Result, Ok}
 use Rattle.words.specs.Words.{le}
 use Rattle.attached.specs.Bad.{held_of, is_bad, good}
 use Rattle.layout.specs.declared.Packet.{Packet}
-use Rattle.layout.specs.declared.PacketRead.{PacketRead}
-use Rattle.layout.specs.declared.PacketRead.TheVariants.{Whole}
+use Rattle.layout.specs.declared.BadParameter.{BadParameter}
 use Rattle.layout.specs.Packet.{packet_at, read_packet}
 use Rattle.memory.specs.Window.{guests, window_of}
 use Rattle.int13.specs.declared.Registers.{Registers}
@@ -68,12 +68,12 @@ abbrev pub job : Registers → ℕ → Job
 job r g = packet_job r (packet g)
 
 by_packet : (r : Registers) (p : Packet) (w : List ℕ) → length w ≡ M → packet_at w 24 ≡ p
-    → begin (fed table no_placement) r w ≡ carry_out (packet_read plain (bads_of table 0x81) r (length w) (read_packet w 24)) r w → packet_read plain (bads_of table 0x81) r M (Whole p) ≡ Wait (packet_job r p)
+    → begin (fed table no_placement) r w ≡ carry_out (packet_read plain (bads_of table 0x81) r (length w) (read_packet w 24)) r w → packet_read plain (bads_of table 0x81) r M (Ok p) ≡ Wait (packet_job r p)
     → begin (fed table no_placement) r w ≡ unchanged w (Waits (packet_job r p))
 by_packet r p w l e f g =
     f
-    ∙ ap (λ (x : PacketRead). carry_out (packet_read plain (bads_of table 0x81) r (length w) x) r w) (read-packet w p l e)
-    ∙ ap (λ (n : ℕ). carry_out (packet_read plain (bads_of table 0x81) r n (Whole p)) r w) l
+    ∙ ap (λ (x : Result Packet BadParameter). carry_out (packet_read plain (bads_of table 0x81) r (length w) x) r w) (read-packet w p l e)
+    ∙ ap (λ (n : ℕ). carry_out (packet_read plain (bads_of table 0x81) r n (Ok p)) r w) l
     ∙ ap (λ (x : Plan). carry_out x r w) g
 
 -- ---- the lines
@@ -110,7 +110,7 @@ module _ (a s : List ℕ) (la : length a ≡ arena_length) (ls : length s ≡ st
 
   checks : (r : Registers) (g : ℕ) → g < guests
       → begin (fed table no_placement) r (window_of a g M) ≡ carry_out (packet_read plain (bads_of table 0x81) r (length (window_of a g M)) (read_packet (window_of a g M) 24)) r (window_of a g M)
-      → packet_read plain (bads_of table 0x81) r M (Whole (packet g)) ≡ Wait (job r g) → begin (fed table no_placement) r (window_of a g M) ≡ unchanged (window_of a g M) (Waits (job r g))
+      → packet_read plain (bads_of table 0x81) r M (Ok (packet g)) ≡ Wait (job r g) → begin (fed table no_placement) r (window_of a g M) ≡ unchanged (window_of a g M) (Waits (job r g))
   checks r g b = by_packet r (packet g) (window_of a g M) (window_lent d₀ a g la b) (held g b)
 
   pub lines : All p₀ (asks verifies 2 ∷ ((posts ++ stretch) ++ last ∷ idle))

@@ -12,6 +12,7 @@ use native.Mathlib.Omega.{arith}
 use lib.ListN.{length, replicate, length-replicate, length-append}
 use lib.Seq.{sets, length-sets}
 use borrow.Author.Tests.{le-leb}
+use Rattle.std.specs.Prelude.{Result, Ok}
 use Rattle.words.specs.Words.{le, le_bytes, part}
 use Rattle.words.proofs.WordsLaws.{length-le_bytes}
 use Rattle.chs.specs.Chs.{in_limits, is_valid, block_of}
@@ -21,8 +22,8 @@ use Rattle.attached.specs.Bad.{bad_count, bad_length_ok, bads_in, held_of, ascen
 use Rattle.table.specs.declared.Table.{Table}
 use Rattle.table.specs.Table.{zero_drive, header_of, header_at, overlaps_any, refusal, bads_refusal, record_refusal, with_record, record_step, end_step, step_of, step_at, read_from, read_table}
 use Rattle.layout.specs.declared.Packet.{Packet}
-use Rattle.layout.specs.declared.PacketRead.{PacketRead}
-use Rattle.layout.specs.declared.PacketRead.TheVariants.{Whole}
+use Rattle.layout.specs.declared.BadParameter.{BadParameter}
+use Rattle.desk.specs.declared.After.{After}
 use Rattle.layout.specs.Packet.{packet_at, read_packet}
 use Rattle.memory.specs.Window.{guests, span_length, window_of, with_window}
 use Rattle.memory.proofs.Sets.{part-sets-same}
@@ -39,10 +40,8 @@ use Rattle.int13.specs.Alone.{store_block, reported, alone}
 use Rattle.desk.specs.declared.Request.{Request}
 use Rattle.desk.specs.declared.Stage.TheVariants.{Waiting, Finished}
 use Rattle.desk.specs.declared.Desk.{Desk}
-use Rattle.desk.specs.declared.Opening.{Opening}
-use Rattle.desk.specs.declared.OpenAnswer.TheVariants.{Opened}
 use Rattle.desk.specs.Parts.{window_size, stage_at}
-use Rattle.desk.specs.Calls.{opened, open_of, first_waiting, moves_now, stage_after, memory_of, moved_by}
+use Rattle.desk.specs.Calls.{OpenAnswer, opened, open_of, first_waiting, moves_now, stage_after, memory_of, moved_by}
 use Rattle.isolation.specs.Lists.{Call, Out, step, run, after}
 use Rattle.isolation.specs.Words.{NoneOpens, moved}
 use Rattle.isolation.specs.Demand.{found_by, asked_by, first_by, good_by, Same, Claim}
@@ -106,18 +105,18 @@ table =
 abbrev pub d₀ : Desk
 d₀ = opened table arena_length store_length
 
-pub opening : open_of table_bytes arena_length store_length ≡ record { desk = d₀; answer = Opened }
+pub opening : open_of table_bytes arena_length store_length ≡ record { desk = d₀; answer = Ok tt }
 unfolding open_of le le_bytes in_limits drive_of same bus_ok interface_ok geometry_fits fields_ok in_store overlap bad_count bad_length_ok bads_in held_of ascends are_blocks list_ok header_of header_at overlaps_any refusal bads_refusal record_refusal with_record record_step end_step step_of step_at read_from read_table tail_of is_i2o zero_tail kind_ok
 opening = refl
 
 pub inv₀ : Inv d₀
-inv₀ = subst (λ (o : Opening). Inv o.desk) opening (inv_opened table_bytes arena_length store_length (ap (λ (o : Opening). o.answer) opening))
+inv₀ = subst (λ (o : After OpenAnswer). Inv o.desk) opening (inv_opened table_bytes arena_length store_length (ap (λ (o : After OpenAnswer). o.answer) opening))
 
 -- demand 3 of a list of calls at it
 claimed : (calls : List Call) → NoneOpens (run d₀ calls) → Claim table_bytes d₀ M calls
 claimed calls =
-    subst (λ (o : Opening). NoneOpens (run o.desk calls) → Claim table_bytes o.desk M calls) opening
-    (demand table_bytes arena_length store_length calls (ap (λ (o : Opening). o.answer) opening))
+    subst (λ (o : After OpenAnswer). NoneOpens (run o.desk calls) → Claim table_bytes o.desk M calls) opening
+    (demand table_bytes arena_length store_length calls (ap (λ (o : After OpenAnswer). o.answer) opening))
 
 -- ---- the requests
 
@@ -156,17 +155,17 @@ saved_ends = record { ax = 0xCC05; bx = 9; cx = 0x0104; dx = 0x0180; ds = 0x3333
 
 by_packet : (r : Registers) (p : Packet) (at : ℕ) (w : List ℕ) → length w ≡ M → at + 16 ≤ M → packet_at w at ≡ p
     → begin (fed table no_placement) r w ≡ carry_out (packet_read worn (bads_of table 0x80) r (length w) (read_packet w at)) r w
-    → packet_read worn (bads_of table 0x80) r M (Whole p) ≡ Wait (packet_job r p)
+    → packet_read worn (bads_of table 0x80) r M (Ok p) ≡ Wait (packet_job r p)
     → begin (fed table no_placement) r w ≡ unchanged w (Waits (packet_job r p))
 unfolding read_packet
 by_packet r p at w l b e f g =
     f
-    ∙ ap (λ (x : PacketRead). carry_out (packet_read worn (bads_of table 0x80) r (length w) x) r w) whole
-    ∙ ap (λ (n : ℕ). carry_out (packet_read worn (bads_of table 0x80) r n (Whole p)) r w) l
+    ∙ ap (λ (x : Result Packet BadParameter). carry_out (packet_read worn (bads_of table 0x80) r (length w) x) r w) whole
+    ∙ ap (λ (n : ℕ). carry_out (packet_read worn (bads_of table 0x80) r n (Ok p)) r w) l
     ∙ ap (λ (x : Plan). carry_out x r w) g
   where
-    whole : read_packet w at ≡ Whole p
-    whole = rw (l, le-leb (at + 16) M b) (ap Whole e)
+    whole : read_packet w at ≡ Ok p
+    whole = rw (l, le-leb (at + 16) M b) (ap Ok e)
 
 check_save : (w : List ℕ) → length w ≡ M → begin (fed table no_placement) saved w ≡ unchanged w (Waits save_job)
 unfolding begin steps sectors is_drive block_of in_limits is_valid

@@ -8,12 +8,13 @@ use mathlib.Core.Bool.{true, false}
 use mathlib.Core.List.{List, [], ◌∷◌, ◌++◌}
 use native.Mathlib.Omega.{arith}
 use lib.ListN.{length}
+use Rattle.std.specs.Prelude.{Result, Ok}
 use Rattle.logic.proofs.LogicLaws.{impossible}
 use Rattle.words.specs.Words.{le}
 use Rattle.chs.specs.Chs.{in_limits, is_valid, block_of}
 use Rattle.attached.specs.Bad.{held_of, is_bad, good}
 use Rattle.layout.specs.declared.Packet.{Packet}
-use Rattle.layout.specs.declared.PacketRead.{PacketRead}
+use Rattle.layout.specs.declared.BadParameter.{BadParameter}
 use Rattle.layout.specs.Packet.{packet_at}
 use Rattle.memory.specs.Window.{guests, window_of, with_window}
 use Rattle.memory.proofs.WindowLaws.{length-with_window}
@@ -28,7 +29,6 @@ use Rattle.int13.specs.Alone.{alone}
 use Rattle.desk.specs.declared.Request.{Request}
 use Rattle.desk.specs.declared.Stage.TheVariants.{Waiting, Finished}
 use Rattle.desk.specs.declared.Desk.{Desk}
-use Rattle.desk.specs.declared.CollectAnswer.TheVariants.{Given as CollectGiven}
 use Rattle.desk.specs.Calls.{first_waiting, moves_now, stage_after}
 use Rattle.isolation.specs.Lists.{collected, Out, step, run, after}
 use Rattle.isolation.specs.Words.{refused, hands, kind_of, Finishes, collects, placement_in}
@@ -75,7 +75,7 @@ check_write p w l = by_sectors p wrote write_job w l refl refl
 check_spoiled : (p : Placement) (w : List ℕ) → length w ≡ M → packet_at w 24 ≡ packet
     → begin (fed table p) spoiled w ≡ record { outcome = Answered (refuse write_protected spoiled); window = with_count w 24 0 }
 unfolding begin steps packet_plan verify_ok is_drive packet_tests
-check_spoiled p w l e = ap (λ (x : PacketRead). carry_out (packet_read guarded (bads_of table 0x80) spoiled (length w) x) spoiled w) (read-packet w packet l e)
+check_spoiled p w l e = ap (λ (x : Result Packet BadParameter). carry_out (packet_read guarded (bads_of table 0x80) spoiled (length w) x) spoiled w) (read-packet w packet l e)
 
 -- ---- the lines
 
@@ -186,7 +186,7 @@ module _ (a s : List ℕ) (la : length a ≡ arena_length) (ls : length s ≡ st
       ∙ step_line (place_after p₁₀ more) (sized (last ∷ more) (middle story) (at_middle story z₀) tail.0) collect₂ tail.1.0
 
   pub handed : (step (after (step d₀ (posting story)).desk (meanwhile story ++ finishing story ∷ calls_of p₁₀ more)) (call_of (place_after p₁₀ more) collect₂)).answer
-      ≡ collected 2 (CollectGiven (alone (fed table_bytes no_placement) saved (found_by M (posting story) 2)).registers)
+      ≡ collected 2 (Ok (alone (fed table_bytes no_placement) saved (found_by M (posting story) 2)).registers)
   unfolding after run taken
   handed = claim.handed (taken story z₀) (meanwhile story) (calls_of p₁₀ more) [] (finishing story) (call_of (place_after p₁₀ more) collect₂) refl ends no_collect refl
       (λ x. let z : hands 2 (succeed (posted_registers saved)) ≡ refused = sym (ap (λ (o : Out). kind_of o.answer) given) ∙ x in impossible cc)

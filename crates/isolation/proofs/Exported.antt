@@ -2,15 +2,13 @@
 -- Assumes nothing.
 use Prim.Native.Nat.{ℕ}
 use mathlib.Core.Path.{◌≡◌, refl, ap, ap₂, ◌∙◌}
-use mathlib.Core.Bool.{Bool, true, false, not}
+use mathlib.Core.Bool.{Bool, true, false}
 use mathlib.Core.List.{List, [], ◌∷◌}
 use lib.ListN.{length}
 use lib.Dec.{ltb, eqb}
 use borrow.Author.Tests.{eq-eqb, ne_eqb}
-use Rattle.logic.specs.Logic.{pick}
+use Rattle.std.specs.Prelude.{Ok, Err, Some, None}
 use Rattle.logic.proofs.LogicLaws.{pick-cases}
-use Rattle.table.specs.declared.Written.{Written}
-use Rattle.table.specs.declared.Written.TheVariants.{Bytes, Refused as WriteRefused}
 use Rattle.int13.specs.declared.Registers.{Registers}
 use Rattle.int13.specs.declared.Outcome.{Outcome}
 use Rattle.int13.specs.declared.Outcome.TheVariants.{Answered as OutcomeAnswered, Waits as OutcomeWaits}
@@ -18,26 +16,15 @@ use Rattle.memory.specs.Window.{guests, window_of}
 use Rattle.desk.specs.declared.Desk.{Desk}
 use Rattle.desk.specs.declared.Stage.{Stage}
 use Rattle.desk.specs.declared.Stage.TheVariants.{Vacant, Waiting, Finished}
-use Rattle.desk.specs.declared.OpenAnswer.{OpenAnswer}
-use Rattle.desk.specs.declared.OpenAnswer.TheVariants.{Opened, Refused as OpenRefused}
-use Rattle.desk.specs.declared.PostAnswer.{PostAnswer}
-use Rattle.desk.specs.declared.PostAnswer.TheVariants.{Answered, Waits, Refused as PostRefused}
-use Rattle.desk.specs.declared.TurnAnswer.{TurnAnswer}
-use Rattle.desk.specs.declared.TurnAnswer.TheVariants.{Served, Idle, Refused as TurnRefused}
-use Rattle.desk.specs.declared.CollectAnswer.{CollectAnswer}
-use Rattle.desk.specs.declared.CollectAnswer.TheVariants.{Given as CollectGiven, Refused as CollectRefused}
-use Rattle.desk.specs.declared.WithdrawAnswer.{WithdrawAnswer}
-use Rattle.desk.specs.declared.WithdrawAnswer.TheVariants.{Given as WithdrawGiven, Refused as WithdrawRefused}
-use Rattle.desk.specs.declared.PlaceAnswer.{PlaceAnswer}
-use Rattle.desk.specs.declared.PlaceAnswer.TheVariants.{Placed, Refused as PlaceRefused}
 use Rattle.int13.specs.Placement.{table_count}
 use Rattle.int13.specs.Steps.{fed, begin}
 use Rattle.desk.specs.Parts.{window_size, stage_at, placement_at}
 use Rattle.desk.specs.Acceptable.{place_ok, accept}
-use Rattle.desk.specs.Calls.{Done, done, not_acceptable, no_guest, is_lent, post_checked, post_row, collect_stage, withdraw_stage, open_of, written_of, written_out, post_of, turn_of, collect_of, withdraw_of, place_tables, place_stage, place_of}
+use Rattle.desk.specs.Calls.{OpenAnswer, WriteAnswer, PostAnswer, TurnAnswer, CollectAnswer, WithdrawAnswer, PlaceAnswer, Done, done, not_acceptable, house_tests, is_lent, post_checked, post_row, collect_stage, withdraw_stage, open_of, written_of, written_out, post_of, turn_of, collect_of, withdraw_of, place_tables, place_stage, place_of}
 use Rattle.desk.specs.Numbers.{open_numbers, collect_numbers}
 use Rattle.image.specs.Image.{desk_size, desk_of}
 use Rattle.exports.specs.Exports.{effect, over, open_block, open_call, write_call, given, changed, post_block, post_effect, post_call, turn_block, turn_effect, turn_call, collect_block, collect_effect, collect_call, withdraw_block, withdraw_effect, withdraw_call, place_block, place_effect, place_call}
+use Rattle.isolation.proofs.House.{house-any}
 use Rattle.isolation.specs.Lists.{open_table, post, turn, collect, withdraw, write, place, opening, posted, turned, collected, withdrawn, written, placed, opened_desk}
 use Rattle.isolation.specs.Words.{kind_of}
 use Rattle.isolation.specs.DeskBlocks.{OutBlock, block_after, step_block}
@@ -47,39 +34,37 @@ use Rattle.isolation.specs.Exported.{numbers_of, does, Exported}
 
 module _ (b : List ℕ) where
   open-block : (d e : Desk) (x : OpenAnswer) → open_block b e x ≡ block_after b (opened_desk d e x) (kind_of (opening x))
-  open-block d e Opened = refl
-  open-block d e (OpenRefused n at) = refl
+  open-block d e (Ok u) = refl
+  open-block d e (Err x) = refl
 
   post-block : (g : ℕ) (o : Done PostAnswer) (x : PostAnswer) → post_block b o x ≡ block_after b o.desk (kind_of (posted g x))
-  post-block g o (Answered r) = refl
-  post-block g o Waits = refl
-  post-block g o (PostRefused n) = refl
+  post-block g o (Ok (Some r)) = refl
+  post-block g o (Ok None) = refl
+  post-block g o (Err e) = refl
 
   turn-block : (o : Done TurnAnswer) (x : TurnAnswer) → turn_block b o x ≡ block_after b o.desk (kind_of (turned x))
-  turn-block o (Served g n) = refl
-  turn-block o Idle = refl
-  turn-block o (TurnRefused n) = refl
+  turn-block o (Ok (Some s)) = refl
+  turn-block o (Ok None) = refl
+  turn-block o (Err e) = refl
 
   collect-block : (g : ℕ) (o : Done CollectAnswer) (x : CollectAnswer) → collect_block b o x ≡ block_after b o.desk (kind_of (collected g x))
-  collect-block g o (CollectGiven r) = refl
-  collect-block g o (CollectRefused n) = refl
+  collect-block g o (Ok r) = refl
+  collect-block g o (Err e) = refl
 
   withdraw-block : (g : ℕ) (o : Done WithdrawAnswer) (x : WithdrawAnswer) → withdraw_block b o x ≡ block_after b o.desk (kind_of (withdrawn g x))
-  withdraw-block g o (WithdrawGiven r) = refl
-  withdraw-block g o (WithdrawRefused n) = refl
+  withdraw-block g o (Ok r) = refl
+  withdraw-block g o (Err e) = refl
 
   place-block : (g address : ℕ) (o : Done PlaceAnswer) (x : PlaceAnswer) → place_block b o x ≡ block_after b o.desk (kind_of (placed g address x))
-  place-block g address o Placed = refl
-  place-block g address o (PlaceRefused n) = refl
+  place-block g address o (Ok u) = refl
+  place-block g address o (Err e) = refl
 
 -- ---- what each call leaves as it was
 
 post-store : (d : Desk) (g : ℕ) (r : Registers) (arena store : List ℕ) → (post_of d g r arena store).store ≡ store
 unfolding post_of
 post-store d g r arena store =
-    pick-cases P (not (accept d)) _ _ (λ e. refl)
-    (λ e. pick-cases P (not (is_lent d arena store)) _ _ (λ e. refl)
-    (λ e. pick-cases P (not (ltb g guests)) _ _ (λ e. refl) (λ e. row (stage_at d g))))
+    house-any P (λ e. done d (Err e) arena store) _ (accept d) (is_lent d arena store) (ltb g guests) (λ e. refl) (row (stage_at d g))
   where
     P : Done PostAnswer → Type 0
     P o = o.store ≡ store
@@ -98,9 +83,7 @@ post-store d g r arena store =
 withdraw-store : (d : Desk) (g : ℕ) (arena store : List ℕ) → (withdraw_of d g arena store).store ≡ store
 unfolding withdraw_of
 withdraw-store d g arena store =
-    pick-cases P (not (accept d)) _ _ (λ e. refl)
-    (λ e. pick-cases P (not (is_lent d arena store)) _ _ (λ e. refl)
-    (λ e. pick-cases P (not (ltb g guests)) _ _ (λ e. refl) (λ e. row (stage_at d g))))
+    house-any P (λ e. done d (Err e) arena store) _ (accept d) (is_lent d arena store) (ltb g guests) (λ e. refl) (row (stage_at d g))
   where
     P : Done WithdrawAnswer → Type 0
     P o = o.store ≡ store
@@ -113,9 +96,7 @@ withdraw-store d g arena store =
 place-store : (d : Desk) (g address : ℕ) (arena store : List ℕ) → (place_of d g address arena store).store ≡ store
 unfolding place_of
 place-store d g address arena store =
-    pick-cases P (not (accept d)) _ _ (λ e. refl)
-    (λ e. pick-cases P (not (is_lent d arena store)) _ _ (λ e. refl)
-    (λ e. pick-cases P (not (ltb g guests)) _ _ (λ e. refl) (λ e. row (stage_at d g))))
+    house-any P (λ e. done d (Err e) arena store) _ (accept d) (is_lent d arena store) (ltb g guests) (λ e. refl) (row (stage_at d g))
   where
     P : Done PlaceAnswer → Type 0
     P o = o.store ≡ store
@@ -131,7 +112,7 @@ place-store d g address arena store =
 collect-memory : (d : Desk) (g : ℕ) (arena store : List ℕ) → ((collect_of d g arena store).arena ≡ arena) × ((collect_of d g arena store).store ≡ store)
 unfolding collect_of
 collect-memory d g arena store =
-    pick-cases P (not (accept d)) _ _ (λ e. (refl, refl)) (λ e. pick-cases P (not (ltb g guests)) _ _ (λ e. (refl, refl)) (λ e. row (stage_at d g)))
+    house-any P (λ e. done d (Err e) arena store) _ (accept d) true (ltb g guests) (λ e. (refl, refl)) (row (stage_at d g))
   where
     P : Done CollectAnswer → Type 0
     P o = (o.arena ≡ arena) × (o.store ≡ store)
@@ -148,18 +129,18 @@ pub record Alike (x y : Done CollectAnswer) : Type 0 where
 
 -- by the two tests and the stage
 abbrev collect_by : Desk → ℕ → Bool → Bool → Stage → List ℕ → List ℕ → Done CollectAnswer
-collect_by d g p q x a s = pick p (done d (CollectRefused not_acceptable) a s) (pick q (done d (CollectRefused no_guest) a s) (collect_stage d g x a s))
+collect_by d g p q x a s = house_tests p true q (λ e. done d (Err e) a s) (collect_stage d g x a s)
 
 collect_alike : (d : Desk) (g : ℕ) (a s a' s' : List ℕ) → Alike (collect_of d g a s) (collect_of d g a' s')
 unfolding collect_of
-collect_alike d g a s a' s' = go (not (accept d)) (not (ltb g guests)) (stage_at d g)
+collect_alike d g a s a' s' = go (accept d) (ltb g guests) (stage_at d g)
   where
     go : (p q : Bool) (x : Stage) → Alike (collect_by d g p q x a s) (collect_by d g p q x a' s')
-    go true q x = record { desk = refl; answer = refl }
-    go false true x = record { desk = refl; answer = refl }
-    go false false Vacant = record { desk = refl; answer = refl }
-    go false false (Waiting y) = record { desk = refl; answer = refl }
-    go false false (Finished y) = record { desk = refl; answer = refl }
+    go false q x = record { desk = refl; answer = refl }
+    go true false x = record { desk = refl; answer = refl }
+    go true true Vacant = record { desk = refl; answer = refl }
+    go true true (Waiting y) = record { desk = refl; answer = refl }
+    go true true (Finished y) = record { desk = refl; answer = refl }
 
 module _ (b arena store : List ℕ) where
   at_open : (t : List ℕ) (a s at : ℕ) → length b ≡ desk_size
@@ -226,9 +207,9 @@ module _ (b arena store : List ℕ) where
   unfolding step_block
   write-block out = go (written_of (desk_of b) (length out))
     where
-      go : (x : Written) → block_after b (desk_of b) (kind_of (written x (written_out (desk_of b) out))) ≡ b
-      go (Bytes n) = refl
-      go (WriteRefused n) = refl
+      go : (x : WriteAnswer) → block_after b (desk_of b) (kind_of (written x (written_out (desk_of b) out))) ≡ b
+      go (Ok n) = refl
+      go (Err e) = refl
 
   pub exported : Exported b arena store
   unfolding write_call step_block

@@ -5,15 +5,14 @@ use mathlib.Core.Path.{◌≡◌, refl, sym, ap, subst, ◌∙◌}
 use mathlib.Core.List.{List, [], ◌∷◌}
 use native.Mathlib.Omega.{arith}
 use native.Mathlib.Decide.{ℕ_discrete}
+use Rattle.std.specs.Prelude.{Ok, Err}
 use Rattle.logic.proofs.LogicLaws.{impossible}
 use Rattle.int13.specs.declared.Registers.{Registers}
 use Rattle.desk.specs.declared.Request.{Request}
 use Rattle.desk.specs.declared.Stage.TheVariants.{Vacant, Waiting, Finished}
 use Rattle.desk.specs.declared.Desk.{Desk}
-use Rattle.desk.specs.declared.CollectAnswer.{CollectAnswer}
-use Rattle.desk.specs.declared.CollectAnswer.TheVariants.{Given, Refused as CollectRefused}
 use Rattle.desk.specs.Parts.{stage_at}
-use Rattle.desk.specs.Calls.{stage_after, collect_of}
+use Rattle.desk.specs.Calls.{CollectAnswer, stage_after, collect_of}
 use Rattle.isolation.specs.Lists.{Op, collect, Call, collected, Out, step_of, step, run, after}
 use Rattle.isolation.specs.Words.{Marks, refused, opens, kind_of, NoneOpens, collect_in, collects}
 use Rattle.isolation.proofs.Endings.{now}
@@ -27,7 +26,7 @@ use Rattle.isolation.proofs.Equal.{request}
 
 data Holds (g : ℕ) (x : Registers) (o : Out) : Type 0 where
   keeps : stage_at o.desk g ≡ Finished x → collect_in g (kind_of o.answer) ≡ 0 → Holds g x o
-  given : o.answer ≡ collected g (Given x) → collect_in g (kind_of o.answer) ≡ 1 → Holds g x o
+  given : o.answer ≡ collected g (Ok x) → collect_in g (kind_of o.answer) ≡ 1 → Holds g x o
 
 vacant≢finished : {x : Registers} → Vacant ≡ Finished x → ⊥
 vacant≢finished e = impossible cc
@@ -74,13 +73,13 @@ collect_one d c g t =
     (by_answer (collect_of d g c.arena c.store).answer)
   where
     by_answer : (x : CollectAnswer) → (kind_of (collected g x) ≡ refused → ⊥) → collect_in g (kind_of (collected g x)) ≡ 1
-    by_answer (Given r) n = same-guest g 1
-    by_answer (CollectRefused k) n = absurd (n refl)
+    by_answer (Ok r) n = same-guest g 1
+    by_answer (Err e) n = absurd (n refl)
 
 pub handed-over : (d : Desk) → Inv d → (c : Call) (g : ℕ) (x : Registers) → (kind_of (step d c).answer ≡ opens → ⊥) → stage_at d g ≡ Finished x
-    → c.op ≡ collect g → (kind_of (step d c).answer ≡ refused → ⊥) → (step d c).answer ≡ collected g (Given x)
+    → c.op ≡ collect g → (kind_of (step d c).answer ≡ refused → ⊥) → (step d c).answer ≡ collected g (Ok x)
 handed-over d inv c g x n e t u = go (holds d inv c g x e (step d c) (view d inv c n)) (collect_one d c g t u)
   where
-    go : Holds g x (step d c) → collect_in g (kind_of (step d c).answer) ≡ 1 → (step d c).answer ≡ collected g (Given x)
+    go : Holds g x (step d c) → collect_in g (kind_of (step d c).answer) ≡ 1 → (step d c).answer ≡ collected g (Ok x)
     go (keeps r k) z = absurd (omega arith)
     go (given r k) z = r

@@ -10,6 +10,7 @@ use lib.ListN.{length, get_or, set, replicate, length-set, length-take, get_or-r
 use lib.Seq.{sets, get_or-set_same, get_or-set_other, length-sets}
 use lib.Dec.{leb, ltb, eqb}
 use borrow.Author.Tests.{leb-true, ltb-true, eqb-true}
+use Rattle.std.specs.Prelude.{Ok, Err, Some, None}
 use Rattle.logic.specs.Logic.{pick}
 use Rattle.logic.proofs.LogicLaws.{both_true, pick-cases, impossible}
 use Rattle.words.specs.Words.{Bytes, le, part}
@@ -34,20 +35,12 @@ use Rattle.desk.specs.declared.Request.{Request}
 use Rattle.desk.specs.declared.Stage.{Stage}
 use Rattle.desk.specs.declared.Stage.TheVariants.{Vacant, Waiting}
 use Rattle.desk.specs.declared.Desk.{Desk}
-use Rattle.desk.specs.declared.OpenAnswer.{OpenAnswer}
-use Rattle.desk.specs.declared.OpenAnswer.TheVariants.{Opened, Refused as OpenRefused}
-use Rattle.desk.specs.declared.PostAnswer.TheVariants.{Answered as PostAnswered, Waits as PostWaits, Refused as PostRefused}
-use Rattle.desk.specs.declared.TurnAnswer.TheVariants.{Served, Idle, Refused as TurnRefused}
-use Rattle.desk.specs.declared.CollectAnswer.TheVariants.{Given as CollectGiven, Refused as CollectRefused}
-use Rattle.desk.specs.declared.WithdrawAnswer.TheVariants.{Given as WithdrawGiven, Refused as WithdrawRefused}
-use Rattle.desk.specs.declared.PlaceAnswer.TheVariants.{Placed, Refused as PlaceRefused}
-use Rattle.table.specs.declared.Written.TheVariants.{Bytes as WrittenBytes, Refused as WriteRefused}
 use Rattle.desk.specs.Parts.{window_size, stage_at, with_stage, with_pointer, next, with_placement}
 use Rattle.desk.specs.Acceptable.{packet_ok, stage_ok}
-use Rattle.desk.specs.Calls.{open_of, later, goes_on, stage_after}
+use Rattle.desk.specs.Calls.{OpenAnswer, open_of, later, goes_on, stage_after}
 use Rattle.desk.proofs.AcceptableLaws.{waits_facts}
 use Rattle.image.specs.Image.{FitsRegisters, FitsRequest, FitsStage, FitsDrive, FitsTable, FitsDesk}
-use Rattle.isolation.specs.Lists.{Op, open_table, post, turn, collect, withdraw, write, place, Call, Answer, opening, posted as posted_to, turned, collected, withdrawn, written, placed, Out, opened_desk, step_of, step}
+use Rattle.isolation.specs.Lists.{Op, open_table, post, turn, collect, withdraw, write, place, Call, Answer, opening, unopened, posted as posted_to, turned, collected, withdrawn, written, placed, Out, opened_desk, step_of, step}
 use Rattle.isolation.specs.Words.{opens, kind_of}
 use Rattle.isolation.specs.DeskBlocks.{FitsOp}
 use Rattle.isolation.proofs.Endings.{now}
@@ -216,7 +209,7 @@ fits_read t store y = fits_from most_records t store 0 empty_table y fits_empty
 
 -- ---- an opening that passed
 
-pub fits-opened : (t : List ℕ) (arena store : ℕ) → Bytes t → arena < 256 ^ 8 → store < 256 ^ 8 → (open_of t arena store).answer ≡ Opened → FitsDesk (open_of t arena store).desk
+pub fits-opened : (t : List ℕ) (arena store : ℕ) → Bytes t → arena < 256 ^ 8 → store < 256 ^ 8 → (open_of t arena store).answer ≡ Ok tt → FitsDesk (open_of t arena store).desk
 unfolding FitsStage
 fits-opened t arena store y a s e =
     subst FitsDesk (sym (opened-desk t arena store e))
@@ -357,30 +350,31 @@ fits_did d c o inv f t (withdrawing g q e b l v) i = fits-set d g Vacant d.point
 fits_did d c o inv f t (placing g address e b l v k) i = fits-place d g address f (subst FitsOp e t)
 
 -- an answer is that of an opening that passed, or none such
-pub by_opening : {A : Type 0} (x : Answer) → (x ≡ opening Opened → A) → ((kind_of x ≡ opens → ⊥) → A) → A
-by_opening (opening Opened) f g = f refl
-by_opening (opening (OpenRefused n at)) f g = g (λ e. impossible cc)
-by_opening (posted_to h (PostAnswered r)) f g = g (λ e. impossible cc)
-by_opening (posted_to h PostWaits) f g = g (λ e. impossible cc)
-by_opening (posted_to h (PostRefused n)) f g = g (λ e. impossible cc)
-by_opening (turned (Served h k)) f g = g (λ e. impossible cc)
-by_opening (turned Idle) f g = g (λ e. impossible cc)
-by_opening (turned (TurnRefused n)) f g = g (λ e. impossible cc)
-by_opening (collected h (CollectGiven r)) f g = g (λ e. impossible cc)
-by_opening (collected h (CollectRefused n)) f g = g (λ e. impossible cc)
-by_opening (withdrawn h (WithdrawGiven r)) f g = g (λ e. impossible cc)
-by_opening (withdrawn h (WithdrawRefused n)) f g = g (λ e. impossible cc)
-by_opening (written (WrittenBytes n) out) f g = g (λ e. impossible cc)
-by_opening (written (WriteRefused n) out) f g = g (λ e. impossible cc)
-by_opening (placed h address Placed) f g = g (λ e. impossible cc)
-by_opening (placed h address (PlaceRefused n)) f g = g (λ e. impossible cc)
+pub by_opening : {A : Type 0} (x : Answer) → (x ≡ opening (Ok tt) → A) → ((kind_of x ≡ opens → ⊥) → A) → A
+by_opening (opening (Ok u)) f g = f refl
+by_opening (opening (Err x)) f g = g (λ e. impossible cc)
+by_opening unopened f g = g (λ e. impossible cc)
+by_opening (posted_to h (Ok (Some r))) f g = g (λ e. impossible cc)
+by_opening (posted_to h (Ok None)) f g = g (λ e. impossible cc)
+by_opening (posted_to h (Err n)) f g = g (λ e. impossible cc)
+by_opening (turned (Ok (Some s))) f g = g (λ e. impossible cc)
+by_opening (turned (Ok None)) f g = g (λ e. impossible cc)
+by_opening (turned (Err n)) f g = g (λ e. impossible cc)
+by_opening (collected h (Ok r)) f g = g (λ e. impossible cc)
+by_opening (collected h (Err n)) f g = g (λ e. impossible cc)
+by_opening (withdrawn h (Ok r)) f g = g (λ e. impossible cc)
+by_opening (withdrawn h (Err n)) f g = g (λ e. impossible cc)
+by_opening (written (Ok n) out) f g = g (λ e. impossible cc)
+by_opening (written (Err n) out) f g = g (λ e. impossible cc)
+by_opening (placed h address (Ok u)) f g = g (λ e. impossible cc)
+by_opening (placed h address (Err n)) f g = g (λ e. impossible cc)
 
 -- a call that is answered as an opening that passed leaves the desk of that opening
 pub opening_case : (P : Desk → Type 0) (d : Desk) (o : Op) (arena store : List ℕ)
-    → ((t : List ℕ) (a s : ℕ) → o ≡ open_table t a s → (open_of t a s).answer ≡ Opened → P (open_of t a s).desk)
-    → (step_of d o arena store).answer ≡ opening Opened → P (step_of d o arena store).desk
+    → ((t : List ℕ) (a s : ℕ) → o ≡ open_table t a s → (open_of t a s).answer ≡ Ok tt → P (open_of t a s).desk)
+    → (step_of d o arena store).answer ≡ opening (Ok tt) → P (step_of d o arena store).desk
 opening_case P d (open_table t a s) arena store f e =
-    let x : (open_of t a s).answer ≡ Opened = cc in
+    let x : (open_of t a s).answer ≡ Ok tt = cc in
     subst (λ (y : OpenAnswer). P (opened_desk d (open_of t a s).desk y)) (sym x) (f t a s refl x)
 opening_case P d (post g r) arena store f e = impossible cc
 opening_case P d turn arena store f e = impossible cc

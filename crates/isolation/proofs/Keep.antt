@@ -11,6 +11,7 @@ use borrow.Author.Tests.{lt-ltb, eq-eqb, ne_eqb}
 use lib.Dec.{ltb, eqb}
 use lib.ListN.{length, length-set, get_or-eq_default}
 use lib.Seq.{get_or-set_same, get_or-set_other, length-sets}
+use Rattle.std.specs.Prelude.{Ok}
 use Rattle.words.specs.Words.{le_bytes}
 use Rattle.memory.specs.Window.{guests, window_of, span_length}
 use Rattle.memory.specs.Blocks.{block_length}
@@ -28,7 +29,6 @@ use Rattle.desk.specs.declared.Stage.{Stage}
 use Rattle.desk.specs.declared.Stage.TheVariants.{Vacant, Waiting}
 use Rattle.desk.specs.declared.Row.{Row}
 use Rattle.desk.specs.declared.Desk.{Desk}
-use Rattle.desk.specs.declared.OpenAnswer.TheVariants.{Opened}
 use Rattle.desk.specs.Parts.{window_size, vacant_row, stage_at, is_waiting, with_stage, with_pointer, next, placement_at, with_placement}
 use Rattle.desk.specs.Acceptable.{turn_blocks, job_ok, stage_ok, place_ok}
 use Rattle.desk.specs.Calls.{open_of, quota, later, goes_on, stage_after, beside, memory_of, moved_by, withdrawn_window, tables_in}
@@ -151,7 +151,7 @@ pub clean_row : (d : Desk) (g : ℕ) (q : Request) → Cleans d → stage_at d g
 clean_row d g q cl e = subst (CleanStage d.table) e (cl g)
 
 -- so it is after an opening
-pub cleans_opened : (t : List ℕ) (arena store : ℕ) → (open_of t arena store).answer ≡ Opened → Cleans (open_of t arena store).desk
+pub cleans_opened : (t : List ℕ) (arena store : ℕ) → (open_of t arena store).answer ≡ Ok tt → Cleans (open_of t arena store).desk
 cleans_opened t arena store e =
     subst Cleans (sym (opened-desk t arena store e)) (λ g. subst (CleanStage (read_table t (store / block_length)).table) (sym (all-vacant g)) tt)
 

@@ -1,3 +1,4 @@
+pub mod House
 pub mod Turn
 pub mod Moves
 pub mod Check

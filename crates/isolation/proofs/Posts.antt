@@ -4,6 +4,7 @@ use Prim.Native.Nat.{ℕ, ◌/◌, ◌<◌}
 use mathlib.Core.Path.{◌≡◌, refl, sym, ap, ap₂, ◌∙◌}
 use mathlib.Core.List.{List}
 use native.Mathlib.Omega.{arith}
+use Rattle.std.specs.Prelude.{Ok, Some, None}
 use Rattle.logic.proofs.LogicLaws.{impossible}
 use Rattle.memory.specs.Window.{guests}
 use Rattle.memory.specs.Blocks.{block_length}
@@ -19,7 +20,6 @@ use Rattle.int13.specs.Steps.{fed, begin}
 use Rattle.int13.specs.Alone.{Memory, Served, finish, served_by, alone}
 use Rattle.desk.specs.declared.Stage.TheVariants.{Waiting}
 use Rattle.desk.specs.declared.Desk.{Desk}
-use Rattle.desk.specs.declared.PostAnswer.TheVariants.{Answered as PostAnswered, Waits as PostWaits}
 use Rattle.desk.specs.Parts.{window_size, stage_at, placement_at}
 use Rattle.isolation.specs.Lists.{post, Call, posted, Out}
 use Rattle.isolation.specs.Words.{Kind, answers, accepts, kind_of, house_number}
@@ -58,7 +58,7 @@ same-post-guest e = cc
 pub same-post-registers : {g h : ℕ} {r r' : Registers} → post g r ≡ post h r' → r ≡ r'
 same-post-registers e = cc
 
-pub took : (d : Desk) (c : Call) (g : ℕ) (r : Registers) (o : Out) → Inv d → c.op ≡ post g r → o.answer ≡ posted g PostWaits → Did d c o → Took d c g r o
+pub took : (d : Desk) (c : Call) (g : ℕ) (r : Registers) (o : Out) → Inv d → c.op ≡ post g r → o.answer ≡ posted g (Ok None) → Did d c o → Took d c g r o
 took d c g r o inv p a (same x k n) = absurd (quiet_accepts k (ap kind_of a))
 took d c g r o inv p a (idle e f) = impossible cc
 took d c g r o inv p a (answer h r₁ x w e b l v ko kw k) = impossible cc
@@ -87,10 +87,10 @@ quiet_answers : {k : Kind} {g : ℕ} → Quiet k → k ≡ answers g → ⊥
 quiet_answers refusing e = impossible cc
 quiet_answers writing e = impossible cc
 
-same-answer-guest : {g h : ℕ} {x y : Registers} → posted g (PostAnswered x) ≡ posted h (PostAnswered y) → g ≡ h
+same-answer-guest : {g h : ℕ} {x y : Registers} → posted g (Ok (Some x)) ≡ posted h (Ok (Some y)) → g ≡ h
 same-answer-guest e = cc
 
-same_answer : {g h : ℕ} {x y : Registers} → posted g (PostAnswered x) ≡ posted h (PostAnswered y) → x ≡ y
+same_answer : {g h : ℕ} {x y : Registers} → posted g (Ok (Some x)) ≡ posted h (Ok (Some y)) → x ≡ y
 same_answer e = cc
 
 answered_alone : (t : List ℕ) (p : Placement) (d : Desk) (c : Call) (g : ℕ) (r x : Registers) (w : List ℕ) → Lent d c
@@ -107,7 +107,7 @@ answered_alone t p d c g r x w l f ko kw =
 
 pub at-once : (t : List ℕ) (p : Placement) (d : Desk) (c : Call) (g : ℕ) (r x : Registers) (o : Out)
     → Feeds d g t p
-    → c.op ≡ post g r → o.answer ≡ posted g (PostAnswered x) → Did d c o → SameAtOnce (window_size d) g o x (alone (fed t p) r (memory (window_in d c g) c.store))
+    → c.op ≡ post g r → o.answer ≡ posted g (Ok (Some x)) → Did d c o → SameAtOnce (window_size d) g o x (alone (fed t p) r (memory (window_in d c g) c.store))
 at-once t p d c g r x o f q a (same y k n) = absurd (quiet_answers k (ap kind_of a))
 at-once t p d c g r x o f q a (idle e i) = impossible cc
 at-once t p d c g r x o f q a (answer h r' y w e b l v ko kw k) =

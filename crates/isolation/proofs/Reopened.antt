@@ -14,7 +14,7 @@ use Rattle.table.specs.Demand2.{Widths}
 use Rattle.table.proofs.ReadWrite.{read-written}
 use Rattle.desk.specs.declared.Desk.{Desk}
 use Rattle.desk.specs.Parts.{store_blocks}
-use Rattle.desk.specs.Calls.{open_desk, open_answer, open_of, written_of, written_out}
+use Rattle.desk.specs.Calls.{open_desk, open_of, written_of, written_out}
 use Rattle.image.specs.Image.{desk_of, FitsDesk}
 use Rattle.image.proofs.ImageLaws.{exact}
 use Rattle.isolation.specs.Reopened.{ReopenedAll}
@@ -42,5 +42,5 @@ reopened b h e =
         rw (i.acceptable, le-ltb (length out) (length (table_of (desk_of b).table)) l),
       );
       again = λ arena.
-          ap (λ (x : Reading). record { desk = open_desk x.answer x.table arena (desk_of b).store; answer = open_answer x.answer }) r;
+          ap (λ (x : Reading). record { desk = open_desk x.answer x.table arena (desk_of b).store; answer = x.answer }) r;
     }

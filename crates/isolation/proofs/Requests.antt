@@ -7,6 +7,7 @@ use mathlib.Core.List.{List, [], ◌∷◌, ◌++◌}
 use native.Mathlib.Omega.{arith}
 use native.Mathlib.Nat.{zero-add}
 use lib.ListN.{length}
+use Rattle.std.specs.Prelude.{Ok}
 use Rattle.logic.proofs.LogicLaws.{lt_or_le}
 use Rattle.words.specs.Words.{part}
 use Rattle.memory.specs.Window.{window_length, window_of}
@@ -23,7 +24,6 @@ use Rattle.int13.specs.Steps.{fed, begin}
 use Rattle.int13.specs.Alone.{Memory, Served, store_block, moves, ended_memory, finish, served_by, alone}
 use Rattle.desk.specs.declared.Stage.TheVariants.{Finished}
 use Rattle.desk.specs.declared.Desk.{Desk}
-use Rattle.desk.specs.declared.CollectAnswer.TheVariants.{Given}
 use Rattle.desk.specs.Parts.{window_size, stage_at, placement_at}
 use Rattle.desk.specs.Acceptable.{job_ok, turn_blocks}
 use Rattle.desk.specs.Calls.{quota}
@@ -300,7 +300,7 @@ module _ (d : Desk) (inv : Inv d) (cl : Cleans d) (c : Call) (g : ℕ) (r : Regi
       → collects g (run (step (after d₁ mid) last).desk after₁) ≡ 0
       → x.op ≡ collect g
       → (kind_of (step (after (step (after d₁ mid) last).desk after₁) x).answer ≡ refused → ⊥)
-      → (step (after (step (after d₁ mid) last).desk after₁) x).answer ≡ collected g (Given (alone (fed t p) r found).registers)
+      → (step (after (step (after d₁ mid) last).desk after₁) x).answer ≡ collected g (Ok (alone (fed t p) r found).registers)
   handed' t p te mid after₁ last x no_open f z op u =
       let d₂ : Desk = (step (after d₁ mid) last).desk in
       let o₁ : NoneOpens (run d₁ mid) = opens_front mid (last ∷ (after₁ ++ x ∷ [])) d₁ no_open in
@@ -311,4 +311,4 @@ module _ (d : Desk) (inv : Inv d) (cl : Cleans d) (c : Call) (g : ℕ) (r : Regi
       let e : stage_at (after d₂ after₁) g ≡ Finished at_end
       = still_finished after₁ d₂ inv₂ o₃ g at_end (finished mid last (opens_upto mid (after₁ ++ x ∷ []) last d₁ no_open) f).row z in
       handed-over (after d₂ after₁) (reached after₁ d₂ inv₂ o₃).inv x g at_end o₄.0 e op u
-      ∙ ap (λ (s : Served). collected g (Given s.registers)) (sym (alone-is t p te))
+      ∙ ap (λ (s : Served). collected g (Ok s.registers)) (sym (alone-is t p te))

@@ -6,13 +6,14 @@ use mathlib.Core.Bool.{true, not}
 use mathlib.Core.List.{List}
 use lib.ListN.{length, drop}
 use lib.Dec.{leb, ltb, eqb}
+use Rattle.std.specs.Prelude.{Result, Ok, Err, Option, Some, None}
 use Rattle.logic.specs.Logic.{both, either}
 use Rattle.logic.proofs.LogicLaws.{pick-cases}
 use Rattle.words.specs.Words.{le}
 use Rattle.memory.specs.Window.{guests}
 use Rattle.memory.specs.Blocks.{block_length}
-use Rattle.chs.specs.declared.ToBlock.{ToBlock}
-use Rattle.chs.specs.declared.ToBlock.TheVariants.{Block, Refused as NoBlock}
+use Rattle.chs.specs.declared.Outside.{Outside}
+use Rattle.layout.specs.declared.BadParameter.{BadParameter}
 use Rattle.chs.specs.Chs.{size, block_of, address_in}
 use Rattle.drive.specs.declared.Drive.{Drive}
 use Rattle.drive.specs.Drive.{geometry_of, is_protected}
@@ -20,15 +21,10 @@ use Rattle.attached.specs.declared.Bads.{Bads}
 use Rattle.attached.specs.Bad.{good}
 use Rattle.table.specs.declared.Table.{Table}
 use Rattle.layout.specs.declared.Packet.{Packet}
-use Rattle.layout.specs.declared.PacketRead.{PacketRead}
-use Rattle.layout.specs.declared.PacketRead.TheVariants.{Whole, Refused as NoPacket}
-use Rattle.layout.specs.declared.ResultAnswer.{ResultAnswer}
-use Rattle.layout.specs.declared.ResultAnswer.TheVariants.{Written, Refused as NoResult}
 use Rattle.layout.specs.Packet.{packet_length, read_packet}
 use Rattle.layout.specs.ResultBuffer.{result_answer}
 use Rattle.int13.specs.declared.Registers.{Registers}
 use Rattle.int13.specs.declared.Placement.{Placement}
-use Rattle.int13.specs.declared.Shown.{Shown}
 use Rattle.int13.specs.declared.Outcome.{Outcome}
 use Rattle.int13.specs.declared.Plan.{Plan}
 use Rattle.int13.specs.declared.Plan.TheVariants.{Refuse, Clear, Finish, Wait}
@@ -37,8 +33,6 @@ use Rattle.int13.specs.Steps.{Checked, most_run, most_blocks, is_drive, drive_na
 use Rattle.desk.specs.declared.Request.{Request}
 use Rattle.desk.specs.declared.Stage.TheVariants.{Waiting}
 use Rattle.desk.specs.declared.Desk.{Desk}
-use Rattle.desk.specs.declared.Next.{Next}
-use Rattle.desk.specs.declared.Next.TheVariants.{Guest, Nobody}
 use Rattle.desk.specs.Parts.{stage_at}
 use Rattle.desk.specs.Acceptable.{accept}
 use Rattle.desk.specs.Calls.{is_lent, first_waiting as seek_row, moves_now, bads_for, serve_stage, turn_next, turn_of}
@@ -55,9 +49,9 @@ module _ (b : Table) (r : Registers) (w : List ℕ) where
   abbrev KeepsChecked : Checked → Type 0
   KeepsChecked k = Keeps k.outcome
 
-  run : (d : Drive) (M : ℕ) (x : ToBlock) → Keeps (sector_run d r M x)
-  run d M (NoBlock code) = record { ds = refl; si = refl; es = refl }
-  run d M (Block n) =
+  run : (d : Drive) (M : ℕ) (x : Result ℕ Outside) → Keeps (sector_run d r M x)
+  run d M (Err e) = record { ds = refl; si = refl; es = refl }
+  run d M (Ok n) =
       pick-cases Keeps (ltb (size (geometry_of d)) (n + al r)) _ _ (λ e. record { ds = refl; si = refl; es = refl })
       (λ e. pick-cases Keeps (ltb M (sector_buffer r + block_length * al r)) _ _ (λ e. record { ds = refl; si = refl; es = refl }) (λ e. record { ds = refl; si = refl; es = refl }))
 
@@ -74,7 +68,7 @@ module _ (b : Table) (r : Registers) (w : List ℕ) where
   unfolding parameters
   by_parameters = pick-cases Keeps (is_drive b (dl r)) _ _ (λ e. record { ds = refl; si = refl; es = refl }) (λ e. record { ds = refl; si = refl; es = refl })
 
-  by_extensions : (s : Shown) → Keeps (extensions (is_drive b (dl r)) s r)
+  by_extensions : (s : Option ℕ) → Keeps (extensions (is_drive b (dl r)) s r)
   unfolding extensions
   by_extensions s = pick-cases Keeps (both (is_drive b (dl r)) (eqb r.bx 0x55AA)) _ _ (λ e. record { ds = refl; si = refl; es = refl }) (λ e. record { ds = refl; si = refl; es = refl })
 
@@ -95,9 +89,9 @@ module _ (b : Table) (r : Registers) (w : List ℕ) where
       (λ e. pick-cases Plans (ltb M (p.buffer + block_length * p.count)) _ _ (λ e. tt)
       (λ e. pick-cases Plans (eqb p.count 0) _ _ (λ e. tt) (λ e. record { ds = refl; si = refl; es = refl }))))))
 
-  read : (d : Drive) (l : Bads) (M : ℕ) (x : PacketRead) → Plans (packet_read d l r M x)
-  read d l M (NoPacket code) = tt
-  read d l M (Whole p) = pick-cases Plans (ltb p.size packet_length) _ _ (λ e. tt) (λ e. tests d l M p)
+  read : (d : Drive) (l : Bads) (M : ℕ) (x : Result Packet BadParameter) → Plans (packet_read d l r M x)
+  read d l M (Err e) = tt
+  read d l M (Ok p) = pick-cases Plans (ltb p.size packet_length) _ _ (λ e. tt) (λ e. tests d l M p)
 
   by_plan : Plans (packet_plan (is_drive b (dl r)) (drive_named b r) (bads_of b (dl r)) r w)
   unfolding packet_plan
@@ -115,22 +109,22 @@ module _ (b : Table) (r : Registers) (w : List ℕ) where
   unfolding seek
   by_seek = pick-cases Keeps (not (is_drive b (dl r))) _ _ (λ e. record { ds = refl; si = refl; es = refl }) (λ e. go (read_packet w (packet_place r)))
     where
-      go : (x : PacketRead) → Keeps (seek_read (drive_named b r) r x)
-      go (NoPacket code) = record { ds = refl; si = refl; es = refl }
-      go (Whole p) =
+      go : (x : Result Packet BadParameter) → Keeps (seek_read (drive_named b r) r x)
+      go (Err e) = record { ds = refl; si = refl; es = refl }
+      go (Ok p) =
           pick-cases Keeps (ltb p.size packet_length) _ _ (λ e. record { ds = refl; si = refl; es = refl })
           (λ e. pick-cases Keeps (leb (drive_named b r).blocks p.start) _ _ (λ e. record { ds = refl; si = refl; es = refl }) (λ e. record { ds = refl; si = refl; es = refl }))
 
-  by_result : (s : Shown) → KeepsChecked (result_into (is_drive b (dl r)) (drive_named b r) s r w)
+  by_result : (s : Option ℕ) → KeepsChecked (result_into (is_drive b (dl r)) (drive_named b r) s r w)
   unfolding result_into
   by_result s =
       pick-cases KeepsChecked (not (is_drive b (dl r))) _ _ (λ e. record { ds = refl; si = refl; es = refl })
       (λ e. pick-cases KeepsChecked (ltb (length w) (packet_place r + 2)) _ _ (λ e. record { ds = refl; si = refl; es = refl })
       (λ e. go (result_answer (drive_named b r) (le 2 w (packet_place r)) (length (drop (packet_place r) w)))))
     where
-      go : (x : ResultAnswer) → Keeps (result_given x r)
-      go (NoResult code) = record { ds = refl; si = refl; es = refl }
-      go (Written n) = record { ds = refl; si = refl; es = refl }
+      go : (x : Result ℕ BadParameter) → Keeps (result_given x r)
+      go (Err e) = record { ds = refl; si = refl; es = refl }
+      go (Ok n) = record { ds = refl; si = refl; es = refl }
 
   by_function : (p : Placement) → KeepsChecked (begin (fed b p) r w)
   unfolding begin steps
@@ -158,9 +152,9 @@ served d arena store g q a l b e = rw (a, l) (go (seek_row d.rows guests d.point
     p : d.pointer < 8
     p = ((accept_facts d).0 a).pointer
 
-    go : (x : Next) → seek_row d.rows guests d.pointer ≡ x → Serves (turn_next d x arena store).answer
-    go Nobody s = absurd (seek_nobody d.rows guests d.pointer p s g q b (dist_lt d.pointer g) e)
-    go (Guest h) s =
+    go : (x : Option ℕ) → seek_row d.rows guests d.pointer ≡ x → Serves (turn_next d x arena store).answer
+    go None s = absurd (seek_nobody d.rows guests d.pointer p s g q b (dist_lt d.pointer g) e)
+    go (Some h) s =
         let f = seek-guest d.rows guests d.pointer h p s in
         record { guest = h; moved = moves_now (bads_for d f.request) f.request; is = ap (λ x. (serve_stage d h x arena store).answer) f.here }
 

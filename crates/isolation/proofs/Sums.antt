@@ -9,6 +9,7 @@ use mathlib.Core.List.{List, [], ◌∷◌, ◌++◌, map}
 use lib.ListN.{length, get_or, replicate}
 use lib.Dec.{ltb}
 use borrow.Author.Tests.{ltb-true}
+use Rattle.std.specs.Prelude.{Ok, Err, Option, Some, None}
 use Rattle.logic.proofs.LogicLaws.{impossible}
 use Rattle.words.specs.Words.{le, le_bytes}
 use Rattle.chs.specs.Chs.{in_limits, is_valid, block_of, block_numbers}
@@ -30,14 +31,9 @@ use Rattle.int13.specs.Steps.{Checked, unchanged, is_drive, bads_of, sectors, pa
 use Rattle.desk.specs.declared.Stage.{Stage}
 use Rattle.desk.specs.declared.Stage.TheVariants.{Vacant, Waiting, Finished}
 use Rattle.desk.specs.declared.Desk.{Desk}
-use Rattle.desk.specs.declared.Opening.{Opening}
-use Rattle.desk.specs.declared.Next.{Next}
-use Rattle.desk.specs.declared.Next.TheVariants.{Guest, Nobody}
-use Rattle.desk.specs.declared.OpenAnswer.TheVariants.{Opened}
-use Rattle.desk.specs.declared.TurnAnswer.{TurnAnswer}
-use Rattle.desk.specs.declared.TurnAnswer.TheVariants.{Served, Idle, Refused as TurnRefused}
+use Rattle.desk.specs.declared.After.{After}
 use Rattle.desk.specs.Parts.{window_size, stage_at, with_stage, with_pointer, placement_at}
-use Rattle.desk.specs.Calls.{Done, is_lent, opened, open_of, first_waiting, moves_now, stage_after, serve_stage, turn_next, turn_of}
+use Rattle.desk.specs.Calls.{OpenAnswer, TurnAnswer, Done, is_lent, opened, open_of, first_waiting, moves_now, stage_after, serve_stage, turn_next, turn_of}
 use Rattle.desk.specs.Numbers.{turn_numbers}
 use Rattle.isolation.specs.Lists.{post, turn, Call, turned, Out, step, after}
 use Rattle.isolation.specs.Words.{opens, kind_of}
@@ -179,12 +175,12 @@ table_read =
 abbrev d₀ : Desk
 d₀ = opened table_read arena_length store_length
 
-opening : open_of table_bytes arena_length store_length ≡ record { desk = d₀; answer = Opened }
+opening : open_of table_bytes arena_length store_length ≡ record { desk = d₀; answer = Ok tt }
 unfolding open_of le le_bytes in_limits drive_of same bus_ok interface_ok geometry_fits fields_ok in_store overlap header_of header_at overlaps_any refusal record_refusal with_record record_step end_step step_of step_at read_from read_table tail_of is_i2o zero_tail kind_ok
 opening = refl
 
 inv₀ : Inv d₀
-inv₀ = subst (λ (o : Opening). Inv o.desk) opening (inv_opened table_bytes arena_length store_length (ap (λ (o : Opening). o.answer) opening))
+inv₀ = subst (λ (o : After OpenAnswer). Inv o.desk) opening (inv_opened table_bytes arena_length store_length (ap (λ (o : After OpenAnswer). o.answer) opening))
 
 abbrev job : Job
 job = record { registers = posted_registers reads; drive = 0x80; start = 0; count = 40; buffer = 0; packet = 0 }
@@ -218,18 +214,18 @@ stage_bare d g Vacant arena store = record { answer = refl; desk = refl }
 stage_bare d g (Waiting q) arena store = record { answer = refl; desk = refl }
 stage_bare d g (Finished r) arena store = record { answer = refl; desk = refl }
 
-next-bare : (d : Desk) (n : Next) (arena store : List ℕ) → Alike (turn_next d n arena store) (turn_next d n [] [])
-next-bare d Nobody arena store = record { answer = refl; desk = refl }
-next-bare d (Guest g) arena store = stage_bare d g (stage_at d g) arena store
+next-bare : (d : Desk) (n : Option ℕ) (arena store : List ℕ) → Alike (turn_next d n arena store) (turn_next d n [] [])
+next-bare d None arena store = record { answer = refl; desk = refl }
+next-bare d (Some g) arena store = stage_bare d g (stage_at d g) arena store
 
 turn-bare : (d : Desk) → Inv d → (arena store : List ℕ) → is_lent d arena store ≡ true → Alike (turn_of d arena store) (bare d)
 unfolding turn_of
 turn-bare d inv arena store l = rw (inv_accept d inv, l) (next-bare d (first_waiting d.rows guests d.pointer) arena store)
 
 turn_no_opening : (x : TurnAnswer) → kind_of (turned x) ≡ opens → ⊥
-turn_no_opening (Served g k) e = impossible cc
-turn_no_opening Idle e = impossible cc
-turn_no_opening (TurnRefused n) e = impossible cc
+turn_no_opening (Ok (Some s)) e = impossible cc
+turn_no_opening (Ok None) e = impossible cc
+turn_no_opening (Err n) e = impossible cc
 
 turn_inv : (d : Desk) → Inv d → (arena store : List ℕ) → Inv (turn_of d arena store).desk
 unfolding step
@@ -316,7 +312,7 @@ module _ (a s : ℕ → List ℕ) (la : (i : ℕ) → length (a i) ≡ arena_len
       (ap (λ (o : Out). after o.desk (postings (i + 1) gs)) (step_line (place d (a i) (s i)) (sized_at d i t) (waiting g reads job) h) ∙ r.0, r.1)
 
   from_start : (cs : List Call) → after (start a s) cs ≡ after d₀ cs
-  from_start cs = ap (λ (o : Opening). after o.desk cs) opening
+  from_start cs = ap (λ (o : After OpenAnswer). after o.desk cs) opening
 
   two : (after d₀ (postings 0 (2 ∷ 5 ∷ [])) ≡ at9) × At at9
   two = all-post (2 ∷ 5 ∷ []) 0 d₀ at₀ ((refl, refl), ((refl, refl), tt))

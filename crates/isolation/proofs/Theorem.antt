@@ -5,6 +5,7 @@ use mathlib.Core.Path.{◌≡◌, sym, ap, ap₂, subst, subst₂, ◌∙◌}
 use mathlib.Core.List.{List, [], ◌∷◌, ◌++◌, append_assoc}
 use native.Mathlib.Nat.{add-zero}
 use native.Mathlib.Omega.{arith}
+use Rattle.std.specs.Prelude.{Ok}
 use Rattle.memory.specs.Window.{window_length, window_of}
 use Rattle.memory.specs.Blocks.{block_length}
 use Rattle.attached.specs.Bad.{good}
@@ -17,8 +18,6 @@ use Rattle.int13.specs.Steps.{fed, bads_of}
 use Rattle.int13.specs.Alone.{asked, asked_start, store_block, alone}
 use Rattle.desk.specs.declared.Stage.TheVariants.{Finished}
 use Rattle.desk.specs.declared.Desk.{Desk}
-use Rattle.desk.specs.declared.OpenAnswer.TheVariants.{Opened}
-use Rattle.desk.specs.declared.CollectAnswer.TheVariants.{Given}
 use Rattle.desk.specs.Parts.{window_size, stage_at, placement_at}
 use Rattle.desk.specs.Calls.{open_of}
 use Rattle.isolation.specs.Lists.{Call, collected, step, Event, run, after}
@@ -32,7 +31,7 @@ use Rattle.isolation.proofs.Equal.{end_of}
 use Rattle.isolation.proofs.Posts.{Feeds, at-once, never}
 use Rattle.isolation.proofs.Requests.{accepted, bounded', finishes', within', equal', finished', counted', handed'}
 
-module _ (t : List ℕ) (arena store : ℕ) (calls : List Call) (passed : (open_of t arena store).answer ≡ Opened)
+module _ (t : List ℕ) (arena store : ℕ) (calls : List Call) (passed : (open_of t arena store).answer ≡ Ok tt)
     (closed : NoneOpens (run (open_of t arena store).desk calls)) where
   abbrev d₀ : Desk
   d₀ = (open_of t arena store).desk
@@ -163,10 +162,10 @@ module _ (t : List ℕ) (arena store : ℕ) (calls : List Call) (passed : (open_
             (opens_upto (mid ++ last ∷ more) rest x d₁ (subst (λ (l : List Call). NoneOpens (run d₁ l)) assoc a.later)) in
             let z' : collects q.guest (run d₂ more) ≡ 0
             = ap (λ (y : Desk). collects q.guest (run y more)) (sym (after_at mid [] last d₁ ∙ after_none d₂)) ∙ omega (arith, z) in
-            subst (λ (y : Desk). (kind_of (step y x).answer ≡ refused → ⊥) → (step y x).answer ≡ collected q.guest (Given (alone_of q t m).registers))
+            subst (λ (y : Desk). (kind_of (step y x).answer ≡ refused → ⊥) → (step y x).answer ≡ collected q.guest (Ok (alone_of q t m).registers))
             (sym (after_at mid more last d₁))
             (subst (λ (k : ℕ). (kind_of (step (after d₂ more) x).answer ≡ refused → ⊥)
-            → (step (after d₂ more) x).answer ≡ collected q.guest (Given (alone_of q t k).registers)) a.size
+            → (step (after d₂ more) x).answer ≡ collected q.guest (Ok (alone_of q t k).registers)) a.size
             (handed' (after d₀ q.before) a.inv a.cleans q.call q.guest q.registers q.accepted a.here t (placement_in q.guest (run d₀ q.before)) (feeds q _ a) mid more last x o
             (subst (λ (k : ℕ). Finishes q.guest k d₁ mid last) (sym (counts q _ a)) f) z' op)) u;
         finished = λ q mid rest last e f.

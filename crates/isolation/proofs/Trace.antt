@@ -10,6 +10,7 @@ use native.Mathlib.Omega.{arith}
 use lib.ListN.{length}
 use lib.Dec.{eqb, leb, ltb}
 use borrow.Author.Tests.{eq-eqb, eqb-true, eqb-false, leb-true, not-true}
+use Rattle.std.specs.Prelude.{Ok, Err, Option, Some, None}
 use Rattle.logic.specs.Logic.{pick, both, either}
 use Rattle.logic.proofs.LogicLaws.{impossible, both_true, both_intro, either_true, pick-cases, true≢false}
 use Rattle.memory.specs.Window.{guests, window_length, window_of, with_window}
@@ -28,18 +29,11 @@ use Rattle.desk.specs.declared.Request.{Request}
 use Rattle.desk.specs.declared.Stage.{Stage}
 use Rattle.desk.specs.declared.Stage.TheVariants.{Vacant, Waiting, Finished}
 use Rattle.desk.specs.declared.Desk.{Desk}
-use Rattle.desk.specs.declared.Next.{Next}
-use Rattle.desk.specs.declared.Next.TheVariants.{Guest, Nobody}
-use Rattle.desk.specs.declared.OpenAnswer.TheVariants.{Refused as OpenRefused}
-use Rattle.desk.specs.declared.PostAnswer.TheVariants.{Answered as PostAnswered, Waits as PostWaits}
-use Rattle.desk.specs.declared.TurnAnswer.TheVariants.{Served, Idle, Refused as TurnRefused}
-use Rattle.desk.specs.declared.CollectAnswer.TheVariants.{Given as CollectGiven}
-use Rattle.desk.specs.declared.WithdrawAnswer.TheVariants.{Given as WithdrawGiven}
-use Rattle.desk.specs.declared.PlaceAnswer.{PlaceAnswer}
-use Rattle.desk.specs.declared.PlaceAnswer.TheVariants.{Placed, Refused as PlaceRefused}
+use Rattle.desk.specs.declared.HouseNumber.TheVariants.{NotVacant, OtherLength, BadPlace}
+use Rattle.table.specs.declared.Refusal.TheVariants.{CutOff}
 use Rattle.desk.specs.Parts.{window_size, stage_at, is_waiting, with_stage, next, with_pointer, placement_at, with_placement}
 use Rattle.desk.specs.Acceptable.{place_ok}
-use Rattle.desk.specs.Calls.{other_length, not_vacant, bad_place, Done, done, is_lent, open_of, post_checked, post_row, post_of, first_waiting, goes_on, stage_after, beside, memory_of, moved_by, serve_by, serve, serve_stage, turn_next, turn_of, collect_stage, collect_of, withdrawn_window, withdraw_stage, withdraw_of, tables_in, place_tables, place_stage, place_of}
+use Rattle.desk.specs.Calls.{PlaceAnswer, Done, done, is_lent, open_of, post_checked, post_row, post_of, first_waiting, goes_on, stage_after, beside, memory_of, moved_by, serve_by, serve, serve_stage, turn_next, turn_of, collect_stage, collect_of, withdrawn_window, withdraw_stage, withdraw_of, tables_in, place_tables, place_stage, place_of}
 use Rattle.isolation.specs.Lists.{Op, open_table, post, turn, collect, withdraw, place as place_at, Call, Answer, opening, posted, turned, collected, withdrawn, placed, Out, out_of, step, Event, run, after}
 use Rattle.isolation.specs.Words.{Kind, opens, serves, kind_of, kind_in, NoneOpens, service_in, moved_in, full_part, Full, Waits as WaitsOn, Stops, Finishes, moved, withdrawals, Named, Writes, Unwritten, Left, placement_in}
 use Rattle.isolation.specs.Demand.{found_by, asked_by, first_by, good_by, Taken, Same, Claim}
@@ -101,17 +95,17 @@ op_of (barred g address) = place_at g address
 op_of (misplacing g address) = place_at g address
 
 abbrev pub answer_to : Line → Answer
-answer_to (waiting g r j) = posted g PostWaits
-answer_to (answering g r x f) = posted g (PostAnswered x)
-answer_to (serving g q k st) = turned (Served g k)
-answer_to idling = turned Idle
-answer_to unlent = turned (TurnRefused other_length)
-answer_to (withdrawing g q) = withdrawn g (WithdrawGiven (withdrawn_registers q.moved q.job.registers))
-answer_to (collecting g r) = collected g (CollectGiven r)
-answer_to misopening = opening (OpenRefused 1 0)
-answer_to (placing g address) = placed g address Placed
-answer_to (barred g address) = placed g address (PlaceRefused not_vacant)
-answer_to (misplacing g address) = placed g address (PlaceRefused bad_place)
+answer_to (waiting g r j) = posted g (Ok None)
+answer_to (answering g r x f) = posted g (Ok (Some x))
+answer_to (serving g q k st) = turned (Ok (Some (record { guest = g; moved = k })))
+answer_to idling = turned (Ok None)
+answer_to unlent = turned (Err OtherLength)
+answer_to (withdrawing g q) = withdrawn g (Ok (withdrawn_registers q.moved q.job.registers))
+answer_to (collecting g r) = collected g (Ok r)
+answer_to misopening = opening (Err (record { refusal = CutOff; place = 0 }))
+answer_to (placing g address) = placed g address (Ok tt)
+answer_to (barred g address) = placed g address (Err NotVacant)
+answer_to (misplacing g address) = placed g address (Err BadPlace)
 
 -- whether it is lent arena and store
 abbrev is_given : Line → Bool
@@ -179,8 +173,8 @@ Holds p (waiting g r j) =
 Holds p (answering g r x f) =
     (ltb g guests ≡ true) × (stage_at p.desk g ≡ Vacant) × (begin (fed p.desk.table (placement_at p.desk g)) r (window_at p g) ≡ record { outcome = Answered x; window = f (window_at p g) })
 Holds p (serving g q k st) =
-    (first_waiting p.desk.rows guests p.desk.pointer ≡ Guest g) × (stage_at p.desk g ≡ Waiting q) × (now p.desk.table q ≡ k) × (stage_after q k ≡ st)
-Holds p idling = first_waiting p.desk.rows guests p.desk.pointer ≡ Nobody
+    (first_waiting p.desk.rows guests p.desk.pointer ≡ Some g) × (stage_at p.desk g ≡ Waiting q) × (now p.desk.table q ≡ k) × (stage_after q k ≡ st)
+Holds p idling = first_waiting p.desk.rows guests p.desk.pointer ≡ None
 Holds p unlent = is_lent p.desk [] [] ≡ false
 Holds p (withdrawing g q) = (ltb g guests ≡ true) × (stage_at p.desk g ≡ Waiting q) × (is_sectors (ah q.job.registers) ≡ true)
 Holds p (collecting g r) = (ltb g guests ≡ true) × (stage_at p.desk g ≡ Finished r)
@@ -240,12 +234,12 @@ module _ (d : Desk) (inv : Inv d) (a s : List ℕ) (l : is_lent d a s ≡ true) 
       rw (inv_accept d inv, l, b)
       (ap (λ (x : Stage). out_of (posted g) (post_row d g r a s x)) v ∙ ap (λ (x : Checked). out_of (posted g) (post_checked d g a s x.outcome x.window)) e)
 
-  pub turn-serves : (g : ℕ) (q : Request) → first_waiting d.rows guests d.pointer ≡ Guest g → stage_at d g ≡ Waiting q
+  pub turn-serves : (g : ℕ) (q : Request) → first_waiting d.rows guests d.pointer ≡ Some g → stage_at d g ≡ Waiting q
       → step d (call turn a s) ≡ out_of turned (serve d g q a s)
   unfolding step turn_of
   turn-serves g q n v =
       rw (inv_accept d inv, l)
-      (ap (λ (x : Next). out_of turned (turn_next d x a s)) n ∙ ap (λ (x : Stage). out_of turned (serve_stage d g x a s)) v)
+      (ap (λ (x : Option ℕ). out_of turned (turn_next d x a s)) n ∙ ap (λ (x : Stage). out_of turned (serve_stage d g x a s)) v)
 
 module _ (p : Place) (z : Sized p) where
   given : is_lent p.desk p.arena p.store ≡ true
@@ -268,7 +262,7 @@ module _ (p : Place) (z : Sized p) where
       to = moved_by p.desk g q k p.arena p.store
 
       left : Stage → List ℕ → List ℕ → Out
-      left x a s = record { desk = with_pointer (with_stage p.desk g x) (next g); answer = turned (Served g k); arena = a; store = s }
+      left x a s = record { desk = with_pointer (with_stage p.desk g x) (next g); answer = turned (Ok (Some (record { guest = g; moved = k }))); arena = a; store = s }
 
       stores : (w : Bool) → is_writing q ≡ w → to.store ≡ store_if w p g q k
       stores true e = refl
@@ -305,7 +299,7 @@ module _ (p : Place) (z : Sized p) where
   not-waiting g address (Finished r) e = refl
 
   is-waiting : (g address : ℕ) (x : Stage) → is_waiting x ≡ true
-      → place_stage p.desk g address x p.arena p.store ≡ done p.desk (PlaceRefused not_vacant) p.arena p.store
+      → place_stage p.desk g address x p.arena p.store ≡ done p.desk (Err NotVacant) p.arena p.store
   is-waiting g address Vacant e = true≢false false e refl
   is-waiting g address (Waiting q) e = refl
   is-waiting g address (Finished r) e = true≢false false e refl
@@ -314,11 +308,11 @@ module _ (p : Place) (z : Sized p) where
   unfolding step turn_of collect_of withdraw_of reported open_of read_table read_from step_at table_step_of header_at header_of
   step_line (waiting g r j) h =
       post-checked p.desk z.inv p.arena p.store given g r h.0 h.1 (unchanged (window_at p g) (Waits j)) h.2
-      ∙ same-arena (λ a. record { desk = with_stage p.desk g (Waiting (request j 0)); answer = posted g PostWaits; arena = a; store = p.store }) g (window_at p g) refl
+      ∙ same-arena (λ a. record { desk = with_stage p.desk g (Waiting (request j 0)); answer = posted g (Ok None); arena = a; store = p.store }) g (window_at p g) refl
   step_line (answering g r x f) h =
       post-checked p.desk z.inv p.arena p.store given g r h.0 h.1 (record { outcome = Answered x; window = f (window_at p g) }) h.2
   step_line (serving g q k st) h = serves-line g q k st h
-  step_line idling h = rw (inv_accept p.desk z.inv, given) (ap (λ (x : Next). out_of turned (turn_next p.desk x p.arena p.store)) h)
+  step_line idling h = rw (inv_accept p.desk z.inv, given) (ap (λ (x : Option ℕ). out_of turned (turn_next p.desk x p.arena p.store)) h)
   step_line unlent h = rw (inv_accept p.desk z.inv, h)
   step_line (withdrawing g q) h =
       rw (inv_accept p.desk z.inv, given, h.0)
@@ -331,7 +325,7 @@ module _ (p : Place) (z : Sized p) where
   step_line (placing g address) h =
       placed-by g address h.0 (place_tables p.desk g address p.arena p.store) (λ x e. not-waiting g address x (e ∙ h.1)) ∙ rw h.2
   step_line (barred g address) h =
-      placed-by g address h.0 (done p.desk (PlaceRefused not_vacant) p.arena p.store) (λ x e. is-waiting g address x (e ∙ h.1))
+      placed-by g address h.0 (done p.desk (Err NotVacant) p.arena p.store) (λ x e. is-waiting g address x (e ∙ h.1))
   step_line (misplacing g address) h =
       placed-by g address h.0 (place_tables p.desk g address p.arena p.store) (λ x e. not-waiting g address x (e ∙ h.1)) ∙ rw h.2
 

@@ -5,6 +5,7 @@ use mathlib.Core.Path.{◌≡◌, refl, sym, ◌∙◌}
 use mathlib.Core.Logic.{◌⊎◌, inl, inr, ⊎_elim, ◌≢◌}
 use mathlib.Core.List.{List}
 use native.Mathlib.Omega.{arith}
+use Rattle.std.specs.Prelude.{Some, None}
 use Rattle.logic.proofs.LogicLaws.{lt_or_le, impossible}
 use Rattle.logic.specs.Logic.{pick}
 use Rattle.memory.specs.Window.{guests}
@@ -13,7 +14,6 @@ use Rattle.desk.specs.declared.Request.{Request}
 use Rattle.desk.specs.declared.Stage.{Stage}
 use Rattle.desk.specs.declared.Stage.TheVariants.{Vacant, Waiting, Finished}
 use Rattle.desk.specs.declared.Row.{Row}
-use Rattle.desk.specs.declared.Next.TheVariants.{Guest, Nobody}
 use Rattle.desk.specs.Parts.{stage_in, is_waiting, next}
 use Rattle.desk.specs.Calls.{first_waiting}
 
@@ -78,7 +78,7 @@ pub record Found (rows : List Row) (p g : ℕ) : Type 0 where
   pub here : stage_in rows g ≡ Waiting request
   pub nearest : (h : ℕ) (q : Request) → h < guests → stage_in rows h ≡ Waiting q → dist p g ≤ dist p h
 
-nobody≢guest : (g : ℕ) → Nobody ≡ Guest g → ⊥
+nobody≢guest : (g : ℕ) → None ≡ Some g → ⊥
 nobody≢guest g e = impossible (cc)
 
 pub vacant≢waiting : {q : Request} → Vacant ≡ Waiting q → ⊥
@@ -101,8 +101,8 @@ past rows p g pb nw f =
           omega (arith, dist_next p g pb f.below gp, dist_next p h pb b hp);
     }
 
-seek_go : (rows : List Row) (k p g : ℕ) → p < guests → (first_waiting rows k (next p) ≡ Guest g → Found rows (next p) g)
-    → (st : Stage) → stage_in rows p ≡ st → pick (is_waiting st) (Guest p) (first_waiting rows k (next p)) ≡ Guest g → Found rows p g
+seek_go : (rows : List Row) (k p g : ℕ) → p < guests → (first_waiting rows k (next p) ≡ Some g → Found rows (next p) g)
+    → (st : Stage) → stage_in rows p ≡ st → pick (is_waiting st) (Some p) (first_waiting rows k (next p)) ≡ Some g → Found rows p g
 seek_go rows k p g pb ih Vacant r f = past rows p g pb (λ q x. vacant≢waiting (sym r ∙ x)) (ih f)
 seek_go rows k p g pb ih (Finished y) r f = past rows p g pb (λ q x. finished≢waiting (sym r ∙ x)) (ih f)
 seek_go rows k p g pb ih (Waiting q) r f =
@@ -114,15 +114,15 @@ seek_go rows k p g pb ih (Waiting q) r f =
       nearest = λ h q' b x. rw (← pg) (omega (arith, dist_here p pb));
     }
 
-pub seek-guest : (rows : List Row) (k p g : ℕ) → p < guests → first_waiting rows k p ≡ Guest g → Found rows p g
+pub seek-guest : (rows : List Row) (k p g : ℕ) → p < guests → first_waiting rows k p ≡ Some g → Found rows p g
 unfolding first_waiting
 seek-guest rows zero p g pb e = absurd (nobody≢guest g e)
 seek-guest rows (suc k) p g pb e = seek_go rows k p g pb (seek-guest rows k (next p) g (next_lt p)) (stage_in rows p) refl e
 
 -- where the search finds nobody among k, no guest nearer than k waits
 seek_nobody_go : (rows : List Row) (k p : ℕ) → p < guests
-    → (first_waiting rows k (next p) ≡ Nobody → (h : ℕ) (q : Request) → h < guests → dist (next p) h < k → stage_in rows h ≡ Waiting q → ⊥)
-    → (st : Stage) → stage_in rows p ≡ st → pick (is_waiting st) (Guest p) (first_waiting rows k (next p)) ≡ Nobody
+    → (first_waiting rows k (next p) ≡ None → (h : ℕ) (q : Request) → h < guests → dist (next p) h < k → stage_in rows h ≡ Waiting q → ⊥)
+    → (st : Stage) → stage_in rows p ≡ st → pick (is_waiting st) (Some p) (first_waiting rows k (next p)) ≡ None
     → (h : ℕ) (q : Request) → h < guests → dist p h < suc k → stage_in rows h ≡ Waiting q → ⊥
 seek_nobody_go rows k p pb ih Vacant r f h q b l x =
     let hp : h ≢ p = λ z. vacant≢waiting {q = q} (sym r ∙ (rw z at x)) in
@@ -132,7 +132,7 @@ seek_nobody_go rows k p pb ih (Finished y) r f h q b l x =
     ih f h q b (omega (arith, dist_next p h pb b hp)) x
 seek_nobody_go rows k p pb ih (Waiting q') r f h q b l x = nobody≢guest p (sym f)
 
-pub seek_nobody : (rows : List Row) (k p : ℕ) → p < guests → first_waiting rows k p ≡ Nobody
+pub seek_nobody : (rows : List Row) (k p : ℕ) → p < guests → first_waiting rows k p ≡ None
     → (h : ℕ) (q : Request) → h < guests → dist p h < k → stage_in rows h ≡ Waiting q → ⊥
 unfolding first_waiting
 seek_nobody rows zero p pb e h q b l x = omega arith

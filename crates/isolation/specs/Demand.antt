@@ -1,6 +1,6 @@
 -- Demand 3, as one claim about a list of calls at a desk after an opening.
 -- Assumes nothing.
-use Rattle.std.specs.Prelude.{ℕ, ◌*◌, ◌≤◌, ◌<◌, ◌≡◌, true, List, [], ◌∷◌, ◌++◌}
+use Rattle.std.specs.Prelude.{ℕ, ◌*◌, ◌≤◌, ◌<◌, ◌≡◌, true, List, [], ◌∷◌, ◌++◌, Ok, Some}
 use Rattle.words.specs.Words.{part}
 use Rattle.memory.specs.Window.{window_length, window_of}
 use Rattle.memory.specs.Blocks.{block_length}
@@ -12,9 +12,6 @@ use Rattle.int13.specs.Alone.{Memory, Served, asked, asked_start, named_from, al
 use Rattle.int13.specs.Steps.{fed, bads_of}
 use Rattle.desk.specs.declared.Stage.TheVariants.{Finished}
 use Rattle.desk.specs.declared.Desk.{Desk}
-use Rattle.desk.specs.declared.OpenAnswer.TheVariants.{Opened}
-use Rattle.desk.specs.declared.PostAnswer.TheVariants.{Answered}
-use Rattle.desk.specs.declared.CollectAnswer.TheVariants.{Given}
 use Rattle.desk.specs.Parts.{stage_at, is_waiting}
 use Rattle.desk.specs.Acceptable.{accept}
 use Rattle.desk.specs.Calls.{not_acceptable, open_of}
@@ -135,7 +132,7 @@ pub record Claim (t : List ℕ) (d₀ : Desk) (m : ℕ) (calls : List Call) : Ty
       → collects q.guest (run_after (out_on q).desk (mid ++ last ∷ []) more) ≡ 0
       → x.op ≡ collect q.guest
       → (kind_of (out_after (out_on q).desk (mid ++ last ∷ more) x).answer ≡ refused → ⊥)
-      → (out_after (out_on q).desk (mid ++ last ∷ more) x).answer ≡ collected q.guest (Given (alone_of q t m).registers)
+      → (out_after (out_on q).desk (mid ++ last ∷ more) x).answer ≡ collected q.guest (Ok (alone_of q t m).registers)
   -- ---- here demand 3 ends; what follows is claimed beyond it
   -- the finishing turn leaves the row finished with served alone's registers, whatever happened to the arena and the store
   pub finished : (q : Taken d₀ calls) (mid rest : List Call) (last : Call) → q.since ≡ mid ++ last ∷ rest
@@ -148,7 +145,7 @@ pub record Claim (t : List ℕ) (d₀ : Desk) (m : ℕ) (calls : List Call) : Ty
   -- "What they answer at once, refusals included, it answers and writes as they say": so does the desk
   pub at_once : (pre rest : List Call) (c : Call) (g : ℕ) (r x : Registers) → calls ≡ pre ++ c ∷ rest
       → c.op ≡ post g r
-      → (out_after d₀ pre c).answer ≡ posted g (Answered x)
+      → (out_after d₀ pre c).answer ≡ posted g (Ok (Some x))
       → SameAtOnce m g (out_after d₀ pre c) x (alone (fed t (placement_in g (run d₀ pre))) r (found_by m c g))
   -- a placement changes no row, and no window but its guest's; a guest that waits keeps its window
   pub placing : (pre rest : List Call) (c : Call) (g address h : ℕ) → calls ≡ pre ++ c ∷ rest
@@ -165,6 +162,6 @@ pub record Claim (t : List ℕ) (d₀ : Desk) (m : ℕ) (calls : List Call) : Ty
 -- opening passes
 abbrev pub Demand : Type 0
 Demand = (t : List ℕ) (arena store : ℕ) (calls : List Call)
-    → (open_of t arena store).answer ≡ Opened
+    → (open_of t arena store).answer ≡ Ok tt
     → NoneOpens (run (open_of t arena store).desk calls)
     → Claim t (open_of t arena store).desk (window_length arena) calls

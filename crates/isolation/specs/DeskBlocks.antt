@@ -1,20 +1,15 @@
 -- Demand 3 at a desk block: a call at a block of bytes, a list of calls, and the demand over them.
 -- Assumes nothing.
-use Rattle.std.specs.Prelude.{ℕ, ◌^◌, ◌<◌, ◌≡◌, true, false, List, [], ◌∷◌, ◌++◌, map, eqb, length}
+use Rattle.std.specs.Prelude.{ℕ, ◌^◌, ◌<◌, ◌≡◌, true, false, List, [], ◌∷◌, ◌++◌, map, eqb, length, Ok, Err}
 use Rattle.logic.specs.Logic.{pick}
 use Rattle.words.specs.Words.{Bytes}
 use Rattle.memory.specs.Window.{window_length}
-use Rattle.table.specs.declared.Written.TheVariants.{Refused as WriteRefused}
+use Rattle.desk.specs.declared.HouseNumber.TheVariants.{NotAcceptable}
+use Rattle.table.specs.Table.{number as table_number}
 use Rattle.desk.specs.declared.Desk.{Desk}
-use Rattle.desk.specs.declared.OpenAnswer.TheVariants.{Opened, Refused as OpenRefused}
-use Rattle.desk.specs.declared.PostAnswer.TheVariants.{Refused as PostRefused}
-use Rattle.desk.specs.declared.TurnAnswer.TheVariants.{Refused as TurnRefused}
-use Rattle.desk.specs.declared.CollectAnswer.TheVariants.{Refused as CollectRefused}
-use Rattle.desk.specs.declared.WithdrawAnswer.TheVariants.{Refused as WithdrawRefused}
-use Rattle.desk.specs.declared.PlaceAnswer.TheVariants.{Refused as PlaceRefused}
 use Rattle.desk.specs.Calls.{not_acceptable, open_of}
 use Rattle.image.specs.Image.{image, desk_size, desk_of, accepted, laid, FitsRegisters}
-use Rattle.isolation.specs.Lists.{Op, open_table, post, turn, collect, withdraw, write, place, Call, Answer, opening, posted, turned, collected, withdrawn, written, placed, Out, step_of, Event, run}
+use Rattle.isolation.specs.Lists.{Op, open_table, post, turn, collect, withdraw, write, place, Call, Answer, opening, unopened, posted, turned, collected, withdrawn, written, placed, Out, step_of, Event, run}
 use Rattle.isolation.specs.Words.{Kind, opens, kind_of, house_number, desk_in}
 use Rattle.isolation.specs.Demand.{Claim}
 
@@ -54,18 +49,19 @@ out_block b o = record { block = block_after b o.desk (kind_of o.answer); answer
 
 -- 25, which changes nothing, not even a table write's buffer; an opening's has no place in the table
 abbrev pub answer25 : Op → Answer
-answer25 (open_table t a s) = opening (OpenRefused not_acceptable 0)
-answer25 (post g r) = posted g (PostRefused not_acceptable)
-answer25 turn = turned (TurnRefused not_acceptable)
-answer25 (collect g) = collected g (CollectRefused not_acceptable)
-answer25 (withdraw g) = withdrawn g (WithdrawRefused not_acceptable)
-answer25 (write out) = written (WriteRefused not_acceptable) out
-answer25 (place g address) = placed g address (PlaceRefused not_acceptable)
+answer25 (open_table t a s) = unopened
+answer25 (post g r) = posted g (Err NotAcceptable)
+answer25 turn = turned (Err NotAcceptable)
+answer25 (collect g) = collected g (Err NotAcceptable)
+answer25 (withdraw g) = withdrawn g (Err NotAcceptable)
+answer25 (write out) = written (Err NotAcceptable) out
+answer25 (place g address) = placed g address (Err NotAcceptable)
 
 -- the number of a refusal, else 0; a refused opening's is a table's number, or 25
 abbrev pub number_of : Answer → ℕ
-number_of (opening Opened) = 0
-number_of (opening (OpenRefused n at)) = n
+number_of (opening (Ok u)) = 0
+number_of (opening (Err e)) = table_number e.refusal
+number_of unopened = house_number unopened
 number_of (posted g x) = house_number (posted g x)
 number_of (turned x) = house_number (turned x)
 number_of (collected g x) = house_number (collected g x)
@@ -145,7 +141,7 @@ pub record ClaimBlock (t : List ℕ) (d₀ : Desk) (m : ℕ) (b₀ : List ℕ) (
 abbrev pub DemandBlock : Type 0
 DemandBlock = (b t : List ℕ) (arena store : ℕ) (first : Call) (calls : List Call)
     → first.op ≡ open_table t arena store → FitsOp first.op
-    → (step_block b first).answer ≡ opening Opened
+    → (step_block b first).answer ≡ opening (Ok tt)
     → FitsCalls calls
     → NoneOpensBlock (run_block (step_block b first).block calls)
     → ClaimBlock t (open_of t arena store).desk (window_length arena) (step_block b first).block calls

@@ -2,17 +2,16 @@
 -- arena and store that the step leaves.
 -- Assumes nothing.
 use Rattle.std.specs.Prelude.{ℕ, ◌≡◌, List, [], ◌∷◌, length}
-use Rattle.table.specs.Table.{written_numbers}
 use Rattle.int13.specs.declared.Registers.{Registers}
 use Rattle.int13.specs.declared.Placement.{Placement}
 use Rattle.int13.specs.Answers.{posted as posted_registers}
 use Rattle.int13.specs.Steps.{fed}
 use Rattle.int13.specs.Alone.{Memory, alone}
 use Rattle.desk.specs.Calls.{not_acceptable}
-use Rattle.desk.specs.Numbers.{open_numbers, post_numbers, turn_numbers, collect_numbers, withdraw_numbers, place_numbers}
+use Rattle.desk.specs.Numbers.{open_numbers, written_numbers, post_numbers, turn_numbers, collect_numbers, withdraw_numbers, place_numbers}
 use Rattle.image.specs.Image.{desk_size}
 use Rattle.exports.specs.Exports.{effect, over, open_call, write_call, given, changed, post_call, turn_call, collect_call, withdraw_call, place_call}
-use Rattle.isolation.specs.Lists.{Op, open_table, post, turn, collect, withdraw, write, place, Answer, opening, posted, turned, collected, withdrawn, written, placed}
+use Rattle.isolation.specs.Lists.{Op, open_table, post, turn, collect, withdraw, write, place, Answer, opening, unopened, posted, turned, collected, withdrawn, written, placed}
 use Rattle.isolation.specs.DeskBlocks.{OutBlock, step_block}
 
 -- ---- "Calls the host makes", the calls for C
@@ -20,6 +19,7 @@ use Rattle.isolation.specs.DeskBlocks.{OutBlock, step_block}
 -- the number and the values of an answer
 abbrev pub numbers_of : Answer → List ℕ
 numbers_of (opening x) = open_numbers x
+numbers_of unopened = not_acceptable ∷ 0 ∷ []
 numbers_of (posted g x) = post_numbers x
 numbers_of (turned x) = turn_numbers x
 numbers_of (collected g x) = collect_numbers x
@@ -30,6 +30,7 @@ numbers_of (placed g address x) = place_numbers x
 -- the buffer after a table write
 abbrev pub buffer_of : Answer → List ℕ
 buffer_of (opening x) = []
+buffer_of unopened = []
 buffer_of (posted g x) = []
 buffer_of (turned x) = []
 buffer_of (collected g x) = []

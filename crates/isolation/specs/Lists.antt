@@ -1,17 +1,9 @@
 -- Document 01, "The words of demand 3": a list of calls at one desk. "Each gets the desk as the one before left it; nobody else writes it meanwhile."
 -- Assumes nothing.
-use Rattle.std.specs.Prelude.{ℕ, List, [], ◌∷◌, length}
-use Rattle.table.specs.declared.Written.{Written}
+use Rattle.std.specs.Prelude.{ℕ, List, [], ◌∷◌, length, Ok, Err}
 use Rattle.int13.specs.declared.Registers.{Registers}
 use Rattle.desk.specs.declared.Desk.{Desk}
-use Rattle.desk.specs.declared.OpenAnswer.{OpenAnswer}
-use Rattle.desk.specs.declared.OpenAnswer.TheVariants.{Opened, Refused as OpenRefused}
-use Rattle.desk.specs.declared.PostAnswer.{PostAnswer}
-use Rattle.desk.specs.declared.TurnAnswer.{TurnAnswer}
-use Rattle.desk.specs.declared.CollectAnswer.{CollectAnswer}
-use Rattle.desk.specs.declared.WithdrawAnswer.{WithdrawAnswer}
-use Rattle.desk.specs.declared.PlaceAnswer.{PlaceAnswer}
-use Rattle.desk.specs.Calls.{Done, open_of, written_of, written_out, post_of, turn_of, collect_of, withdraw_of, place_of}
+use Rattle.desk.specs.Calls.{OpenAnswer, WriteAnswer, PostAnswer, TurnAnswer, CollectAnswer, WithdrawAnswer, PlaceAnswer, Done, open_of, written_of, written_out, post_of, turn_of, collect_of, withdraw_of, place_of}
 
 -- ---- "The words of demand 3", one call of the list
 
@@ -33,14 +25,16 @@ pub record Call : Type 0 where
   pub arena : List ℕ
   pub store : List ℕ
 
--- what was asked of which guest, and its answer; a table write's with the buffer afterwards, a placement's with its address
+-- what was asked of which guest, and its answer; a table write's with the buffer afterwards, a placement's with its
+-- address. An opening that does not come to its table is `unopened`: 25, which only a desk block of another size gives
 pub data Answer : Type 0 where
   opening : OpenAnswer → Answer
+  unopened : Answer
   posted : ℕ → PostAnswer → Answer
   turned : TurnAnswer → Answer
   collected : ℕ → CollectAnswer → Answer
   withdrawn : ℕ → WithdrawAnswer → Answer
-  written : Written → List ℕ → Answer
+  written : WriteAnswer → List ℕ → Answer
   placed : ℕ → ℕ → PlaceAnswer → Answer
 
 -- what a call leaves
@@ -52,8 +46,8 @@ pub record Out : Type 0 where
 
 -- an opening that passed leaves its own desk; "Refused, it changes nothing"
 abbrev pub opened_desk : Desk → Desk → OpenAnswer → Desk
-opened_desk d new Opened = new
-opened_desk d new (OpenRefused n at) = d
+opened_desk d new (Ok u) = new
+opened_desk d new (Err e) = d
 
 -- a desk call's result, its answer among those of the list
 abbrev pub out_of : {A : Type 0} → (A → Answer) → Done A → Out

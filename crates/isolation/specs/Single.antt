@@ -1,6 +1,6 @@
 -- One call: the registers that no answer changes, and the turn that serves.
 -- Assumes nothing.
-use Rattle.std.specs.Prelude.{ℕ, ◌<◌, ◌≡◌, true, List}
+use Rattle.std.specs.Prelude.{ℕ, ◌<◌, ◌≡◌, true, List, Ok, Some}
 use Rattle.memory.specs.Window.{guests}
 use Rattle.table.specs.declared.Table.{Table}
 use Rattle.int13.specs.declared.Placement.{Placement}
@@ -12,11 +12,9 @@ use Rattle.int13.specs.Steps.{fed, begin}
 use Rattle.desk.specs.declared.Request.{Request}
 use Rattle.desk.specs.declared.Stage.TheVariants.{Waiting}
 use Rattle.desk.specs.declared.Desk.{Desk}
-use Rattle.desk.specs.declared.TurnAnswer.{TurnAnswer}
-use Rattle.desk.specs.declared.TurnAnswer.TheVariants.{Served}
 use Rattle.desk.specs.Parts.{stage_at}
 use Rattle.desk.specs.Acceptable.{accept}
-use Rattle.desk.specs.Calls.{is_lent, turn_of}
+use Rattle.desk.specs.Calls.{TurnAnswer, is_lent, turn_of}
 
 -- ---- "Numbers given back", registers not named; "Calls the host makes", turn
 
@@ -35,7 +33,7 @@ KeepsSegments r (Waits j) = SameSegments r j.registers
 pub record Serves (x : TurnAnswer) : Type 0 where
   pub guest : ℕ
   pub moved : ℕ
-  pub is : x ≡ Served guest moved
+  pub is : x ≡ Ok (Some (record { guest = guest; moved = moved }))
 
 -- of every answer at once, every finish and every withdrawal, and of every turn
 pub record Single : Type 0 where

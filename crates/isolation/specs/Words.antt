@@ -1,10 +1,9 @@
 -- Document 01, "The words of demand 3", one by one, in its order; document 02, 2026-04, for the endings at a bad block.
 -- Assumes nothing.
-use Rattle.std.specs.Prelude.{ℕ, zero, suc, ◌+◌, ◌-◌, ◌*◌, ◌/◌, ◌≤◌, ◌<◌, min, ◌≡◌, ◌⊎◌, true, List, [], ◌∷◌, ◌++◌, eqb}
+use Rattle.std.specs.Prelude.{ℕ, zero, suc, ◌+◌, ◌-◌, ◌*◌, ◌/◌, ◌≤◌, ◌<◌, min, ◌≡◌, ◌⊎◌, true, List, [], ◌∷◌, ◌++◌, eqb, Ok, Err, Some, None}
 use Rattle.logic.specs.Logic.{pick}
 use Rattle.memory.specs.Window.{guests, window_of}
 use Rattle.table.specs.declared.Table.{Table}
-use Rattle.table.specs.declared.Written.TheVariants.{Bytes, Refused as WriteRefused}
 use Rattle.int13.specs.declared.Registers.{Registers}
 use Rattle.int13.specs.Answers.{ah, is_write}
 use Rattle.int13.specs.declared.Placement.{Placement}
@@ -13,15 +12,10 @@ use Rattle.int13.specs.Alone.{store_block}
 use Rattle.desk.specs.declared.Request.{Request}
 use Rattle.desk.specs.declared.Stage.TheVariants.{Waiting}
 use Rattle.desk.specs.declared.Desk.{Desk}
-use Rattle.desk.specs.declared.OpenAnswer.TheVariants.{Opened, Refused as OpenRefused}
-use Rattle.desk.specs.declared.PostAnswer.TheVariants.{Answered as PostAnswered, Waits as PostWaits, Refused as PostRefused}
-use Rattle.desk.specs.declared.TurnAnswer.TheVariants.{Served, Idle, Refused as TurnRefused}
-use Rattle.desk.specs.declared.CollectAnswer.TheVariants.{Given as CollectGiven, Refused as CollectRefused}
-use Rattle.desk.specs.declared.WithdrawAnswer.TheVariants.{Given as WithdrawGiven, Refused as WithdrawRefused}
-use Rattle.desk.specs.declared.PlaceAnswer.TheVariants.{Placed, Refused as PlaceRefused}
 use Rattle.desk.specs.Parts.{stage_at}
 use Rattle.desk.specs.Acceptable.{turn_blocks as part_length}
-use Rattle.isolation.specs.Lists.{post, Call, Answer, opening, posted, turned, collected, withdrawn, written, placed, step, Event, run, after}
+use Rattle.desk.specs.Calls.{not_acceptable, number_of}
+use Rattle.isolation.specs.Lists.{post, Call, Answer, opening, unopened, posted, turned, collected, withdrawn, written, placed, step, Event, run, after}
 
 -- ---- "The words of demand 3", the answers; each later word is a clause for each of these
 
@@ -48,22 +42,23 @@ pub data Kind : Type 0 where
 
 -- a house number or a table's number is a refusal; the others by what was asked
 abbrev pub kind_of : Answer → Kind
-kind_of (opening Opened) = opens
-kind_of (opening (OpenRefused n place)) = refused
-kind_of (posted g (PostAnswered r)) = answers g
-kind_of (posted g PostWaits) = accepts g
-kind_of (posted g (PostRefused n)) = refused
-kind_of (turned (Served g k)) = serves g k
-kind_of (turned Idle) = idles
-kind_of (turned (TurnRefused n)) = refused
-kind_of (collected g (CollectGiven r)) = hands g r
-kind_of (collected g (CollectRefused n)) = refused
-kind_of (withdrawn g (WithdrawGiven r)) = withdraws g
-kind_of (withdrawn g (WithdrawRefused n)) = refused
-kind_of (written (Bytes n) out) = plain
-kind_of (written (WriteRefused n) out) = refused
-kind_of (placed g address Placed) = places g address
-kind_of (placed g address (PlaceRefused n)) = refused
+kind_of (opening (Ok u)) = opens
+kind_of (opening (Err e)) = refused
+kind_of unopened = refused
+kind_of (posted g (Ok (Some r))) = answers g
+kind_of (posted g (Ok None)) = accepts g
+kind_of (posted g (Err e)) = refused
+kind_of (turned (Ok (Some s))) = serves s.guest s.moved
+kind_of (turned (Ok None)) = idles
+kind_of (turned (Err e)) = refused
+kind_of (collected g (Ok r)) = hands g r
+kind_of (collected g (Err e)) = refused
+kind_of (withdrawn g (Ok r)) = withdraws g
+kind_of (withdrawn g (Err e)) = refused
+kind_of (written (Ok n) out) = plain
+kind_of (written (Err e) out) = refused
+kind_of (placed g address (Ok u)) = places g address
+kind_of (placed g address (Err e)) = refused
 
 -- of one call of the list
 abbrev pub kind_in : Event → Kind
@@ -72,20 +67,13 @@ kind_in e = kind_of e.out.answer
 -- the house number of a refusal, else 0; a refused opening's is a table's number
 abbrev pub house_number : Answer → ℕ
 house_number (opening x) = 0
-house_number (posted g (PostAnswered r)) = 0
-house_number (posted g PostWaits) = 0
-house_number (posted g (PostRefused n)) = n
-house_number (turned (Served g k)) = 0
-house_number (turned Idle) = 0
-house_number (turned (TurnRefused n)) = n
-house_number (collected g (CollectGiven r)) = 0
-house_number (collected g (CollectRefused n)) = n
-house_number (withdrawn g (WithdrawGiven r)) = 0
-house_number (withdrawn g (WithdrawRefused n)) = n
-house_number (written (Bytes n) out) = 0
-house_number (written (WriteRefused n) out) = n
-house_number (placed g address Placed) = 0
-house_number (placed g address (PlaceRefused n)) = n
+house_number unopened = not_acceptable
+house_number (posted g x) = number_of x
+house_number (turned x) = number_of x
+house_number (collected g x) = number_of x
+house_number (withdrawn g x) = number_of x
+house_number (written x out) = number_of x
+house_number (placed g address x) = number_of x
 
 -- "The list begins at an opening that passed, and the next one that passes ends it": each opening in the list is refused
 abbrev pub NoneOpens : List Event → Type 0
@@ -210,7 +198,7 @@ placement_in g es = placement_after g no_placement es
 -- "A request is accepted by the post answered that the row waits."
 pub record Accepted (d : Desk) (c : Call) (g : ℕ) (r : Registers) : Type 0 where
   pub posts : c.op ≡ post g r
-  pub waits : (step d c).answer ≡ posted g PostWaits
+  pub waits : (step d c).answer ≡ posted g (Ok None)
 
 -- the number that a turn answers where it meets no bad block, m of n blocks being moved: sixteen, or what remains if fewer
 abbrev pub full_part : ℕ → ℕ → ℕ

@@ -19,10 +19,9 @@ use Rattle.drive.specs.declared.Drive.{Drive}
 use Rattle.drive.specs.Drive.{Fits, is_i2o}
 use Rattle.drive.proofs.DriveLaws.{Arrays}
 use Rattle.layout.specs.declared.Pointer.{Pointer}
-use Rattle.layout.specs.declared.ResultAnswer.{ResultAnswer}
-use Rattle.layout.specs.declared.ResultAnswer.TheVariants.{Written, Refused}
-use Rattle.layout.specs.Packet.{bad_parameter}
-use Rattle.layout.specs.ResultBuffer.{least_size, pointer_size, path_size, wide_size, returned_size, flags_shown, path_key, parameter_bytes, block_bytes, interface_bytes, path_bytes, padded_byte, padded, wide_interface_bytes, wide_path_bytes, sum, checksum, checked, summed_bytes, whole_result, result_bytes, result_answer, written}
+use Rattle.std.specs.Prelude.{Result, Ok, Err}
+use Rattle.layout.specs.declared.BadParameter.{BadParameter}
+use Rattle.layout.specs.ResultBuffer.{least_size, pointer_size, path_size, wide_size, returned_size, flags_shown, path_key, parameter_bytes, block_bytes, interface_bytes, path_bytes, padded_byte, padded, wide_interface_bytes, wide_path_bytes, sum, checksum, checked, summed_bytes, whole_result, result_bytes, result_answer, result_numbers, written}
 use Rattle.layout.specs.Demand2.{FlagBits, Parameters, Shown, Pointing, Paths, FitsPointer, EveryAnswer, Demand2}
 use Rattle.layout.proofs.ResultBufferLaws.{sum-checked, length-padded, padded_at, whole_size, length_whole, length_result, size_by, length-out}
 
@@ -243,12 +242,12 @@ pub record Sized (d : Drive) (asked n room : ℕ) : Type 0 where
   pub returned : n ≡ returned_size d asked
   pub inside : n ≤ room
 
-sized : (d : Drive) (asked n room : ℕ) → result_answer d asked room ≡ Written n → Sized d asked n room
+sized : (d : Drive) (asked n room : ℕ) → result_answer d asked room ≡ Ok n → Sized d asked n room
 unfolding result_answer
 sized d asked n room = by_test (both (leb least_size asked) (leb (returned_size d asked) room)) refl
   where
     by_test : (t : Bool) → both (leb least_size asked) (leb (returned_size d asked) room) ≡ t
-        → pick t (Written (returned_size d asked)) (Refused bad_parameter) ≡ Written n → Sized d asked n room
+        → pick {A = Result ℕ BadParameter} t (Ok (returned_size d asked)) (Err (record {})) ≡ Ok n → Sized d asked n room
     by_test true t e =
         let b = both_true (leb least_size asked) (leb (returned_size d asked) room) t in
         let same : n ≡ returned_size d asked = cc in
@@ -313,18 +312,22 @@ answer_thirty : (d : Drive) (asked room : ℕ) → is_i2o d ≡ true → 66 ≤ 
 unfolding result_answer
 answer_thirty d asked room i l m = rw (le-leb 26 asked (omega arith), thirty d asked i l m)
 
-none : (t u : Bool) (a b : ResultAnswer) → u ≡ false → pick (both t u) a b ≡ b
+none : (t u : Bool) (a b : Result ℕ BadParameter) → u ≡ false → pick (both t u) a b ≡ b
 none true u a b e = rw e
 none false u a b e = refl
+
+refused : result_numbers (Err (record {})) ≡ 0x01 ∷ []
+unfolding result_numbers
+refused = refl
 
 pub every-answer : EveryAnswer
 unfolding result_answer
 every-answer d p asked before =
     record {
-      small = λ l. rw (lt-leb 26 asked l);
+      small = λ l. ap result_numbers (rw (lt-leb 26 asked l)) ∙ refused;
       room = λ l m. rw (le-leb 26 asked l, le-leb (returned_size d asked) (length before) m);
-      no_room = λ l. none (leb 26 asked) (leb (returned_size d asked) (length before)) (Written (returned_size d asked)) (Refused bad_parameter) (lt-leb (returned_size d asked) (length before) l);
+      no_room = λ l. ap result_numbers (none (leb 26 asked) (leb (returned_size d asked) (length before)) (Ok (returned_size d asked)) (Err (record {})) (lt-leb (returned_size d asked) (length before) l)) ∙ refused;
       as_30 = λ i l m.
           let e = answer_thirty d asked (length before) i l m in
-          (e, ap (λ (x : ResultAnswer). written d p x before) e);
+          (e, ap (λ (x : Result ℕ BadParameter). written d p x before) e);
     }

@@ -1,12 +1,11 @@
 -- Demand 2, the 48h result: what stands at each of the paper's offsets, for every drive and pointer whose fields fit their words.
 -- Assumes nothing.
-use Rattle.std.specs.Prelude.{ℕ, ◌+◌, ◌-◌, ◌/◌, ◌%◌, ◌^◌, ◌≤◌, ◌<◌, ◌≡◌, true, false, List, [], ◌∷◌, length, get_or, drop}
+use Rattle.std.specs.Prelude.{ℕ, ◌+◌, ◌-◌, ◌/◌, ◌%◌, ◌^◌, ◌≤◌, ◌<◌, ◌≡◌, true, false, List, [], ◌∷◌, length, get_or, drop, Ok}
 use Rattle.words.specs.Words.{le, part}
 use Rattle.drive.specs.declared.Drive.{Drive}
 use Rattle.drive.specs.Drive.{Fits, is_i2o}
 use Rattle.layout.specs.declared.Pointer.{Pointer}
-use Rattle.layout.specs.declared.ResultAnswer.TheVariants.{Written, Refused}
-use Rattle.layout.specs.ResultBuffer.{sum, result_answer, result_out, returned_size}
+use Rattle.layout.specs.ResultBuffer.{sum, result_answer, result_numbers, result_out, returned_size}
 
 -- ---- "2026-02": the information flags that 48h returns, of those that the table has
 
@@ -84,9 +83,9 @@ pub record FitsPointer (p : Pointer) : Type 0 where
 
 -- which answers write: all from 26 on for which there is room; and "one of type I2O is answered as if the size were 30", refusals included
 pub record Answers (d : Drive) (p : Pointer) (asked : ℕ) (before : List ℕ) : Type 0 where
-  pub small : asked < 26 → result_answer d asked (length before) ≡ Refused 0x01
-  pub room : 26 ≤ asked → returned_size d asked ≤ length before → result_answer d asked (length before) ≡ Written (returned_size d asked)
-  pub no_room : length before < returned_size d asked → result_answer d asked (length before) ≡ Refused 0x01
+  pub small : asked < 26 → result_numbers (result_answer d asked (length before)) ≡ 0x01 ∷ []
+  pub room : 26 ≤ asked → returned_size d asked ≤ length before → result_answer d asked (length before) ≡ Ok (returned_size d asked)
+  pub no_room : length before < returned_size d asked → result_numbers (result_answer d asked (length before)) ≡ 0x01 ∷ []
   pub as_30 : is_i2o d ≡ true → 66 ≤ asked → asked ≤ 73
       → (result_answer d asked (length before) ≡ result_answer d 30 (length before)) × (result_out d p asked before ≡ result_out d p 30 before)
 
@@ -97,5 +96,5 @@ EveryAnswer = (d : Drive) (p : Pointer) (asked : ℕ) (before : List ℕ) → An
 -- DEMAND 2, of the 48h result: every answer that writes
 abbrev pub Demand2 : Type 0
 Demand2 = (d : Drive) (p : Pointer) (asked n : ℕ) (before : List ℕ) → Fits d → FitsPointer p
-    → result_answer d asked (length before) ≡ Written n
+    → result_answer d asked (length before) ≡ Ok n
     → Result d p asked n before (result_out d p asked before)

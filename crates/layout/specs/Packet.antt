@@ -1,11 +1,10 @@
 -- Addresses in a guest's memory, and the device address packet that 42h, 43h, 44h and 47h read there (document 01).
 -- Assumes nothing.
-use Rattle.std.specs.Prelude.{ℕ, ◌+◌, ◌*◌, List, [], ◌∷◌, length, get_or, leb}
+use Rattle.std.specs.Prelude.{ℕ, ◌+◌, ◌*◌, List, [], ◌∷◌, length, get_or, leb, Result, Ok, Err}
 use Rattle.logic.specs.Logic.{pick}
 use Rattle.words.specs.Words.{le}
 use Rattle.layout.specs.declared.Packet.{Packet}
-use Rattle.layout.specs.declared.PacketRead.{PacketRead}
-use Rattle.layout.specs.declared.PacketRead.TheVariants.{Whole, Refused}
+use Rattle.layout.specs.declared.BadParameter.{BadParameter}
 
 -- ---- "Parts of the desk"
 
@@ -35,15 +34,15 @@ packet_at window at = record {
 }
 
 -- 16 packet bytes at DS:SI inside the window, else 01h; the sum never wraps
-unfoldable pub read_packet : List ℕ → ℕ → PacketRead
-read_packet window at = pick (leb (at + packet_length) (length window)) (Whole (packet_at window at)) (Refused bad_parameter)
+unfoldable pub read_packet : List ℕ → ℕ → Result Packet BadParameter
+read_packet window at = pick (leb (at + packet_length) (length window)) (Ok (packet_at window at)) (Err (record {}))
 
 -- ---- "Forms we want to see": the answer as numbers, 0 and the values in the packet's order, or the code
 
 -- size, count, buffer, start
-unfoldable pub packet_numbers : PacketRead → List ℕ
-packet_numbers (Whole p) = 0 ∷ p.size ∷ p.count ∷ p.buffer ∷ p.start ∷ []
-packet_numbers (Refused code) = code ∷ []
+unfoldable pub packet_numbers : Result Packet BadParameter → List ℕ
+packet_numbers (Ok p) = 0 ∷ p.size ∷ p.count ∷ p.buffer ∷ p.start ∷ []
+packet_numbers (Err e) = bad_parameter ∷ []
 
 -- the numbers for a place of a window, by the paper's offsets; the buffer is 16 times segment plus offset
 unfoldable pub packet_given : List ℕ → ℕ → List ℕ

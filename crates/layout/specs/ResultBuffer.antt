@@ -1,7 +1,7 @@
 -- Document 01, "Steps of each function", 48h: the sizes, the bytes and the answer of the result buffer; the flags as document 02 corrects them, and
 -- its longer result (2026-06).
 -- Assumes nothing.
-use Rattle.std.specs.Prelude.{ℕ, ◌+◌, ◌-◌, ◌*◌, ◌/◌, ◌%◌, List, [], ◌∷◌, ◌++◌, length, take, drop, eqb, leb, ltb}
+use Rattle.std.specs.Prelude.{ℕ, ◌+◌, ◌-◌, ◌*◌, ◌/◌, ◌%◌, List, [], ◌∷◌, ◌++◌, length, take, drop, eqb, leb, ltb, map, Result, Ok, Err}
 use Rattle.logic.specs.Logic.{pick, both}
 use Rattle.words.specs.Words.{le_bytes}
 use Rattle.drive.specs.declared.Drive.{Drive}
@@ -9,8 +9,7 @@ use Rattle.drive.specs.Drive.{is_i2o}
 use Rattle.memory.specs.Blocks.{block_length}
 use Rattle.layout.specs.Packet.{bad_parameter}
 use Rattle.layout.specs.declared.Pointer.{Pointer}
-use Rattle.layout.specs.declared.ResultAnswer.{ResultAnswer}
-use Rattle.layout.specs.declared.ResultAnswer.TheVariants.{Written, Refused}
+use Rattle.layout.specs.declared.BadParameter.{BadParameter}
 
 -- ---- "Steps of each function", 48h: the sizes
 
@@ -70,30 +69,37 @@ parameter_bytes d n = le_bytes 2 n ++ (le_bytes 2 (flags_shown d) ++ (le_bytes 4
 unfoldable pub block_bytes : Drive → Pointer → List ℕ
 block_bytes d p = le_bytes 8 d.blocks ++ (le_bytes 2 block_length ++ (le_bytes 2 p.offset ++ le_bytes 2 p.segment))
 
--- offsets 30, 32, 33, 36, 40: BEDDh, 24h, three zeros, host bus, interface type
-unfoldable pub interface_bytes : Drive → List ℕ
-interface_bytes d = le_bytes 2 path_key ++ (path_length ∷ 0 ∷ 0 ∷ 0 ∷ (d.bus ++ d.interface))
-
--- offsets 48, 56, 64: interface path, device path, zero
-unfoldable pub path_bytes : Drive → List ℕ
-path_bytes d = d.path ++ (d.device ++ (0 ∷ []))
-
 -- 20h for NUL, as document 000 pads a name, and every other byte as it is
 abbrev pub padded_byte : ℕ → ℕ
 padded_byte x = pick (eqb x 0) 0x20 x
 
 -- a name so padded
 unfoldable pub padded : List ℕ → List ℕ
-padded [] = []
-padded (x ∷ name) = padded_byte x ∷ padded name
+padded name = map padded_byte name
 
--- offsets 30, 32, 33, 36, 40 of the longer result: BEDDh, 2Ch, three zeros, host bus and interface type, padded
+-- offsets 30, 32, 33, 36, 40: BEDDh, the length from byte 30 on, three zeros, host bus, interface type
+abbrev pub interface_of : ℕ → List ℕ → List ℕ → List ℕ
+interface_of length bus interface = le_bytes 2 path_key ++ (length ∷ 0 ∷ 0 ∷ 0 ∷ (bus ++ interface))
+
+-- of 66 bytes, with 24h
+unfoldable pub interface_bytes : Drive → List ℕ
+interface_bytes d = interface_of path_length d.bus d.interface
+
+-- offsets 48, 56, 64: interface path, device path, which a tail makes longer, and zero behind it
+abbrev pub paths_of : Drive → List ℕ → List ℕ
+paths_of d tail = d.path ++ (d.device ++ (tail ++ (0 ∷ [])))
+
+-- of 66 bytes, which have no tail
+unfoldable pub path_bytes : Drive → List ℕ
+path_bytes d = paths_of d []
+
+-- of the longer result, with 2Ch, host bus and interface type padded
 unfoldable pub wide_interface_bytes : Drive → List ℕ
-wide_interface_bytes d = le_bytes 2 path_key ++ (wide_path_length ∷ 0 ∷ 0 ∷ 0 ∷ (padded d.bus ++ padded d.interface))
+wide_interface_bytes d = interface_of wide_path_length (padded d.bus) (padded d.interface)
 
--- offsets 48, 56, 64, 72 of the longer result: interface path, all sixteen bytes of the device path, zero
+-- of the longer result, all sixteen bytes of the device path
 unfoldable pub wide_path_bytes : Drive → List ℕ
-wide_path_bytes d = d.path ++ (d.device ++ (d.tail ++ (0 ∷ [])))
+wide_path_bytes d = paths_of d d.tail
 
 -- the sum of bytes
 unfoldable pub sum : List ℕ → ℕ
@@ -123,14 +129,14 @@ result_bytes d p n = take n (whole_result d p n)
 -- ---- "Steps of each function", 48h: the answer
 
 -- asked: the word at DS:SI; room: the bytes from DS:SI to the window's end. All returned bytes must be inside, no smaller size is tried
-unfoldable pub result_answer : Drive → ℕ → ℕ → ResultAnswer
+unfoldable pub result_answer : Drive → ℕ → ℕ → Result ℕ BadParameter
 result_answer d asked room =
-    pick (both (leb least_size asked) (leb (returned_size d asked) room)) (Written (returned_size d asked)) (Refused bad_parameter)
+    pick (both (leb least_size asked) (leb (returned_size d asked) room)) (Ok (returned_size d asked)) (Err (record {}))
 
 -- the bytes from DS:SI after an answer: those past the returned size stay, and a refusal writes none
-abbrev pub written : Drive → Pointer → ResultAnswer → List ℕ → List ℕ
-written d p (Written n) out = result_bytes d p n ++ drop n out
-written d p (Refused code) out = out
+abbrev pub written : Drive → Pointer → Result ℕ BadParameter → List ℕ → List ℕ
+written d p (Ok n) out = result_bytes d p n ++ drop n out
+written d p (Err e) out = out
 
 -- the bytes from DS:SI after the answer to a size asked
 abbrev pub result_out : Drive → Pointer → ℕ → List ℕ → List ℕ
@@ -139,9 +145,9 @@ result_out d p asked out = written d p (result_answer d asked (length out)) out
 -- ---- "Forms we want to see": the answer as numbers, 0 and the returned size, or the code
 
 -- of an answer
-unfoldable pub result_numbers : ResultAnswer → List ℕ
-result_numbers (Written n) = 0 ∷ n ∷ []
-result_numbers (Refused code) = code ∷ []
+unfoldable pub result_numbers : Result ℕ BadParameter → List ℕ
+result_numbers (Ok n) = 0 ∷ n ∷ []
+result_numbers (Err e) = bad_parameter ∷ []
 
 -- the numbers for a drive, a size asked and the room
 unfoldable pub size_given : Drive → ℕ → ℕ → List ℕ

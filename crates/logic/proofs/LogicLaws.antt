@@ -1,7 +1,7 @@
 -- What the tests say.
 -- Assumes nothing.
-use mathlib.Core.Path.{◌≡◌, refl, sym, ◌∙◌}
-use mathlib.Core.Bool.{Bool, true, false, not}
+use mathlib.Core.Path.{◌≡◌, refl, sym, ap, ◌∙◌}
+use mathlib.Core.Bool.{Bool, true, false, not, ◌&&◌, ◌||◌}
 use mathlib.Core.List.{List, map}
 use lib.ListN.{length, length-map}
 use Prim.Native.Nat.{ℕ, zero, suc, ◌+◌, ◌-◌, ◌≤◌, ◌<◌}
@@ -10,7 +10,8 @@ use lib.Dec.{leb, ltb}
 use native.Mathlib.Nat.{add-zero, add-suc}
 use native.Mathlib.Numerals.{add-one}
 use native.Mathlib.Omega.{arith}
-use borrow.Author.Tests.{leb-true, leb-false, le-leb, lt-leb, le-ltb, ltb-true, ltb-false}
+use borrow.Author.Tests.{leb-true, leb-false, le-leb, lt-leb, lt-ltb, le-ltb, ltb-true, ltb-false}
+use Rattle.std.specs.List.{list_all, list_any, range_with_len}
 use Rattle.logic.specs.Logic.{pick, both, either, in_range, all_below, some_below}
 
 -- anything, where the equations in scope make two constructors equal: `impossible (cc)`
@@ -74,6 +75,11 @@ pub either_right : (a b : Bool) → b ≡ true → either a b ≡ true
 either_right true b e = refl
 either_right false b e = e
 
+pub either_swap : (a b c : Bool) → either a (either b c) ≡ either b (either a c)
+either_swap true true c = refl
+either_swap true false c = refl
+either_swap false b c = refl
+
 -- a test passed, by what it picks
 pub pick-cases : {A : Type 0} (P : A → Type 0) (t : Bool) (x y : A) → (t ≡ true → P x) → (t ≡ false → P y) → P (pick t x y)
 pick-cases P true x y f g = f refl
@@ -108,14 +114,6 @@ lt_or_le m n = by_test (ltb m n) refl
     by_test : (t : Bool) → ltb m n ≡ t → (m < n) ⊎ (n ≤ m)
     by_test true e = inl (ltb-true m n e)
     by_test false e = inr (ltb-false m n e)
-
--- ---- a sum that does not wrap, by differences
-
-pub ends-past : (place n end : ℕ) → end < place → false ≡ leb (place + n) end
-ends-past place n end h = sym (lt-leb (place + n) end (omega arith))
-
-pub ends_rest : (place n end : ℕ) → place ≤ end → leb n (end - place) ≡ leb (place + n) end
-ends_rest place n end h = leb_iff n (end - place) (place + n) end (λ q. omega arith) (λ q. omega arith)
 
 -- ---- every number below n, and some number below n
 
@@ -180,6 +178,10 @@ pub all_front : (n : ℕ) (f : ℕ → Bool) → all_below (suc n) f ≡ both (f
 all_front zero f = refl
 all_front (suc n) f = rw (all_front n f) (both_left (f (suc n)) (f 0) (all_below n (λ k. f (suc k))))
 
+pub some_front : (n : ℕ) (f : ℕ → Bool) → some_below (suc n) f ≡ either (f 0) (some_below n (λ k. f (suc k)))
+some_front zero f = refl
+some_front (suc n) f = rw (some_front n f) (either_swap (f (suc n)) (f 0) (some_below n (λ k. f (suc k))))
+
 pub all-add : (m n : ℕ) (f : ℕ → Bool) → all_below (m + n) f ≡ both (all_below m f) (all_below n (λ k. f (m + k)))
 all-add m zero f = rw add-zero (sym (both_itself (all_below m f)))
 all-add m (suc n) f = rw (add-suc, all-add m n f) (both_left (f (m + n)) (all_below m f) (all_below n (λ k. f (m + k))))
@@ -199,6 +201,39 @@ all_split n c f l =
     (λ e.
     let p = both_true (all_below c f) (all_below n past) e in
     all_intro n f (λ i h. ⊎_elim (λ x. all_at c i f p.0 x) (λ x. let z = le-ltb i c x in rw z at (all_at n i past p.1 h)) (lt_or_le i c)))
+
+-- those from c on
+pub all_past : (n c : ℕ) (f : ℕ → Bool) → c ≤ n → all_below (n - c) (λ k. f (c + k)) ≡ all_below n (λ i. either (ltb i c) (f i))
+all_past n c f l =
+    true_iff (all_below (n - c) (λ k. f (c + k))) (all_below n (λ i. either (ltb i c) (f i)))
+    (λ e. all_intro n (λ i. either (ltb i c) (f i)) (λ i h. ⊎_elim
+    (λ x. either_left (ltb i c) (f i) (lt-ltb i c x))
+    (λ x. let y : c + (i - c) ≡ i = omega arith in either_right (ltb i c) (f i) (rw y at (all_at (n - c) (i - c) (λ k. f (c + k)) e (omega arith)))) (lt_or_le i c)))
+    (λ e. all_intro (n - c) (λ k. f (c + k)) (λ k h.
+    let z : ltb (c + k) c ≡ false = le-ltb (c + k) c (omega arith) in
+    rw z at (all_at n (c + k) (λ i. either (ltb i c) (f i)) e (omega arith))))
+
+-- ---- what the library says of `&&`, `||`, and of `all` and `any` over a range
+
+pub and_both : (a b : Bool) → a && b ≡ both a b
+and_both true b = refl
+and_both false b = refl
+
+pub or_either : (a b : Bool) → a || b ≡ either a b
+or_either true b = refl
+or_either false b = refl
+
+pub range_all : (a n : ℕ) (f : ℕ → Bool) → list_all f (range_with_len a n) ≡ all_below n (λ k. f (a + k))
+range_all a zero f = refl
+range_all a (suc n) f =
+    rw (range_all (a + 1) n f, and_both, all_front n (λ k. f (a + k)), add-zero)
+    (ap (both (f a)) (all_ext n (λ k. f (a + 1 + k)) (λ k. f (a + suc k)) (λ k h. ap f (omega arith))))
+
+pub range_any : (a n : ℕ) (f : ℕ → Bool) → list_any f (range_with_len a n) ≡ some_below n (λ k. f (a + k))
+range_any a zero f = refl
+range_any a (suc n) f =
+    rw (range_any (a + 1) n f, or_either, some_front n (λ k. f (a + k)), add-zero)
+    (ap (either (f a)) (some_ext n (λ k. f (a + 1 + k)) (λ k. f (a + suc k)) (λ k h. ap f (omega arith))))
 
 -- the length of a list by that of what it is mapped to, which is how the types say it of an array of structs: `search (needs, length_mapped)`
 pub length_mapped : (X Y : Type 0) (f : X → Y) (l : List X) (n : ℕ) → length (map f l) ≡ n → length l ≡ n

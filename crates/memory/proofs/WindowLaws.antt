@@ -4,10 +4,11 @@ use mathlib.Core.Path.{◌≡◌, refl, sym, ◌∙◌}
 use mathlib.Core.Logic.{◌≢◌, ◌⊎◌, inl, inr}
 use mathlib.Core.Bool.{Bool, true, false}
 use mathlib.Core.List.{List, ◌++◌}
-use Prim.Native.Nat.{ℕ, suc, ◌+◌, ◌*◌, ◌≤◌, ◌<◌}
+use Prim.Native.Nat.{ℕ, suc, ◌+◌, ◌*◌, ◌-◌, ◌≤◌, ◌<◌}
 use native.Mathlib.Nat.{mul-le-mul_right}
 use native.Mathlib.Omega.{arith}
 use lib.Dec.{ltb, leb}
+use borrow.Rule.Slice.PartMut.{put_mid}
 use lib.ListN.{length, take, drop}
 use lib.Seq.{sets, length-sets}
 use Rattle.words.specs.Words.{part}
@@ -130,3 +131,11 @@ pub with_window_lent : (a : List ℕ) (g m : ℕ) (w : List ℕ) → length w �
     take (span_start (length a) g m) a ++ (w ++ drop (span_length (length a) g m) (drop (span_start (length a) g m) a)) ≡ with_window a g m w
 with_window_lent a g m w e =
     sets_lent a (span_start (length a) g m) (span_length (length a) g m) w e (omega (arith, span_within (length a) g m))
+
+-- and so does one between two places that were found
+pub window_back : {start end : ℕ} {v w : List ℕ} (a : List ℕ) (g m : ℕ) → start ≡ span_start (length a) g m
+    → end ≡ span_start (length a) g m + span_length (length a) g m → v ≡ w → length w ≡ length (window_of a g m)
+    → put_mid start (end - start) a v ≡ with_window a g m w
+window_back {w = w} a g m s e q l =
+    let k : span_start (length a) g m + span_length (length a) g m - span_start (length a) g m ≡ span_length (length a) g m = omega arith in
+    rw (s, e, q, k) (with_window_lent a g m w (l ∙ length-window a g m))

@@ -9,18 +9,13 @@ ghost use Rattle.words.specs.Words.{le_bytes};
 ghost use Rattle.memory.specs.Window.{window_length, span_start, span_length, window_of, with_window};
 ghost use Rattle.memory.specs.Blocks.{block_length, blocks};
 
+use std::ops::Range;
+
 // Guests are 0 to 7.
 pub const GUESTS: usize = 8;
 
 // Bytes of a block.
 pub const BLOCK_LENGTH: usize = 512;
-
-// Where a window lies in the arena: the bytes from start up to, not including, end.
-#[derive(Clone, Copy)]
-pub struct Span {
-    pub start: usize,
-    pub end: usize,
-}
 
 // M, the length of each window of an arena of n bytes.
 pub fn window_length(n: usize) -> usize
@@ -29,44 +24,41 @@ pub fn window_length(n: usize) -> usize
     n / GUESTS
 }
 
-// The place of a guest's window of m bytes in an arena of n: the empty part at 0 where m is above M or the guest is 8 or more.
-// The product is made only after m has passed, so it cannot wrap. That the end lies in the arena follows from the rest.
-pub fn span_of(n: usize, guest: usize, m: usize) -> Span
+// Where a guest's window of m bytes lies in an arena of n: the empty part at 0 where m is above M or the guest is 8
+// or more. The product is made only after m has passed, so it cannot wrap. That the end lies in the arena follows.
+#[tactic(auto, unfolding(crate::specs::Window::span_start, crate::specs::Window::span_length))]
+pub fn span_of(n: usize, guest: usize, m: usize) -> Range<usize>
     ensures { (result.start ≡ span_start n guest m) × (result.end ≡ span_start n guest m + span_length n guest m) × (result.end ≤ n) }
 {
     if window_length(n) < m {
-        return Span { start: 0, end: 0 };
+        return 0..0;
     }
     if GUESTS <= guest {
-        return Span { start: 0, end: 0 };
+        return 0..0;
     }
     let start = guest * m;
-    Span {
-        start: start,
-        end: start + m,
-    }
+    start..start + m
 }
 
 // ---- A window, handed out as that part of the arena itself: the promise names its bytes and its place in memory.
+
+// Stays: `window` and `window_shared` differ in what may be written; as in Rust, no parameter stands for that.
+// Stays: guest and m are no struct, since document 01 has a window asked for "by guest number and window length".
 
 // To be written.
 pub fn window<'a>(arena: &'a mut [u8], guest: usize, m: usize) -> &'a mut [u8]
     ensures { (result.now ≡ window_of arena.old guest m) × (result.ref_ptr ≡ (arena.entry.ref_ptr.0, arena.entry.ref_ptr.1 + span_start (length arena.old) guest m)) }
 {
-    let s = span_of(arena.len(), guest, m);
-    let start = s.start;
-    let end = s.end;
-    &mut arena[start..end]
+    let place = span_of(arena.len(), guest, m);
+    &mut arena[place]
 }
 
 // To be read.
 pub fn window_shared<'a>(arena: &'a [u8], guest: usize, m: usize) -> &'a [u8]
     ensures { (result.now ≡ window_of arena.now guest m) × (result.ref_ptr ≡ (arena.entry.ref_ptr.0, arena.entry.ref_ptr.1 + span_start (length arena.now) guest m)) }
 {
-    let s = span_of(arena.len(), guest, m);
-    let start = s.start;
-    let end = s.end;
-    &arena[start..end]
+    let place = span_of(arena.len(), guest, m);
+    &arena[place]
 }
 
 // ---- Moves of k blocks, promised as k moves of one block in ascending order.
@@ -85,12 +77,13 @@ fn lay(dst: &mut [u8], at: usize, a: &[u8])
         words::store(dst, at, a);
         return;
     }
-    let mut buffer: [u8; 8192] = [0; 8192];
-    words::store(&mut buffer, 0, a);
+    let mut buffer = [0; BUFFER];
+    buffer[..n].copy_from_slice(a);
     words::store(dst, at, &buffer[..n]);
 }
 
 // One run of 512 × k bytes. Its callers are load and save, which ask for the same ranges.
+#[tactic(auto, using(crate::proofs::BlocksLaws::blocks_splice))]
 fn copy(dst: &mut [u8], at: usize, src: &[u8], from: usize, k: usize)
     requires { (at + block_length * k ≤ length dst.old) × (from + block_length * k ≤ length src.now) }
     ensures { dst.new ≡ blocks dst.old at src.now from k }
@@ -101,6 +94,7 @@ fn copy(dst: &mut [u8], at: usize, src: &[u8], from: usize, k: usize)
 
 // A read: k blocks of the store, from byte from, go to place at of the guest's window. The desk has tested that the buffer lies in the
 // window (09h) and the named blocks in the drive (04h), and each drive lies in the store (6).
+#[tactic(auto, using(crate::proofs::WindowLaws::window_back))]
 pub fn load(
     arena: &mut [u8],
     guest: usize,
@@ -113,10 +107,8 @@ pub fn load(
     requires { (at + block_length * k ≤ span_length (length arena.old) guest m) × (from + block_length * k ≤ length store.now) }
     ensures { arena.new ≡ with_window arena.old guest m (blocks (window_of arena.old guest m) at store.now from k) }
 {
-    let s = span_of(arena.len(), guest, m);
-    let start = s.start;
-    let end = s.end;
-    copy(&mut arena[start..end], at, store, from, k);
+    let place = span_of(arena.len(), guest, m);
+    copy(&mut arena[place], at, store, from, k);
 }
 
 // A write: k blocks at place at of the guest's window go to the store, from byte to. The same tests as for a read.
@@ -124,30 +116,26 @@ pub fn save(arena: &[u8], guest: usize, m: usize, at: usize, store: &mut [u8], t
     requires { (at + block_length * k ≤ span_length (length arena.now) guest m) × (to + block_length * k ≤ length store.old) }
     ensures { store.new ≡ blocks store.old to (window_of arena.now guest m) at k }
 {
-    let s = span_of(arena.len(), guest, m);
-    let start = s.start;
-    let end = s.end;
-    copy(store, to, &arena[start..end], at, k);
+    let place = span_of(arena.len(), guest, m);
+    copy(store, to, &arena[place], at, k);
 }
 
 // Bytes laid at a place of the guest's window, as its parameter tables. The desk has tested that they lie in the window (26).
+#[tactic(auto, using(crate::proofs::WindowLaws::window_back))]
 pub fn put_bytes_in(arena: &mut [u8], guest: usize, m: usize, at: usize, bytes: &[u8])
     requires { at + length bytes.now ≤ span_length (length arena.old) guest m }
     ensures { arena.new ≡ with_window arena.old guest m (sets (window_of arena.old guest m) at bytes.now) }
 {
-    let s = span_of(arena.len(), guest, m);
-    let start = s.start;
-    let end = s.end;
-    words::store(&mut arena[start..end], at, bytes);
+    let place = span_of(arena.len(), guest, m);
+    words::store(&mut arena[place], at, bytes);
 }
 
 // A word laid at a place of the guest's window, as the packet's count. The desk has tested that the packet lies in the window (01h).
+#[tactic(auto, using(crate::proofs::WindowLaws::window_back))]
 pub fn put_word_in(arena: &mut [u8], guest: usize, m: usize, at: usize, x: u16)
     requires { at + 2 ≤ span_length (length arena.old) guest m }
     ensures { arena.new ≡ with_window arena.old guest m (sets (window_of arena.old guest m) at (le_bytes 2 x)) }
 {
-    let s = span_of(arena.len(), guest, m);
-    let start = s.start;
-    let end = s.end;
-    words::store16(&mut arena[start..end], at, x);
+    let place = span_of(arena.len(), guest, m);
+    words::put(&mut arena[place], at, x);
 }

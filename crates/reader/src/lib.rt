@@ -2,13 +2,14 @@
 // sure that what it read makes the same bytes again.
 #![tactic(auto)]
 
-ghost use Rattle.std.specs.Prelude.{◌≡◌, ◌-◌, ◌≤◌, length};
+ghost use Rattle.std.specs.Prelude.{◌≡◌, length, Some, None};
 ghost use Rattle.std.proofs.lemmas.List.Edits.{sets};
+ghost use Rattle.logic.specs.Logic.{pick};
 ghost use Rattle.words.specs.Words.{le, part};
 ghost use Rattle.drive.specs.Drive.{same};
-ghost use Rattle.table.specs.Table.{longest_record, longest_table, table_of};
+ghost use Rattle.table.specs.Table.{table_of};
 ghost use Rattle.feed.specs.declared.Course.TheVariants.{Reading};
-ghost use Rattle.reader.specs.Reader.{course_number, refusal_number, head_bytes, table_bytes, image, held_at, table_at, reader_size, course_at, read_reader, is_cut, rest_zero, course_ok, accept, accepted, laid};
+ghost use Rattle.reader.specs.Reader.{course_number, refusal_number, head_bytes, image, table_at, reader_size, course_at, read_reader, is_cut, rest_zero, course_ok, accept, accepted, laid};
 
 use feed::{Course, Feed};
 use table::Step;
@@ -35,64 +36,52 @@ pub const SIZE: usize = TABLE + table::LONGEST_TABLE;
 // Refusals of a table are 1 to 9.
 const MOST_REFUSAL: u8 = 9;
 
-// ---- what bytes say. Every place is inside a block of the right size, which `acceptable` has tested.
+// ---- what bytes say. A block of the right size is an array of that size.
 
-fn course_at(b: &[u8]) -> Course
-    requires { length b.now ≡ reader_size }
+fn course_at(b: &[u8; SIZE]) -> Course
     ensures { result ≡ course_at b.now }
 {
-    let number = words::get64(b, COURSE);
-    if number == 0 {
-        return Course::Reading;
+    match words::get::<u64>(b, COURSE) {
+        0 => Course::Reading,
+        1 => Course::Closed,
+        2 => Course::Accepted,
+        _ => Course::Refused(b[REFUSAL]),
     }
-    if number == 1 {
-        return Course::Closed;
-    }
-    if number == 2 {
-        return Course::Accepted;
-    }
-    Course::Refused(b[REFUSAL])
 }
 
-fn held_at(b: &[u8]) -> [u8; table::LONGEST_RECORD]
-    requires { length b.now ≡ reader_size }
-    ensures { result ≡ part longest_record b.now held_at }
+// The bytes of the table; a length that the block has no room for is that of all that is there.
+#[tactic(auto, using(crate::proofs::ReaderLaws::table_is))]
+fn table_at(b: &[u8; SIZE]) -> &[u8]
+    ensures { result.now ≡ part (le 8 b.now 32) b.now table_at }
 {
-    let from = HELD;
-    let end = TABLE;
-    let mut held = [0u8; table::LONGEST_RECORD];
-    words::store(&mut held, 0, &b[from..end]);
-    held
+    let n = words::get::<u64>(b, LENGTH).min(table::LONGEST_TABLE as u64) as usize;
+    &b[TABLE..TABLE + n]
 }
 
-// The end of the table; a length that the block has no room for is that of all that is there.
-fn table_end(b: &[u8]) -> usize
-    requires { length b.now ≡ reader_size }
-    ensures { (table_at ≤ result) × (result ≤ reader_size) × (part (result - table_at) b.now table_at ≡ part (le 8 b.now 32) b.now table_at) }
+// The reader that a block says.
+#[tactic(auto, unfolding(crate::specs::Reader::read_reader))]
+fn reader_of(b: &[u8; SIZE]) -> Feed
+    ensures { result ≡ read_reader b.now }
 {
-    let n = words::get64(b, LENGTH);
-    if n <= table::LONGEST_TABLE as u64 {
-        return TABLE + n as usize;
+    let store = words::get(b, STORE);
+    Feed {
+        table: table::read_table(table_at(b), store).table,
+        store,
+        held: words::load(b, HELD),
+        filled: words::get::<u64>(b, FILLED) as usize,
+        course: course_at(b),
     }
-    SIZE
 }
 
-// The reader that a block of the right size says.
+// The reader that a block of the right size says, which the caller has seen; the second arm is never taken.
+// Stays: a slice: edd_reader_feed, edd_reader_end and edd_reader_write hand over the host's block as C gave it.
 pub fn decode(b: &[u8]) -> Feed
     requires { length b.now ≡ reader_size }
     ensures { result ≡ read_reader b.now }
 {
-    let store = words::get64(b, STORE);
-    let from = TABLE;
-    let end = table_end(b);
-    let r = table::read_table(&b[from..end], store);
-    let drives = r.table;
-    Feed {
-        table: drives,
-        store,
-        held: held_at(b),
-        filled: words::get64(b, FILLED) as usize,
-        course: course_at(b),
+    match b.as_array::<SIZE>() {
+        Some(block) => reader_of(block),
+        None => Feed::open(0),
     }
 }
 
@@ -113,56 +102,42 @@ fn refusal_number(c: Course) -> u64
     ensures { result ≡ refusal_number c }
 {
     match c {
-        Course::Reading => 0,
-        Course::Closed => 0,
-        Course::Accepted => 0,
         Course::Refused(n) => n as u64,
+        _ => 0,
     }
 }
 
 // `lay` has found the length of the table.
-fn put_head(f: Feed, whole: usize, out: &mut [u8])
-    requires { (length out.old ≡ reader_size) × (whole ≡ length (table_of f.table)) }
-    ensures { out.new ≡ sets out.old 0 (head_bytes f) }
+#[tactic(auto, using(crate::proofs::ReaderLaws::head_laid))]
+fn put_head(f: &Feed, whole: usize, out: &mut [u8; SIZE])
+    requires { whole ≡ length (table_of f.now.table) }
+    ensures { out.new ≡ sets out.old 0 (head_bytes f.now) }
 {
-    let course = f.course;
-    words::store64(out, COURSE, course_number(course));
-    words::store64(out, REFUSAL, refusal_number(course));
-    words::store64(out, STORE, f.store);
-    words::store64(out, FILLED, f.filled as u64);
-    words::store64(out, LENGTH, whole as u64);
+    words::put(out, COURSE, course_number(f.course));
+    words::put(out, REFUSAL, refusal_number(f.course));
+    words::put(out, STORE, f.store);
+    words::put(out, FILLED, f.filled as u64);
+    words::put(out, LENGTH, whole as u64);
 }
 
-// The drives so far as a table, and zeros behind it. `lay` has found that there is room.
-fn put_table(f: Feed, out: &mut [u8])
-    requires { (length out.old ≡ reader_size) × (length (table_of f.table) ≤ longest_table) }
-    ensures { out.new ≡ sets out.old table_at (table_bytes f) }
+// Lays a reader out in a block: the words, the bytes held, and the drives so far as a table with zeros behind it.
+fn lay(f: &Feed, out: &mut [u8; SIZE])
+    ensures { out.new ≡ image f.now }
 {
-    let b = f.table;
-    let mut t = [0u8; table::LONGEST_TABLE];
-    table::write_table(b, &mut t);
-    words::store(out, TABLE, &t);
-}
-
-// Lays a reader out in a block of its size.
-fn lay(f: Feed, out: &mut [u8])
-    requires { length out.old ≡ reader_size }
-    ensures { out.new ≡ image f }
-{
-    let b = f.table;
-    let held = f.held;
-    let whole = table::next_place(b) + table::END_LENGTH as usize;
+    let whole = table::next_place(f.table) + table::END_LENGTH as usize;
     put_head(f, whole, out);
-    words::store(out, HELD, &held);
-    put_table(f, out);
+    words::store(out, HELD, &f.held);
+    out[TABLE..].fill(0);
+    let _ = table::write_table(f.table, &mut out[TABLE..]);
 }
 
 // Lays a reader out in a block; a block of another size stays.
+#[tactic(auto, unfolding(crate::specs::Reader::laid))]
 pub fn encode(f: Feed, block: &mut [u8])
     ensures { block.new ≡ laid block.old f }
 {
-    if block.len() == SIZE {
-        lay(f, block);
+    if let Some(out) = block.as_mut_array::<SIZE>() {
+        lay(&f, out);
     }
 }
 
@@ -172,95 +147,77 @@ fn is_cut(s: Step) -> bool
     ensures { result ≡ is_cut s }
 {
     match s {
-        Step::Next(_) => false,
-        Step::Done => false,
         Step::Refused(n, _) => n == table::CUT_OFF,
+        _ => false,
     }
 }
 
 // The bytes past the first n are zero.
-fn rest_zero(held: [u8; table::LONGEST_RECORD], n: usize) -> bool
-    ensures { result ≡ rest_zero held n }
+fn rest_zero(held: &[u8; table::LONGEST_RECORD], n: usize) -> bool
+    ensures { result ≡ rest_zero held.now n }
 {
-    let mut zero = true;
-    let mut j = 0;
-    while j < table::LONGEST_RECORD {
-        zero = logic::and(logic::or(j < n, held[j] == 0), zero);
-        j += 1;
-    }
-    zero
+    logic::all_below(table::LONGEST_RECORD, |j| j < n || held[j] == 0)
 }
 
 // What is held is a proper beginning of a record.
-fn held_ok(f: Feed) -> bool
-    ensures { result ≡ course_ok Reading f }
+#[tactic(auto, unfolding(crate::specs::Reader::course_ok))]
+fn held_ok(f: &Feed) -> bool
+    ensures { result ≡ course_ok Reading f.now }
 {
-    let n = f.filled;
-    if table::LONGEST_RECORD <= n {
+    if table::LONGEST_RECORD <= f.filled {
         return false;
     }
-    let held = f.held;
-    let b = f.table;
-    let r = feed::begun(held, n, b, f.store);
-    let step = r.step;
-    is_cut(step)
+    is_cut(feed::begun(f.held, f.filled, f.table, f.store).step)
 }
 
-fn course_ok(f: Feed) -> bool
-    ensures { result ≡ course_ok f.course f }
+#[tactic(auto, unfolding(crate::specs::Reader::course_ok))]
+fn course_ok(f: &Feed) -> bool
+    ensures { result ≡ course_ok f.now.course f.now }
 {
-    let course = f.course;
     let empty = f.filled == 0;
-    match course {
+    match f.course {
         Course::Reading => held_ok(f),
-        Course::Closed => empty,
-        Course::Accepted => empty,
-        Course::Refused(n) => logic::and(empty, logic::and(1 <= n, n <= MOST_REFUSAL)),
+        Course::Closed | Course::Accepted => empty,
+        Course::Refused(n) => empty && 1 <= n && n <= MOST_REFUSAL,
     }
 }
 
 // The drives obey the table's rules, and the rest those of a reader.
-fn obeys(f: Feed) -> bool
-    ensures { result ≡ accept f }
+#[tactic(auto, unfolding(crate::specs::Reader::accept))]
+fn obeys(f: &Feed) -> bool
+    ensures { result ≡ accept f.now }
 {
-    let b = f.table;
-    let held = f.held;
-    let rest = logic::and(rest_zero(held, f.filled), course_ok(f));
-    logic::and(table::is_sound(b, f.store), rest)
+    table::is_sound(f.table, f.store) && rest_zero(&f.held, f.filled) && course_ok(f)
 }
 
-// Two slices of a block's length have the same bytes.
-fn are_same(a: &[u8], b: &[u8]) -> bool
-    requires { (length a.now ≡ reader_size) × (length b.now ≡ reader_size) }
-    ensures { result ≡ same a.now b.now }
+// Whether a block has the bytes that its reader is laid out in.
+fn is_image(b: &[u8; SIZE], f: &Feed) -> bool
+    ensures { result ≡ same b.now (image f.now) }
 {
-    let mut i = 0;
-    while i < SIZE {
-        if a[i] != b[i] {
-            return false;
-        }
-        i += 1;
-    }
-    true
-}
-
-// Whether a block of the right size has the bytes that its reader is laid out in.
-fn is_image(b: &[u8], f: Feed) -> bool
-    requires { length b.now ≡ reader_size }
-    ensures { result ≡ same b.now (image f) }
-{
-    let mut again = [0u8; SIZE];
+    let mut again = [0; SIZE];
     lay(f, &mut again);
-    are_same(b, &again)
+    *b == again
+}
+
+// The reader whose image a block is, where it obeys the rules.
+#[tactic(auto, unfolding(crate::specs::Reader::accepted))]
+fn read(b: &[u8]) -> Option<Feed>
+    ensures { result ≡ pick (accepted b.now) (Some (read_reader b.now)) None }
+{
+    let block = b.as_array::<SIZE>()?;
+    let f = reader_of(block);
+    if !obeys(&f) {
+        return None;
+    }
+    if !is_image(block, &f) {
+        return None;
+    }
+    Some(f)
 }
 
 // Whether a block is the image of a reader that obeys the rules.
 pub fn acceptable(b: &[u8]) -> bool
     ensures { result ≡ accepted b.now }
 {
-    if b.len() != SIZE {
-        return false;
-    }
-    let f = decode(b);
-    logic::and(obeys(f), is_image(b, f))
+    read(b).is_some()
 }

@@ -1,6 +1,7 @@
 -- Twenty-five records are enough: the bound of the reader is no rule of its own. Each record that is taken leaves room for fewer: a drive for its bad
 -- blocks and its parameters, bad blocks for the parameters, and parameters for none before the next drive.
 -- Assumes nothing.
+use Rattle.std.specs.Prelude.{Ok}
 use mathlib.Core.Path.{◌≡◌, refl, ◌∙◌}
 use mathlib.Core.Bool.{true, false}
 use mathlib.Core.List.{List}
@@ -20,7 +21,6 @@ use Rattle.attached.specs.declared.Bads.{Bads}
 use Rattle.attached.specs.Parameters.{number_in, parameters_in}
 use Rattle.attached.specs.Bad.{bads_in}
 use Rattle.table.specs.declared.Table.{Table}
-use Rattle.table.specs.declared.Header.TheVariants.{Whole}
 use Rattle.table.specs.declared.Stepped.{Stepped}
 use Rattle.table.specs.Table.{header_at, more, has_parameters, with_parameters, has_bads, with_bads, go_on, most_records, read_from, read_table, empty_table}
 use Rattle.table.proofs.TableLaws.{BadsRoom, step_at-cases, bads_whole, refusal-room, bads_room, parameters-room}
@@ -71,7 +71,7 @@ module _ (few most : ℕ) (up : few ≤ most) where
 -- ---- how many records
 
 -- what the header of a record of bad blocks says of its list
-pub listed-whole : (t : List ℕ) (at n : ℕ) → header_at t at ≡ Whole 3 n → Listed (bads_in (part n t at))
+pub listed-whole : (t : List ℕ) (at n : ℕ) → header_at t at ≡ Ok (3, n) → Listed (bads_in (part n t at))
 listed-whole t at n h = let w = bads_whole t at 3 n h refl in bads_in-listed (part n t at) (rw w.0 w.4)
 
 -- those that a table has room for: three for each drive that may follow, and those behind the last one

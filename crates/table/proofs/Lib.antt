@@ -7,5 +7,5 @@ pub mod ReadWrite
 pub mod Needed
 pub mod Vectors
 pub mod Demand2
-pub mod Runs
+pub mod Takes
 pub mod Places

@@ -1,6 +1,7 @@
 -- The reader needs the first 1974 bytes, eight drives with a record of bad blocks and one of parameters each and one record more, and no byte past
 -- them.
 -- Assumes nothing.
+use Rattle.std.specs.Prelude.{Result, Ok, Err}
 use mathlib.Core.Path.{◌≡◌, refl, sym, ap, ◌∙◌}
 use mathlib.Core.Bool.{Bool, true, false, not}
 use mathlib.Core.List.{List, [], ◌∷◌}
@@ -19,8 +20,8 @@ use Rattle.drive.specs.Drive.{drive_of}
 use Rattle.attached.specs.Parameters.{number_in, parameters_in}
 use Rattle.attached.specs.Bad.{bads_in}
 use Rattle.table.specs.declared.Table.{Table}
-use Rattle.table.specs.declared.Header.{Header}
-use Rattle.table.specs.declared.Header.TheVariants.{Whole, Bad}
+use Rattle.table.specs.declared.Refusal.{Refusal}
+use Rattle.table.specs.declared.Refusal.TheVariants.{CutOff, WrongLength, UnknownKind}
 use Rattle.table.specs.declared.Stepped.{Stepped}
 use Rattle.table.specs.Table.{is_kind, length_ok, header_at, header_of, more, with_parameters, with_bads, go_on, end_step, step_of, step_at, most_records, read_from, read_table, empty_table}
 use Rattle.table.proofs.TableLaws.{step_at-cases, whole_at, length_ok-most, bads_whole, refusal-room, bads_room, parameters-room, drive-bytes}
@@ -56,7 +57,8 @@ module _ (n : ℕ) (t u : List ℕ) (same : take n t ≡ take n u) where
 
   -- the last check of a header looks at no more than the record
   cut : (at k size : ℕ) → at + 134 ≤ n → (c : Bool) → length_ok k size ≡ c
-      → pick (not c) (Bad 2) (pick (ltb (length t - at) size) (Bad 1) (Whole k size)) ≡ pick (not c) (Bad 2) (pick (ltb (length u - at) size) (Bad 1) (Whole k size))
+      → ◌≡◌ {A = Result (ℕ × ℕ) Refusal} (pick (not c) (Err WrongLength) (pick (ltb (length t - at) size) (Err CutOff) (Ok (k, size))))
+      (pick (not c) (Err WrongLength) (pick (ltb (length u - at) size) (Err CutOff) (Ok (k, size))))
   cut at k size h true e = rw (left at size (omega (arith, length_ok-most k size e)))
   cut at k size h false e = refl
 
@@ -66,15 +68,15 @@ module _ (n : ℕ) (t u : List ℕ) (same : take n t ≡ take n u) where
       let k : ℕ = le 2 u (at + 2) in
       let size : ℕ = le 2 u at in
       rw (word at (omega arith), word (at + 2) (omega arith), left at 4 (omega arith))
-      (ap (λ (x : Header). pick (ltb (length u - at) 4) (Bad 1) (pick (not (is_kind k)) (Bad 3) x)) (cut at k size h (length_ok k size) refl))
+      (ap (λ (x : Result (ℕ × ℕ) Refusal). pick (ltb (length u - at) 4) (Err CutOff) (pick (not (is_kind k)) (Err UnknownKind) x)) (cut at k size h (length_ok k size) refl))
 
   step : (at : ℕ) (b : Table) (store : ℕ) → at + 134 ≤ n → step_at t at b store ≡ step_at u at b store
   unfolding step_at step_of end_step
   step at b store h = rw (header at h) (by_header (header_at u at) refl)
     where
-      by_header : (x : Header) → header_at u at ≡ x → step_of x t at b store ≡ step_of x u at b store
-      by_header (Bad m) q = refl
-      by_header (Whole k m) q = rw (after (at + 4) (omega arith), body at m (omega (arith, length_ok-most k m (whole_at u at k m q).right)))
+      by_header : (x : Result (ℕ × ℕ) Refusal) → header_at u at ≡ x → step_of x t at b store ≡ step_of x u at b store
+      by_header (Err m) q = refl
+      by_header (Ok (k, m)) q = rw (after (at + 4) (omega arith), body at m (omega (arith, length_ok-most k m (whole_at u at k m q).right)))
 
   -- from a place on the reader needs the bytes of the records that there is room for, and of one more
   reads : (k store at : ℕ) (b : Table) → length b.present ≡ 8 → length b.counts ≡ 8 → at + (230 * (8 - b.count) + room_for 20 154 b) + 134 ≤ n

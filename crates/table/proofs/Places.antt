@@ -1,5 +1,6 @@
 -- Where the next record begins behind the drives so far, and what the first bytes of a record say of every table that has them at a place.
 -- Assumes nothing.
+use Rattle.std.specs.Prelude.{Result, Ok, Err}
 use mathlib.Core.Path.{◌≡◌, refl, sym, ap, ◌∙◌, subst}
 use mathlib.Core.Logic.{⊎_elim, ◌≢◌}
 use mathlib.Core.Bool.{Bool, true, false, not}
@@ -18,19 +19,19 @@ use Rattle.words.specs.Words.{le, part}
 use Rattle.words.proofs.WordsLaws.{le_ext}
 use Rattle.drive.specs.declared.Drive.{Drive}
 use Rattle.drive.specs.Drive.{drive_of, record_of, fields_ok, in_store, is_drive_kind, drive_length}
-use Rattle.drive.proofs.DriveLaws.{Arrays, arrays_drive, length-record, length-least, length_most}
+use Rattle.drive.proofs.DriveLaws.{Arrays, arrays_drive, length-record, length_most}
 use Rattle.attached.specs.Parameters.{number_in, parameters_in, parameters_record}
 use Rattle.attached.specs.declared.Bads.{Bads}
 use Rattle.attached.specs.Bad.{bad_length, bad_count, bad_length_ok, held_of, bads_in, bad_record, list_ok}
 use Rattle.attached.proofs.AttachedLaws.{length-parameters_in, length-parameters_record}
-use Rattle.attached.proofs.BadLaws.{held-few, bad_length_ok_true, bad_length_ok-least, bads_in-count, length-bad_record}
+use Rattle.attached.proofs.BadLaws.{held-few, bad_length_ok_true, bads_in-count, length-bad_record}
 use Rattle.table.specs.declared.Table.{Table}
-use Rattle.table.specs.declared.Header.{Header}
-use Rattle.table.specs.declared.Header.TheVariants.{Whole, Bad}
+use Rattle.table.specs.declared.Refusal.{Refusal}
+use Rattle.table.specs.declared.Refusal.TheVariants.{CutOff, WrongLength, UnknownKind}
 use Rattle.table.specs.declared.Step.TheVariants.{Next, Done, Refused}
 use Rattle.table.specs.declared.Stepped.{Stepped}
-use Rattle.table.specs.Table.{is_kind, length_ok, header_of, header_at, no_drive, overlaps_any, refusal, more, has_parameters, parameters_refusal, with_parameters, has_bads, bads_refusal, with_bads, stepped, record_refusal, with_record, record_step, step_at, empty_table, slot_records, records_of, drives_of, next_place}
-use Rattle.table.proofs.TableLaws.{whole_at, header_of-whole, length_ok-cases, length_ok-most, length_ok-end, refusal-room, bads_room, parameters-room, step_at-bad, step_at-end, step_at-record, end_step-done, end_step-byte, record_step-next, record_step-refused, records_of-more, records_of_ext, slot_bare, length_slot, attached_most, length-drives, drive_with, drive-refusal, kind_known}
+use Rattle.table.specs.Table.{number, named, is_kind, length_ok, header_of, header_at, no_drive, overlaps_any, refusal, more, has_parameters, parameters_refusal, with_parameters, has_bads, bads_refusal, with_bads, stepped, record_refusal, with_record, record_step, step_at, empty_table, slot_records, records_of, drives_of, next_place}
+use Rattle.table.proofs.TableLaws.{named-number, number-apart, record_numbered, whole_at, header_of-whole, length_ok-cases, length_ok-least, length_ok-most, length_ok-end, refusal-room, bads_room, parameters-room, step_at-bad, step_at-end, step_at-record, end_step-done, end_step-byte, record_step-next, record_step-refused, records_of-more, records_of_ext, slot_bare, length_slot, attached_most, length-drives, drive_with, drive-refusal}
 use Rattle.table.proofs.Slots.{attached_drive, Listed, bads_in-listed, listed-none}
 use Rattle.table.proofs.Sound.{So, so_more, so_bads, so_attach}
 use Rattle.table.proofs.Enough.{records_left, left_some}
@@ -151,23 +152,23 @@ record-taken k m r b store s right other l kind z =
 -- ---- the numbers of the refusals
 
 -- a header's are 1, 2 and 3
-bad-most : (left size kind n : ℕ) → header_of left size kind ≡ Bad n → n ≤ 3
+bad-most : (left size kind : ℕ) (e : Refusal) → header_of left size kind ≡ Err e → number e ≤ 3
 unfolding header_of
-bad-most left size kind n h = by_tests (ltb left 4) (is_kind kind) (length_ok kind size) (ltb left size) h
+bad-most left size kind e h = by_tests (ltb left 4) (is_kind kind) (length_ok kind size) (ltb left size) h
   where
-    by_tests : (a b c d : Bool) → pick a (Bad 1) (pick (not b) (Bad 3) (pick (not c) (Bad 2) (pick d (Bad 1) (Whole kind size)))) ≡ Bad n → n ≤ 3
-    by_tests true b c d q = let s : 1 ≡ n = cc in omega arith
-    by_tests false false c d q = let s : 3 ≡ n = cc in omega arith
-    by_tests false true false d q = let s : 2 ≡ n = cc in omega arith
-    by_tests false true true true q = let s : 1 ≡ n = cc in omega arith
+    by_tests : (a b c d : Bool) → ◌≡◌ {A = Result (ℕ × ℕ) Refusal} (pick a (Err CutOff) (pick (not b) (Err UnknownKind) (pick (not c) (Err WrongLength) (pick d (Err CutOff) (Ok (kind, size)))))) (Err e) → number e ≤ 3
+    by_tests true b c d q = let s : CutOff ≡ e = cc in rw (← s) (omega arith)
+    by_tests false false c d q = let s : UnknownKind ≡ e = cc in rw (← s) (omega arith)
+    by_tests false true false d q = let s : WrongLength ≡ e = cc in rw (← s) (omega arith)
+    by_tests false true true true q = let s : CutOff ≡ e = cc in rw (← s) (omega arith)
     by_tests false true true false q = impossible (cc)
 
-bad-at : (t : List ℕ) (at n : ℕ) → header_at t at ≡ Bad n → n ≤ 3
+bad-at : (t : List ℕ) (at : ℕ) (e : Refusal) → header_at t at ≡ Err e → number e ≤ 3
 unfolding header_at
-bad-at t at n h = bad-most _ _ _ n h
+bad-at t at e h = bad-most _ _ _ e h
 
-bad-same : (n m : ℕ) → Bad n ≡ Bad m → n ≡ m
-bad-same n m e = cc
+bad-same : (d e : Refusal) → ◌≡◌ {A = Result (ℕ × ℕ) Refusal} (Err d) (Err e) → d ≡ e
+bad-same d e h = cc
 
 -- a record's are neither 1 nor 8
 abbrev Other : ℕ → Type 0
@@ -202,21 +203,14 @@ record-other k r b store =
 
 -- ---- the first bytes of a record
 
--- the lengths that there are
-length_ok-least : (k m : ℕ) → length_ok k m ≡ true → (4 ≤ m) × (is_kind k ≡ true)
-length_ok-least k m h =
-    ⊎_elim (λ x. (omega (arith, x.1), rw x.0))
-    (λ y. ⊎_elim (λ x. (omega (arith, x.1, length-least k), kind_known k x.0))
-    (λ z. ⊎_elim (λ x. (omega (arith, bad_length_ok-least m x.1), rw x.0)) (λ x. (omega (arith, x.1), rw x.0)) z) y) (length_ok-cases k m h)
-
 -- a header that the bytes settle is that of more bytes
-header_grows : (left all size kind : ℕ) → left ≤ all → (header_of left size kind ≡ Bad 1 → ⊥) → (4 ≤ left) × (header_of all size kind ≡ header_of left size kind)
+header_grows : (left all size kind : ℕ) → left ≤ all → (header_of left size kind ≡ Err CutOff → ⊥) → (4 ≤ left) × (header_of all size kind ≡ header_of left size kind)
 unfolding header_of
 header_grows left all size kind l settled = by_tests (ltb left 4) (is_kind kind) (length_ok kind size) (ltb left size) refl refl refl refl settled
   where
     by_tests : (a b c d : Bool) → ltb left 4 ≡ a → is_kind kind ≡ b → length_ok kind size ≡ c → ltb left size ≡ d
-        → (pick a (Bad 1) (pick (not b) (Bad 3) (pick (not c) (Bad 2) (pick d (Bad 1) (Whole kind size)))) ≡ Bad 1 → ⊥)
-        → (4 ≤ left) × (header_of all size kind ≡ pick a (Bad 1) (pick (not b) (Bad 3) (pick (not c) (Bad 2) (pick d (Bad 1) (Whole kind size)))))
+        → (◌≡◌ {A = Result (ℕ × ℕ) Refusal} (pick a (Err CutOff) (pick (not b) (Err UnknownKind) (pick (not c) (Err WrongLength) (pick d (Err CutOff) (Ok (kind, size)))))) (Err CutOff) → ⊥)
+        → (4 ≤ left) × (header_of all size kind ≡ pick a (Err CutOff) (pick (not b) (Err UnknownKind) (pick (not c) (Err WrongLength) (pick d (Err CutOff) (Ok (kind, size))))))
     by_tests true b c d e₁ e₂ e₃ e₄ q = absurd (q refl)
     by_tests false false c d e₁ e₂ e₃ e₄ q = let f = ltb-false left 4 e₁ in (f, rw (le-ltb all 4 (omega arith), e₂))
     by_tests false true false d e₁ e₂ e₃ e₄ q = let f = ltb-false left 4 e₁ in (f, rw (le-ltb all 4 (omega arith), e₂, e₃))
@@ -228,7 +222,7 @@ header_grows left all size kind l settled = by_tests (ltb left 4) (is_kind kind)
 
 -- bytes that may begin a record, and settle nothing
 abbrev pub Begin : List ℕ → Type 0
-Begin h = header_at h 0 ≡ Bad 1
+Begin h = header_at h 0 ≡ Err CutOff
 
 -- no byte does
 pub begin-none : Begin []
@@ -241,7 +235,7 @@ unfolding header_at header_of
 begin-few h e = by_tests (ltb (length h - 0) 4) (is_kind (le 2 h 2)) (length_ok (le 2 h 2) (le 2 h 0)) (ltb (length h - 0) (le 2 h 0)) refl refl refl e
   where
     by_tests : (a b c d : Bool) → ltb (length h - 0) 4 ≡ a → length_ok (le 2 h 2) (le 2 h 0) ≡ c → ltb (length h - 0) (le 2 h 0) ≡ d
-        → pick a (Bad 1) (pick (not b) (Bad 3) (pick (not c) (Bad 2) (pick d (Bad 1) (Whole (le 2 h 2) (le 2 h 0))))) ≡ Bad 1 → length h < 134
+        → ◌≡◌ {A = Result (ℕ × ℕ) Refusal} (pick a (Err CutOff) (pick (not b) (Err UnknownKind) (pick (not c) (Err WrongLength) (pick d (Err CutOff) (Ok (le 2 h 2, le 2 h 0)))))) (Err CutOff) → length h < 134
     by_tests true b c d e₁ e₃ e₄ q = omega (arith, ltb-true (length h - 0) 4 e₁)
     by_tests false false c d e₁ e₃ e₄ q = let s : ◌≡◌ {A = ℕ} 3 1 = cc in absurd (omega (arith, s))
     by_tests false true false d e₁ e₃ e₄ q = let s : ◌≡◌ {A = ℕ} 2 1 = cc in absurd (omega (arith, s))
@@ -259,14 +253,14 @@ module _ (t h q : List ℕ) (at : ℕ) (follows : drop at t ≡ h ++ q) where
   kind_front l = le_front 2 t h q at 2 follows (omega arith)
 
   -- the header of a table that has them at a place
-  header_front : (header_at h 0 ≡ Bad 1 → ⊥) → header_at t at ≡ header_at h 0
+  header_front : (header_at h 0 ≡ Err CutOff → ⊥) → header_at t at ≡ header_at h 0
   unfolding header_at
   header_front settled =
       let g = header_grows (length h - 0) (length t - at) (le 2 h 0) (le 2 h 2) (omega (arith, left_front)) settled in
       rw (size_front (omega (arith, g.0)), kind_front (omega (arith, g.0))) g.1
 
   -- a header that is whole was not before, if it lacked a byte of the record
-  header_shrinks : (k m : ℕ) → header_at t at ≡ Whole k m → m ≤ length h → header_at h 0 ≡ Whole k m
+  header_shrinks : (k m : ℕ) → header_at t at ≡ Ok (k, m) → m ≤ length h → header_at h 0 ≡ Ok (k, m)
   unfolding header_at
   header_shrinks k m e l =
       let w = whole_at t at k m e in
@@ -289,7 +283,7 @@ header_last t h at e =
 
 -- and where that settles nothing the table is cut off there
 pub begin_last : (t h : List ℕ) (at : ℕ) (b : Table) (store : ℕ) → drop at t ≡ h → Begin h → step_at t at b store ≡ stepped (Refused 1 at) b
-begin_last t h at b store e o = sym (step_at-bad t at 1 b store (header_last t h at e ∙ o))
+begin_last t h at b store e o = sym (step_at-bad t at CutOff b store (header_last t h at e ∙ o))
 
 -- ---- a step over the first bytes of a record
 
@@ -300,7 +294,7 @@ Steps h b store s = (t q : List ℕ) (at : ℕ) → drop at t ≡ h ++ q → ste
 -- the byte that settles them, after bytes that settle nothing: they stay open; they are refused; they are the end record; or a record that is taken
 pub begun-cases : (P : Stepped → Type 0) (h : List ℕ) (x : ℕ) (r : List ℕ) (b : Table) (store : ℕ) → r ≡ h ++ (x ∷ []) → So store b → Begin h
     → (Begin r → P (stepped (Refused 1 0) b))
-    → ((n : ℕ) → n ≢ 1 → n ≢ 8 → Steps r b store (λ at. stepped (Refused n at) b) → P (stepped (Refused n 0) b))
+    → ((n : ℕ) → number (named n) ≡ n → n ≢ 1 → n ≢ 8 → Steps r b store (λ at. stepped (Refused n at) b) → P (stepped (Refused n 0) b))
     → (length r ≡ 4
     → ((t : List ℕ) (at : ℕ) → drop at t ≡ r → step_at t at b store ≡ stepped Done b)
     → ((t : List ℕ) (at y : ℕ) (q : List ℕ) → drop at t ≡ r ++ (y ∷ q) → step_at t at b store ≡ stepped (Refused 8 (at + 4)) b) → P (stepped Done b))
@@ -308,17 +302,17 @@ pub begun-cases : (P : Stepped → Type 0) (h : List ℕ) (x : ℕ) (r : List �
     → P (step_at r 0 b store)
 begun-cases P h x r b store whole s o stay refuse finish next = by_header (header_at r 0) refl
   where
-    by_number : (n : ℕ) → header_at r 0 ≡ Bad n → Dec (n ≡ 1) → P (stepped (Refused n 0) b)
-    by_number n e (yes z) = subst (λ (y : ℕ). P (stepped (Refused y 0) b)) (sym z) (stay (e ∙ ap Bad z))
-    by_number n e (no z) =
-        refuse n z (λ y. omega (arith, y, bad-at r 0 n e))
-        (λ t q at f. sym (step_at-bad t at n b store (header_front t r q at f (λ y. z (bad-same n 1 (sym e ∙ y))) ∙ e)))
+    by_number : (d : Refusal) → header_at r 0 ≡ Err d → Dec (number d ≡ 1) → P (stepped (Refused (number d) 0) b)
+    by_number d e (yes z) = subst (λ (y : ℕ). P (stepped (Refused y 0) b)) (sym z) (stay (e ∙ ap Err (number-apart d CutOff z)))
+    by_number d e (no z) =
+        refuse (number d) (ap number (named-number d)) z (λ y. omega (arith, y, bad-at r 0 d e))
+        (λ t q at f. sym (step_at-bad t at d b store (header_front t r q at f (λ y. z (ap number (bad-same d CutOff (sym e ∙ y)))) ∙ e)))
 
     -- the same header at every place, and the same bytes
-    whole_front : (k m : ℕ) → header_at r 0 ≡ Whole k m → (t q : List ℕ) (at : ℕ) → drop at t ≡ r ++ q → header_at t at ≡ Whole k m
+    whole_front : (k m : ℕ) → header_at r 0 ≡ Ok (k, m) → (t q : List ℕ) (at : ℕ) → drop at t ≡ r ++ q → header_at t at ≡ Ok (k, m)
     whole_front k m e t q at f = header_front t r q at f (λ y. impossible (cc)) ∙ e
 
-    by_refusal : (k m : ℕ) → header_at r 0 ≡ Whole k m → (k ≡ 0 → ⊥) → length r ≡ m → Dec (record_refusal k r b store ≡ 0) → P (record_step k m r b 0 store)
+    by_refusal : (k m : ℕ) → header_at r 0 ≡ Ok (k, m) → (k ≡ 0 → ⊥) → length r ≡ m → Dec (record_refusal k r b store ≡ 0) → P (record_step k m r b 0 store)
     by_refusal k m e z l (yes y) =
         rw (← record_step-next k m r b 0 store refl y)
         (next m (with_record k r b) l (record-taken k m r b store s (whole_at r 0 k m e).right z l (whole_at r 0 k m e).same y)
@@ -326,10 +320,10 @@ begun-cases P h x r b store whole s o stay refuse finish next = by_header (heade
     by_refusal k m e z l (no y) =
         let other = record-other k r b store in
         rw (← record_step-refused k m r b 0 store refl y)
-        (refuse (record_refusal k r b store) other.0 other.1
+        (refuse (record_refusal k r b store) ((record_numbered k r b store).named y) other.0 other.1
         (λ t q at f. rw (← step_at-record t at k m b store (whole_front k m e t q at f) z, part_front t r q at f m l) (sym (record_step-refused k m r b at store refl y))))
 
-    by_kind : (k m : ℕ) → header_at r 0 ≡ Whole k m → length r ≡ m → Dec (k ≡ 0) → P (step_at r 0 b store)
+    by_kind : (k m : ℕ) → header_at r 0 ≡ Ok (k, m) → length r ≡ m → Dec (k ≡ 0) → P (step_at r 0 b store)
     by_kind k m e l (yes z) =
         let four : m ≡ 4 = length_ok-end k m (whole_at r 0 k m e).right z in
         rw (← step_at-end r 0 k m b store e z, ← end_step-done r 0 b (omega arith))
@@ -341,9 +335,9 @@ begun-cases P h x r b store whole s o stay refuse finish next = by_header (heade
     by_kind k m e l (no z) =
         rw (← step_at-record r 0 k m b store e z, take_all m r (omega arith)) (by_refusal k m e z l (ℕ_discrete (record_refusal k r b store) 0))
 
-    by_header : (y : Header) → header_at r 0 ≡ y → P (step_at r 0 b store)
-    by_header (Bad n) e = rw (← step_at-bad r 0 n b store e) (by_number n e (ℕ_discrete n 1))
-    by_header (Whole k m) e =
+    by_header : (y : Result (ℕ × ℕ) Refusal) → header_at r 0 ≡ y → P (step_at r 0 b store)
+    by_header (Err d) e = rw (← step_at-bad r 0 d b store e) (by_number d e (ℕ_discrete (number d) 1))
+    by_header (Ok (k, m)) e =
         let l : length r ≡ m =
         ⊎_elim (λ (y : length h < m). omega (arith, y, ap length whole, length-append h (x ∷ []), (whole_at r 0 k m e).whole))
         (λ (y : m ≤ length h). let w = header_shrinks r h (x ∷ []) 0 whole k m e y in impossible (cc)) (lt_or_le (length h) m) in

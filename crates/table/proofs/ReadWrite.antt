@@ -1,5 +1,6 @@
 -- A table that obeys the rules, written and read, is that table.
 -- Assumes nothing.
+use Rattle.std.specs.Prelude.{Ok}
 use mathlib.Core.Path.{◌≡◌, refl, sym, ap, ◌∙◌}
 use mathlib.Core.Logic.{⊎_elim}
 use mathlib.Core.Bool.{Bool, true, false, not}
@@ -27,8 +28,6 @@ use Rattle.attached.proofs.AttachedLaws.{length-parameters_record, parameters-re
 use Rattle.attached.proofs.BadLaws.{held-few, bad_length_ok-bad_length, length-bad_record, bads_says, bads-record, bads_ok_true, no-bads}
 use Rattle.table.specs.declared.Table.{Table}
 use Rattle.table.specs.declared.Step.TheVariants.{Next, Done}
-use Rattle.table.specs.declared.Header.TheVariants.{Whole}
-use Rattle.table.specs.declared.Answer.TheVariants.{Accepted}
 use Rattle.table.specs.declared.Reading.{Reading}
 use Rattle.table.specs.Table.{most_drives, no_drive, zero_drive, header_at, refusal, more, has_parameters, parameters_at, with_parameters, bads_at, has_bads, with_bads, stepped, step_at, reading, most_records, read_from, read_table, bads_record, slot_records, records_of, end_record, bytes_of, drives_of, table_of, attached_at, listed_at, is_sound, is_kind, length_ok}
 use Rattle.table.specs.Demand2.{Widths}
@@ -45,7 +44,7 @@ le_front k t r s at i e h =
 
 -- its header, by its first two words and its length
 written_header : (t : List ℕ) (at k n : ℕ) (r s : List ℕ) → drop at t ≡ r ++ s → length r ≡ n → le 2 r 0 ≡ n → le 2 r 2 ≡ k → is_kind k ≡ true → length_ok k n ≡ true → 4 ≤ n
-    → header_at t at ≡ Whole k n
+    → header_at t at ≡ Ok (k, n)
 unfolding header_at
 written_header t at k n r s e m w q i l h =
     let left : length t - at ≡ n + length s = sym (length-drop at t) ∙ ap length e ∙ length-append r s ∙ ap (λ (x : ℕ). x + length s) m in
@@ -54,7 +53,7 @@ written_header t at k n r s e m w q i l h =
     rw (size, kind) (header_of-whole (length t - at) n k (omega arith) i l (omega arith))
 
 -- the end record's, with nothing after it
-end_header : (t : List ℕ) (at : ℕ) → drop at t ≡ end_record → (header_at t at ≡ Whole 0 4) × (length t ≤ at + 4)
+end_header : (t : List ℕ) (at : ℕ) → drop at t ≡ end_record → (header_at t at ≡ Ok (0, 4)) × (length t ≤ at + 4)
 unfolding le le_bytes
 end_header t at e =
     let l : length t - at ≡ 4 = sym (length-drop at t) ∙ ap length e in
@@ -383,7 +382,7 @@ module _ (b : Table) (store : ℕ) (w : Widths b) (r : Rules b store) (t : List 
       let here : part m t at ≡ bad_record i c = ap (take m) e ∙ take_at (bad_record i c) rest m whole in
       let right : length_ok 3 m ≡ true
       = sym (length_ok_three m) ∙ bad_length_ok-bad_length (held_of c.count) (omega (arith, held, some)) (omega (arith, held, good.0)) in
-      let h : header_at t at ≡ Whole 3 m = written_header t at 3 m (bad_record i c) rest e whole says.length_word says.kind refl right (omega arith) in
+      let h : header_at t at ≡ Ok (3, m) = written_header t at 3 m (bad_record i c) rest e whole says.length_word says.kind refl right (omega arith) in
       let same : get_or (set (filled i b.drives) i (drive_in b i)) i no_drive ≡ drive_in b i
       = get_or-set_same (filled i b.drives) i (drive_in b i) no_drive (omega (arith, slot, length_filled i b.drives)) in
       let z = bads_none (with_drive b i) i c record {
@@ -434,7 +433,7 @@ module _ (b : Table) (store : ℕ) (w : Widths b) (r : Rules b store) (t : List 
       let says = parameters-record i p (omega (arith, slot)) given in
       let whole : length (parameters_record i p) ≡ 20 = length-parameters_record i p given in
       let here : part 20 t at ≡ parameters_record i p = ap (take 20) e ∙ take_at (parameters_record i p) rest 20 whole in
-      let h : header_at t at ≡ Whole 4 20 = written_header t at 4 20 (parameters_record i p) rest e whole says.length_word says.kind refl refl (omega arith) in
+      let h : header_at t at ≡ Ok (4, 20) = written_header t at 4 20 (parameters_record i p) rest e whole says.length_word says.kind refl refl (omega arith) in
       let z = parameters-taken (with_lists b i) i slot refl (marks-past i i b (omega arith) slot) in
       record-read t store (with_lists b i) (with_parameters (with_lists b i) i p) n 20 at k rest R
       (attach_taken t at (with_lists b i) store i p h (ap number_in here ∙ says.number) (ap parameters_in here ∙ says.bytes) z)
@@ -470,7 +469,7 @@ module _ (b : Table) (store : ℕ) (w : Widths b) (r : Rules b store) (t : List 
 
 -- m slots that follow the first i are read from their records, at most three each
 slots_read : (b : Table) (store : ℕ) → Widths b → Rules b store → (t : List ℕ) (m i : ℕ) → i + m ≡ b.count
-    → ReadsOn t store (3 * m) (between b i m ++ end_record) (up_to b i) (reading Accepted (up_to b b.count))
+    → ReadsOn t store (3 * m) (between b i m ++ end_record) (up_to b i) (reading (Ok tt) (up_to b b.count))
 unfolding read_from
 slots_read b store w r t zero i n zero at q e = absurd (omega arith)
 slots_read b store w r t zero i n (suc k) at q e =
@@ -478,10 +477,10 @@ slots_read b store w r t zero i n (suc k) at q e =
     let s : stepped Done (up_to b i) ≡ step_at t at (up_to b i) store
     = end_step-done t at (up_to b i) h.1 ∙ step_at-end t at 0 4 (up_to b i) store h.0 refl in
     let c : i ≡ b.count = omega arith in
-    rw (← s) (ap (λ (x : ℕ). reading Accepted (up_to b x)) c)
+    rw (← s) (ap (λ (x : ℕ). reading (Ok tt) (up_to b x)) c)
 slots_read b store w r t (suc m) i n k at q e =
     let l : i < b.count = omega arith in
-    let R : Reading = reading Accepted (up_to b b.count) in
+    let R : Reading = reading (Ok tt) (up_to b b.count) in
     let d : List ℕ = record_of (drive_in b i) in
     let c : List ℕ = bads_record i (bads_at b i) in
     let x : List ℕ = pick (has_parameters b i) (parameters_record i (parameters_at b i)) [] in
@@ -494,11 +493,11 @@ slots_read b store w r t (suc m) i n k at q e =
     (attached_read b store w r t i l R (3 * m) z (slots_read b store w r t m (suc i) (omega arith)))) k at (omega arith) e'
 
 -- demand 2: a table that obeys the rules, written and read, is that table
-pub read-written : (b : Table) (store : ℕ) → Widths b → is_sound b store ≡ true → read_table (table_of b) store ≡ reading Accepted b
+pub read-written : (b : Table) (store : ℕ) → Widths b → is_sound b store ≡ true → read_table (table_of b) store ≡ reading (Ok tt) b
 unfolding read_table table_of bytes_of records_of
 read-written b store w e =
     let r = sound_rules b store e in
     let c : length (drives_of b) ≡ b.count = omega (arith, length-drives b w.eight, r.most) in
     let t : table_of b ≡ between b 0 b.count ++ end_record
     = ap (λ (x : ℕ). records_of x b ++ end_record) (c ∙ sym (zero-add b.count)) ∙ ap (λ (x : List ℕ). x ++ end_record) (records_between b.count 0 b) in
-    slots_read b store w r (table_of b) b.count 0 (zero-add b.count) most_records 0 (omega (arith, r.most)) t ∙ ap (reading Accepted) (filled_all b store w r)
+    slots_read b store w r (table_of b) b.count 0 (zero-add b.count) most_records 0 (omega (arith, r.most)) t ∙ ap (reading (Ok tt)) (filled_all b store w r)

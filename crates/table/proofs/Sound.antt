@@ -1,5 +1,6 @@
 -- What the rules of the drive table say of each drive, and that a table which was accepted obeys them.
 -- Assumes nothing.
+use Rattle.std.specs.Prelude.{Ok}
 use Prim.Native.Nat.{ℕ, ◌+◌, ◌*◌, ◌≤◌, ◌<◌}
 use mathlib.Core.Path.{◌≡◌, refl, sym, ap, ◌∙◌}
 use mathlib.Core.Logic.{⊎_elim, ◌≢◌}
@@ -24,7 +25,6 @@ use Rattle.attached.specs.Bad.{bads_in, no_bads}
 use Rattle.attached.proofs.AttachedLaws.{length-parameters_in}
 use Rattle.attached.proofs.BadLaws.{bads_ok_intro, bads_ok-no_bads}
 use Rattle.table.specs.declared.Table.{Table}
-use Rattle.table.specs.declared.Answer.TheVariants.{Accepted}
 use Rattle.table.specs.Table.{no_drive, zero_drive, empty_table, overlaps_any, refusal, more, has_parameters, parameters_refusal, with_parameters, bads_at, bads_refusal, with_bads, most_records, read_table, taken_at, sound_to, blank_at, blank_to, attached_at, attached_to, listed_at, listed_to, is_sound}
 use Rattle.table.proofs.TableLaws.{refusal-room, refusal-taken, parameters-room, bads_room, length_whole, bads_whole, read_keeps, drive-bytes}
 use Rattle.table.proofs.Slots.{marked, marked_other, bytes-other, bads_same, bads_other, bads_empty, Listed, bads_in-listed, listed-none, attached_drive, attached_zero, attached_intro}
@@ -256,5 +256,5 @@ read_so t store =
     r.1.0
 
 -- an accepted table is good
-pub accepted-good : (t : List ℕ) (store : ℕ) → (read_table t store).answer ≡ Accepted → Good (read_table t store).table store
+pub accepted-good : (t : List ℕ) (store : ℕ) → (read_table t store).answer ≡ Ok tt → Good (read_table t store).table store
 accepted-good t store e = so_good store (read_table t store).table (read_so t store)

@@ -1,5 +1,6 @@
 -- Laws of the table's definitions: a record's header, a step, the reading, the bytes written.
 -- Assumes nothing.
+use Rattle.std.specs.Prelude.{Result, Ok, Err}
 use mathlib.Core.Path.{◌≡◌, refl, sym, ap, ◌∙◌}
 use mathlib.Core.Logic.{◌⊎◌, inl, inr, ⊎_elim}
 use mathlib.Core.Bool.{Bool, true, false, not}
@@ -25,18 +26,60 @@ use Rattle.attached.specs.Bad.{bad_length, bad_length_ok, bads_in, held_of, bad_
 use Rattle.attached.proofs.AttachedLaws.{length-parameters_record}
 use Rattle.attached.proofs.BadLaws.{held-most, bad_length_ok-least, bad_length_ok-most, length-bad_record}
 use Rattle.table.specs.declared.Table.{Table}
-use Rattle.table.specs.declared.Header.{Header}
-use Rattle.table.specs.declared.Header.TheVariants.{Whole, Bad}
+use Rattle.table.specs.declared.Refusal.{Refusal}
+use Rattle.table.specs.declared.Refusal.TheVariants.{CutOff, WrongLength, UnknownKind, NinthDrive, BadField, PastStore, Overlapping, ByteFollows, NotLast}
+use Rattle.table.specs.declared.Refused.{Refused as RefusedAt}
+use Rattle.table.specs.declared.ShortBuffer.{ShortBuffer}
 use Rattle.table.specs.declared.Step.{Step}
 use Rattle.table.specs.declared.Step.TheVariants.{Next, Done, Refused}
 use Rattle.table.specs.declared.Stepped.{Stepped}
 use Rattle.table.specs.declared.Cursor.{Cursor}
-use Rattle.table.specs.declared.Answer.{Answer}
-use Rattle.table.specs.declared.Answer.TheVariants.{Accepted, Refused as AnswerRefused}
 use Rattle.table.specs.declared.Reading.{Reading}
-use Rattle.table.specs.declared.Written.{Written}
-use Rattle.table.specs.declared.Written.TheVariants.{Bytes, Refused as WriteRefused}
-use Rattle.table.specs.Table.{empty_table, most_records, bad_field, past_store, overlapping, is_kind, length_ok, header_of, header_at, cut_header, is_unfinished, overlaps_any, refusal, no_drive, more, has_parameters, parameters_at, parameters_refusal, with_parameters, bads_at, has_bads, bads_refusal, with_bads, stepped, record_refusal, with_record, record_step, end_step, step_of, step_at, place_after, advanced, Advances, begun, reading, go_on, step_numbers, answer_numbers, written_numbers, taken_numbers, whole_numbers, record_numbers, onward, numbers_from, table_numbers, write_numbers, read_table, Reads, read_from, bads_record, slot_bytes, slot_records, records_of, end_record, bytes_of, drives_of, next_place, table_of, write_answer, write_out}
+use Rattle.table.specs.Table.{number, named, refused, empty_table, most_records, bad_field, past_store, overlapping, is_kind, length_ok, header_of, header_at, cut_header, is_unfinished, overlaps_any, refusal, no_drive, more, has_parameters, parameters_at, parameters_refusal, with_parameters, bads_at, has_bads, bads_refusal, with_bads, stepped, record_refusal, with_record, record_step, end_step, step_of, step_at, place_after, advanced, Advances, begun, reading, go_on, step_numbers, answer_numbers, written_numbers, taken_numbers, whole_numbers, record_numbers, onward, numbers_from, table_numbers, write_numbers, read_table, Reads, read_from, bads_record, slot_bytes, slot_records, records_of, end_record, bytes_of, drives_of, next_place, table_of, write_answer, write_out}
+
+-- ---- refusals and their numbers
+
+-- a refusal is the one that its number names
+pub named-number : (e : Refusal) → named (number e) ≡ e
+named-number CutOff = refl
+named-number WrongLength = refl
+named-number UnknownKind = refl
+named-number NinthDrive = refl
+named-number BadField = refl
+named-number PastStore = refl
+named-number Overlapping = refl
+named-number ByteFollows = refl
+named-number NotLast = refl
+
+-- so no two have the same
+pub number-apart : (d e : Refusal) → number d ≡ number e → d ≡ e
+number-apart d e h = sym (named-number d) ∙ ap named h ∙ named-number e
+
+-- and none has 0
+pub number_some : (e : Refusal) → number e ≡ 0 → ⊥
+number_some CutOff h = omega arith
+number_some WrongLength h = omega arith
+number_some UnknownKind h = omega arith
+number_some NinthDrive h = omega arith
+number_some BadField h = omega arith
+number_some PastStore h = omega arith
+number_some Overlapping h = omega arith
+number_some ByteFollows h = omega arith
+number_some NotLast h = omega arith
+
+-- a number that is 0 or a refusal's
+pub record Numbered (n : ℕ) : Type 0 where
+  pub named : (n ≡ 0 → ⊥) → number (named n) ≡ n
+
+none_numbered : Numbered 0
+none_numbered = record { named = λ z. absurd (z refl) }
+
+pub number_numbered : (e : Refusal) → Numbered (number e)
+number_numbered e = record { named = λ z. ap number (named-number e) }
+
+pick_numbered : (a : Bool) (m n : ℕ) → Numbered m → Numbered n → Numbered (pick a m n)
+pick_numbered true m n x y = x
+pick_numbered false m n x y = y
 
 -- ---- the header
 
@@ -48,40 +91,35 @@ pub record IsWhole (left size kind k n : ℕ) : Type 0 where
   pub whole : n ≤ left
   pub header : 4 ≤ left
 
-pub header_whole : (left size kind k n : ℕ) → header_of left size kind ≡ Whole k n → IsWhole left size kind k n
+pub header_whole : (left size kind k n : ℕ) → header_of left size kind ≡ Ok (k, n) → IsWhole left size kind k n
 unfolding header_of
 header_whole left size kind k n h = by_tests (ltb left 4) (is_kind kind) (length_ok kind size) (ltb left size) refl refl refl refl h
   where
     by_tests : (a b c d : Bool) → ltb left 4 ≡ a → is_kind kind ≡ b → length_ok kind size ≡ c → ltb left size ≡ d
-        → pick a (Bad 1) (pick (not b) (Bad 3) (pick (not c) (Bad 2) (pick d (Bad 1) (Whole kind size)))) ≡ Whole k n → IsWhole left size kind k n
+        → ◌≡◌ {A = Result (ℕ × ℕ) Refusal} (pick a (Err CutOff) (pick (not b) (Err UnknownKind) (pick (not c) (Err WrongLength) (pick d (Err CutOff) (Ok (kind, size)))))) (Ok (k, n)) → IsWhole left size kind k n
     by_tests true b c d e₁ e₂ e₃ e₄ q = impossible (cc)
     by_tests false false c d e₁ e₂ e₃ e₄ q = impossible (cc)
     by_tests false true false d e₁ e₂ e₃ e₄ q = impossible (cc)
     by_tests false true true true e₁ e₂ e₃ e₄ q = impossible (cc)
     by_tests false true true false e₁ e₂ e₃ e₄ q =
-        let s : kind ≡ k = cc in
-        let l : size ≡ n = cc in
+        let w : ◌≡◌ {A = ℕ × ℕ} (kind, size) (k, n) = cc in
+        let s : kind ≡ k = λ i. (w i).0 in
+        let l : size ≡ n = λ i. (w i).1 in
         record { same = s; long = l; right = rw (s, l) at e₃; whole = rw l at (ltb-false left size e₄); header = ltb-false left 4 e₁ }
 
 -- the header of a whole record at a place
-pub whole_at : (t : List ℕ) (at k n : ℕ) → header_at t at ≡ Whole k n → IsWhole (length t - at) (le 2 t at) (le 2 t (at + 2)) k n
+pub whole_at : (t : List ℕ) (at k n : ℕ) → header_at t at ≡ Ok (k, n) → IsWhole (length t - at) (le 2 t at) (le 2 t (at + 2)) k n
 unfolding header_at
 whole_at t at k n h = header_whole _ _ _ k n h
 
 -- and its bytes
-pub length_whole : (t : List ℕ) (at k n : ℕ) → header_at t at ≡ Whole k n → length (part n t at) ≡ n
+pub length_whole : (t : List ℕ) (at k n : ℕ) → header_at t at ≡ Ok (k, n) → length (part n t at) ≡ n
 length_whole t at k n h = length-take-le n (drop at t) (rw length-drop (whole_at t at k n h).whole)
 
 -- a header is whole from four bytes, a kind with its length, and as many bytes
-pub header_of-whole : (left size kind : ℕ) → 4 ≤ left → is_kind kind ≡ true → length_ok kind size ≡ true → size ≤ left → header_of left size kind ≡ Whole kind size
+pub header_of-whole : (left size kind : ℕ) → 4 ≤ left → is_kind kind ≡ true → length_ok kind size ≡ true → size ≤ left → header_of left size kind ≡ Ok (kind, size)
 unfolding header_of
 header_of-whole left size kind f k l w = rw (le-ltb left 4 f, k, l, le-ltb left size w)
-
--- the header from what the code read and tested
-pub header_is : {left size kind : ℕ} {k l : Bool} (t : List ℕ) (at : ℕ) → left ≡ length t - at → size ≡ le 2 t at → kind ≡ le 2 t (at + 2) → k ≡ is_kind kind → l ≡ length_ok kind size
-    → header_at t at ≡ pick (ltb left 4) (Bad 1) (pick (not k) (Bad 3) (pick (not l) (Bad 2) (pick (ltb left size) (Bad 1) (Whole kind size))))
-unfolding header_at header_of
-header_is t at e s q k l = rw (k, l, e, s, q)
 
 -- a word of a part is the word
 pub le-part : (k n : ℕ) (s : List ℕ) (at i : ℕ) → i + k ≤ n → le k (part n s at) i ≡ le k s (at + i)
@@ -95,9 +133,6 @@ drive-kind zero z l = absurd (z refl)
 drive-kind (suc zero) z l = refl
 drive-kind (suc (suc zero)) z l = refl
 drive-kind (suc (suc (suc k))) z l = absurd (omega arith)
-
-pub other-kind : (k : ℕ) → 2 < k → is_drive_kind k ≡ false
-other-kind k l = rw (ne_eqb k 1 (λ e. omega arith), ne_eqb k 2 (λ e. omega arith))
 
 pub kind-cases : (k : ℕ) → is_drive_kind k ≡ true → (k ≡ 1) ⊎ (k ≡ 2)
 kind-cases k d = ⊎_elim (λ x. inl (eqb-true k 1 x)) (λ x. inr (eqb-true k 2 x)) (either_true (eqb k 1) (eqb k 2) d)
@@ -166,14 +201,10 @@ pub length_ok-parameters : (k n : ℕ) → length_ok k n ≡ true → (k ≡ 0 �
 length_ok-parameters k n h e f g =
     ⊎_elim (λ x. absurd (e x.0)) (λ y. ⊎_elim (λ x. true≢false (is_drive_kind k) x.0 f) (λ z. ⊎_elim (λ x. absurd (g x.0)) (λ x. x) z) y) (length_ok-cases k n h)
 
--- the bytes of a whole record of a length
-size-whole : (t : List ℕ) (at k n m : ℕ) → header_at t at ≡ Whole k n → n ≡ m → (length (part n t at) ≡ m) × (at + m ≤ length t)
-size-whole t at k n m h e = let w = whole_at t at k n h in (length_whole t at k n h ∙ e, omega (arith, w.whole, w.header, e))
-
 -- a whole record of a drive, of either kind
 pub record DriveAt (t : List ℕ) (at n : ℕ) : Type 0 where
   pub kind : ℕ
-  pub header : header_at t at ≡ Whole kind n
+  pub header : header_at t at ≡ Ok (kind, n)
   pub drive : is_drive_kind kind ≡ true
 
 -- what its bytes have
@@ -185,7 +216,7 @@ pub record DriveBytes (t : List ℕ) (at k n : ℕ) : Type 0 where
   pub kind : le 2 (part n t at) 2 ≡ k
   pub whole : length (part n t at) ≡ drive_length (le 2 (part n t at) 2)
 
-pub drive-whole : (t : List ℕ) (at k n : ℕ) → header_at t at ≡ Whole k n → is_drive_kind k ≡ true → DriveBytes t at k n
+pub drive-whole : (t : List ℕ) (at k n : ℕ) → header_at t at ≡ Ok (k, n) → is_drive_kind k ≡ true → DriveBytes t at k n
 drive-whole t at k n h d =
     let w = whole_at t at k n h in
     let s : n ≡ drive_length k = length_ok-drive k n w.right d in
@@ -204,23 +235,19 @@ drive-whole t at k n h d =
 pub drive-bytes : {t : List ℕ} {at n : ℕ} (h : DriveAt t at n) → DriveBytes t at h.kind n
 drive-bytes {t} {at} {n} h = drive-whole t at h.kind n h.header h.drive
 
-pub bads_whole : (t : List ℕ) (at k n : ℕ) → header_at t at ≡ Whole k n → k ≡ 3
+pub bads_whole : (t : List ℕ) (at k n : ℕ) → header_at t at ≡ Ok (k, n) → k ≡ 3
     → (length (part n t at) ≡ n) × (14 ≤ n) × (n ≤ 134) × (at + n ≤ length t) × (bad_length_ok n ≡ true)
 bads_whole t at k n h e =
     let w = whole_at t at k n h in
     let g : bad_length_ok n ≡ true = length_ok-bad k n w.right e in
     (length_whole t at k n h, bad_length_ok-least n g, bad_length_ok-most n g, omega (arith, w.whole, w.header), g)
 
-pub parameters-whole : (t : List ℕ) (at k n : ℕ) → header_at t at ≡ Whole k n → (k ≡ 0 → ⊥) → is_drive_kind k ≡ false → (k ≡ 3 → ⊥)
-    → (length (part n t at) ≡ 20) × (at + 20 ≤ length t)
-parameters-whole t at k n h e f g = size-whole t at k n 20 h (length_ok-parameters k n (whole_at t at k n h).right e f g).1
-
--- a record that neither ends the table nor is a drive's has a number
-pub attached_least : (t : List ℕ) (at k n : ℕ) → header_at t at ≡ Whole k n → (k ≡ 0 → ⊥) → is_drive_kind k ≡ false → 6 ≤ n
-attached_least t at k n h e f =
-    ⊎_elim (λ x. absurd (e x.0))
-    (λ y. ⊎_elim (λ x. true≢false (is_drive_kind k) x.0 f) (λ z. ⊎_elim (λ x. omega (arith, bad_length_ok-least n x.1)) (λ x. omega (arith, x.1)) z) y)
-    (length_ok-cases k n (whole_at t at k n h).right)
+-- the lengths that there are
+pub length_ok-least : (k m : ℕ) → length_ok k m ≡ true → (4 ≤ m) × (is_kind k ≡ true)
+length_ok-least k m h =
+    ⊎_elim (λ x. (omega (arith, x.1), rw x.0))
+    (λ y. ⊎_elim (λ x. (omega (arith, x.1, length-least k), kind_known k x.0))
+    (λ z. ⊎_elim (λ x. (omega (arith, bad_length_ok-least m x.1), rw x.0)) (λ x. (omega (arith, x.1), rw x.0)) z) y) (length_ok-cases k m h)
 
 -- no record is longer than one of sixteen bad blocks
 pub length_ok-most : (k n : ℕ) → length_ok k n ≡ true → n ≤ 134
@@ -271,10 +298,6 @@ parameters-room b i h = by_tests (ltb i 8) (eqb (i + 1) b.count) (has_parameters
 pub parameters-taken : (b : Table) (i : ℕ) → i < 8 → i + 1 ≡ b.count → has_parameters b i ≡ false → parameters_refusal b i ≡ 0
 unfolding parameters_refusal
 parameters-taken b i h e m = rw (lt-ltb i 8 h, eq-eqb (i + 1) b.count e, m)
-
--- a slot that a record names, as the code tested it
-pub slot_named : {a : Bool} (i : ℕ) (x : Bool) → a ≡ both (ltb i 8) x → a ≡ true → i < 8
-slot_named i x e z = ltb-true i 8 (both_true (ltb i 8) x (sym e ∙ z)).0
 
 -- the refusal from what the code tested
 parameters-is : {a : Bool} (b : Table) (i : ℕ) → a ≡ both (ltb i 8) (both (eqb (i + 1) b.count) (not (has_parameters b i))) → pick a 0 9 ≡ parameters_refusal b i
@@ -370,20 +393,11 @@ pub drive-next : {d : Drive} {n : ℕ} {p : Table} (k : ℕ) (r : List ℕ) (at 
 drive-next k r at b store w e q z p =
     rw (p, e, ← drive_with k r b w) (record_step-next k (length r) r b at store (rw (← e) q ∙ sym (drive-refusal k r b store w)) z)
 
-pub drive-refused : {d : Drive} {n : ℕ} (k : ℕ) (r : List ℕ) (at : ℕ) (b : Table) (store : ℕ) → is_drive_kind k ≡ true → d ≡ drive_of r → n ≡ refusal b.count b.drives d store → (n ≡ 0 → ⊥)
-    → stepped (Refused n at) b ≡ record_step k (length r) r b at store
-drive-refused k r at b store w e q z = record_step-refused k (length r) r b at store (rw (← e) q ∙ sym (drive-refusal k r b store w)) z
-
 -- and of a record of parameters
 pub parameters-next : {i n : ℕ} {y : List ℕ} {p : Table} (r : List ℕ) (at : ℕ) (b : Table) (store : ℕ) → length r ≡ 20 → i ≡ number_in r → y ≡ parameters_in r → n ≡ parameters_refusal b i → n ≡ 0
     → p ≡ with_parameters b i y → stepped (Next (at + length r)) p ≡ record_step 4 20 r b at store
 unfolding record_refusal with_record
 parameters-next r at b store l e y q z p = rw (l, p, e, y) (record_step-next 4 20 r b at store (rw (← e) q) z)
-
-pub parameters-refused : {i n : ℕ} (r : List ℕ) (at : ℕ) (b : Table) (store : ℕ) → i ≡ number_in r → n ≡ parameters_refusal b i → (n ≡ 0 → ⊥)
-    → stepped (Refused n at) b ≡ record_step 4 20 r b at store
-unfolding record_refusal
-parameters-refused r at b store e q z = record_step-refused 4 20 r b at store (rw (← e) q) z
 
 -- and of a record of bad blocks
 pub bads_next : {i n : ℕ} {l : Bads} {p : Table} (r : List ℕ) (at : ℕ) (b : Table) (store : ℕ) → i ≡ number_in r → l ≡ bads_in r → n ≡ bads_refusal b i l → n ≡ 0
@@ -404,39 +418,39 @@ pub end_step-done : (t : List ℕ) (at : ℕ) (b : Table) → length t ≤ at + 
 unfolding end_step
 end_step-done t at b h = rw (le-ltb _ _ h)
 
-pub step_at-bad : (t : List ℕ) (at n : ℕ) (b : Table) (store : ℕ) → header_at t at ≡ Bad n → stepped (Refused n at) b ≡ step_at t at b store
+pub step_at-bad : (t : List ℕ) (at : ℕ) (e : Refusal) (b : Table) (store : ℕ) → header_at t at ≡ Err e → stepped (Refused (number e) at) b ≡ step_at t at b store
 unfolding step_at step_of
-step_at-bad t at n b store h = rw h
+step_at-bad t at e b store h = rw h
 
 -- an unfinished record is cut off
 pub unfinished_step : (t : List ℕ) (b : Table) (store : ℕ) → is_unfinished t ≡ true → step_at t 0 b store ≡ stepped (Refused 1 0) b
 unfolding is_unfinished
 unfinished_step t b store = by_header (header_at t 0) refl
   where
-    by_header : (h : Header) → header_at t 0 ≡ h → cut_header h ≡ true → step_at t 0 b store ≡ stepped (Refused 1 0) b
-    by_header (Whole k n) e z = impossible (cc)
-    by_header (Bad n) e z = sym (step_at-bad t 0 1 b store (e ∙ ap Bad (eqb-true n 1 z)))
+    by_header : (h : Result (ℕ × ℕ) Refusal) → header_at t 0 ≡ h → cut_header h ≡ true → step_at t 0 b store ≡ stepped (Refused 1 0) b
+    by_header (Ok (k, n)) e z = impossible (cc)
+    by_header (Err n) e z = sym (step_at-bad t 0 CutOff b store (e ∙ ap Err (number-apart n CutOff (eqb-true (number n) 1 z))))
 
-pub step_at-end : (t : List ℕ) (at k n : ℕ) (b : Table) (store : ℕ) → header_at t at ≡ Whole k n → k ≡ 0 → end_step t at b ≡ step_at t at b store
+pub step_at-end : (t : List ℕ) (at k n : ℕ) (b : Table) (store : ℕ) → header_at t at ≡ Ok (k, n) → k ≡ 0 → end_step t at b ≡ step_at t at b store
 unfolding step_at step_of
 step_at-end t at k n b store h e = rw (h, eq-eqb k 0 e)
 
-pub step_at-record : (t : List ℕ) (at k n : ℕ) (b : Table) (store : ℕ) → header_at t at ≡ Whole k n → (k ≡ 0 → ⊥)
+pub step_at-record : (t : List ℕ) (at k n : ℕ) (b : Table) (store : ℕ) → header_at t at ≡ Ok (k, n) → (k ≡ 0 → ⊥)
     → record_step k n (part n t at) b at store ≡ step_at t at b store
 unfolding step_at step_of
 step_at-record t at k n b store h e = rw (h, ne_eqb k 0 e)
 
-pub step_at-drive : (t : List ℕ) (at k n : ℕ) (b : Table) (store : ℕ) → header_at t at ≡ Whole k n → is_drive_kind k ≡ true
+pub step_at-drive : (t : List ℕ) (at k n : ℕ) (b : Table) (store : ℕ) → header_at t at ≡ Ok (k, n) → is_drive_kind k ≡ true
     → record_step k (length (part n t at)) (part n t at) b at store ≡ step_at t at b store
 step_at-drive t at k n b store h d =
     ap (λ (m : ℕ). record_step k m (part n t at) b at store) (length_whole t at k n h) ∙ step_at-record t at k n b store h (kind-apart k 0 d refl)
 
-pub step_at_bads : (t : List ℕ) (at k n : ℕ) (b : Table) (store : ℕ) → header_at t at ≡ Whole k n → k ≡ 3
+pub step_at_bads : (t : List ℕ) (at k n : ℕ) (b : Table) (store : ℕ) → header_at t at ≡ Ok (k, n) → k ≡ 3
     → record_step 3 n (part n t at) b at store ≡ step_at t at b store
 step_at_bads t at k n b store h e =
     (λ i. record_step (sym e i) n (part n t at) b at store) ∙ step_at-record t at k n b store h (λ z. omega arith)
 
-pub step_at-parameters : (t : List ℕ) (at k n : ℕ) (b : Table) (store : ℕ) → header_at t at ≡ Whole k n → (k ≡ 0 → ⊥) → is_drive_kind k ≡ false → (k ≡ 3 → ⊥)
+pub step_at-parameters : (t : List ℕ) (at k n : ℕ) (b : Table) (store : ℕ) → header_at t at ≡ Ok (k, n) → (k ≡ 0 → ⊥) → is_drive_kind k ≡ false → (k ≡ 3 → ⊥)
     → record_step 4 20 (part n t at) b at store ≡ step_at t at b store
 step_at-parameters t at k n b store h e f g =
     let l = length_ok-parameters k n (whole_at t at k n h).right e f g in
@@ -449,63 +463,110 @@ drive-taken t at n b store d h e z =
     let next = drive-next h.kind (part n t at) at b store h.drive (sym e) refl z refl ∙ step_at-drive t at h.kind n b store h.header h.drive in
     ap (λ (m : ℕ). stepped (Next (at + m)) (more b d)) (sym (length_whole t at h.kind n h.header)) ∙ next
 
-pub attach_taken : (t : List ℕ) (at : ℕ) (b : Table) (store i : ℕ) (p : List ℕ) → header_at t at ≡ Whole 4 20 → number_in (part 20 t at) ≡ i → parameters_in (part 20 t at) ≡ p
+pub attach_taken : (t : List ℕ) (at : ℕ) (b : Table) (store i : ℕ) (p : List ℕ) → header_at t at ≡ Ok (4, 20) → number_in (part 20 t at) ≡ i → parameters_in (part 20 t at) ≡ p
     → parameters_refusal b i ≡ 0 → stepped (Next (at + 20)) (with_parameters b i p) ≡ step_at t at b store
 attach_taken t at b store i p h e q z =
     let l = length_whole t at 4 20 h in
     rw l at (parameters-next (part 20 t at) at b store l (sym e) (sym q) refl z refl)
     ∙ step_at-parameters t at 4 20 b store h (λ x. omega arith) refl (λ x. omega arith)
 
-pub bads_taken : (t : List ℕ) (at n : ℕ) (b : Table) (store i : ℕ) (l : Bads) → header_at t at ≡ Whole 3 n → number_in (part n t at) ≡ i → bads_in (part n t at) ≡ l
+pub bads_taken : (t : List ℕ) (at n : ℕ) (b : Table) (store i : ℕ) (l : Bads) → header_at t at ≡ Ok (3, n) → number_in (part n t at) ≡ i → bads_in (part n t at) ≡ l
     → bads_refusal b i l ≡ 0 → stepped (Next (at + n)) (with_bads b i l) ≡ step_at t at b store
 bads_taken t at n b store i l h e q z =
     let w = length_whole t at 3 n h in
     rw w at (bads_next (part n t at) at b store (sym e) (sym q) refl z refl) ∙ step_at_bads t at 3 n b store h refl
 
 -- what the step of a record that is not the end record can be
-record-cases : (P : Stepped → Type 0) (kind size : ℕ) (r : List ℕ) (b : Table) (at store : ℕ) → P (stepped (Refused (record_refusal kind r b store) at) b)
+record-cases : (P : Stepped → Type 0) (kind size : ℕ) (r : List ℕ) (b : Table) (at store : ℕ) → ((record_refusal kind r b store ≡ 0 → ⊥) → P (stepped (Refused (record_refusal kind r b store) at) b))
     → (record_refusal kind r b store ≡ 0 → P (stepped (Next (at + size)) (with_record kind r b))) → P (record_step kind size r b at store)
 record-cases P kind size r b at store refuse next = by_refusal (eqb (record_refusal kind r b store) 0) refl
   where
     by_refusal : (x : Bool) → eqb (record_refusal kind r b store) 0 ≡ x → P (record_step kind size r b at store)
     by_refusal true e = let z = eqb-true _ _ e in rw (← record_step-next kind size r b at store refl z) (next z)
-    by_refusal false e = rw (← record_step-refused kind size r b at store refl (eqb-false _ _ e)) refuse
+    by_refusal false e = let z = eqb-false _ _ e in rw (← record_step-refused kind size r b at store refl z) (refuse z)
 
--- what a step can be: a refusal, the end record with nothing after it, one more drive, or bad blocks or parameters for the last one
-pub step_at-cases : (P : Stepped → Type 0) (t : List ℕ) (at : ℕ) (b : Table) (store : ℕ)
-    → ((n p : ℕ) → P (stepped (Refused n p) b))
-    → (header_at t at ≡ Whole 0 4 → length t ≤ at + 4 → P (stepped Done b))
+-- each refusal is one of the nine
+refusal_numbered : (n : ℕ) (l : List Drive) (d : Drive) (store : ℕ) → Numbered (refusal n l d store)
+unfolding refusal
+refusal_numbered n l d store =
+    pick_numbered _ _ _ (number_numbered NinthDrive)
+    (pick_numbered _ _ _ (number_numbered BadField)
+    (pick_numbered _ _ _ (number_numbered PastStore)
+    (pick_numbered _ _ _ (number_numbered Overlapping) none_numbered)))
+
+parameters_numbered : (b : Table) (i : ℕ) → Numbered (parameters_refusal b i)
+unfolding parameters_refusal
+parameters_numbered b i = pick_numbered _ _ _ none_numbered (number_numbered NotLast)
+
+bads_numbered : (b : Table) (i : ℕ) (l : Bads) → Numbered (bads_refusal b i l)
+unfolding bads_refusal
+bads_numbered b i l = pick_numbered _ _ _ (pick_numbered _ _ _ none_numbered (number_numbered BadField)) (number_numbered NotLast)
+
+pub record_numbered : (kind : ℕ) (r : List ℕ) (b : Table) (store : ℕ) → Numbered (record_refusal kind r b store)
+unfolding record_refusal
+record_numbered kind r b store =
+    pick_numbered _ _ _ (refusal_numbered b.count b.drives (drive_of r) store)
+    (pick_numbered _ _ _ (bads_numbered b (number_in r) (bads_in r)) (parameters_numbered b (number_in r)))
+
+-- what a step can be: one of the nine refusals, the end record with nothing after it, one more drive, or bad blocks or parameters for the last one
+step_at-numbered : (P : Stepped → Type 0) (t : List ℕ) (at : ℕ) (b : Table) (store : ℕ)
+    → ((n p : ℕ) → number (named n) ≡ n → P (stepped (Refused n p) b))
+    → (header_at t at ≡ Ok (0, 4) → length t ≤ at + 4 → P (stepped Done b))
     → ((n : ℕ) → DriveAt t at n → refusal b.count b.drives (drive_of (part n t at)) store ≡ 0 → P (stepped (Next (at + n)) (more b (drive_of (part n t at)))))
-    → ((n : ℕ) → header_at t at ≡ Whole 3 n → bads_refusal b (number_in (part n t at)) (bads_in (part n t at)) ≡ 0
+    → ((n : ℕ) → header_at t at ≡ Ok (3, n) → bads_refusal b (number_in (part n t at)) (bads_in (part n t at)) ≡ 0
     → P (stepped (Next (at + n)) (with_bads b (number_in (part n t at)) (bads_in (part n t at)))))
-    → (header_at t at ≡ Whole 4 20 → parameters_refusal b (number_in (part 20 t at)) ≡ 0
+    → (header_at t at ≡ Ok (4, 20) → parameters_refusal b (number_in (part 20 t at)) ≡ 0
     → P (stepped (Next (at + 20)) (with_parameters b (number_in (part 20 t at)) (parameters_in (part 20 t at)))))
     → P (step_at t at b store)
 unfolding record_refusal with_record
-step_at-cases P t at b store refuse finish next list attach = by_header (header_at t at) refl
+step_at-numbered P t at b store refuse finish next list attach = by_header (header_at t at) refl
   where
-    by_byte : header_at t at ≡ Whole 0 4 → (x : Bool) → ltb (at + 4) (length t) ≡ x → P (end_step t at b)
-    by_byte h true e = rw (← end_step-byte t at b (ltb-true (at + 4) (length t) e)) (refuse 8 (at + 4))
+    by_byte : header_at t at ≡ Ok (0, 4) → (x : Bool) → ltb (at + 4) (length t) ≡ x → P (end_step t at b)
+    by_byte h true e = rw (← end_step-byte t at b (ltb-true (at + 4) (length t) e)) (refuse 8 (at + 4) refl)
     by_byte h false e = let l = ltb-false (at + 4) (length t) e in rw (← end_step-done t at b l) (finish h l)
 
-    by_kind : (k n : ℕ) → header_at t at ≡ Whole k n → (x y z : Bool) → eqb k 0 ≡ x → is_drive_kind k ≡ y → eqb k 3 ≡ z → P (step_at t at b store)
+    refuse_record : (k : ℕ) (r : List ℕ) → (record_refusal k r b store ≡ 0 → ⊥) → P (stepped (Refused (record_refusal k r b store) at) b)
+    refuse_record k r z = refuse (record_refusal k r b store) at ((record_numbered k r b store).named z)
+
+    by_kind : (k n : ℕ) → header_at t at ≡ Ok (k, n) → (x y z : Bool) → eqb k 0 ≡ x → is_drive_kind k ≡ y → eqb k 3 ≡ z → P (step_at t at b store)
     by_kind k n h true y u e f g =
         let z = eqb-true k 0 e in
         let l = length_ok-end k n (whole_at t at k n h).right z in
         rw (← step_at-end t at k n b store h z) (by_byte (rw (z, l) at h) (ltb (at + 4) (length t)) refl)
     by_kind k n h false true u e f g =
-        rw (← step_at-record t at k n b store h (eqb-false k 0 e)) (record-cases P k n (part n t at) b at store (refuse _ at)
+        rw (← step_at-record t at k n b store h (eqb-false k 0 e)) (record-cases P k n (part n t at) b at store (refuse_record k (part n t at))
         (λ z. rw (drive_with k (part n t at) b f) (next n record { kind = k; header = h; drive = f } (sym (drive-refusal k (part n t at) b store f) ∙ z))))
     by_kind k n h false false true e f g =
         let z = eqb-true k 3 g in
-        rw (← step_at-record t at k n b store h (eqb-false k 0 e), z) (record-cases P 3 n (part n t at) b at store (refuse _ at) (list n (rw z at h)))
+        rw (← step_at-record t at k n b store h (eqb-false k 0 e), z) (record-cases P 3 n (part n t at) b at store (refuse_record 3 (part n t at)) (list n (rw z at h)))
     by_kind k n h false false false e f g =
         let z = length_ok-parameters k n (whole_at t at k n h).right (eqb-false k 0 e) f (eqb-false k 3 g) in
-        rw (← step_at-record t at k n b store h (eqb-false k 0 e), z.0, z.1) (record-cases P 4 20 (part 20 t at) b at store (refuse _ at) (attach (rw (z.0, z.1) at h)))
+        rw (← step_at-record t at k n b store h (eqb-false k 0 e), z.0, z.1) (record-cases P 4 20 (part 20 t at) b at store (refuse_record 4 (part 20 t at)) (attach (rw (z.0, z.1) at h)))
 
-    by_header : (h : Header) → header_at t at ≡ h → P (step_at t at b store)
-    by_header (Bad n) h = rw (← step_at-bad t at n b store h) (refuse n at)
-    by_header (Whole k n) h = by_kind k n h (eqb k 0) (is_drive_kind k) (eqb k 3) refl refl refl
+    by_header : (h : Result (ℕ × ℕ) Refusal) → header_at t at ≡ h → P (step_at t at b store)
+    by_header (Err e) h = rw (← step_at-bad t at e b store h) (refuse (number e) at (ap number (named-number e)))
+    by_header (Ok (k, n)) h = by_kind k n h (eqb k 0) (is_drive_kind k) (eqb k 3) refl refl refl
+
+pub step_at-cases : (P : Stepped → Type 0) (t : List ℕ) (at : ℕ) (b : Table) (store : ℕ)
+    → ((n p : ℕ) → P (stepped (Refused n p) b))
+    → (header_at t at ≡ Ok (0, 4) → length t ≤ at + 4 → P (stepped Done b))
+    → ((n : ℕ) → DriveAt t at n → refusal b.count b.drives (drive_of (part n t at)) store ≡ 0 → P (stepped (Next (at + n)) (more b (drive_of (part n t at)))))
+    → ((n : ℕ) → header_at t at ≡ Ok (3, n) → bads_refusal b (number_in (part n t at)) (bads_in (part n t at)) ≡ 0
+    → P (stepped (Next (at + n)) (with_bads b (number_in (part n t at)) (bads_in (part n t at)))))
+    → (header_at t at ≡ Ok (4, 20) → parameters_refusal b (number_in (part 20 t at)) ≡ 0
+    → P (stepped (Next (at + 20)) (with_parameters b (number_in (part 20 t at)) (parameters_in (part 20 t at)))))
+    → P (step_at t at b store)
+step_at-cases P t at b store refuse finish next list attach = step_at-numbered P t at b store (λ n p z. refuse n p) finish next list attach
+
+-- a step that refuses, refuses with the number of one of the nine
+pub step_at-named : (t : List ℕ) (at : ℕ) (b : Table) (store n p : ℕ) → (step_at t at b store).step ≡ Refused n p → number (named n) ≡ n
+step_at-named t at b store n p =
+    step_at-numbered (λ (s : Stepped). s.step ≡ Refused n p → number (named n) ≡ n) t at b store
+    (λ m q z e. let x : m ≡ n = cc in rw x at z)
+    (λ h l e. impossible (cc))
+    (λ m h z e. impossible (cc))
+    (λ m h z e. impossible (cc))
+    (λ h z e. impossible (cc))
 
 -- ---- a step in numbers
 
@@ -539,7 +600,7 @@ bads_number b i l =
 
 -- a whole record, by its kind
 whole-numbers : (t : List ℕ) (at : ℕ) (b : Table) (store kind size : ℕ) → length_ok kind size ≡ true
-    → step_numbers (step_of (Whole kind size) t at b store).step ≡ whole_numbers t at b store kind size
+    → step_numbers (step_of (Ok (kind, size)) t at b store).step ≡ whole_numbers t at b store kind size
 unfolding step_numbers step_of end_step record_refusal
 whole-numbers t at b store kind size right =
     ⊎_elim (λ x. rw x.0 (by_end (ltb (at + 4) (length t))))
@@ -566,26 +627,30 @@ step-apart (Refused m p) (Next q) e = impossible (cc)
 step-apart (Refused m p) Done e = impossible (cc)
 step-apart (Refused m p) (Refused n q) e = cc
 
-pub answer-apart : (x y : Answer) → answer_numbers x ≡ answer_numbers y → x ≡ y
+pub answer-apart : (x y : Result Unit RefusedAt) → answer_numbers x ≡ answer_numbers y → x ≡ y
 unfolding answer_numbers
-answer-apart Accepted Accepted e = refl
-answer-apart Accepted (AnswerRefused n q) e = impossible (cc)
-answer-apart (AnswerRefused m p) Accepted e = impossible (cc)
-answer-apart (AnswerRefused m p) (AnswerRefused n q) e = cc
+answer-apart (Ok x) (Ok y) e = refl
+answer-apart (Ok x) (Err g) e = impossible (cc)
+answer-apart (Err f) (Ok y) e = impossible (cc)
+answer-apart (Err f) (Err g) e =
+    let n : number f.refusal ≡ number g.refusal = cc in
+    let r : f.refusal ≡ g.refusal = number-apart f.refusal g.refusal n in
+    let p : f.place ≡ g.place = cc in
+    λ i. Err (record { refusal = r i; place = p i })
 
-pub written_apart : (x y : Written) → written_numbers x ≡ written_numbers y → x ≡ y
+pub written_apart : (x y : Result ℕ ShortBuffer) → written_numbers x ≡ written_numbers y → x ≡ y
 unfolding written_numbers
-written_apart (Bytes m) (Bytes n) e = cc
-written_apart (Bytes m) (WriteRefused n) e = impossible (cc)
-written_apart (WriteRefused m) (Bytes n) e = impossible (cc)
-written_apart (WriteRefused m) (WriteRefused n) e = cc
+written_apart (Ok m) (Ok n) e = cc
+written_apart (Ok m) (Err f) e = impossible (cc)
+written_apart (Err f) (Ok n) e = impossible (cc)
+written_apart (Err f) (Err g) e = refl
 
 pub step-numbers : (t : List ℕ) (at : ℕ) (b : Table) (store : ℕ) → step_numbers (step_at t at b store).step ≡ record_numbers t at b store
 unfolding step_at header_at header_of record_numbers step_numbers step_of
 step-numbers t at b store = by_tests (ltb (length t - at) 4) (is_kind (le 2 t (at + 2))) (length_ok (le 2 t (at + 2)) (le 2 t at)) (ltb (length t - at) (le 2 t at)) refl
   where
     by_tests : (a k l c : Bool) → length_ok (le 2 t (at + 2)) (le 2 t at) ≡ l
-        → step_numbers (step_of (pick a (Bad 1) (pick (not k) (Bad 3) (pick (not l) (Bad 2) (pick c (Bad 1) (Whole (le 2 t (at + 2)) (le 2 t at)))))) t at b store).step
+        → step_numbers (step_of (pick a (Err CutOff) (pick (not k) (Err UnknownKind) (pick (not l) (Err WrongLength) (pick c (Err CutOff) (Ok (le 2 t (at + 2), le 2 t at)))))) t at b store).step
         ≡ pick a (1 ∷ at ∷ []) (pick (not k) (3 ∷ at ∷ []) (pick (not l) (2 ∷ at ∷ []) (pick c (1 ∷ at ∷ []) (whole_numbers t at b store (le 2 t (at + 2)) (le 2 t at)))))
     by_tests true k l c e = refl
     by_tests false false l c e = refl
@@ -617,19 +682,19 @@ pub read_from-next : {d : Cursor} {n : ℕ} (left : ℕ) (t : List ℕ) (store :
 unfolding advanced
 read_from-next left t store c l e q = let s = rw e at q in rw (e, s) (rw s at (read_from_on left t store c.at c.table l))
 
-pub read_from-zero : (k : ℕ) (t : List ℕ) (store at : ℕ) (b : Table) → k ≡ 0 → reading (AnswerRefused 4 at) b ≡ read_from k t store at b
+pub read_from-zero : (k : ℕ) (t : List ℕ) (store at : ℕ) (b : Table) → k ≡ 0 → reading (Err (refused 4 at)) b ≡ read_from k t store at b
 unfolding read_from
 read_from-zero k t store at b e = rw e
 
 -- what each record that is taken keeps holds at the end of a reading, which, where the table was accepted, is its end record
 abbrev pub Kept : (ℕ → Table → Type 0) → List ℕ → Reading → Type 0
-Kept I t r = (at : ℕ) × (I at r.table × (r.answer ≡ Accepted → (header_at t at ≡ Whole 0 4) × (length t ≤ at + 4)))
+Kept I t r = (at : ℕ) × (I at r.table × (r.answer ≡ Ok tt → (header_at t at ≡ Ok (0, 4)) × (length t ≤ at + 4)))
 
 pub read_keeps : (I : ℕ → Table → Type 0) (t : List ℕ) (store : ℕ)
     → ((at n : ℕ) (b : Table) → I at b → DriveAt t at n → refusal b.count b.drives (drive_of (part n t at)) store ≡ 0 → I (at + n) (more b (drive_of (part n t at))))
-    → ((at n : ℕ) (b : Table) → I at b → header_at t at ≡ Whole 3 n → bads_refusal b (number_in (part n t at)) (bads_in (part n t at)) ≡ 0
+    → ((at n : ℕ) (b : Table) → I at b → header_at t at ≡ Ok (3, n) → bads_refusal b (number_in (part n t at)) (bads_in (part n t at)) ≡ 0
     → I (at + n) (with_bads b (number_in (part n t at)) (bads_in (part n t at))))
-    → ((at : ℕ) (b : Table) → I at b → header_at t at ≡ Whole 4 20 → parameters_refusal b (number_in (part 20 t at)) ≡ 0
+    → ((at : ℕ) (b : Table) → I at b → header_at t at ≡ Ok (4, 20) → parameters_refusal b (number_in (part 20 t at)) ≡ 0
     → I (at + 20) (with_parameters b (number_in (part 20 t at)) (parameters_in (part 20 t at))))
     → (k at : ℕ) (b : Table) → I at b → Kept I t (read_from k t store at b)
 unfolding read_from
@@ -644,17 +709,18 @@ read_keeps I t store keep list attach (suc k) at b i =
 
 -- ---- the reading in numbers
 
-go_numbers : (s : Step) (b : Table) (f : ℕ → Table → Reading) → answer_numbers (go_on s b f).answer ≡ onward (step_numbers s) (λ (at : ℕ). answer_numbers (f at b).answer)
+go_numbers : (s : Step) (b : Table) (f : ℕ → Table → Reading) → ((n at : ℕ) → s ≡ Refused n at → number (named n) ≡ n)
+    → answer_numbers (go_on s b f).answer ≡ onward (step_numbers s) (λ (at : ℕ). answer_numbers (f at b).answer)
 unfolding answer_numbers step_numbers
-go_numbers (Next at) b f = refl
-go_numbers Done b f = refl
-go_numbers (Refused n at) b f = refl
+go_numbers (Next at) b f z = refl
+go_numbers Done b f z = refl
+go_numbers (Refused n at) b f z = ap (λ (m : ℕ). m ∷ at ∷ []) (z n at refl)
 
 from_numbers : (k : ℕ) (t : List ℕ) (store at : ℕ) (b : Table) → answer_numbers (read_from k t store at b).answer ≡ numbers_from k t store at b
 unfolding read_from numbers_from answer_numbers
 from_numbers zero t store at b = refl
 from_numbers (suc k) t store at b =
-    go_numbers (step_at t at b store).step (step_at t at b store).table (read_from k t store)
+    go_numbers (step_at t at b store).step (step_at t at b store).table (read_from k t store) (step_at-named t at b store)
     ∙ ap (λ (l : List ℕ). onward l (λ (x : ℕ). answer_numbers (read_from k t store x (step_at t at b store).table).answer)) (step-numbers t at b store)
     ∙ (λ i. onward (record_numbers t at b store) (λ (x : ℕ). from_numbers k t store x (step_at t at b store).table i))
 
@@ -676,22 +742,22 @@ module _ {r : Stepped} (left : ℕ) (t : List ℕ) (store at : ℕ) (b : Table) 
   pub reads-next : {n : ℕ} → r.step ≡ Next n → read_from left t store at b ≡ read_table t store → read_from (left - 1) t store n r.table ≡ read_table t store
   reads-next q s = rw q at step_on ∙ s
 
-  pub reads-done : r.step ≡ Done → read_from left t store at b ≡ read_table t store → Reads t store (reading Accepted r.table)
+  pub reads-done : r.step ≡ Done → read_from left t store at b ≡ read_table t store → Reads t store (reading (Ok tt) r.table)
   reads-done q s = reads-is t store (rw q at step_on ∙ s)
 
-  pub reads-refused : {n place : ℕ} → r.step ≡ Refused n place → read_from left t store at b ≡ read_table t store → Reads t store (reading (AnswerRefused n place) r.table)
+  pub reads-refused : {n place : ℕ} → r.step ≡ Refused n place → read_from left t store at b ≡ read_table t store → Reads t store (reading (Err (refused n place)) r.table)
   reads-refused q s = reads-is t store (rw q at step_on ∙ s)
 
-pub reads_end : (left : ℕ) (t : List ℕ) (store at : ℕ) (b : Table) → left ≡ 0 → read_from left t store at b ≡ read_table t store → Reads t store (reading (AnswerRefused 4 at) b)
+pub reads_end : (left : ℕ) (t : List ℕ) (store at : ℕ) (b : Table) → left ≡ 0 → read_from left t store at b ≡ read_table t store → Reads t store (reading (Err (refused 4 at)) b)
 reads_end left t store at b z s = reads-is t store (read_from-zero left t store at b z ∙ s)
 
 -- ---- the numbers of a write
 
-pub write-numbers : {r : Written} (b : Table) (room : ℕ) → r ≡ write_answer b room → written_numbers r ≡ write_numbers b room
+pub write-numbers : {r : Result ℕ ShortBuffer} (b : Table) (room : ℕ) → r ≡ write_answer b room → written_numbers r ≡ write_numbers b room
 unfolding write_answer written_numbers write_numbers
 write-numbers {r} b room e = ap written_numbers e ∙ by_test (ltb room (length (table_of b)))
   where
-    by_test : (t : Bool) → written_numbers (pick t (WriteRefused 19) (Bytes (length (table_of b)))) ≡ pick t (19 ∷ []) (0 ∷ length (table_of b) ∷ [])
+    by_test : (t : Bool) → written_numbers (pick t (Err (record {})) (Ok (length (table_of b)))) ≡ pick t (19 ∷ []) (0 ∷ length (table_of b) ∷ [])
     by_test true = refl
     by_test false = refl
 
@@ -857,14 +923,14 @@ module _ (b : Table) (out : List ℕ) (n end : ℕ) (eight : length b.drives ≡
   length-held : length (table_of b) ≡ end + 4
   length-held = rw table-held (simp (length-append, length-le_bytes) (omega arith))
 
-  pub write_short : length out < end + 4 → (WriteRefused 19 ≡ write_answer b (length out)) × (out ≡ write_out b out)
+  pub write_short : length out < end + 4 → (Err (record {}) ≡ write_answer b (length out)) × (out ≡ write_out b out)
   unfolding write_answer write_out
   write_short h =
       let t : ltb (length out) (length (table_of b)) ≡ true = lt-ltb (length out) (length (table_of b)) (rw length-held h) in
       (rw t, rw t)
 
   pub write_done : {o₁ o₂ : List ℕ} → end + 4 ≤ length out → o₁ ≡ sets out 0 (records_of n b) → o₂ ≡ sets o₁ end end_record
-      → (Bytes (end + 4) ≡ write_answer b (length out)) × (o₂ ≡ write_out b out)
+      → (Ok (end + 4) ≡ write_answer b (length out)) × (o₂ ≡ write_out b out)
   unfolding write_answer write_out
   write_done {o₁} {o₂} h e₁ e₂ =
       let t : ltb (length out) (length (table_of b)) ≡ false = le-ltb (length out) (length (table_of b)) (rw length-held h) in

@@ -1,5 +1,6 @@
 -- A table that is accepted, written back, gives the same bytes.
 -- Assumes nothing.
+use Rattle.std.specs.Prelude.{Ok}
 use mathlib.Core.Path.{◌≡◌, refl, sym, ap, ◌∙◌, subst}
 use mathlib.Core.Bool.{true, false}
 use mathlib.Core.List.{List, ◌++◌, append_assoc}
@@ -19,8 +20,6 @@ use Rattle.attached.specs.Bad.{bad_count, bads_in, bad_record}
 use Rattle.attached.proofs.AttachedLaws.{length-parameters_in, record-parameters}
 use Rattle.attached.proofs.BadLaws.{bad_length_ok_true, record_bads}
 use Rattle.table.specs.declared.Table.{Table}
-use Rattle.table.specs.declared.Header.TheVariants.{Whole}
-use Rattle.table.specs.declared.Answer.TheVariants.{Accepted}
 use Rattle.table.specs.Table.{no_drive, header_at, more, has_parameters, parameters_refusal, with_parameters, bads_at, bads_refusal, with_bads, most_records, read_from, read_table, empty_table, bads_record, slot_records, records_of, bytes_of, drives_of, table_of}
 use Rattle.table.proofs.TableLaws.{whole_at, length_whole, bads_whole, le-part, refusal-room, bads_room, parameters-room, read_keeps, records_of-more, records_of_ext, bads_record-some, slot_bads, slot_bare, slot_parameters, length-drives, DriveAt, drive-bytes}
 use Rattle.table.proofs.Slots.{marked, marked_other, parameters-same, slot_other, bads_same, bads_slot_other, Listed}
@@ -69,7 +68,7 @@ module _ (t : List ℕ) (bytes : Bytes t) where
       (record-drive (part n t at) (bytes-part n t at bytes) w.whole (w.word ∙ sym w.long ∙ w.whole), w.inside)
 
   -- and so is a whole record of parameters
-  whole-parameters : (at : ℕ) → header_at t at ≡ Whole 4 20 → (parameters_record (number_in (part 20 t at)) (parameters_in (part 20 t at)) ≡ part 20 t at) × (at + 20 ≤ length t)
+  whole-parameters : (at : ℕ) → header_at t at ≡ Ok (4, 20) → (parameters_record (number_in (part 20 t at)) (parameters_in (part 20 t at)) ≡ part 20 t at) × (at + 20 ≤ length t)
   whole-parameters at h =
       let w = whole_at t at 4 20 h in
       let l : at + 20 ≤ length t = omega (arith, w.whole, w.header) in (
@@ -78,7 +77,7 @@ module _ (t : List ℕ) (bytes : Bytes t) where
       )
 
   -- and a whole record of bad blocks
-  whole_bads : (at n : ℕ) → header_at t at ≡ Whole 3 n → (bad_record (number_in (part n t at)) (bads_in (part n t at)) ≡ part n t at) × (at + n ≤ length t)
+  whole_bads : (at n : ℕ) → header_at t at ≡ Ok (3, n) → (bad_record (number_in (part n t at)) (bads_in (part n t at)) ≡ part n t at) × (at + n ≤ length t)
   whole_bads at n h =
       let w = whole_at t at 3 n h in
       let q = bads_whole t at 3 n h refl in
@@ -110,7 +109,7 @@ module _ (t : List ℕ) (bytes : Bytes t) where
         fresh = λ k l q. r.fresh k (omega arith) q;
       }
 
-  list_read : (at n : ℕ) (b : Table) → Read t at b → header_at t at ≡ Whole 3 n → bads_refusal b (number_in (part n t at)) (bads_in (part n t at)) ≡ 0
+  list_read : (at n : ℕ) (b : Table) → Read t at b → header_at t at ≡ Ok (3, n) → bads_refusal b (number_in (part n t at)) (bads_in (part n t at)) ≡ 0
       → Read t (at + n) (with_bads b (number_in (part n t at)) (bads_in (part n t at)))
   list_read at n b r h z =
       let i : ℕ = number_in (part n t at) in
@@ -132,7 +131,7 @@ module _ (t : List ℕ) (bytes : Bytes t) where
         fresh = λ k m q. let f = r.fresh k m q in (get_or-set_other b.counts i k l.count 0 (λ x. omega (arith, room.last, m, x)) ∙ f.0, f.1);
       }
 
-  attach_read : (at : ℕ) (b : Table) → Read t at b → header_at t at ≡ Whole 4 20 → parameters_refusal b (number_in (part 20 t at)) ≡ 0
+  attach_read : (at : ℕ) (b : Table) → Read t at b → header_at t at ≡ Ok (4, 20) → parameters_refusal b (number_in (part 20 t at)) ≡ 0
       → Read t (at + 20) (with_parameters b (number_in (part 20 t at)) (parameters_in (part 20 t at)))
   attach_read at b r h z =
       let i : ℕ = number_in (part 20 t at) in
@@ -155,7 +154,7 @@ module _ (t : List ℕ) (bytes : Bytes t) where
       }
 
   -- the end record and nothing after it
-  last_read : (at : ℕ) (b : Table) → Read t at b → header_at t at ≡ Whole 0 4 → length t ≤ at + 4 → table_of b ≡ t
+  last_read : (at : ℕ) (b : Table) → Read t at b → header_at t at ≡ Ok (0, 4) → length t ≤ at + 4 → table_of b ≡ t
   unfolding table_of bytes_of
   last_read at b r h l =
       let w = whole_at t at 0 4 h in
@@ -168,7 +167,7 @@ module _ (t : List ℕ) (bytes : Bytes t) where
       rw (n, r.same, e₀, e₂, two, rest) (take-append-drop at t)
 
 -- demand 2: a drive table read and written back gives the same bytes
-pub write-read-table : (t : List ℕ) (store : ℕ) → Bytes t → (read_table t store).answer ≡ Accepted → table_of (read_table t store).table ≡ t
+pub write-read-table : (t : List ℕ) (store : ℕ) → Bytes t → (read_table t store).answer ≡ Ok tt → table_of (read_table t store).table ≡ t
 unfolding read_table records_of
 write-read-table t store b e =
     let first : Read t 0 empty_table =

@@ -1,12 +1,11 @@
 -- Demand 2 for the drive table: the two ways round between a table and its bytes. `proofs/Demand2.antt` proves it.
 -- Assumes nothing.
-use Rattle.std.specs.Prelude.{ℕ, ◌*◌, ◌<◌, ◌≡◌, true, List, length, get_or}
+use Rattle.std.specs.Prelude.{ℕ, ◌*◌, ◌<◌, ◌≡◌, true, Ok, List, length, get_or}
 use Rattle.words.specs.Words.{Bytes}
 use Rattle.drive.specs.Drive.{Fits}
 use Rattle.attached.specs.Parameters.{given_length}
 use Rattle.attached.specs.Bad.{list_length}
 use Rattle.table.specs.declared.Table.{Table}
-use Rattle.table.specs.declared.Answer.TheVariants.{Accepted}
 use Rattle.table.specs.Table.{most_drives, no_drive, reading, read_table, table_of, is_sound}
 
 -- ---- "The drive table", read and written
@@ -24,6 +23,6 @@ pub record Widths (b : Table) : Type 0 where
 -- for every store
 pub record Demand2 (store : ℕ) : Type 0 where
   -- whatever bytes are accepted, what is read from them and written gives those bytes
-  pub written : (t : List ℕ) → Bytes t → (read_table t store).answer ≡ Accepted → table_of (read_table t store).table ≡ t
+  pub written : (t : List ℕ) → Bytes t → (read_table t store).answer ≡ Ok tt → table_of (read_table t store).table ≡ t
   -- whatever table obeys the rules, in its widths, what is written of it and read gives that table; no reading need have made it
-  pub read : (b : Table) → Widths b → is_sound b store ≡ true → read_table (table_of b) store ≡ reading Accepted b
+  pub read : (b : Table) → Widths b → is_sound b store ≡ true → read_table (table_of b) store ≡ reading (Ok tt) b

@@ -1,27 +1,25 @@
 -- Document 01, "The drive table", and document 02, 2026-01, 2026-04 and 2026-06: little-endian records, read record by record in the paper's order of checks, and
 -- written back.
 -- Assumes nothing.
-use Rattle.std.specs.Prelude.{ℕ, zero, suc, ◌+◌, ◌-◌, ◌*◌, ◌≡◌, Bool, true, false, not, List, [], ◌∷◌, ◌++◌, length, get_or, set, take, drop, replicate, leb, ltb, eqb}
+use Rattle.std.specs.Prelude.{ℕ, zero, suc, ◌+◌, ◌-◌, ◌*◌, ◌≡◌, Bool, true, false, not, Result, Ok, Err, Option, Some, None, List, [], ◌∷◌, ◌++◌, length, get_or, set, take, drop, replicate, leb, ltb, eqb}
 use Rattle.std.proofs.lemmas.List.Edits.{sets}
 use Rattle.logic.specs.Logic.{pick, both, either, all_below, some_below}
 use Rattle.words.specs.Words.{le, le_bytes, part}
 use Rattle.drive.specs.declared.Drive.{Drive}
-use Rattle.drive.specs.Drive.{wide_kind, is_drive_kind, drive_length, drive_of, record_of, fields_ok, in_store, overlap, is_blank}
+use Rattle.drive.specs.Drive.{wide_kind, is_drive_kind, drive_length, drive_of, record_of, fields_ok, in_store, overlap, is_blank, zero_drive as drive_of_zeros}
 use Rattle.attached.specs.Parameters.{parameters_kind, parameters_length, given_length, number_in, parameters_in, parameters_record}
 use Rattle.attached.specs.declared.Bads.{Bads}
 use Rattle.attached.specs.Bad.{bad_kind, most_bad, list_length, bad_length, bad_length_ok, bads_in, bad_record, list_ok, bads_ok}
 use Rattle.table.specs.declared.Table.{Table}
-use Rattle.table.specs.declared.Header.{Header}
-use Rattle.table.specs.declared.Header.TheVariants.{Whole, Bad}
+use Rattle.table.specs.declared.Refusal.{Refusal}
+use Rattle.table.specs.declared.Refusal.TheVariants.{CutOff, WrongLength, UnknownKind, NinthDrive, BadField, PastStore, Overlapping, ByteFollows, NotLast}
+use Rattle.table.specs.declared.Refused.{Refused as RefusedAt}
+use Rattle.table.specs.declared.ShortBuffer.{ShortBuffer}
 use Rattle.table.specs.declared.Step.{Step}
 use Rattle.table.specs.declared.Step.TheVariants.{Next, Done, Refused}
 use Rattle.table.specs.declared.Stepped.{Stepped}
 use Rattle.table.specs.declared.Cursor.{Cursor}
-use Rattle.table.specs.declared.Answer.{Answer}
-use Rattle.table.specs.declared.Answer.TheVariants.{Accepted, Refused as AnswerRefused}
 use Rattle.table.specs.declared.Reading.{Reading}
-use Rattle.table.specs.declared.Written.{Written}
-use Rattle.table.specs.declared.Written.TheVariants.{Bytes, Refused as WriteRefused}
 
 -- ---- "The drive table", the numbers of the refusals, in the order of the checks; for bad blocks 9 comes before 5
 
@@ -62,6 +60,40 @@ not_last = 9
 abbrev pub byte_follows : ℕ
 byte_follows = 8
 
+-- a refusal's number
+abbrev pub number : Refusal → ℕ
+number CutOff = cut_off
+number WrongLength = wrong_length
+number UnknownKind = unknown_kind
+number NinthDrive = ninth_drive
+number BadField = bad_field
+number PastStore = past_store
+number Overlapping = overlapping
+number ByteFollows = byte_follows
+number NotLast = not_last
+
+-- and the refusal of a number, which is one of the nine
+abbrev pub named : ℕ → Refusal
+named n =
+    pick (eqb n cut_off) CutOff
+    (pick (eqb n wrong_length) WrongLength
+    (pick (eqb n unknown_kind) UnknownKind
+    (pick (eqb n ninth_drive) NinthDrive
+    (pick (eqb n bad_field) BadField
+    (pick (eqb n past_store) PastStore
+    (pick (eqb n overlapping) Overlapping
+    (pick (eqb n byte_follows) ByteFollows
+    NotLast)))))))
+
+-- 0 where something is taken, or the refusal's number
+abbrev pub verdict : Result Unit Refusal → ℕ
+verdict (Ok x) = 0
+verdict (Err e) = number e
+
+-- refused with a number, at a place
+abbrev pub refused : ℕ → ℕ → RefusedAt
+refused n at = record { refusal = named n; place = at }
+
 -- house number 19: write, buffer shorter than the table
 abbrev pub short_buffer : ℕ
 short_buffer = 19
@@ -96,22 +128,22 @@ abbrev pub longest_record : ℕ
 longest_record = bad_length most_bad
 
 -- checks 1, 3, 2, 1 of a record, from the bytes left, its length word and its kind: its refusal, or a whole record of a kind and a length
-unfoldable pub header_of : ℕ → ℕ → ℕ → Header
+unfoldable pub header_of : ℕ → ℕ → ℕ → Result (ℕ × ℕ) Refusal
 header_of left size kind =
-    pick (ltb left header_length) (Bad cut_off)
-    (pick (not (is_kind kind)) (Bad unknown_kind)
-    (pick (not (length_ok kind size)) (Bad wrong_length)
-    (pick (ltb left size) (Bad cut_off)
-    (Whole kind size))))
+    pick (ltb left header_length) (Err CutOff)
+    (pick (not (is_kind kind)) (Err UnknownKind)
+    (pick (not (length_ok kind size)) (Err WrongLength)
+    (pick (ltb left size) (Err CutOff)
+    (Ok (kind, size)))))
 
 -- the header at a place: the length word first, the kind two bytes on
-unfoldable pub header_at : List ℕ → ℕ → Header
+unfoldable pub header_at : List ℕ → ℕ → Result (ℕ × ℕ) Refusal
 header_at t at = header_of (length t - at) (le 2 t at) (le 2 t (at + 2))
 
 -- the header is that of a record that is cut off
-abbrev pub cut_header : Header → Bool
-cut_header (Whole kind size) = false
-cut_header (Bad n) = eqb n cut_off
+abbrev pub cut_header : Result (ℕ × ℕ) Refusal → Bool
+cut_header (Ok w) = false
+cut_header (Err e) = eqb (number e) cut_off
 
 -- the bytes are an unfinished record (document 02, 2026-03): cut off, and nothing else is wrong with it so far
 unfoldable pub is_unfinished : List ℕ → Bool
@@ -242,9 +274,26 @@ unfoldable pub end_step : List ℕ → ℕ → Table → Stepped
 end_step t at b = pick (ltb (at + end_length) (length t)) (stepped (Refused byte_follows (at + end_length)) b) (stepped Done b)
 
 -- by the header: its refusal at the record's start, or the step of the record's kind over exactly its bytes
-unfoldable pub step_of : Header → List ℕ → ℕ → Table → ℕ → Stepped
-step_of (Bad n) t at b store = stepped (Refused n at) b
-step_of (Whole kind size) t at b store = pick (eqb kind end_kind) (end_step t at b) (record_step kind size (part size t at) b at store)
+unfoldable pub step_of : Result (ℕ × ℕ) Refusal → List ℕ → ℕ → Table → ℕ → Stepped
+step_of (Err e) t at b store = stepped (Refused (number e) at) b
+step_of (Ok (kind, size)) t at b store = pick (eqb kind end_kind) (end_step t at b) (record_step kind size (part size t at) b at store)
+
+-- what the reader's loop finds as a step: the place of the next record, or none at the end; or a refusal, by its number
+abbrev pub step_found : Result (Option ℕ) RefusedAt → Step
+step_found (Ok (Some next)) = Next next
+step_found (Ok None) = Done
+step_found (Err e) = Refused (number e.refusal) e.place
+
+-- the bytes of a whole record of a kind, as its header says: of a drive, of one to sixteen bad blocks, or of parameters
+pub record WholeRecord (kind : ℕ) (r : List ℕ) : Type 0 where
+  pub other : kind ≡ end_kind → ⊥
+  pub word : le 2 r 2 ≡ kind
+  pub right : length_ok kind (length r) ≡ true
+
+-- a record that is not the end record is taken, and the drives are those after it; or it is refused, and they stay
+pub record Takes (kind : ℕ) (r : List ℕ) (b : Table) (store : ℕ) (answer : Result Unit Refusal) (after : Table) : Type 0 where
+  pub answers : verdict answer ≡ record_refusal kind r b store
+  pub drives : after ≡ pick (eqb (record_refusal kind r b store) 0) (with_record kind r b) b
 
 -- the record at a place, among the drives before it
 unfoldable pub step_at : List ℕ → ℕ → Table → ℕ → Stepped
@@ -268,7 +317,7 @@ advanced t c store = cursor_after c.at (step_at t c.at c.table store)
 
 -- a slot that no drive was read into
 abbrev pub zero_drive : Drive
-zero_drive = record { cylinders = 0; heads = 0; sectors = 0; blocks = 0; first = 0; flags = 0; c = 0; h = 0; s = 0; protection = 0; bus = replicate 4 0; interface = replicate 8 0; path = replicate 8 0; device = replicate 8 0; kind = 0; tail = replicate 8 0 }
+zero_drive = drive_of_zeros
 
 -- the table with no drive
 abbrev pub empty_table : Table
@@ -287,18 +336,18 @@ abbrev pub begun : Cursor
 begun = record { at = 0; step = Next 0; table = empty_table }
 
 -- what a table was, and the drives that were taken
-abbrev pub reading : Answer → Table → Reading
+abbrev pub reading : Result Unit RefusedAt → Table → Reading
 reading a b = record { answer = a; table = b }
 
 -- on with f from a step's answer, unless it ends the reading
 abbrev pub go_on : Step → Table → (ℕ → Table → Reading) → Reading
 go_on (Next at) b f = f at b
-go_on Done b f = reading Accepted b
-go_on (Refused n at) b f = reading (AnswerRefused n at) b
+go_on Done b f = reading (Ok tt) b
+go_on (Refused n at) b f = reading (Err (refused n at)) b
 
 -- at most k records from a place; where k are enough the first clause is never met
 unfoldable pub read_from : ℕ → List ℕ → ℕ → ℕ → Table → Reading
-read_from zero t store at b = reading (AnswerRefused ninth_drive at) b
+read_from zero t store at b = reading (Err (record { refusal = NinthDrive; place = at })) b
 read_from (suc k) t store at b = go_on (step_at t at b store).step (step_at t at b store).table (read_from k t store)
 
 -- enough records: eight drives with a record of bad blocks and one of parameters each, and the end record or one more, which is refused
@@ -309,23 +358,11 @@ most_records = 25
 unfoldable pub read_table : List ℕ → ℕ → Reading
 read_table t store = read_from most_records t store 0 empty_table
 
--- ---- "The drive table", what the reader's loop finds: the answer at the end record, and a drive among the runs of blocks of those before it
+-- ---- "The drive table", what the reader's loop finds at the end record
 
 -- at the end record, whose bytes end at a place of n: 8 if a byte follows, at that byte
-unfoldable pub end_answer : ℕ → ℕ → Answer
-end_answer next n = pick (ltb next n) (AnswerRefused byte_follows next) Accepted
-
--- two runs of blocks share one, as two drives do
-unfoldable pub overlap_runs : ℕ → ℕ → ℕ → ℕ → Bool
-overlap_runs first blocks other others = pick (leb first other) (ltb other (first + blocks)) (ltb first (other + others))
-
--- d shares one with one of the first n runs
-unfoldable pub overlaps_run : ℕ → List ℕ → List ℕ → Drive → Bool
-overlaps_run n firsts sizes d = some_below n (λ i. overlap_runs d.first d.blocks (get_or firsts i 0) (get_or sizes i 0))
-
--- the refusal of a drive after n others, of which it is given the runs
-unfoldable pub refusal_among : ℕ → List ℕ → List ℕ → Drive → ℕ → ℕ
-refusal_among n firsts sizes d store = refusal_by n (overlaps_run n firsts sizes d) d store
+unfoldable pub end_answer : ℕ → ℕ → Result Unit RefusedAt
+end_answer next n = pick (ltb next n) (Err (record { refusal = ByteFollows; place = next })) (Ok tt)
 
 -- ---- "Calls the host makes", write: the table written back
 
@@ -371,9 +408,9 @@ longest_table = most_drives * (drive_length wide_kind + bad_length most_bad + pa
 unfoldable pub table_of : Table → List ℕ
 table_of b = bytes_of (length (drives_of b)) b
 
--- write: 19 if the buffer is shorter, which then stays; else the bytes past the table stay
-unfoldable pub write_answer : Table → ℕ → Written
-write_answer b room = pick (ltb room (length (table_of b))) (WriteRefused short_buffer) (Bytes (length (table_of b)))
+-- write: refused, 19, if the buffer is shorter, which then stays; else the bytes past the table stay
+unfoldable pub write_answer : Table → ℕ → Result ℕ ShortBuffer
+write_answer b room = pick (ltb room (length (table_of b))) (Err (record {})) (Ok (length (table_of b)))
 
 -- what is then in the buffer
 unfoldable pub write_out : Table → List ℕ → List ℕ
@@ -388,14 +425,14 @@ step_numbers Done = 0 ∷ []
 step_numbers (Refused n at) = n ∷ at ∷ []
 
 -- 0, or the number and the place
-unfoldable pub answer_numbers : Answer → List ℕ
-answer_numbers Accepted = 0 ∷ []
-answer_numbers (AnswerRefused n at) = n ∷ at ∷ []
+unfoldable pub answer_numbers : Result Unit RefusedAt → List ℕ
+answer_numbers (Ok x) = 0 ∷ []
+answer_numbers (Err e) = number e.refusal ∷ e.place ∷ []
 
 -- 0 and how many bytes, or the house number
-unfoldable pub written_numbers : Written → List ℕ
-written_numbers (Bytes n) = 0 ∷ n ∷ []
-written_numbers (WriteRefused n) = n ∷ []
+unfoldable pub written_numbers : Result ℕ ShortBuffer → List ℕ
+written_numbers (Ok n) = 0 ∷ n ∷ []
+written_numbers (Err e) = short_buffer ∷ []
 
 -- the numbers of a refusal of a record at a place, or of one that is taken, and on behind its bytes
 abbrev pub taken_numbers : ℕ → ℕ → ℕ → List ℕ

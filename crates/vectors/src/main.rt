@@ -1,9 +1,8 @@
 // Runs document 01's "run by program" cases and its sums, the ends of the two largest geometries, the sources' worked values that document 01 keeps
 // or document 02 brings back (`sources`), parameter tables that are placed (`placement`), a table that arrives in pieces (`fragments`), a worn disk
 // (`worn`), and the result of 74 bytes with the drives of kind 2 (`wide`). A line for each. The functions are called on the paper's 72-byte table and
-// a window of 65,536 bytes; the turns of P9 and P10 are given at desks with a drive of 64 blocks. The check pays for each slice that is lent, and in
-// each statement for every local, a desk or a table most: so a case is a call with numbers that makes its own table and window, and a function that
-// holds a desk or a table does little else.
+// a window of 65,536 bytes, which each case makes anew. The turns of P9 and P10 are given by a host whose desk has a
+// drive of 64 blocks.
 #![tactic(auto)]
 
 mod fragments;
@@ -14,10 +13,10 @@ mod worn;
 
 ghost use Rattle.std.specs.Prelude.{◌≡◌, ◌+◌, ◌≤◌, ◌<◌, length};
 
-use chs::{Address, Geometry, ToAddress, ToBlock};
-use desk::{Desk, TurnAnswer};
+use chs::{Address, Geometry, Outside};
+use desk::{After, Desk, HouseNumber, Served};
 use int13::{Outcome, Placement, Registers};
-use std::io;
+use std::{fmt, io};
 
 const FIRST_DRIVE: u16 = 0x80;
 
@@ -25,19 +24,33 @@ const STORE_BLOCKS: u64 = 4294967296;
 
 const PACKET_SIZE: u16 = 16;
 
+// The window of a call that is made at no desk.
+const SEGMENT: usize = 65536;
+
 // ---- tables
 
 // Which table a call is made at: document 01's, or that one with protection, with information flag bit 3, with P6's geometry, or with flag
 // bits 3 to 6.
-const PLAIN: u8 = 0;
+#[derive(Clone, Copy, PartialEq, Eq, Debug)]
+enum PaperTable {
+    Plain,
+    Protected,
+    Verifying,
+    Largest,
+    Flags78,
+}
 
-const PROTECTED: u8 = 1;
-
-const VERIFYING: u8 = 2;
-
-const LARGEST: u8 = 3;
-
-const FLAGS_78: u8 = 4;
+impl PaperTable {
+    fn bytes(self) -> [u8; 72] {
+        match self {
+            PaperTable::Plain => plain_table(),
+            PaperTable::Protected => table_bytes(2048, 2, 16, 1),
+            PaperTable::Verifying => flagged_table(0x0A),
+            PaperTable::Largest => largest_table(),
+            PaperTable::Flags78 => flagged_table(0x78),
+        }
+    }
+}
 
 // The record of document 01's drive and the end record, but for its number of blocks, its C and H, and protection in byte 39.
 fn table_bytes(blocks: u16, c: u8, h: u8, protection: u8) -> [u8; 72] {
@@ -48,7 +61,7 @@ fn table_bytes(blocks: u16, c: u8, h: u8, protection: u8) -> [u8; 72] {
         b"\x44\x00\x01\x00\x02\x00\x00\x00\x10\x00\x00\x00\x3F",
     );
     words::store(&mut t, 40, b"PCI\x00ATA\x00\x00\x00\x00\x00\x00\x1F\x01");
-    words::store16(&mut t, 16, blocks);
+    words::put(&mut t, 16, blocks);
     t[32] = 0x02;
     t[34] = c;
     t[36] = h;
@@ -56,6 +69,11 @@ fn table_bytes(blocks: u16, c: u8, h: u8, protection: u8) -> [u8; 72] {
     t[39] = protection;
     t[68] = 0x04;
     t
+}
+
+// Document 01's 72 bytes.
+fn plain_table() -> [u8; 72] {
+    table_bytes(2048, 2, 16, 0)
 }
 
 // P6: 1024/255/63 and as many blocks as it has addresses.
@@ -68,83 +86,45 @@ fn largest_table() -> [u8; 72] {
 
 // Document 01's drive with other information flags. With bit 3 it can write with verify.
 fn flagged_table(flags: u8) -> [u8; 72] {
-    let mut t = table_bytes(2048, 2, 16, 0);
+    let mut t = plain_table();
     t[32] = flags;
     t
 }
 
-fn table_of(which: u8) -> [u8; 72] {
-    if which == LARGEST {
-        return largest_table();
+// A record of 68 bytes among others, with another first block. Every caller leaves room for it and the end record.
+fn put_drive(t: &mut [u8], at: usize, one: &[u8; 72], first: u64)
+    requires { at + 72 ≤ length t.old }
+{
+    words::store(t, at, one);
+    words::put(t, at + 24, first);
+}
+
+// ---- what is printed
+
+// Bytes in hexadecimal, a space before each.
+#[derive(Clone, Copy)]
+struct Bytes<'a>(&'a [u8]);
+
+impl fmt::Display for Bytes<'_> {
+    fn fmt<W: fmt::Write>(&self, f: &mut fmt::Formatter<W>) -> fmt::Result {
+        for b in self.0 {
+            write!(f, " {b:02x}")?;
+        }
+        Ok(())
     }
-    if which == VERIFYING {
-        return flagged_table(0x0A);
+}
+
+// That a call waits, or the code in AH.
+#[derive(Clone, Copy)]
+struct Said(Outcome);
+
+impl fmt::Display for Said {
+    fn fmt<W: fmt::Write>(&self, f: &mut fmt::Formatter<W>) -> fmt::Result {
+        match self.0 {
+            Outcome::Waits(_) => write!(f, "waits"),
+            Outcome::Answered(r) => write!(f, "AH {:02x}", r.ax / 256),
+        }
     }
-    if which == FLAGS_78 {
-        return flagged_table(0x78);
-    }
-    if which == PROTECTED {
-        return table_bytes(2048, 2, 16, 1);
-    }
-    table_bytes(2048, 2, 16, 0)
-}
-
-// ---- lines
-
-fn say(rt: &impl Print, text: &[u8]) -> io::Result<()> {
-    rt.write_all(text)
-}
-
-fn end_line(rt: &impl Print) -> io::Result<()> {
-    say(rt, b"\n")
-}
-
-fn say_byte(rt: &impl Print, b: u8) -> io::Result<()> {
-    print!(rt; " {b:02x}")
-}
-
-fn say_word(rt: &impl Print, text: &[u8], n: u16) -> io::Result<()> {
-    say(rt, text)?;
-    print!(rt; "{n:04x}")
-}
-
-// A register by its letter, as ` AX 0000`.
-fn say_register(rt: &impl Print, letter: u8, n: u16) -> io::Result<()> {
-    let text = [b' ', letter, b'X', b' '];
-    say_word(rt, &text, n)
-}
-
-// What a case is about, as `AL 128: `.
-fn say_case(rt: &impl Print, text: &[u8], n: u64) -> io::Result<()> {
-    say(rt, text)?;
-    print!(rt; "{n}: ")
-}
-
-fn say_range(rt: &impl Print, start: u64, count: u16) -> io::Result<()> {
-    print!(rt; "start {start}")?;
-    say_case(rt, b" count ", count as u64)
-}
-
-// What stands before an answer's registers, as `08h drive 80:`.
-fn say_call(rt: &impl Print, function: u16, drive: u16) -> io::Result<()> {
-    print!(rt; "{function:02x}h drive {drive:02x}:")
-}
-
-fn say_code(rt: &impl Print, code: u64) -> io::Result<()> {
-    print!(rt; "AH {code:02x}")
-}
-
-// That the call waits, or the code in AH.
-fn say_outcome(rt: &impl Print, outcome: Outcome) -> io::Result<()> {
-    match outcome {
-        Outcome::Waits(_) => say(rt, b"waits")?,
-        Outcome::Answered(r) => say_code(rt, (r.ax / 256) as u64)?,
-    }
-    end_line(rt)
-}
-
-fn say_address(rt: &impl Print, a: Address) -> io::Result<()> {
-    print!(rt; "{}/{}/{}", a.cylinder, a.head, a.sector)
 }
 
 // ---- calls
@@ -170,163 +150,114 @@ const NO_PLACEMENT: Placement = Placement {
 
 // A call at the drives of a table.
 fn begin(t: &[u8], r: Registers, window: &mut [u8]) -> Outcome {
-    let reading = table::read_table(t, STORE_BLOCKS);
-    let b = reading.table;
+    let b = table::read_table(t, STORE_BLOCKS).table;
     int13::begin(b, NO_PLACEMENT, r, window)
 }
 
-fn begin_at(which: u8, r: Registers, window: &mut [u8]) -> Outcome {
-    let t = table_of(which);
-    begin(&t, r, window)
-}
-
-// 65,536 zeros. The `ensures` gives the length alone, which lending the window as a slice needs.
-fn zero_window() -> [u8; 65536]
-    ensures { 65536 ≡ length result }
-{
-    [0; 65536]
-}
-
 // A call that needs nothing in the window.
-fn bare_call(which: u8, r: Registers) -> Outcome {
-    let mut window = zero_window();
-    begin_at(which, r, &mut window)
+fn bare_call(which: PaperTable, r: Registers) -> Outcome {
+    let mut window = [0u8; SEGMENT];
+    begin(&which.bytes(), r, &mut window)
 }
 
 // A packet of 16 bytes whose buffer is at 0:0, with the size that byte 0 gives it. Every caller has seen that it fits.
 fn put_packet(arena: &mut [u8], at: usize, size: u16, start: u64, count: u16)
     requires { at + 16 ≤ length arena.old }
 {
-    words::store16(arena, at, size);
-    words::store16(arena, at + 2, count);
-    words::store32(arena, at + 4, 0);
-    words::store64(arena, at + 8, start);
+    words::put(arena, at, size);
+    words::put(arena, at + 2, count);
+    words::put(arena, at + 4, 0u32);
+    words::put(arena, at + 8, start);
 }
 
 // A packet call with the packet at place 0 of the window and the buffer over it.
-fn packet_call(
-    rt: &impl Print,
-    which: u8,
-    ax: u16,
-    size: u16,
-    start: u64,
-    count: u16,
-) -> io::Result<()> {
-    let mut window = zero_window();
+fn packet_call(which: PaperTable, ax: u16, size: u16, start: u64, count: u16) -> Said {
+    let mut window = [0u8; SEGMENT];
     put_packet(&mut window, 0, size, start, count);
-    say_outcome(
-        rt,
-        begin_at(which, registers(ax, 0, FIRST_DRIVE), &mut window),
-    )
+    let r = registers(ax, 0, FIRST_DRIVE);
+    Said(begin(&which.bytes(), r, &mut window))
 }
 
 fn range_call(rt: &impl Print, start: u64, count: u16) -> io::Result<()> {
-    say_range(rt, start, count)?;
-    packet_call(rt, PLAIN, 0x4200, PACKET_SIZE, start, count)
+    let said = packet_call(PaperTable::Plain, 0x4200, PACKET_SIZE, start, count);
+    println!(rt; "start {start} count {count}: {said}")
 }
 
 fn count_call(rt: &impl Print, count: u16) -> io::Result<()> {
-    say_case(rt, b"count ", count as u64)?;
-    packet_call(rt, PLAIN, 0x4200, PACKET_SIZE, 0, count)
+    let said = packet_call(PaperTable::Plain, 0x4200, PACKET_SIZE, 0, count);
+    println!(rt; "count {count}: {said}")
 }
 
 // 02h from cylinder 0, head 0, sector 1.
 fn sector_call(rt: &impl Print, al: u8) -> io::Result<()> {
-    say_case(rt, b"AL ", al as u64)?;
-    say_outcome(
-        rt,
-        bare_call(PLAIN, registers(0x0200 + al as u16, 0x0001, FIRST_DRIVE)),
-    )
+    let r = registers(0x0200 + al as u16, 0x0001, FIRST_DRIVE);
+    println!(rt; "AL {al}: {}", Said(bare_call(PaperTable::Plain, r)))
 }
 
-// Where the checksum of a result stands: of 74 bytes at 73, of 66 at 65, and the shorter ones have none.
-fn checksum_place(size: u16) -> usize
-    ensures { result < 74 }
-{
-    if size == 74 { 73 } else { 65 }
-}
-
-fn say_result(rt: &impl Print, asked: u16, r: Registers, out: &[u8]) -> io::Result<()> {
-    if out.len() < 74 {
-        return Ok(());
-    }
-    say_case(rt, b"48h size ", asked as u64)?;
-    say_code(rt, (r.ax / 256) as u64)?;
-    let size = words::get16(out, 0);
-    print!(rt; " size word {size}")?;
-    let place = checksum_place(size);
-    print!(rt; " byte {place}")?;
-    say_byte(rt, out[place])?;
-    end_line(rt)
-}
-
-// 48h with a result buffer of that size at place 0: the code, the size word and the byte of the checksum afterwards.
-fn result_of(rt: &impl Print, t: &[u8], asked: u16) -> io::Result<()> {
-    let mut window = zero_window();
-    words::store16(&mut window, 0, asked);
+// 48h with a result buffer of that size at place 0: the code, and the buffer's first 74 bytes afterwards.
+fn result_of(t: &[u8], asked: u16) -> (Said, [u8; 74]) {
+    let mut window = [0u8; SEGMENT];
+    words::put(&mut window, 0, asked);
     let outcome = begin(t, registers(0x4800, 0, FIRST_DRIVE), &mut window);
-    let Outcome::Answered(r) = outcome else {
-        return Ok(());
-    };
-    say_result(rt, asked, r, &window)
+    (Said(outcome), words::load(&window, 0))
 }
 
-fn result_call(rt: &impl Print, asked: u16) -> io::Result<()> {
-    let t = table_of(PLAIN);
-    result_of(rt, &t, asked)
+// With the size word and the byte of the checksum, after a title. The checksum of 74 bytes stands at 73, of 66 at 65,
+// and the shorter ones have none.
+fn result_call(rt: &impl Print, title: &str, t: &[u8], asked: u16) -> io::Result<()> {
+    let (said, out) = result_of(t, asked);
+    let size: u16 = words::get(&out, 0);
+    let place = if size == 74 { 73 } else { 65 };
+    println!(rt;
+        "{title} size {asked}: {said} size word {size} byte {place} {:02x}",
+        out[place]
+    )
 }
 
 fn say_geometry(rt: &impl Print, drive: u16, outcome: Outcome) -> io::Result<()> {
     let Outcome::Answered(r) = outcome else {
         return Ok(());
     };
-    say_call(rt, 0x08, drive)?;
-    say_register(rt, b'A', r.ax)?;
-    say_register(rt, b'C', r.cx)?;
-    say_register(rt, b'D', r.dx)?;
-    end_line(rt)
+    println!(rt;
+        "08h drive {drive:02x}: AX {:04x} CX {:04x} DX {:04x}",
+        r.ax, r.cx, r.dx
+    )
 }
 
 // 08h.
-fn geometry_call(rt: &impl Print, which: u8, drive: u16) -> io::Result<()> {
+fn geometry_call(rt: &impl Print, which: PaperTable, drive: u16) -> io::Result<()> {
     say_geometry(rt, drive, bare_call(which, registers(0x0800, 0, drive)))
+}
+
+// The registers of 41h.
+fn support_asked(drive: u16, bx: u16) -> Registers {
+    Registers {
+        bx,
+        ..registers(0x4100, 0, drive)
+    }
+}
+
+fn say_support(rt: &impl Print, drive: u16, r: Registers) -> io::Result<()> {
+    println!(rt;
+        "41h drive {drive:02x}: AX {:04x} BX {:04x} CX {:04x}",
+        r.ax, r.bx, r.cx
+    )
 }
 
 // 41h.
 fn extensions_call(rt: &impl Print, drive: u16, bx: u16) -> io::Result<()> {
-    let asked = Registers {
-        bx,
-        ..registers(0x4100, 0, drive)
-    };
-    let outcome = bare_call(PLAIN, asked);
-    let Outcome::Answered(r) = outcome else {
+    let Outcome::Answered(r) = bare_call(PaperTable::Plain, support_asked(drive, bx)) else {
         return Ok(());
     };
-    say_call(rt, 0x41, drive)?;
-    say_register(rt, b'A', r.ax)?;
-    say_register(rt, b'B', r.bx)?;
-    say_register(rt, b'C', r.cx)?;
-    end_line(rt)
-}
-
-fn say_refused(rt: &impl Print, code: u64) -> io::Result<()> {
-    say(rt, b" ")?;
-    say_code(rt, code)
+    say_support(rt, drive, r)
 }
 
 // The address of a block in the geometry 1024/h/63.
 fn address_case(rt: &impl Print, h: u32, n: u64) -> io::Result<()> {
-    let g = Geometry { c: 1024, h, s: 63 };
-    print!(rt; "block {n}")?;
-    let a = chs::address_of(g, n);
-    match a {
-        ToAddress::At(x) => {
-            say(rt, b" is ")?;
-            say_address(rt, x)?;
-        }
-        ToAddress::Refused(code) => say_refused(rt, code as u64)?,
+    match chs::address_of(Geometry { c: 1024, h, s: 63 }, n) {
+        Ok(a) => println!(rt; "block {n} is {}/{}/{}", a.cylinder, a.head, a.sector),
+        Err(Outside) => println!(rt; "block {n} AH {:02x}", chs::OUTSIDE),
     }
-    end_line(rt)
 }
 
 // The block of an address in the geometry of the sums, 1024/16/63.
@@ -341,13 +272,10 @@ fn block_case(rt: &impl Print, cylinder: u32, head: u32, sector: u32) -> io::Res
         head,
         sector,
     };
-    say_address(rt, a)?;
-    let b = chs::block_of(g, a);
-    match b {
-        ToBlock::Block(n) => print!(rt; " block {n}")?,
-        ToBlock::Refused(code) => say_refused(rt, code as u64)?,
+    match chs::block_of(g, a) {
+        Ok(n) => println!(rt; "{cylinder}/{head}/{sector} block {n}"),
+        Err(Outside) => println!(rt; "{cylinder}/{head}/{sector} AH {:02x}", chs::OUTSIDE),
     }
-    end_line(rt)
 }
 
 // ---- the cases of the functions
@@ -369,9 +297,8 @@ fn last_blocks(rt: &impl Print) -> io::Result<()> {
 
 // A write to a protected drive, out of range as well.
 fn protected(rt: &impl Print) -> io::Result<()> {
-    say(rt, b"protected, ")?;
-    say_range(rt, 2048, 1)?;
-    packet_call(rt, PROTECTED, 0x4300, PACKET_SIZE, 2048, 1)
+    let said = packet_call(PaperTable::Protected, 0x4300, PACKET_SIZE, 2048, 1);
+    println!(rt; "protected, start 2048 count 1: {said}")
 }
 
 fn ranges(rt: &impl Print) -> io::Result<()> {
@@ -388,15 +315,11 @@ fn counts(rt: &impl Print) -> io::Result<()> {
 }
 
 fn sizes(rt: &impl Print) -> io::Result<()> {
-    result_call(rt, 25)?;
-    result_call(rt, 26)?;
-    result_call(rt, 29)?;
-    result_call(rt, 30)?;
-    result_call(rt, 65)?;
-    result_call(rt, 66)?;
-    result_call(rt, 73)?;
-    result_call(rt, 74)?;
-    result_call(rt, 65535)
+    let t = plain_table();
+    for asked in [25, 26, 29, 30, 65, 66, 73, 74, 65535] {
+        result_call(rt, "48h", &t, asked)?;
+    }
+    Ok(())
 }
 
 fn functions(rt: &impl Print) -> io::Result<()> {
@@ -404,157 +327,166 @@ fn functions(rt: &impl Print) -> io::Result<()> {
     ranges(rt)?;
     counts(rt)?;
     extensions_call(rt, FIRST_DRIVE, 0x55AA)?;
-    geometry_call(rt, PLAIN, FIRST_DRIVE)?;
+    geometry_call(rt, PaperTable::Plain, FIRST_DRIVE)?;
     sizes(rt)?;
-    geometry_call(rt, LARGEST, FIRST_DRIVE)
+    geometry_call(rt, PaperTable::Largest, FIRST_DRIVE)
+}
+
+// ---- a host
+
+// A guest's window, and all windows; the host's store of 64 blocks.
+const WINDOW: usize = 20480;
+
+const ARENA: usize = 163840;
+
+const STORE: usize = 32768;
+
+// A desk, with the arena and the store that its host lends it.
+#[derive(Drop)]
+struct Host {
+    desk: Desk,
+    arena: [u8; ARENA],
+    store: [u8; STORE],
+}
+
+impl Host {
+    // The arena and the store hold zeros, and the desk has one drive of 64 blocks.
+    fn new() -> Host {
+        Host {
+            desk: opened(&table_bytes(64, 1, 1, 0)),
+            arena: [0; ARENA],
+            store: [0; STORE],
+        }
+    }
+
+    // Opens a table anew.
+    fn open(&mut self, t: &[u8]) {
+        self.desk = opened(t);
+    }
+
+    // A store in which each block, and each byte of a block, can be told: byte i is seed + 7 x its block + i,
+    // modulo 251.
+    fn fill(&mut self, seed: u8) {
+        for (i, b) in self.store.iter_mut().enumerate() {
+            *b = ((seed as usize + 7 * (i / 512 % 64) + i % 251) % 251) as u8;
+        }
+    }
+
+    // A call's answer; the host goes on with the desk that the call left.
+    fn keep<A: Copy>(&mut self, after: After<A>) -> A {
+        self.desk = after.desk;
+        after.answer
+    }
+
+    fn post(&mut self, guest: usize, r: Registers) -> Result<Option<Registers>, HouseNumber> {
+        let posted = self.desk.post(guest, r, &mut self.arena, &self.store);
+        self.keep(posted)
+    }
+
+    fn turn(&mut self) -> Result<Option<Served>, HouseNumber> {
+        self.desk.turn_lent(&mut self.arena, &mut self.store)
+    }
+
+    fn collect(&mut self, guest: usize) -> Result<Registers, HouseNumber> {
+        let collected = self.desk.collect(guest);
+        self.keep(collected)
+    }
+
+    fn withdraw(&mut self, guest: usize) -> Result<Registers, HouseNumber> {
+        let withdrawn = self.desk.withdraw(guest, &mut self.arena, &self.store);
+        self.keep(withdrawn)
+    }
+
+    fn place(&mut self, guest: usize, address: u64) -> Result<(), HouseNumber> {
+        let desk = self.desk;
+        let placing = desk.place(guest, address, &mut self.arena, &self.store);
+        self.keep(placing)
+    }
+
+    // A guest's window.
+    fn window(&self, guest: usize) -> &[u8]
+        requires { guest < 8 }
+        ensures { 20480 ≡ length result.now }
+    {
+        let at = WINDOW * guest;
+        &self.arena[at..at + WINDOW]
+    }
+
+    // A guest waits with a packet for 40 blocks from block 0, at place 0 of its window.
+    fn wait_40(&mut self, guest: usize)
+        requires { guest < 8 }
+    {
+        put_packet(&mut self.arena, WINDOW * guest, PACKET_SIZE, 0, 40);
+        let _ = self.post(guest, registers(0x4200, 0, FIRST_DRIVE));
+    }
+}
+
+// The desk that an opening of a table gives.
+fn opened(t: &[u8]) -> Desk {
+    Desk::open(t, ARENA as u64, STORE as u64).desk
 }
 
 // ---- turns
 
-// A desk with a drive of 64 blocks.
-fn opened(arena: u64, store: u64) -> Desk {
-    let t = table_bytes(64, 1, 1, 0);
-    let opening = Desk::open(&t, arena, store);
-    opening.desk
+// A byte of the first, the seventeenth and the thirty-third block of a guest's buffer: what its three turns lay down.
+fn say_parts(rt: &impl Print, window: &[u8]) -> io::Result<()>
+    requires { 20480 ≤ length window.now }
+{
+    let parts = [window[100], window[8292], window[16484]];
+    println!(rt; "bytes 100, 8292, 16484:{}", Bytes(&parts))
 }
 
-// A packet for 40 blocks from block 0, at place 0 of a guest's window.
-fn put_40(guest: usize, arena: &mut [u8]) {
-    if 8 <= guest {
-        return;
-    }
-    let at = 20480 * guest;
-    if arena.len() < at + 16 {
-        return;
-    }
-    put_packet(arena, at, PACKET_SIZE, 0, 40);
-}
-
-// A guest waits with them.
-fn wait_40(desk: Desk, guest: usize, arena: &mut [u8], store: &[u8]) -> Desk {
-    put_40(guest, arena);
-    let posted = desk.post(guest, registers(0x4200, 0, FIRST_DRIVE), arena, store);
-    posted.desk
-}
-
-// A byte of the first, of the seventeenth and of the thirty-third block of a guest's buffer: what its three turns lay down.
-fn say_parts(rt: &impl Print, guest: usize, arena: &[u8]) -> io::Result<()> {
-    if 8 <= guest {
-        return Ok(());
-    }
-    let at = 20480 * guest;
-    if arena.len() < at + 20480 {
-        return Ok(());
-    }
-    say(rt, b"bytes 100, 8292, 16484:")?;
-    say_byte(rt, arena[at + 100])?;
-    say_byte(rt, arena[at + 8292])?;
-    say_byte(rt, arena[at + 16484])?;
-    end_line(rt)
-}
-
-fn say_served(rt: &impl Print, guest: usize, moved: u64, arena: &[u8]) -> io::Result<()> {
-    println!(rt; "turn: guest {guest} moved {moved}")?;
-    say_parts(rt, guest, arena)
-}
-
-fn say_turned(rt: &impl Print, answer: TurnAnswer, arena: &[u8]) -> io::Result<()> {
-    match answer {
-        TurnAnswer::Served(guest, moved) => say_served(rt, guest, moved, arena),
-        TurnAnswer::Idle => say(rt, b"turn: idle\n"),
-        TurnAnswer::Refused(_) => say(rt, b"turn: refused\n"),
+fn one_turn(rt: &impl Print, host: &mut Host) -> io::Result<()> {
+    match host.turn() {
+        Ok(Some(s)) => {
+            println!(rt; "turn: guest {} moved {}", s.guest, s.moved)?;
+            if s.guest < 8 {
+                say_parts(rt, host.window(s.guest))?;
+            }
+            Ok(())
+        }
+        Ok(None) => println!(rt; "turn: idle"),
+        Err(_) => println!(rt; "turn: refused"),
     }
 }
 
-fn one_turn(rt: &impl Print, desk: Desk, arena: &mut [u8], store: &mut [u8]) -> io::Result<Desk> {
-    let turned = desk.turn(arena, store);
-    let answer = turned.answer;
-    say_turned(rt, answer, &arena[..])?;
-    Ok(turned.desk)
-}
-
-fn turns(
-    rt: &impl Print,
-    desk: Desk,
-    number: u64,
-    arena: &mut [u8],
-    store: &mut [u8],
-) -> io::Result<()> {
-    let mut next = desk;
-    for _ in 0..number {
-        next = one_turn(rt, next, arena, store)?;
+// P9: guests 2 and 5 wait with 40 blocks each, and seven turns follow.
+fn two_guests(rt: &impl Print, host: &mut Host) -> io::Result<()> {
+    host.fill(1);
+    for guest in [2, 5] {
+        host.wait_40(guest);
+    }
+    for _ in 0..7 {
+        one_turn(rt, host)?;
     }
     Ok(())
 }
 
-fn four_wait(desk: Desk, first: usize, arena: &mut [u8], store: &[u8]) -> Desk {
-    if 4 < first {
-        return desk;
-    }
-    let one = wait_40(desk, first, arena, store);
-    let two = wait_40(one, first + 1, arena, store);
-    let three = wait_40(two, first + 2, arena, store);
-    wait_40(three, first + 3, arena, store)
-}
-
-// A store in which each block, and each byte of a block, can be told: byte i is seed + 7 x its block + i, modulo 251.
-fn fill(store: &mut [u8], seed: u8) {
-    for i in 0..store.len() {
-        store[i] = ((seed as usize + 7 * (i / 512 % 64) + i % 251) % 251) as u8;
-    }
-}
-
-fn two_wait(arena: &mut [u8], store: &[u8]) -> Desk {
-    let desk = opened(arena.len() as u64, store.len() as u64);
-    let one = wait_40(desk, 2, arena, store);
-    wait_40(one, 5, arena, store)
-}
-
-// P9: guests 2 and 5 wait with 40 blocks each, and seven turns follow.
-fn two_guests(rt: &impl Print, arena: &mut [u8], store: &mut [u8]) -> io::Result<()> {
-    fill(store, 1);
-    let both = two_wait(arena, &store[..]);
-    turns(rt, both, 7, arena, store)
-}
-
-fn eight_wait(arena: &mut [u8], store: &[u8]) -> Desk {
-    let desk = opened(arena.len() as u64, store.len() as u64);
-    let half = four_wait(desk, 0, arena, store);
-    four_wait(half, 4, arena, store)
-}
-
 // P10: the first turn leaves pointer 1 and all eight waiting, and eight follow.
-fn eight_guests(rt: &impl Print, arena: &mut [u8], store: &mut [u8]) -> io::Result<()> {
-    fill(store, 101);
-    let all = eight_wait(arena, &store[..]);
-    turns(rt, all, 9, arena, store)
-}
-
-fn zero_arena() -> [u8; 163840]
-    ensures { 163840 ≡ length result }
-{
-    [0; 163840]
-}
-
-fn zero_store() -> [u8; 32768]
-    ensures { 32768 ≡ length result }
-{
-    [0; 32768]
+fn eight_guests(rt: &impl Print, host: &mut Host) -> io::Result<()> {
+    host.open(&table_bytes(64, 1, 1, 0));
+    host.fill(101);
+    for guest in 0..8 {
+        host.wait_40(guest);
+    }
+    for _ in 0..9 {
+        one_turn(rt, host)?;
+    }
+    Ok(())
 }
 
 fn main(rt: HostRuntime) -> io::Result<()> {
     blocks(&rt)?;
     last_blocks(&rt)?;
     functions(&rt)?;
-    let mut arena = zero_arena();
-    let mut store = zero_store();
-    two_guests(&rt, &mut arena, &mut store)?;
-    eight_guests(&rt, &mut arena, &mut store)?;
+    let mut host = Host::new();
+    two_guests(&rt, &mut host)?;
+    eight_guests(&rt, &mut host)?;
     sources::functions(&rt)?;
     sources::tables(&rt)?;
-    sources::withdrawal(&rt, &mut arena, &mut store)?;
-    placement::tables(&rt, &mut arena, &store)?;
+    sources::withdrawal(&rt, &mut host)?;
+    placement::tables(&rt, &mut host)?;
     fragments::cases(&rt)?;
-    worn::cases(&rt, &mut arena, &mut store)?;
+    worn::cases(&rt, &mut host)?;
     wide::cases(&rt)
 }

@@ -1,58 +1,59 @@
 // The sources' worked values that document 01 keeps, beyond its own cases, and the flags of 48h, which document 02 (2026-02) takes from document 004:
 // docs/PROMISES.md, "The sources' values", has them all.
-ghost use Rattle.std.specs.Prelude.{◌+◌, ◌≤◌, length};
+ghost use Rattle.std.specs.Prelude.{◌≤◌};
 
 use super::{
-    FIRST_DRIVE, FLAGS_78, PACKET_SIZE, PLAIN, STORE_BLOCKS, VERIFYING, bare_call, begin, begin_at,
-    end_line, extensions_call, fill, flagged_table, geometry_call, one_turn, opened, packet_call,
-    put_packet, registers, say, say_byte, say_call, say_case, say_geometry, say_outcome, say_range,
-    say_word, sector_call, table_bytes, wait_40, zero_window,
+    Bytes, FIRST_DRIVE, Host, PACKET_SIZE, PaperTable, SEGMENT, STORE_BLOCKS, Said, bare_call,
+    begin, extensions_call, flagged_table, geometry_call, one_turn, packet_call, plain_table,
+    put_drive, put_packet, registers, result_of, say_geometry, sector_call, table_bytes,
 };
-use desk::{Desk, WithdrawAnswer};
-use int13::Outcome;
-use std::io;
-use table::Answer;
+use std::{fmt, io};
+use table::Refused;
 
 // ---- addresses and packets
 
 // A segment and an offset, and the address that they mean.
 fn address_case(rt: &impl Print, segment: u16, offset: u16) -> io::Result<()> {
-    say_word(rt, b"address ", segment)?;
-    say_word(rt, b":", offset)?;
-    println!(rt; " is {}", layout::linear(segment, offset))
+    let address = layout::linear(segment, offset);
+    println!(rt; "address {segment:04x}:{offset:04x} is {address}")
 }
 
 // 42h of one block by a packet whose byte 0 gives that size.
 fn size_call(rt: &impl Print, size: u16) -> io::Result<()> {
-    say_case(rt, b"packet size ", size as u64)?;
-    packet_call(rt, PLAIN, 0x4200, size, 0, 1)
+    let said = packet_call(PaperTable::Plain, 0x4200, size, 0, 1);
+    println!(rt; "packet size {size}: {said}")
 }
 
 fn packets(rt: &impl Print) -> io::Result<()> {
     address_case(rt, 0, 0x7C00)?;
     address_case(rt, 0xA000, 0)?;
-    size_call(rt, 15)?;
-    size_call(rt, 16)?;
-    size_call(rt, 17)?;
+    for size in [15, 16, 17] {
+        size_call(rt, size)?;
+    }
     sector_call(rt, 0)
 }
 
 // ---- writes, verifies and seeks
 
 fn write_call(rt: &impl Print, al: u8) -> io::Result<()> {
-    say_case(rt, b"43h AL ", al as u64)?;
-    packet_call(rt, PLAIN, 0x4300 + al as u16, PACKET_SIZE, 0, 1)
+    let said = packet_call(PaperTable::Plain, 0x4300 + al as u16, PACKET_SIZE, 0, 1);
+    println!(rt; "43h AL {al}: {said}")
+}
+
+// AL 2, which writes with verify.
+fn verified(which: PaperTable) -> Said {
+    packet_call(which, 0x4302, PACKET_SIZE, 0, 1)
 }
 
 fn writes(rt: &impl Print) -> io::Result<()> {
-    write_call(rt, 0)?;
-    write_call(rt, 1)?;
-    write_call(rt, 2)?;
-    write_call(rt, 3)?;
-    say(rt, b"43h AL 2, flag bit 3 set: ")?;
-    packet_call(rt, VERIFYING, 0x4302, PACKET_SIZE, 0, 1)?;
-    say(rt, b"43h AL 2, flags 78: ")?;
-    packet_call(rt, FLAGS_78, 0x4302, PACKET_SIZE, 0, 1)
+    for al in 0..4 {
+        write_call(rt, al)?;
+    }
+    println!(rt;
+        "43h AL 2, flag bit 3 set: {}",
+        verified(PaperTable::Verifying)
+    )?;
+    println!(rt; "43h AL 2, flags 78: {}", verified(PaperTable::Flags78))
 }
 
 // The count word of a packet at place 0, after the call.
@@ -60,25 +61,22 @@ pub(crate) fn say_count(rt: &impl Print, window: &[u8]) -> io::Result<()> {
     if window.len() < 4 {
         return Ok(());
     }
-    println!(rt; "count word {}", words::get16(window, 2))
+    println!(rt; "count word {}", words::get::<u16>(window, 2))
 }
 
 // 44h of one block.
 fn verify_call(rt: &impl Print, start: u64) -> io::Result<()> {
-    say(rt, b"44h ")?;
-    say_range(rt, start, 1)?;
-    let mut window = zero_window();
+    let mut window = [0u8; SEGMENT];
     put_packet(&mut window, 0, PACKET_SIZE, start, 1);
-    say_outcome(
-        rt,
-        begin_at(PLAIN, registers(0x4400, 0, FIRST_DRIVE), &mut window),
-    )?;
+    let r = registers(0x4400, 0, FIRST_DRIVE);
+    let said = Said(begin(&plain_table(), r, &mut window));
+    println!(rt; "44h start {start} count 1: {said}")?;
     say_count(rt, &window)
 }
 
 fn seek_call(rt: &impl Print, start: u64) -> io::Result<()> {
-    say_case(rt, b"47h start ", start)?;
-    packet_call(rt, PLAIN, 0x4700, PACKET_SIZE, start, 1)
+    let said = packet_call(PaperTable::Plain, 0x4700, PACKET_SIZE, start, 1);
+    println!(rt; "47h start {start}: {said}")
 }
 
 fn verifies(rt: &impl Print) -> io::Result<()> {
@@ -92,32 +90,30 @@ fn verifies(rt: &impl Print) -> io::Result<()> {
 
 // A call of which only the code in AH is shown.
 fn plain_call(rt: &impl Print, ax: u16, drive: u16) -> io::Result<()> {
-    say_call(rt, ax / 256, drive)?;
-    say(rt, b" ")?;
-    say_outcome(rt, bare_call(PLAIN, registers(ax, 0, drive)))
+    let said = Said(bare_call(PaperTable::Plain, registers(ax, 0, drive)));
+    println!(rt; "{:02x}h drive {drive:02x}: {said}", ax / 256)
 }
 
 fn unknown_functions(rt: &impl Print) -> io::Result<()> {
-    plain_call(rt, 0x4500, FIRST_DRIVE)?;
-    plain_call(rt, 0x4600, FIRST_DRIVE)?;
-    plain_call(rt, 0x4900, FIRST_DRIVE)?;
-    plain_call(rt, 0x4E00, FIRST_DRIVE)?;
-    plain_call(rt, 0x5000, FIRST_DRIVE)
+    for ax in [0x4500, 0x4600, 0x4900, 0x4E00, 0x5000] {
+        plain_call(rt, ax, FIRST_DRIVE)?;
+    }
+    Ok(())
 }
 
 // High numbers that some BIOSes take for drive 80h.
 fn unknown_drive(rt: &impl Print, drive: u16) -> io::Result<()> {
-    geometry_call(rt, PLAIN, drive)?;
+    geometry_call(rt, PaperTable::Plain, drive)?;
     plain_call(rt, 0x4800, drive)
 }
 
 fn unknown_drives(rt: &impl Print) -> io::Result<()> {
     extensions_call(rt, 0x81, 0x55AA)?;
     extensions_call(rt, FIRST_DRIVE, 0xAA55)?;
-    unknown_drive(rt, 0x90)?;
-    unknown_drive(rt, 0xB0)?;
-    unknown_drive(rt, 0xD0)?;
-    unknown_drive(rt, 0xF0)
+    for drive in [0x90, 0xB0, 0xD0, 0xF0] {
+        unknown_drive(rt, drive)?;
+    }
+    Ok(())
 }
 
 pub(crate) fn functions(rt: &impl Print) -> io::Result<()> {
@@ -130,111 +126,91 @@ pub(crate) fn functions(rt: &impl Print) -> io::Result<()> {
 
 // ---- tables and results
 
-// Bytes in hexadecimal.
-pub(crate) fn say_bytes(rt: &impl Print, out: &[u8], from: usize, to: usize) -> io::Result<()> {
-    if out.len() < to {
-        return Ok(());
-    }
-    for i in from..to {
-        say_byte(rt, out[i])?;
-    }
-    end_line(rt)
-}
-
-// Bytes of the result of 48h with a buffer of that size.
-pub(crate) fn result_bytes(
+// Some bytes of the result of 48h with a buffer of that size, after a title.
+pub(crate) fn result_case(
     rt: &impl Print,
+    title: &str,
     t: &[u8],
     asked: u16,
     from: usize,
     to: usize,
-) -> io::Result<()> {
-    let mut window = zero_window();
-    words::store16(&mut window, 0, asked);
-    begin(t, registers(0x4800, 0, FIRST_DRIVE), &mut window);
-    print!(rt; "bytes from {from}:")?;
-    say_bytes(rt, &window, from, to)
-}
-
-// Bytes of a result of 66.
-fn result_case(rt: &impl Print, t: &[u8; 72], from: usize, to: usize) -> io::Result<()> {
-    say(rt, b"48h ")?;
-    result_bytes(rt, t, 66, from, to)
-}
-
-fn whole_result(rt: &impl Print) -> io::Result<()> {
-    let plain = table_bytes(2048, 2, 16, 0);
-    result_case(rt, &plain, 0, 66)
+) -> io::Result<()>
+    requires ordered { from ≤ to }
+    requires inside { to ≤ 74 }
+{
+    let (_, out) = result_of(t, asked);
+    println!(rt; "{title} bytes from {from}:{}", Bytes(&out[from..to]))
 }
 
 // The paper's drive on another host bus and interface.
 pub(crate) fn named_table(bus_and_interface: &[u8; 12]) -> [u8; 72] {
-    let mut t = table_bytes(2048, 2, 16, 0);
+    let mut t = plain_table();
     words::store(&mut t, 40, bus_and_interface);
     t
 }
 
-fn names_case(rt: &impl Print, bus_and_interface: &[u8; 12]) -> io::Result<()> {
-    let t = named_table(bus_and_interface);
-    result_case(rt, &t, 36, 48)
-}
+// The six interface types that kind 1 has, each with a host bus.
+pub(crate) const NAMES: [&[u8; 12]; 6] = [
+    b"ISA\x00ATA\x00\x00\x00\x00\x00",
+    b"PCI\x00ATAPI\x00\x00\x00",
+    b"PCI\x00SCSI\x00\x00\x00\x00",
+    b"PCI\x00USB\x00\x00\x00\x00\x00",
+    b"PCI\x001394\x00\x00\x00\x00",
+    b"PCI\x00FIBRE\x00\x00\x00",
+];
 
 fn names(rt: &impl Print) -> io::Result<()> {
-    names_case(rt, b"ISA\x00ATA\x00\x00\x00\x00\x00")?;
-    names_case(rt, b"PCI\x00ATAPI\x00\x00\x00")?;
-    names_case(rt, b"PCI\x00SCSI\x00\x00\x00\x00")?;
-    names_case(rt, b"PCI\x00USB\x00\x00\x00\x00\x00")?;
-    names_case(rt, b"PCI\x001394\x00\x00\x00\x00")?;
-    names_case(rt, b"PCI\x00FIBRE\x00\x00\x00")
+    for name in NAMES {
+        result_case(rt, "48h", &named_table(name), 66, 36, 48)?;
+    }
+    Ok(())
 }
 
 // The information flags that 48h shows of those in the table.
 fn flags_case(rt: &impl Print, flags: u8) -> io::Result<()> {
     print!(rt; "flags {flags:02x}, ")?;
-    let t = flagged_table(flags);
-    result_case(rt, &t, 2, 4)
+    result_case(rt, "48h", &flagged_table(flags), 66, 2, 4)
 }
 
 // Bits 4 to 6 without bit 2, with it, and with bit 3 alone.
 fn flags(rt: &impl Print) -> io::Result<()> {
-    flags_case(rt, 0x7A)?;
-    flags_case(rt, 0x7E)?;
-    flags_case(rt, 0x78)
+    for shown in [0x7A, 0x7E, 0x78] {
+        flags_case(rt, shown)?;
+    }
+    Ok(())
 }
 
 // A drive of 2^25 blocks with these flags and this C, H and S.
 fn limits_table(flags: u8, c: u16, h: u16, s: u8) -> [u8; 72] {
     let mut t = table_bytes(0, 0, 0, 0);
-    words::store16(&mut t, 34, c);
-    words::store16(&mut t, 36, h);
+    words::put(&mut t, 34, c);
+    words::put(&mut t, 36, h);
     t[19] = 0x02;
     t[32] = flags;
     t[38] = s;
     t
 }
 
-pub(crate) fn say_answer(rt: &impl Print, answer: Answer) -> io::Result<()> {
-    match answer {
-        Answer::Accepted => say(rt, b"table ok")?,
-        Answer::Refused(number, _) => print!(rt; "table refused {number}")?,
+// What a table's bytes are answered.
+#[derive(Clone, Copy)]
+pub(crate) struct Verdict(Result<(), Refused>);
+
+impl fmt::Display for Verdict {
+    fn fmt<W: fmt::Write>(&self, f: &mut fmt::Formatter<W>) -> fmt::Result {
+        match self.0 {
+            Ok(()) => write!(f, "table ok"),
+            Err(e) => write!(f, "table refused {}", e.refusal.number()),
+        }
     }
-    end_line(rt)
 }
 
-fn say_limits(rt: &impl Print, flags: u8, c: u16, h: u16, s: u8) -> io::Result<()> {
-    print!(rt; "flags {flags:02x} chs {c}/{h}")?;
-    say_case(rt, b"/", s as u64)
-}
-
-fn limits_answer(flags: u8, c: u16, h: u16, s: u8) -> Answer {
-    let t = limits_table(flags, c, h, s);
-    let reading = table::read_table(&t, STORE_BLOCKS);
-    reading.answer
+pub(crate) fn read(t: &[u8]) -> Verdict {
+    Verdict(table::read_table(t, STORE_BLOCKS).answer)
 }
 
 fn limits_case(rt: &impl Print, flags: u8, c: u16, h: u16, s: u8) -> io::Result<()> {
-    say_limits(rt, flags, c, h, s)?;
-    say_answer(rt, limits_answer(flags, c, h, s))
+    let read = read(&limits_table(flags, c, h, s));
+    println!(rt; "flags {flags:02x} chs {c}/{h}/{s}: {read}")
 }
 
 fn limits(rt: &impl Print) -> io::Result<()> {
@@ -245,41 +221,34 @@ fn limits(rt: &impl Print) -> io::Result<()> {
     limits_case(rt, 0x7F, 1024, 255, 64)
 }
 
-// The paper's record with another first block. Every caller leaves room for it and the end record.
-fn put_drive(t: &mut [u8], at: usize, first: u64)
-    requires { at + 72 ≤ length t.old }
-{
-    let one = table_bytes(2048, 2, 16, 0);
-    words::store(t, at, &one);
-    words::store64(t, at + 24, first);
+// The paper's drive four times, each behind the one before.
+fn four_table() -> [u8; 276] {
+    let mut t = [0u8; 276];
+    let one = plain_table();
+    put_drive(&mut t, 0, &one, 0);
+    put_drive(&mut t, 68, &one, 2048);
+    put_drive(&mut t, 136, &one, 4096);
+    put_drive(&mut t, 204, &one, 6144);
+    t
 }
 
 // 08h at a table of four drives.
 fn four_drives_call(rt: &impl Print, drive: u16) -> io::Result<()> {
-    let mut t = [0u8; 276];
-    put_drive(&mut t, 0, 0);
-    put_drive(&mut t, 68, 2048);
-    put_drive(&mut t, 136, 4096);
-    put_drive(&mut t, 204, 6144);
-    let mut window = zero_window();
-    say_geometry(
-        rt,
-        drive,
-        begin(&t, registers(0x0800, 0, drive), &mut window),
-    )
+    let mut window = [0u8; SEGMENT];
+    let outcome = begin(&four_table(), registers(0x0800, 0, drive), &mut window);
+    say_geometry(rt, drive, outcome)
 }
 
 // 80h to 83h are drives, 84h is not.
 fn four_drives(rt: &impl Print) -> io::Result<()> {
-    four_drives_call(rt, 0x80)?;
-    four_drives_call(rt, 0x81)?;
-    four_drives_call(rt, 0x82)?;
-    four_drives_call(rt, 0x83)?;
-    four_drives_call(rt, 0x84)
+    for drive in 0x80..0x85 {
+        four_drives_call(rt, drive)?;
+    }
+    Ok(())
 }
 
 pub(crate) fn tables(rt: &impl Print) -> io::Result<()> {
-    whole_result(rt)?;
+    result_case(rt, "48h", &plain_table(), 66, 0, 66)?;
     names(rt)?;
     flags(rt)?;
     limits(rt)?;
@@ -288,30 +257,15 @@ pub(crate) fn tables(rt: &impl Print) -> io::Result<()> {
 
 // ---- the desk
 
-// What a guest's withdrawal is answered.
-fn withdraw(desk: Desk, guest: usize, arena: &mut [u8], store: &[u8]) -> WithdrawAnswer {
-    let withdrawn = desk.withdraw(guest, arena, store);
-    withdrawn.answer
-}
-
-fn say_withdrawn(rt: &impl Print, answer: WithdrawAnswer) -> io::Result<()> {
-    match answer {
-        WithdrawAnswer::Given(r) => say_word(rt, b"withdrawn: AX ", r.ax)?,
-        WithdrawAnswer::Refused(_) => say(rt, b"withdrawal refused")?,
-    }
-    end_line(rt)
-}
-
-fn one_served(rt: &impl Print, arena: &mut [u8], store: &mut [u8]) -> io::Result<Desk> {
-    let desk = opened(arena.len() as u64, store.len() as u64);
-    let waiting = wait_40(desk, 0, arena, &store[..]);
-    one_turn(rt, waiting, arena, store)
-}
-
 // Guest 0 withdraws after 16 of 40 blocks have been laid over its packet.
-pub(crate) fn withdrawal(rt: &impl Print, arena: &mut [u8], store: &mut [u8]) -> io::Result<()> {
-    fill(store, 201);
-    let served = one_served(rt, arena, store)?;
-    say_withdrawn(rt, withdraw(served, 0, arena, &store[..]))?;
-    say_count(rt, &arena[..])
+pub(crate) fn withdrawal(rt: &impl Print, host: &mut Host) -> io::Result<()> {
+    host.open(&table_bytes(64, 1, 1, 0));
+    host.fill(201);
+    host.wait_40(0);
+    one_turn(rt, host)?;
+    match host.withdraw(0) {
+        Ok(r) => println!(rt; "withdrawn: AX {:04x}", r.ax)?,
+        Err(_) => println!(rt; "withdrawal refused")?,
+    }
+    say_count(rt, &host.arena)
 }

@@ -1,18 +1,21 @@
 -- Laws of little-endian words and of runs of stores, over the width.
 -- Assumes nothing.
 use mathlib.Core.Path.{◌≡◌, refl, sym, ap, ◌∙◌}
-use mathlib.Core.List.{List, [], ◌∷◌, ◌++◌, append-nil}
+use mathlib.Core.List.{List, [], ◌∷◌, ◌++◌, append-nil, append_assoc}
 use Prim.Native.Nat.{ℕ, zero, suc, ◌+◌, ◌-◌, ◌*◌, ◌/◌, ◌%◌, ◌^◌, ◌≤◌, ◌<◌}
-use native.Mathlib.Nat.{add-zero, add-suc, suc-add, zero-add, add_assoc, mul-add, mul_assoc, pow-suc, mul-zero, one-mul, mod-one, mul-le-mul_left, add-mul-div_left, add-mul-mod_self_left, div-eq_of_lt, mod-eq_of_lt, one-le-pow, mod-lt, div-one, div-div-eq-div-mul, pow-succ'}
-use native.Mathlib.Numerals.{one-add, add-one}
+use native.Mathlib.Nat.{add-zero, add-suc, suc-add, zero-add, add_assoc, mul-add, mul_assoc, mul_comm, pow-suc, mul-zero, one-mul, mod-one, mul-le-mul_left, add-mul-div_left, add-mul-mod_self_left, div-eq_of_lt, mod-eq_of_lt, one-le-pow, mod-lt, div-one, div-div-eq-div-mul, pow-succ'}
+use native.Mathlib.Numerals.{one-add}
 use native.Mathlib.Omega.{arith}
 use mathlib.Core.Bool.{Bool, true, false}
 use lib.Dec.{ltb}
 use borrow.Author.Tests.{ltb-true, ltb-false}
 use lib.ListN.{length, get_or, set, take, drop, length-drop, length-take, drop_of_length-le, get_or-eq_default}
-use lib.Seq.{sets-eq, take-suc, length-take-le, sets, drop-cons, ext_get_or, get_or-take, get_or-drop}
+use lib.Seq.{take-add, drop-cons, sets-eq, length-take-le, sets, drop-drop, ext_get_or, get_or-take, get_or-drop}
+use borrow.Rule.Slice.PartMut.{put_mid}
 use lib.Pow.{pow-add}
-use lib.Arith.{mod-mul, digits_div, digits_mod}
+use lib.Arith.{mod-mul}
+use Rattle.std.specs.Prelude.{slice_index}
+use Rattle.std.specs.Int.{bytes_low_first, byte_at, byte_worth, sum_through}
 use Rattle.words.specs.Words.{Bytes, le, le_bytes, part}
 
 pos : (k : ℕ) → 0 < 256 ^ k
@@ -81,21 +84,11 @@ unfolding le_bytes
 length-le_bytes zero v = refl
 length-le_bytes (suc k) v = ap suc (length-le_bytes k (v / 256))
 
-le_bytes-low : (k v : ℕ) → le_bytes k (v % 256 ^ k) ≡ le_bytes k v
-unfolding le_bytes
-le_bytes-low zero v = refl
-le_bytes-low (suc k) v =
-    let m : 0 < 256 = omega arith in
-    rw (pow-suc 256 k, mod-mul v {m = 256 ^ k} {c = 256} (pos k) m, digits_mod (v / 256 % 256 ^ k) (mod-lt v m), digits_div (v / 256 % 256 ^ k) (mod-lt v m), le_bytes-low k (v / 256))
-
 pub le_bytes-append : (j k v : ℕ) → le_bytes (j + k) v ≡ le_bytes j v ++ le_bytes k (v / 256 ^ j)
 unfolding le_bytes
 le_bytes-append zero k v = rw (zero-add, div-one)
 le_bytes-append (suc j) k v =
     rw (suc-add, le_bytes-append j k (v / 256), div-div-eq-div-mul v 256 (256 ^ j), ← pow-succ' 256 j)
-
-le_bytes-split : (j k v : ℕ) → le_bytes (j + k) v ≡ le_bytes j (v % 256 ^ j) ++ le_bytes k (v / 256 ^ j)
-le_bytes-split j k v = rw le_bytes-low (le_bytes-append j k v)
 
 -- read of what was written
 le-le_bytes : (k v : ℕ) → le k (le_bytes k v) 0 ≡ v % 256 ^ k
@@ -139,6 +132,38 @@ write_read k s at h l =
     (bytes-le_bytes k (le k s at)) (bytes-part k s at h)
     (read-write k (le k s at) (le_lt k s at h) ∙ le_ext k s (part k s at) at 0 (λ i q. rw zero-add (sym (byte i q))))
 
+-- ---- the library's words
+
+-- bytes from i upward
+bytes_low : (k i v : ℕ) → bytes_low_first i k v ≡ le_bytes k (v / 256 ^ i)
+unfolding le_bytes
+bytes_low zero i v = refl
+bytes_low (suc k) i v =
+    let next : v / 256 ^ i / 256 ≡ v / 256 ^ suc i = rw (div-div-eq-div-mul v (256 ^ i) 256, pow-suc 256 i) in
+    rw (byte i, bytes_low k (suc i) v, next)
+  where
+    byte : (i : ℕ) → byte_at i v ≡ v / 256 ^ i % 256
+    byte zero = rw div-one
+    byte (suc i) = refl
+
+-- the number that they say
+pub sum_bytes : (k : ℕ) (b : List ℕ) → sum_through (λ i. byte_worth i (slice_index b i)) k ≡ le (suc k) b 0
+unfolding le
+sum_bytes zero b = sym (le_one b 0)
+sum_bytes (suc k) b =
+    let last : get_or b (suc k) 0 * 256 ^ suc k ≡ 256 ^ suc k * get_or b (0 + suc k) 0 =
+    mul_comm (get_or b (suc k) 0) (256 ^ suc k) ∙ ap (λ (j : ℕ). 256 ^ suc k * get_or b j 0) (sym (zero-add (suc k))) in
+    rw last (ap (λ (n : ℕ). n + 256 ^ suc k * get_or b (0 + suc k) 0) (sum_bytes k b))
+
+-- what `from_le_bytes` makes of a part, and `to_le_bytes` of a number
+pub word_read : {n : ℕ} {b : List ℕ} (k : ℕ) (s : List ℕ) (at : ℕ) → b ≡ part (suc k) s at → n ≡ sum_through (λ i. byte_worth i (slice_index b i)) k → n ≡ le (suc k) s at
+word_read {b = b} k s at p e =
+    e ∙ sum_bytes k b ∙ ap (λ (l : List ℕ). le (suc k) l 0) p
+    ∙ le_ext (suc k) (part (suc k) s at) s 0 at (λ i q. rw (zero-add, get_or-take (suc k) (drop at s) i 0 q, get_or-drop))
+
+pub word_bytes : (k v : ℕ) → bytes_low_first 0 k v ≡ le_bytes k v
+word_bytes k v = bytes_low k 0 v ∙ ap (le_bytes k) (div-one v)
+
 -- ---- runs of stores
 
 -- a run of stores is two runs
@@ -146,16 +171,9 @@ pub sets-append : (s : List ℕ) (at : ℕ) (a b : List ℕ) → sets s at (a ++
 sets-append s at [] b = rw add-zero
 sets-append s at (x ∷ a) b = rw (sets-append (set s at x) (suc at) a b, suc-add, ← add-suc)
 
--- the stores of a word's halves are the store of the word
-pub sets_two : {o₁ o₂ : List ℕ} (j k : ℕ) (s : List ℕ) (at v : ℕ)
-    → o₁ ≡ sets s at (le_bytes j (v % 256 ^ j)) → o₂ ≡ sets o₁ (at + j) (le_bytes k (v / 256 ^ j)) → o₂ ≡ sets s at (le_bytes (j + k) v)
-sets_two j k s at v e₁ e₂ = rw (e₂, e₁, le_bytes-split, sets-append, length-le_bytes)
-
--- one store more
-pub sets_more : (s : List ℕ) (at : ℕ) (a : List ℕ) (i : ℕ) → i < length a → set (sets s at (take i a)) (at + i) (get_or a i 0) ≡ sets s at (take (i + 1) a)
-sets_more s at a i h =
-    let l : length (take i a) ≡ i = length-take-le i a (omega arith) in
-    rw (add-one, take-suc a i 0 h, sets-append, l)
+-- a part of a slice that is written over is a run of stores
+pub put_mid-sets : (s a : List ℕ) (at k : ℕ) → k ≡ length a → at + length a ≤ length s → put_mid at k s a ≡ sets s at a
+put_mid-sets s a at k e h = rw (e, sets-eq a s at h, drop-drop (length a) at s) (sym (append_assoc (take at s) a (drop (at + length a) s)))
 
 -- stores from the start leave what was stored, and then the rest
 pub sets_front : (s a : List ℕ) → length a ≤ length s → sets s 0 a ≡ a ++ drop (length a) s
@@ -166,15 +184,11 @@ sets-whole s a h =
     let l : length s ≤ length a = omega arith in
     rw (sets_front s a (omega arith), drop_of_length-le s l) (append-nil a)
 
--- ---- a part, written out byte by byte
+-- ---- parts
 
-abbrev pub list_from : ℕ → ℕ → List ℕ → ℕ → List ℕ
-list_from zero i s at = []
-list_from (suc k) i s at = get_or s (at + i) 0 ∷ list_from k (suc i) s at
+-- adjoining parts are one
+pub glue : (s : List ℕ) (k n at : ℕ) {x y : List ℕ} → x ≡ part k s at → y ≡ part n s (at + k) → x ++ y ≡ part (k + n) s at
+glue s k n at p q = rw (p, q, take-add k n (drop at s), drop-drop k at s)
 
-pub part_list : (k i : ℕ) (s : List ℕ) (at : ℕ) → at + i + k ≤ length s → part k s (at + i) ≡ list_from k i s at
-part_list zero i s at h = refl
-part_list (suc k) i s at h =
-    let l : at + i < length s = omega arith in
-    let h' : at + suc i + k ≤ length s = omega arith in
-    rw (drop-cons s (at + i) 0 l, ← add-suc at i, part_list k (suc i) s at h')
+pub glue_one : (s : List ℕ) (n at : ℕ) {y : List ℕ} → at < length s → y ≡ part n s (suc at) → get_or s at 0 ∷ y ≡ part (suc n) s at
+glue_one s n at l q = rw (q, drop-cons s at 0 l)

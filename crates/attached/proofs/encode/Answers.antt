@@ -7,4 +7,4 @@ use Rattle.attached.proofs.encode.Goals as goal
 pub returns : goal.returns
 returns c =
     record_stores (replicate 20 0) _ _ refl (search rules)
-    c.store16.ensures c.store16-2.ensures c.store16-3.ensures c.store.ensures
+    c.put.ensures c.put-2.ensures c.put-3.ensures c.store.ensures

@@ -1,17 +1,9 @@
-use mathlib.Core.Path.{sym}
 use Prim.Native.Nat.{◌*◌}
 use native.Mathlib.Omega.{arith}
 use lib.ListN.{length, length-take}
-use lib.Seq.{length-take-le}
 use Rattle.int13.specs.Placement.{table_count}
-use Rattle.desk.proofs.Places.{place_span, tables-taken, tables-room}
+use Rattle.desk.proofs.Places.{place_span, tables-taken}
 use Rattle.desk.proofs.lay_tables.Goals as goal
-
-pub slice_bounds-put_bytes_in-end : goal.slice_bounds-put_bytes_in-end
-slice_bounds-put_bytes_in-end c =
-    let n = c.table_count in
-    let t = c.tables_of-bytes in
-    sym (length-take-le (16 * n.result) t.result (omega (arith, n.ensures.1, tables-room c.args.b t.ensures.0)))
 
 pub put_bytes_in-requires : goal.put_bytes_in-requires
 put_bytes_in-requires c =

@@ -21,14 +21,6 @@ returns-then-is_sectors c =
     let a = c.args in
     rw (sectors a.job.registers c.function_of.ensures c.is_sectors.ensures c.if-is_sectors.true) (sym (with_window-same a.arena.now a.guest (window_length (length a.arena.now))))
 
--- a packet, which lies inside the window
-pub count_place-at-requires : goal.count_place-at-requires
-count_place-at-requires c =
-    let a = c.args in
-    let other = sectors a.job.registers c.function_of.ensures c.is_sectors.ensures c.if-is_sectors.false in
-    let inside = packet-inside (ah a.job.registers) a.job.packet _ other c.requires.1 in
-    omega (arith, inside)
-
 pub put_word_in-requires : goal.put_word_in-requires
 put_word_in-requires c =
     let a = c.args in

@@ -1,20 +1,14 @@
-use borrow.Author.Rules.{rules}
-use native.Mathlib.Omega.{arith}
-use mathlib.Core.Path.{◌≡◌, refl}
-use Rattle.desk.specs.Acceptable.{rows_ok}
-use Rattle.desk.proofs.AcceptableLaws.{rows_ok-more}
+use Rattle.std.proofs.Common.{rules, tests, ◌≡◌, length, ◌∙◌}
+use Rattle.std.proofs.lemmas.Iterator.{YieldsList-from_slice}
+use Rattle.std.proofs.lemmas.Iterator.Search.{all_from_yields_List}
+use Rattle.logic.proofs.LogicLaws.{length_mapped}
+use Rattle.desk.specs.declared.Row.{Row}
+use Rattle.desk.specs.Acceptable.{stage_ok}
+use Rattle.desk.proofs.AcceptableLaws.{rows_all}
 use Rattle.desk.proofs.rows_ok.Goals as goal
-
-pub loop-i-init : goal.loop-i-init
-unfolding rows_ok
-loop-i-init c = (search rules, refl)
-
-pub loop-i-preserved : goal.loop-i-preserved
-loop-i-preserved c =
-    let a = c.args in
-    (search rules, rows_ok-more c.loop-i.i a.rows a.b a.m c.loop-i.invariant.1 c.and-good.ensures c.stage_ok.ensures)
 
 pub returns : goal.returns
 returns c =
-    let e : c.loop-i.i ≡ 8 = omega arith in
-    rw (← e) c.loop-i.invariant.1
+    let a = c.args in
+    let l : length a.rows ≡ 8 = search (rules, length_mapped) in
+    all_from_yields_List (λ (row : Row). stage_ok a.b a.m row.stage) _ _ _ c.all.ensures.ran (YieldsList-from_slice a.rows cc) (λ x b q k. search (rules, tests)) ∙ rows_all a.rows a.b a.m l

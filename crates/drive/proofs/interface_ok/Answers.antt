@@ -1,23 +1,29 @@
 use mathlib.Core.Path.{◌≡◌, refl, ◌∙◌}
-use mathlib.Core.Bool.{true}
-use mathlib.Core.List.{List}
+use mathlib.Core.Bool.{true, or-false}
+use mathlib.Core.List.{List, [], ◌∷◌}
 use Prim.Native.Nat.{ℕ}
 use mir.Val.{Fits}
 use mir.Syntax.{w8}
 use lib.ListN.{get_or, length}
 use lib.Dec.{eqb}
-use Rattle.words.specs.Words.{le}
+use borrow.Author.Rules.{rules}
+use borrow.Author.Tests.{tests}
+use Rattle.std.specs.Int.{w64, from_le_bytes}
+use Rattle.std.proofs.lemmas.Iterator.{YieldsList-from_slice}
+use Rattle.std.proofs.lemmas.Iterator.Search.{any_from_yields_List}
+use Rattle.logic.proofs.LogicLaws.{or_either}
 use Rattle.drive.specs.Drive.{interface_ok, same, ata, atapi, scsi, usb, ieee1394, fibre}
 use Rattle.drive.proofs.DriveLaws.{named, all_bytes}
-use borrow.Author.Rules.{rules}
 use Rattle.drive.proofs.interface_ok.Goals as goal
 
 pub returns : goal.returns
-unfolding interface_ok le
+unfolding interface_ok
 returns c =
     let b = c.args.b in
     let f : (i : ℕ) → Fits w8 (get_or b i 0) = λ i. search rules in
     let l : length b ≡ 8 = search rules in
-    let n : (name : List ℕ) → length name ≡ 8 → all_bytes name ≡ true → eqb (le 8 b 0) (le 8 name 0) ≡ same b name = λ name k t. named 8 b name l k (λ i. (f i).fits) t in
-    let v = c.value8-v.ensures in
-    c.or-5.ensures ∙ rw (c.or-4.ensures, c.or-3.ensures, c.or-2.ensures, c.or.ensures, v, n ata refl refl, n atapi refl refl, n scsi refl refl, n usb refl refl, n ieee1394 refl refl, n fibre refl refl)
+    let n : (name : List ℕ) → length name ≡ 8 → all_bytes name ≡ true → eqb (from_le_bytes w64 name) c.from_le_bytes-v.result ≡ same b name =
+    λ name k t. named 7 b name c.from_le_bytes-v.ensures l (λ i. (f i).fits) k t in
+    any_from_yields_List (λ (name : List ℕ). eqb (from_le_bytes w64 name) c.from_le_bytes-v.result) _ _ _ c.any.ensures.ran
+    (YieldsList-from_slice (ata ∷ atapi ∷ scsi ∷ usb ∷ ieee1394 ∷ fibre ∷ []) (cc)) (λ x b q k. search (rules, tests))
+    ∙ rw (n ata refl refl, n atapi refl refl, n scsi refl refl, n usb refl refl, n ieee1394 refl refl, n fibre refl refl) (simp (or-false, or_either))

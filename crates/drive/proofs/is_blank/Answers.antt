@@ -1,6 +1,9 @@
-use Rattle.drive.specs.Drive.{is_blank}
+use mathlib.Core.Path.{sym, ◌∙◌}
+use Rattle.logic.proofs.LogicLaws.{and_both}
+use Rattle.drive.proofs.DriveLaws.{pointwise_same, zero_fields, blank_fields}
 use Rattle.drive.proofs.is_blank.Goals as goal
 
 pub returns : goal.returns
-unfolding is_blank
-returns c = cc
+returns c =
+    let e = rw (zero_fields c.default.result c.default.ensures) at c.eq.ensures in
+    e ∙ simp (and_both, pointwise_same) (sym (blank_fields c.args.d))

@@ -16,8 +16,8 @@ pub returns : goal.returns
 returns c =
     let a = c.args in
     let arena : List ℕ = a.arena.now in
-    let t : Table = (read_desk a.desk.now).table in
-    let p : Placement = placement_at (read_desk a.desk.now) a.guest in
+    let t : Table = (read_desk a.block.now).table in
+    let p : Placement = placement_at (read_desk a.block.now) a.guest in
     let own : ℕ = window_length (length arena) in
     let o = c.span_of-span in
     let m = c.window_length-m.ensures in

@@ -2,10 +2,10 @@ use Rattle.chs.specs.Chs.{address_numbers}
 use Rattle.exports.specs.Exports.{over, address_call}
 use Rattle.exports.proofs.edd_address.Goals as goal
 
-pub returns-in-At : goal.returns-in-At
+pub returns-in-Ok : goal.returns-in-Ok
 unfolding address_call over address_numbers
-returns-in-At c = rw (← c.address_of-answer.ensures.0, c.in-At.is)
+returns-in-Ok c = rw (← c.address_of.ensures.0, c.in-Ok.is)
 
-pub returns-in-Refused : goal.returns-in-Refused
+pub returns-in-Err : goal.returns-in-Err
 unfolding address_call over address_numbers
-returns-in-Refused c = rw (← c.address_of-answer.ensures.0, c.in-Refused.is)
+returns-in-Err c = rw (← c.address_of.ensures.0, c.in-Err.is)

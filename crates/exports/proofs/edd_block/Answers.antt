@@ -2,10 +2,10 @@ use Rattle.chs.specs.Chs.{block_numbers}
 use Rattle.exports.specs.Exports.{over, block_call}
 use Rattle.exports.proofs.edd_block.Goals as goal
 
-pub returns-in-Block : goal.returns-in-Block
+pub returns-in-Ok : goal.returns-in-Ok
 unfolding block_call over block_numbers
-returns-in-Block c = rw (← c.block_of-answer.ensures.0, c.in-Block.is)
+returns-in-Ok c = rw (← c.block_of.ensures.0, c.in-Ok.is)
 
-pub returns-in-Refused : goal.returns-in-Refused
+pub returns-in-Err : goal.returns-in-Err
 unfolding block_call over block_numbers
-returns-in-Refused c = rw (← c.block_of-answer.ensures.0, c.in-Refused.is)
+returns-in-Err c = rw (← c.block_of.ensures.0, c.in-Err.is)

@@ -6,12 +6,12 @@ use Rattle.exports.proofs.edd_open.Goals as goal
 
 pub returns-then-desk-ne-SIZE : goal.returns-then-desk-ne-SIZE
 unfolding open_call over open_numbers
-returns-then-desk-ne-SIZE c = rw (ne_eqb _ desk_size c.if-desk-ne-SIZE.true)
+returns-then-desk-ne-SIZE c = rw (ne_eqb _ desk_size c.if-desk-ne-SIZE.true, c.numbered.ensures)
 
-pub returns-in-Opened : goal.returns-in-Opened
+pub returns-in-Ok : goal.returns-in-Ok
 unfolding open_call over open_numbers
-returns-in-Opened c = rw (eq-eqb _ desk_size c.if-desk-ne-SIZE.false, ← c.open-opening.ensures.0, c.in-Opened.is, c.encode.ensures)
+returns-in-Ok c = rw (eq-eqb _ desk_size c.if-desk-ne-SIZE.false, ← c.open-opening.ensures.0, c.in-Ok.is, c.encode.ensures)
 
-pub returns-in-Refused : goal.returns-in-Refused
+pub returns-in-Err : goal.returns-in-Err
 unfolding open_call over open_numbers
-returns-in-Refused c = rw (eq-eqb _ desk_size c.if-desk-ne-SIZE.false, ← c.open-opening.ensures.0, c.in-Refused.is)
+returns-in-Err c = rw (eq-eqb _ desk_size c.if-desk-ne-SIZE.false, ← c.open-opening.ensures.0, c.in-Err.is, c.number.ensures)

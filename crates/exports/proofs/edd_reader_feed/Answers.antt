@@ -3,7 +3,7 @@ use Rattle.exports.proofs.Readers.{reader-size, none-fed, fed}
 use Rattle.exports.proofs.edd_reader_feed.Goals as goal
 
 pub returns-then-not-acceptable : goal.returns-then-not-acceptable
-returns-then-not-acceptable c = none-fed c.args.reader.now c.acceptable.ensures c.if-not-acceptable.true c.args.bytes.now c.args.place.now
+returns-then-not-acceptable c = rw c.numbered.ensures (none-fed c.args.reader.now c.acceptable.ensures c.if-not-acceptable.true c.args.bytes.now c.args.place.now)
 
 pub decode-requires : goal.decode-requires
 decode-requires c = reader-size c.args.reader.now (sym c.acceptable.ensures ∙ c.if-not-acceptable.false)

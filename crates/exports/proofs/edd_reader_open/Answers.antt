@@ -5,7 +5,7 @@ use Rattle.exports.proofs.edd_reader_open.Goals as goal
 
 pub returns-then-reader-ne-SIZE : goal.returns-then-reader-ne-SIZE
 unfolding reader_open_call
-returns-then-reader-ne-SIZE c = rw (ne_eqb _ reader_size c.if-reader-ne-SIZE.true)
+returns-then-reader-ne-SIZE c = rw (ne_eqb _ reader_size c.if-reader-ne-SIZE.true, c.numbered.ensures)
 
 pub returns : goal.returns
 unfolding reader_open_call

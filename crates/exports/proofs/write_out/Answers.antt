@@ -2,14 +2,10 @@ use Rattle.table.specs.Table.{written_numbers}
 use Rattle.exports.specs.Exports.{over}
 use Rattle.exports.proofs.write_out.Goals as goal
 
-pub returns-in-Bytes : goal.returns-in-Bytes
+pub returns-in-Ok : goal.returns-in-Ok
 unfolding over written_numbers
-returns-in-Bytes c =
-    let w = c.write_table-answer.ensures in
-    (rw (← w.0, c.in-Bytes.is), w.1)
+returns-in-Ok c = let w = c.write_table.ensures in (rw (← w.0, c.in-Ok.is), w.1)
 
-pub returns-in-Refused : goal.returns-in-Refused
+pub returns-in-Err : goal.returns-in-Err
 unfolding over written_numbers
-returns-in-Refused c =
-    let w = c.write_table-answer.ensures in
-    (rw (← w.0, c.in-Refused.is), w.1)
+returns-in-Err c = let w = c.write_table.ensures in (rw (← w.0, c.in-Err.is), w.1)

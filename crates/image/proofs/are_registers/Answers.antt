@@ -3,4 +3,4 @@ use Rattle.image.proofs.are_registers.Goals as goal
 
 pub returns : goal.returns
 unfolding are_registers
-returns c = rw (c.and.ensures, c.below.ensures, c.get64.ensures)
+returns c = rw (c.and.ensures, c.below.ensures, c.get.ensures)

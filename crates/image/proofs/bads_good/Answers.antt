@@ -5,8 +5,7 @@ use Rattle.image.proofs.bads_good.Goals as goal
 
 pub returns-then-none_listed : goal.returns-then-none_listed
 returns-then-none_listed c =
-    let s = c.before.before.before in
-    sym (unlisted_good s.args.b.now s.requires (sym c.none_listed.ensures ∙ c.if-none_listed.true))
+    sym (unlisted_good c.args.b.now c.told-b (sym c.none_listed.ensures ∙ c.if-none_listed.true))
 
 pub returns : goal.returns
 unfolding bads_good

@@ -19,7 +19,7 @@ pub overflow_sub-n : goal.overflow_sub-n
 overflow_sub-n c = omega (arith, (within c).0)
 
 pub bads_in-requires : goal.bads_in-requires
-bads_in-requires c = let h = within c in (search rules, omega (arith, h))
+bads_in-requires c = omega (arith, (within c).1)
 
 pub returns : goal.returns
 unfolding bads_of

@@ -14,7 +14,7 @@ overflow_sub-n c =
 pub drive_in-requires : goal.drive_in-requires
 drive_in-requires c =
     let h = slot_known c.args.b.now c.args.n (sym c.is_drive.ensures ∙ c.if-is_drive.true) in
-    (search rules, omega (arith, h))
+    omega (arith, h)
 
 pub returns-then-is_drive : goal.returns-then-is_drive
 returns-then-is_drive c =

@@ -3,4 +3,4 @@ use Rattle.image.proofs.is_lent.Goals as goal
 
 pub returns : goal.returns
 unfolding read_desk
-returns c = rw (c.and.ensures, c.get64-2.ensures, c.get64.ensures)
+returns c = rw (c.and.ensures, c.get-2.ensures, c.get.ensures)

@@ -3,4 +3,4 @@ use Rattle.image.proofs.is_request.Goals as goal
 
 pub returns : goal.returns
 unfolding is_request
-returns c = rw (c.and.ensures, c.are_registers.ensures, c.get64.ensures)
+returns c = rw (c.and.ensures, c.are_registers.ensures, c.get.ensures)

@@ -4,5 +4,4 @@ use Rattle.image.proofs.is_slot.Goals as goal
 pub returns : goal.returns
 unfolding is_slot
 returns c =
-    let n = c.before.before in
-    rw (c.and.ensures, c.get64-2.ensures, n.and-names.ensures, n.get64.ensures, n.and-bytes.ensures, n.below-3.ensures, n.and-numbers.ensures, n.below-2.ensures, n.below.ensures)
+    rw (c.and.ensures, c.get-2.ensures, c.and-names.ensures, c.get.ensures, c.and-bytes.ensures, c.below-3.ensures, c.and-numbers.ensures, c.below-2.ensures, c.below.ensures)

@@ -7,14 +7,13 @@ use Rattle.image.proofs.lay.Goals as goal
 
 pub returns : goal.returns
 returns c =
-    let h = c.before.before.before.before.before.before.before.before.before.before.before.before.before.before.before.before.before.before.before.before.before in
-    let a = h.args in
-    let r : length a.d.rows ≡ 8 = search (rules, length_mapped) in
-    let t : length a.d.table.drives ≡ 8 = search (rules, length_mapped) in
-    let p : length a.d.placed ≡ 8 = search (rules, length_mapped) in
-    let l : length a.d.addresses ≡ 8 = search (rules, length_mapped) in
-    let q : length a.d.table.present ≡ 8 = search (rules, length_mapped) in
-    let n : length a.d.table.counts ≡ 8 = search (rules, length_mapped) in
+    let d = c.args.d in
+    let r : length d.rows ≡ 8 = search (rules, length_mapped) in
+    let t : length d.table.drives ≡ 8 = search (rules, length_mapped) in
+    let p : length d.placed ≡ 8 = search (rules, length_mapped) in
+    let l : length d.addresses ≡ 8 = search (rules, length_mapped) in
+    let q : length d.table.present ≡ 8 = search (rules, length_mapped) in
+    let n : length d.table.counts ≡ 8 = search (rules, length_mapped) in
     c.put_more.ensures
-    ∙ rw (c.put_words.ensures, c.put_drives.ensures, c.put_rows.ensures)
-    (laid_out a.out.now a.d h.requires r t p l q n)
+    ∙ rw (c.put_words.ensures, c.put_each-2.ensures, c.put_each.ensures)
+    (laid_out c.args.out.now d c.told-out r t p l q n)

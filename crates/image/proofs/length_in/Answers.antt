@@ -9,5 +9,5 @@ use Rattle.image.proofs.length_in.Goals as goal
 pub returns : goal.returns
 unfolding read_drive
 returns c =
-    let e = c.length_of.ensures ∙ ap drive_length c.get16.ensures in
+    let e = c.length_of.ensures ∙ ap drive_length c.get.ensures in
     (e, rw e (length_most (le 2 c.args.b.now (slot_at c.args.i + 112))))

@@ -10,30 +10,23 @@ returns-then-not-bads_good c =
 
 pub returns-then-bare : goal.returns-then-bare
 returns-then-bare c =
-    let t = c.before in
-    let g = t.before.before.before in
-    let s = g.args in
+    let s = c.args in
     let b = s.b.now in
-    rw (← more-listed b s.m g.bads_good.ensures g.if-not-bads_good.false, bare-good b (sym t.below-bare.ensures ∙ c.if-bare.true), unplaced_good b s.m (sym t.below.ensures ∙ t.if-below.true))
+    rw (← more-listed b s.m c.bads_good.ensures c.if-not-bads_good.false, bare-good b (sym c.below-bare.ensures ∙ c.if-bare.true), unplaced_good b s.m (sym c.below.ensures ∙ c.if-below.true))
 
 pub returns-then-below : goal.returns-then-below
 returns-then-below c =
-    let t = c.before.before in
-    let g = t.before.before.before in
-    let s = g.args in
+    let s = c.args in
     let b = s.b.now in
-    rw (← more-listed b s.m g.bads_good.ensures g.if-not-bads_good.false, unplaced_good b s.m (sym t.below.ensures ∙ t.if-below.true), both_itself) c.parameters_good.ensures
+    rw (← more-listed b s.m c.bads_good.ensures c.if-not-bads_good.false, unplaced_good b s.m (sym c.below.ensures ∙ c.if-below.true), both_itself) c.parameters_good.ensures
 
 pub returns-then-bare-2 : goal.returns-then-bare-2
 returns-then-bare-2 c =
-    let t = c.before.before in
-    let g = t.before.before.before in
-    let s = g.args in
+    let s = c.args in
     let b = s.b.now in
-    rw (← more-listed b s.m g.bads_good.ensures g.if-not-bads_good.false, bare-good b (sym t.below-bare.ensures ∙ c.if-bare-2.true)) c.places_good.ensures
+    rw (← more-listed b s.m c.bads_good.ensures c.if-not-bads_good.false, bare-good b (sym c.below-bare.ensures ∙ c.if-bare-2.true)) c.places_good.ensures
 
 pub returns : goal.returns
 returns c =
-    let g = c.before.before.before.before.before.before.before in
-    let s = g.args in
-    rw (← more-listed s.b.now s.m g.bads_good.ensures g.if-not-bads_good.false, c.and.ensures, c.places_good-2.ensures, c.parameters_good-2.ensures)
+    let s = c.args in
+    rw (← more-listed s.b.now s.m c.bads_good.ensures c.if-not-bads_good.false, c.and.ensures, c.places_good-2.ensures, c.parameters_good-2.ensures)

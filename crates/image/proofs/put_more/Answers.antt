@@ -11,5 +11,5 @@ returns c =
     let m : length d.addresses ≡ 8 = search rules in
     let n : length d.table.present ≡ 8 = search rules in
     c.put_bads.ensures
-    ∙ rw (c.put_given.ensures, c.put_marks-2.ensures, c.put_words.ensures, c.put_marks.ensures)
+    ∙ rw (c.put_given.ensures, c.put_each-2.ensures, c.put_words.ensures, c.put_each.ensures)
     (more-laid c.args.out.now 2528 d l m n)

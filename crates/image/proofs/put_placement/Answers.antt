@@ -4,4 +4,4 @@ use Rattle.image.proofs.put_placement.Goals as goal
 
 pub returns : goal.returns
 unfolding put_placement
-returns c = c.store64-2.ensures ∙ rw c.store64.ensures
+returns c = c.put-2.ensures ∙ rw c.put.ensures

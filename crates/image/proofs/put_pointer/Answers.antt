@@ -3,4 +3,4 @@ use Rattle.image.proofs.put_pointer.Goals as goal
 
 pub returns : goal.returns
 unfolding put_pointer
-returns c = c.store64.ensures
+returns c = c.put.ensures

@@ -1,4 +1,4 @@
-use Prim.Native.Nat.{◌*◌, ◌-◌, ◌≤◌}
+use Prim.Native.Nat.{◌*◌, ◌≤◌}
 use mathlib.Core.Path.{◌≡◌}
 use lib.ListN.{length}
 use Rattle.table.specs.Table.{records_of}
@@ -6,7 +6,4 @@ use Rattle.image.specs.Image.{read_desk}
 use Rattle.image.proofs.records_length.Given as goal
 
 abbrev pub invariant-loop-i : goal.invariant-loop-i
-invariant-loop-i l = (l.i ≤ l.n) × (l.total ≡ length (records_of l.i (read_desk l.b).table)) × (l.total ≤ 230 * l.i)
-
-abbrev pub decreases-loop-i : goal.decreases-loop-i
-decreases-loop-i l = l.n - l.i
+invariant-loop-i l = (l.total ≡ length (records_of l.i (read_desk l.b).table)) × (l.total ≤ 230 * l.i)

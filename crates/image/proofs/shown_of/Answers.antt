@@ -19,28 +19,28 @@ overflow_sub-i c =
     let h = slot_known s.b.now s.n (sym c.is_drive.ensures ∙ w.1) in
     omega (arith, h)
 
-pub mark_at-requires : goal.mark_at-requires
-mark_at-requires c =
+pub is_present-requires : goal.is_present-requires
+is_present-requires c =
     let s = c.args in
     let w = both_true c.placement_of-p.result.placed c.is_drive.result (sym c.and.ensures ∙ c.if-not-and.false) in
     let h = slot_known s.b.now s.n (sym c.is_drive.ensures ∙ w.1) in
-    omega (arith, h, c.requires.0)
+    omega (arith, h)
 
-pub returns-then-not-mark_at : goal.returns-then-not-mark_at
-returns-then-not-mark_at c =
+pub returns-then-not-is_present : goal.returns-then-not-is_present
+returns-then-not-is_present c =
     let s = c.args in
     let b = (read_desk s.b.now).table in
     let w = both_true c.placement_of-p.result.placed c.is_drive.result (sym c.and.ensures ∙ c.if-not-and.false) in
     let h = slot_known s.b.now s.n (sym c.is_drive.ensures ∙ w.1) in
     shown-bare b s.n c.placement_of-p.ensures c.is_drive.ensures c.and.ensures c.if-not-and.false
-    (c.mark_at.ensures ∙ sym (present-of s.b.now (s.n - 128) (omega (arith, h)))) c.if-not-mark_at.true
+    (c.is_present.ensures ∙ sym (present-of s.b.now (s.n - 128) (omega (arith, h)))) c.if-not-is_present.true
 
 pub tables_before-requires : goal.tables_before-requires
 tables_before-requires c =
     let s = c.args in
     let w = both_true c.placement_of-p.result.placed c.is_drive.result (sym c.and.ensures ∙ c.if-not-and.false) in
     let h = slot_known s.b.now s.n (sym c.is_drive.ensures ∙ w.1) in
-    (c.requires.0, omega (arith, h))
+    omega (arith, h)
 
 pub returns : goal.returns
 returns c =
@@ -49,5 +49,5 @@ returns c =
     let w = both_true c.placement_of-p.result.placed c.is_drive.result (sym c.and.ensures ∙ c.if-not-and.false) in
     let h = slot_known s.b.now s.n (sym c.is_drive.ensures ∙ w.1) in
     shown-table b s.n c.placement_of-p.ensures c.is_drive.ensures c.and.ensures c.if-not-and.false
-    (c.mark_at.ensures ∙ sym (present-of s.b.now (s.n - 128) (omega (arith, h)))) c.if-not-mark_at.false
+    (c.is_present.ensures ∙ sym (present-of s.b.now (s.n - 128) (omega (arith, h)))) c.if-not-is_present.false
     c.tables_before.ensures.0 c.shown_at.ensures

@@ -4,5 +4,4 @@ use Rattle.image.proofs.stage_of.Goals as goal
 
 pub returns : goal.returns
 returns c =
-    let s = c.before.before in
-    c.stage_at.ensures ∙ sym (row_of s.args.b.now s.args.guest s.requires.1)
+    c.stage_at.ensures ∙ sym (row_of c.args.b.now c.args.guest c.requires)

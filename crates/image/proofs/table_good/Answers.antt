@@ -2,15 +2,14 @@ use Rattle.image.proofs.Judged.{table_many, table-bad, table_tests}
 use Rattle.image.proofs.table_good.Goals as goal
 
 pub returns-then-count-gt8 : goal.returns-then-count-gt8
-returns-then-count-gt8 c = table_many c.args.b.now c.get64-count.ensures c.if-count-gt8.true
+returns-then-count-gt8 c = table_many c.args.b.now c.get-count.ensures c.if-count-gt8.true
 
 pub returns-then-not-drives_good : goal.returns-then-not-drives_good
 returns-then-not-drives_good c =
-    table-bad c.args.b.now c.get64-count.ensures c.if-count-gt8.false
-    c.get64.ensures c.drives_good.ensures c.if-not-drives_good.true
+    table-bad c.args.b.now c.get-count.ensures c.if-count-gt8.false
+    c.get.ensures c.drives_good.ensures c.if-not-drives_good.true
 
 pub returns : goal.returns
 returns c =
-    let k = c.before.before.before.before in
-    table_tests k.args.b.now k.get64-count.ensures k.if-count-gt8.false k.get64.ensures k.drives_good.ensures
+    table_tests c.args.b.now c.get-count.ensures c.if-count-gt8.false c.get.ensures c.drives_good.ensures
     c.if-not-drives_good.false c.rest_zero.ensures c.drives_apart.ensures c.and.ensures

@@ -10,7 +10,6 @@ returns-then-not-is_drive c =
 pub returns : goal.returns
 returns c =
     let s = c.args in
-    let k = c.before.before.before.before.before.before.before in
-    waiting_tests s.b.now s.m s.i _ k.request_at-q.ensures (sym k.is_drive.ensures ∙ c.if-not-is_drive.false)
+    waiting_tests s.b.now s.m s.i _ c.request_at-q.ensures (sym c.is_drive.ensures ∙ c.if-not-is_drive.false)
     c.drive_named.ensures c.request_ok.ensures c.is_request.ensures
     c.below.ensures c.and-fits.ensures c.and.ensures

@@ -9,4 +9,4 @@ pub returns : goal.returns
 returns c =
     let a = c.args in
     let zero : ℕ → Bool = λ w. eqb w 0 in
-    zero-given a.b.now a.at (ap zero c.get64.ensures) (ap zero c.get64-2.ensures) c.and.ensures
+    zero-given a.b.now a.at (ap zero c.get.ensures) (ap zero c.get-2.ensures) c.and.ensures

@@ -3,7 +3,7 @@ use mathlib.Core.Bool.{true}
 use Prim.Native.Nat.{◌-◌, ◌≤◌, ◌<◌}
 use lib.ListN.{length}
 use Rattle.logic.proofs.LogicLaws.{length_mapped}
-use Rattle.int13.specs.Steps.{is_drive, bads_of}
+use Rattle.int13.specs.Steps.{is_drive}
 use Rattle.int13.proofs.StepsLaws.{drive_slot}
 use borrow.Author.Rules.{rules}
 use Rattle.int13.proofs.bads_of.Goals as goal
@@ -19,16 +19,8 @@ slot c =
     let l : length c.args.b.drives ≡ 8 = search (rules, length_mapped) in
     drive_slot c.args.b c.args.n l (known c)
 
-pub returns-then-not-is_drive : goal.returns-then-not-is_drive
-unfolding bads_of
-returns-then-not-is_drive c = rw (sym c.is_drive.ensures ∙ c.if-not-is_drive.true) c.no_bads.ensures
-
 pub overflow_sub-n : goal.overflow_sub-n
 overflow_sub-n c = (slot c).0
 
 pub bads_at-requires : goal.bads_at-requires
 bads_at-requires c = (slot c).1
-
-pub returns : goal.returns
-unfolding bads_of
-returns c = rw (known c.before) c.bads_at.ensures

@@ -1,15 +1,9 @@
 use mathlib.Core.Path.{◌≡◌, refl}
-use native.Mathlib.Omega.{arith}
 use lib.ListN.{length}
 use Rattle.logic.proofs.LogicLaws.{length_mapped}
 use Rattle.int13.proofs.StepsLaws.{drive-in}
 use borrow.Author.Rules.{rules}
 use Rattle.int13.proofs.drive_at.Goals as goal
-
-pub bounds-drives-place : goal.bounds-drives-place
-bounds-drives-place c =
-    let l : length c.args.b.drives ≡ 8 = search (rules, length_mapped) in
-    omega arith
 
 pub returns : goal.returns
 returns c =

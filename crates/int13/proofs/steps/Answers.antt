@@ -1,54 +1,58 @@
-use mathlib.Core.Path.{refl, sym, ap, ◌∙◌}
+use Rattle.std.specs.Prelude.{is_some}
+use Rattle.int13.specs.Steps.{named}
+use mathlib.Core.Path.{refl, ap}
+use native.Mathlib.Omega.{arith}
 use Rattle.int13.specs.declared.Outcome.TheVariants.{Answered}
-use Rattle.int13.proofs.StepsLaws.{steps_02_03, steps_08, steps_41, steps_42_43_44, steps_47, steps_48, steps-other}
+use Rattle.int13.proofs.StepsLaws.{sectors_named, extended_named, Unnamed, steps_02_03, steps_08, steps_41, steps_42_43_44, steps_47, steps_48, steps-unnamed}
 use Rattle.int13.proofs.Numbers.{steps_answered}
 use Rattle.int13.proofs.steps.Goals as goal
+use Rattle.int13.proofs.steps.Goals.{in_default-via-then-this-lt2, in_default-via-else-this-lt2+else-this-lt4+then-this-lt65, in_default-via-else-this-lt2+else-this-lt4+else-this-lt65+else-this-lt69}
 
-pub returns-then-is_sectors : goal.returns-then-is_sectors
-returns-then-is_sectors c =
+pub returns-in-2 : goal.returns-in-2
+returns-in-2 c =
     let a = c.args in
-    let function = c.function_of-f.ensures in
-    steps_answered a.known a.count a.d a.bads a.shown a.r a.window.now
-    (steps_02_03 a.known a.count a.d a.bads a.shown a.r a.window.now function (sym c.is_sectors.ensures ∙ c.if-is_sectors.true)) c.sectors_02_03.ensures refl
+    let run = sectors_named c.function_of.result (omega arith) (omega arith) in
+    steps_answered (is_some a.drive) a.count (named a.drive) a.bads a.shown a.r a.window.now
+    (steps_02_03 (is_some a.drive) a.count (named a.drive) a.bads a.shown a.r a.window.now c.function_of.ensures run) c.sectors_02_03.ensures refl
 
-pub returns-then-f-eq-GET_PARAMETERS : goal.returns-then-f-eq-GET_PARAMETERS
-returns-then-f-eq-GET_PARAMETERS c =
+pub returns-in-8 : goal.returns-in-8
+returns-in-8 c =
     let a = c.args in
-    let function = c.function_of-f.ensures in
-    steps_answered a.known a.count a.d a.bads a.shown a.r a.window.now
-    (steps_08 a.known a.count a.d a.bads a.shown a.r a.window.now function c.if-f-eq-GET_PARAMETERS.true) c.parameters_08.ensures refl
+    steps_answered (is_some a.drive) a.count (named a.drive) a.bads a.shown a.r a.window.now
+    (steps_08 (is_some a.drive) a.count (named a.drive) a.bads a.shown a.r a.window.now c.function_of.ensures c.in-8.is) c.parameters_08.ensures refl
 
-pub returns-then-f-eq-CHECK_EXTENSIONS : goal.returns-then-f-eq-CHECK_EXTENSIONS
-returns-then-f-eq-CHECK_EXTENSIONS c =
+pub returns-in-65 : goal.returns-in-65
+returns-in-65 c =
     let a = c.args in
-    let function = c.function_of-f.ensures in
-    steps_answered a.known a.count a.d a.bads a.shown a.r a.window.now
-    (steps_41 a.known a.count a.d a.bads a.shown a.r a.window.now function c.if-f-eq-CHECK_EXTENSIONS.true) c.extensions_41.ensures refl
+    steps_answered (is_some a.drive) a.count (named a.drive) a.bads a.shown a.r a.window.now
+    (steps_41 (is_some a.drive) a.count (named a.drive) a.bads a.shown a.r a.window.now c.function_of.ensures c.in-65.is) (rw c.is_some.ensures at c.extensions_41.ensures) refl
 
-pub returns-then-is_extended : goal.returns-then-is_extended
-returns-then-is_extended c =
+pub returns-in-66 : goal.returns-in-66
+returns-in-66 c =
     let a = c.args in
-    let function = c.function_of-f.ensures in
-    steps_answered a.known a.count a.d a.bads a.shown a.r a.window.now
-    (steps_42_43_44 a.known a.count a.d a.bads a.shown a.r a.window.now function (sym c.is_extended.ensures ∙ c.if-is_extended.true)) c.extended_42_43_44.ensures.0 c.extended_42_43_44.ensures.1
+    let packet = extended_named c.function_of.result (omega arith) (omega arith) in
+    steps_answered (is_some a.drive) a.count (named a.drive) a.bads a.shown a.r a.window.now
+    (steps_42_43_44 (is_some a.drive) a.count (named a.drive) a.bads a.shown a.r a.window.now c.function_of.ensures packet) c.extended_42_43_44.ensures.0 c.extended_42_43_44.ensures.1
 
-pub returns-then-f-eq-EXTENDED_SEEK : goal.returns-then-f-eq-EXTENDED_SEEK
-returns-then-f-eq-EXTENDED_SEEK c =
+pub returns-in-71 : goal.returns-in-71
+returns-in-71 c =
     let a = c.args in
-    let function = c.function_of-f.ensures in
-    steps_answered a.known a.count a.d a.bads a.shown a.r a.window.now
-    (steps_47 a.known a.count a.d a.bads a.shown a.r a.window.now function c.if-f-eq-EXTENDED_SEEK.true) c.seek_47.ensures refl
+    steps_answered (is_some a.drive) a.count (named a.drive) a.bads a.shown a.r a.window.now
+    (steps_47 (is_some a.drive) a.count (named a.drive) a.bads a.shown a.r a.window.now c.function_of.ensures c.in-71.is) c.seek_47.ensures refl
 
-pub returns-then-f-eq-GET_RESULT : goal.returns-then-f-eq-GET_RESULT
-returns-then-f-eq-GET_RESULT c =
+pub returns-in-72 : goal.returns-in-72
+returns-in-72 c =
     let a = c.args in
-    let function = c.function_of-f.ensures in
-    steps_answered a.known a.count a.d a.bads a.shown a.r a.window.now
-    (steps_48 a.known a.count a.d a.bads a.shown a.r a.window.now function c.if-f-eq-GET_RESULT.true) c.result_48.ensures.0 c.result_48.ensures.1
+    steps_answered (is_some a.drive) a.count (named a.drive) a.bads a.shown a.r a.window.now
+    (steps_48 (is_some a.drive) a.count (named a.drive) a.bads a.shown a.r a.window.now c.function_of.ensures c.in-72.is) c.result_48.ensures.0 c.result_48.ensures.1
 
-pub returns : goal.returns
-returns c =
+pub returns-in_default : goal.returns-in_default
+returns-in_default c =
     let a = c.args in
-    let function = c.function_of-f.ensures in
-    steps_answered a.known a.count a.d a.bads a.shown a.r a.window.now
-    (steps-other a.known a.count a.d a.bads a.shown a.r a.window.now function (sym c.is_sectors.ensures ∙ c.if-is_sectors.false) c.if-f-eq-GET_PARAMETERS.false c.if-f-eq-CHECK_EXTENSIONS.false (sym c.is_extended.ensures ∙ c.if-is_extended.false) c.if-f-eq-EXTENDED_SEEK.false c.if-f-eq-GET_RESULT.false) (ap Answered c.refuse.ensures) refl
+    let unnamed : Unnamed c.function_of.result = elim c.in_default.branch [
+      | in_default-via-then-this-lt2 w ↦ record { sectors = λ h. omega arith; n08 = omega arith; n41 = omega arith; packet = λ h. omega arith; n47 = omega arith; n48 = omega arith }
+      | in_default-via-else-this-lt2+else-this-lt4+then-this-lt65 w ↦ record { sectors = λ h. omega arith; n08 = omega arith; n41 = omega arith; packet = λ h. omega arith; n47 = omega arith; n48 = omega arith }
+      | in_default-via-else-this-lt2+else-this-lt4+else-this-lt65+else-this-lt69 w ↦ record { sectors = λ h. omega arith; n08 = omega arith; n41 = omega arith; packet = λ h. omega arith; n47 = omega arith; n48 = omega arith }
+    ] in
+    steps_answered (is_some a.drive) a.count (named a.drive) a.bads a.shown a.r a.window.now
+    (steps-unnamed (is_some a.drive) a.count (named a.drive) a.bads a.shown a.r a.window.now c.function_of.ensures unnamed) (ap Answered c.refuse.ensures) refl

@@ -1,4 +1,4 @@
-use Prim.Native.Nat.{◌-◌, ◌*◌, ◌≤◌}
+use Prim.Native.Nat.{◌*◌}
 use mathlib.Core.Path.{◌≡◌}
 use lib.ListN.{length, replicate}
 use lib.Seq.{sets}
@@ -7,7 +7,4 @@ use Rattle.int13.specs.Placement.{tables_to}
 use Rattle.int13.proofs.tables_of.Given as goal
 
 abbrev pub invariant-loop-i : goal.invariant-loop-i
-invariant-loop-i l = (l.i ≤ 8) × (l.at ≡ 16 * parameters_to l.i l.b) × (length l.out ≡ 128) × (l.out ≡ sets (replicate 128 0) 0 (tables_to l.i l.b))
-
-abbrev pub decreases-loop-i : goal.decreases-loop-i
-decreases-loop-i l = 8 - l.i
+invariant-loop-i l = (l.at ≡ 16 * parameters_to l.i l.b) × (length l.out ≡ 128) × (l.out ≡ sets (replicate 128 0) 0 (tables_to l.i l.b))

@@ -3,4 +3,4 @@ use Rattle.table.proofs.put_end.Goals as goal
 
 pub returns : goal.returns
 returns c =
-    end-laid c.args.out.now c.args.at c.store16.ensures c.store16-2.ensures
+    end-laid c.args.out.now c.args.at c.put.ensures c.put-2.ensures

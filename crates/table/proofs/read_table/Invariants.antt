@@ -1,8 +1,7 @@
-use Rattle.table.proofs.Runs.{Stands}
+use mathlib.Core.Path.{◌≡◌}
+use Prim.Native.Nat.{◌-◌}
+use Rattle.table.specs.Table.{read_from, read_table}
 use Rattle.table.proofs.read_table.Given as goal
 
-abbrev pub invariant-loop-left : goal.invariant-loop-left
-invariant-loop-left l = Stands l.t l.store l.left l.at l.b l.firsts l.sizes
-
-abbrev pub decreases-loop-left : goal.decreases-loop-left
-decreases-loop-left l = l.left
+abbrev pub invariant-loop : goal.invariant-loop
+invariant-loop l = read_from (25 - l.counter) l.t l.store l.at l.table ≡ read_table l.t l.store

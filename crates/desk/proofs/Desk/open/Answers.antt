@@ -2,10 +2,10 @@ use Rattle.desk.specs.Calls.{open_of}
 use Rattle.desk.proofs.NumbersLaws.{open_answered}
 use Rattle.desk.proofs.Desk.open.Goals as goal
 
-pub returns-in-Accepted : goal.returns-in-Accepted
+pub returns-in-Ok : goal.returns-in-Ok
 unfolding open_of
-returns-in-Accepted c = open_answered _ _ _ (rw (c.vacant.ensures, ← c.read_table-reading.ensures.reading, c.in-Accepted.is))
+returns-in-Ok c = open_answered _ _ _ (rw (c.vacant-desk.ensures, ← c.read_table-reading.ensures.reading, c.in-Ok.is))
 
-pub returns-in-Refused : goal.returns-in-Refused
+pub returns-in-Err : goal.returns-in-Err
 unfolding open_of
-returns-in-Refused c = open_answered _ _ _ (rw (c.vacant-in-Refused.ensures, c.empty_table-none.ensures, ← c.read_table-reading.ensures.reading, c.in-Refused.is))
+returns-in-Err c = open_answered _ _ _ (rw (c.vacant-desk-in-Err.ensures, c.empty_table.ensures, ← c.read_table-reading.ensures.reading, c.in-Err.is))

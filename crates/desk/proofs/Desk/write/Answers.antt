@@ -1,26 +1,36 @@
-use mathlib.Core.Path.{◌≡◌, refl, ◌∙◌}
-use mathlib.Core.Bool.{true}
+use Rattle.std.proofs.lemmas.Result.{err_from_is_err_and}
+use mathlib.Core.Path.{sym, ap, ◌∙◌}
 use lib.ListN.{length}
-use Rattle.table.specs.declared.Written.TheVariants.{Refused as WriteRefused}
 use Rattle.table.specs.Table.{write_answer, write_out}
-use Rattle.desk.specs.Acceptable.{accept}
-use Rattle.desk.specs.Calls.{house_number, written_of, written_out}
-use Rattle.desk.proofs.CallsLaws.{house-tests, house-refused, house_passed, write-table}
+use Rattle.desk.specs.Calls.{WriteAnswer, table_written, written_of, written_out}
+use Rattle.desk.proofs.CallsLaws.{refused_by, passed_by, write-table}
 use Rattle.desk.proofs.NumbersLaws.{write_answered}
 use Rattle.desk.proofs.Desk.write.Goals as goal
 
-pub returns-then-number-ne0 : goal.returns-then-number-ne0
+pub returns-in_err-house_tests : goal.returns-in_err-house_tests
 unfolding written_of written_out
-returns-then-number-ne0 c =
+returns-in_err-house_tests c =
     let d = c.args.self in
     let out = c.args.out.now in
-    let number : c.house_number-number.result ≡ house_number (accept d) true true = house-tests c.house_number-number.ensures c.accept.ensures refl refl in
-    write_answered d out (house-refused _ _ _ WriteRefused (write_answer d.table (length out)) number c.if-number-ne0.true) (house-refused _ _ _ (λ n. out) (write_out d.table out) number c.if-number-ne0.true)
+    let p = err_from_is_err_and c.from_residual.result c.from_residual.ensures.1 in
+    let tests = rw c.accept.ensures at c.house_tests.ensures.0 in
+    write_answered d out
+    (refused_by _ _ _ (λ (x : WriteAnswer). x) (table_written (write_answer d.table (length out))) tests c.in_err-house_tests.was p.1 p.2)
+    (refused_by _ _ _ (λ (x : WriteAnswer). out) (write_out d.table out) tests c.in_err-house_tests.was p.1 p.2)
+
+pub returns-in_err-written : goal.returns-in_err-written
+returns-in_err-written c =
+    let d = c.args.self in
+    let out = c.args.out.now in
+    let p = err_from_is_err_and c.from_residual-in_err-written.result c.from_residual-in_err-written.ensures.1 in
+    let w = write-table d out (passed_by _ _ _ (rw c.accept.ensures at c.house_tests.ensures.0) c.in_ok-house_tests.was) in
+    let answer = ap table_written (sym c.in_err-written.was ∙ c.write_table.ensures.0) in
+    write_answered d out (rw (p.1, p.2) (answer ∙ w.0)) (c.write_table.ensures.1 ∙ w.1)
 
 pub returns : goal.returns
 returns c =
     let d = c.args.self in
     let out = c.args.out.now in
-    let number : c.house_number-number.result ≡ house_number (accept d) true true = house-tests c.house_number-number.ensures c.accept.ensures refl refl in
-    let w = write-table d out (house_passed _ _ _ number c.if-number-ne0.false) in
-    write_answered d out (c.write_table.ensures.0 ∙ w.0) (c.write_table.ensures.1 ∙ w.1)
+    let w = write-table d out (passed_by _ _ _ (rw c.accept.ensures at c.house_tests.ensures.0) c.in_ok-house_tests.was) in
+    let answer = ap table_written (sym c.in_ok-written.was ∙ c.write_table.ensures.0) in
+    write_answered d out (answer ∙ w.0) (c.write_table.ensures.1 ∙ w.1)

@@ -1,4 +1,0 @@
-use Rattle.int13.proofs.succeed.Goals as goal
-
-pub returns : goal.returns
-returns c = rw (c.answer.ensures, c.al.ensures)
