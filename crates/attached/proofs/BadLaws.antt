@@ -14,7 +14,7 @@ use lib.Dec.{leb, ltb, eqb}
 use borrow.Author.Tests.{leb-true, le-leb, lt-leb, ltb-true, lt-ltb, le-ltb, eqb-true, eqb-false, eq-eqb}
 use Rattle.std.specs.Prelude.{min}
 use Rattle.std.specs.List.{list_all, range_with_len}
-use Rattle.logic.specs.Logic.{pick, both, either, in_range, some_below}
+use Rattle.logic.specs.Logic.{pick, both, either, in_range, all_below, some_below}
 use Rattle.logic.proofs.LogicLaws.{both_true, both_false, either_left, either_right, in_range_true, all_intro, all_at, all_fails, all_ext, all_past, range_all, some_at, lt_or_le, true≢false}
 use Rattle.words.specs.Words.{Bytes, le, le_bytes, part}
 use Rattle.words.proofs.WordsLaws.{glue, sets-append, sets_front, length-le_bytes, read-write, write_read}
@@ -304,10 +304,26 @@ pub bads_ok-no_bads : (blocks : ℕ) → bads_ok no_bads blocks ≡ true
 unfolding bads_ok list_ok ascends are_blocks zero_past held_of le
 bads_ok-no_bads blocks = refl
 
--- what `zero_past` tests, from the first of the n numbers that a list does not have
-pub past_all : {n : ℕ} (l : Bads) → n ≡ held_of l.count → list_all (λ j. eqb (bad_at l j) 0) (range_with_len n (16 - n)) ≡ zero_past l
+-- the loop of `zero_past`, which begins behind the n numbers that a list has: before them there is nothing to test
+pub past_first : (n : ℕ) (list : List ℕ) → true ≡ all_below n (λ j. either (ltb j n) (eqb (le 8 list (bad_size * j)) 0))
+past_first n list =
+    sym (all_intro n (λ j. either (ltb j n) (eqb (le 8 list (bad_size * j)) 0)) (λ j h. either_left (ltb j n) (eqb (le 8 list (bad_size * j)) 0) (lt-ltb j n h)))
+
+-- behind them a zero
+pub past_test : {x : ℕ} (n j : ℕ) (list : List ℕ) → n ≤ j → x ≡ le 8 list (bad_size * j) → eqb x 0 ≡ either (ltb j n) (eqb (le 8 list (bad_size * j)) 0)
+past_test n j list h e = let f = le-ltb j n h in rw (e, f)
+
+-- and that is what is asked, by the count
+pub past_all : (l : Bads) → all_below 16 (λ j. either (ltb j (held_of l.count)) (eqb (bad_at l j) 0)) ≡ zero_past l
 unfolding zero_past
-past_all l e =
+past_all l =
+    all_ext 16 (λ j. either (ltb j (held_of l.count)) (eqb (bad_at l j) 0)) (λ j. either (ltb j l.count) (eqb (bad_at l j) 0))
+    (λ j h. ap (λ t. either t (eqb (bad_at l j) 0)) (held-ltb l.count j h))
+
+-- what `zero_past` tests, from the first of the n numbers that a list does not have
+pub past_listed : {n : ℕ} (l : Bads) → n ≡ held_of l.count → list_all (λ j. eqb (bad_at l j) 0) (range_with_len n (16 - n)) ≡ zero_past l
+unfolding zero_past
+past_listed l e =
     let n : ℕ = held_of l.count in
     let zero : ℕ → Bool = λ j. eqb (bad_at l j) 0 in
     rw (e, range_all n (16 - n) zero, all_past 16 n zero (held-most l.count))
@@ -333,11 +349,11 @@ pub before_below : (x from k : ℕ) → x < from → before x from k ≡ k
 unfolding before
 before_below x from k h = rw (lt-leb from x h)
 
-before-within : (x from k : ℕ) → from ≤ x → x - from < k → before x from k ≡ x - from
+pub before-within : (x from k : ℕ) → from ≤ x → x - from < k → before x from k ≡ x - from
 unfolding before
 before-within x from k h l = rw (le-leb from x h, lt-ltb (x - from) k l)
 
-before-past : (x from k : ℕ) → k ≤ x - from → before x from k ≡ k
+pub before-past : (x from k : ℕ) → k ≤ x - from → before x from k ≡ k
 unfolding before
 before-past x from k h = rw (le-ltb (x - from) k h, both_false (leb from x))
 

@@ -1,20 +1,22 @@
 -- Laws of the definitions: what the tests say, the bounds of the arithmetic, the cases of the answers.
 -- Assumes nothing.
-use mathlib.Core.Path.{◌≡◌, refl}
-use mathlib.Core.Bool.{true, false}
-use Prim.Native.Nat.{ℕ, ◌+◌, ◌-◌, ◌*◌, ◌%◌, ◌≤◌, ◌<◌}
+use mathlib.Core.Path.{◌≡◌, refl, ap, ◌∙◌}
+use mathlib.Core.Bool.{Bool, true, false}
+use mathlib.Core.List.{[], ◌∷◌}
+use Prim.Native.Nat.{ℕ, ◌+◌, ◌-◌, ◌*◌, ◌/◌, ◌%◌, ◌≤◌, ◌<◌}
 use native.Mathlib.Nat.{mul-le-mul, mod-lt}
 use native.Mathlib.Omega.{arith}
 use borrow.Author.Tests.{ltb-true, lt-ltb, le-leb}
 use lib.Arith.{digits_lt}
 use lib.Dec.{ltb}
 use Rattle.std.specs.Prelude.{Result, Ok, Err}
+use Rattle.logic.specs.Logic.{pick, both}
 use Rattle.logic.proofs.LogicLaws.{both_true, in_range_true, impossible}
 use Rattle.chs.specs.declared.Geometry.{Geometry}
 use Rattle.chs.specs.declared.Address.{Address}
 use Rattle.chs.specs.declared.Outside.{Outside}
 use Rattle.chs.specs.Demand2.{Limits, Valid}
-use Rattle.chs.specs.Chs.{most_cylinders, most_heads, most_sectors, in_limits, is_valid, number, size, split, block_of, address_of, block_numbers, address_numbers}
+use Rattle.chs.specs.Chs.{most_cylinders, most_heads, most_sectors, in_limits, is_valid, number, size, split, block_of, address_of, block_numbers, address_numbers, block_given, address_given}
 
 -- ---- in_limits and is_valid, as facts
 
@@ -117,6 +119,24 @@ unfolding address_of
 address_of-below g n e f = rw (e, f)
 
 -- ---- the answers by their numbers
+
+-- whoever answers with the definition answers with the paper's numbers
+pub block_answered : {r : Result ℕ Outside} (g : Geometry) (a : Address) → r ≡ block_of g a → (r ≡ block_of g a) × (block_numbers r ≡ block_given g a)
+unfolding block_of block_numbers block_given
+block_answered g a e = (e, ap block_numbers e ∙ by_test (both (in_limits g) (is_valid g a)))
+  where
+    by_test : (t : Bool) → block_numbers (pick t (Ok (number g a)) (Err (record {}))) ≡ pick t (0 ∷ number g a ∷ []) (0x04 ∷ [])
+    by_test true = refl
+    by_test false = refl
+
+pub address_answered : {r : Result Address Outside} (g : Geometry) (n : ℕ) → r ≡ address_of g n → (r ≡ address_of g n) × (address_numbers r ≡ address_given g n)
+unfolding address_of address_numbers address_given
+address_answered g n e = (e, ap address_numbers e ∙ by_test (both (in_limits g) (ltb n (size g))))
+  where
+    by_test : (t : Bool) → address_numbers (pick t (Ok (split g n)) (Err (record {})))
+        ≡ pick t (0 ∷ (n / g.s / g.h) ∷ (n / g.s % g.h) ∷ (n % g.s + 1) ∷ []) (0x04 ∷ [])
+    by_test true = refl
+    by_test false = refl
 
 -- no two answers have the same numbers
 pub block_apart : (x y : Result ℕ Outside) → block_numbers x ≡ block_numbers y → x ≡ y

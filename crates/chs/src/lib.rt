@@ -18,7 +18,7 @@ const MOST_HEADS: u64 = 255;
 const MOST_SECTORS: u64 = 63;
 
 // C, H and S.
-#[derive(Clone, Copy, PartialEq, Eq, Debug)]
+#[derive(Clone, Copy, PartialEq, Eq)]
 pub struct Geometry {
     pub c: u32,
     pub h: u32,
@@ -26,7 +26,7 @@ pub struct Geometry {
 }
 
 // Cylinder and head count from 0, sector from 1.
-#[derive(Clone, Copy, PartialEq, Eq, Debug)]
+#[derive(Clone, Copy, PartialEq, Eq)]
 pub struct Address {
     pub cylinder: u32,
     pub head: u32,
@@ -34,7 +34,7 @@ pub struct Address {
 }
 
 // What CX says.
-#[derive(Clone, Copy, PartialEq, Eq, Debug)]
+#[derive(Clone, Copy, PartialEq, Eq)]
 pub struct CylinderSector {
     pub cylinder: u16,
     pub sector: u16,

@@ -13,7 +13,7 @@ use borrow.Author.Tests.{eq-eqb, eqb-true}
 use Rattle.logic.specs.Logic.{both, either}
 use Rattle.logic.proofs.LogicLaws.{both_true, both_intro, either_left, true≢false}
 use Rattle.words.specs.Words.{Bytes, le, le_bytes, part}
-use Rattle.words.proofs.WordsLaws.{le_ext, length-le_bytes, read-write, write_read, sets-append, sets_front}
+use Rattle.words.proofs.WordsLaws.{le_ext, length-le_bytes, read-write, write_read, sets-append, sets_front, sets-whole}
 use Rattle.drive.specs.declared.Drive.{Drive}
 use Rattle.drive.specs.Drive.{drive_length, tail_of, drive_of, same, i2o, interface_ok, is_i2o, zero_tail, kind_ok, geometry_fits, fields_ok}
 use Rattle.drive.proofs.DriveLaws.{length-least, length_most, kind-good, same_true}
@@ -57,11 +57,26 @@ pub sound_fields : (k : ℕ) (r : List ℕ) → sound_record k r ≡ true → fi
 unfolding sound_record
 sound_fields k r e = (both_true (is_record k r) (fields_ok (drive_of r)) e).1
 
--- ---- what a conversion down that is not refused has
+-- ---- what a conversion that is not refused has
+
+pub up_room : (r : List ℕ) (room : ℕ) → up_ok r room ≡ true → room ≡ 76
+unfolding up_ok
+up_room r room e = eqb-true room 76 (both_true (eqb room 76) (sound_record 1 r) e).0
+
+pub up_sound : (r : List ℕ) (room : ℕ) → up_ok r room ≡ true → sound_record 1 r ≡ true
+unfolding up_ok
+up_sound r room e = (both_true (eqb room 76) (sound_record 1 r) e).1
+
+pub up_long : (r : List ℕ) (room : ℕ) → up_ok r room ≡ true → 68 ≤ length r
+up_long r room e = record_long 1 r (sound_header 1 r (up_sound r room e))
 
 -- a record of kind 1 can say this drive too
 abbrev pub narrow : Drive → Bool
 narrow d = both (zero_tail d) (not (is_i2o d))
+
+pub down-room : (r : List ℕ) (room : ℕ) → down_ok r room ≡ true → room ≡ 68
+unfolding down_ok
+down-room r room e = eqb-true room 68 (both_true (eqb room 68) (both (sound_record 2 r) (narrow (drive_of r))) e).0
 
 pub down_sound : (r : List ℕ) (room : ℕ) → down_ok r room ≡ true → sound_record 2 r ≡ true
 unfolding down_ok
@@ -70,6 +85,9 @@ down_sound r room e = (both_true (sound_record 2 r) (narrow (drive_of r)) (both_
 pub down-narrow : (r : List ℕ) (room : ℕ) → down_ok r room ≡ true → narrow (drive_of r) ≡ true
 unfolding down_ok
 down-narrow r room e = (both_true (sound_record 2 r) (narrow (drive_of r)) (both_true (eqb room 68) (both (sound_record 2 r) (narrow (drive_of r))) e).1).1
+
+pub down_long : (r : List ℕ) (room : ℕ) → down_ok r room ≡ true → 68 ≤ length r
+down_long r room e = record_long 2 r (sound_header 2 r (down_sound r room e))
 
 -- ---- what the code stores
 
@@ -88,6 +106,16 @@ module _ (r : List ℕ) (long : 68 ≤ length r) where
   pub length_up : length (up_bytes r) ≡ 76
   unfolding up_bytes
   length_up = simp (length-append, length-shared)
+
+  pub up_stores : {o₁ o₂ : List ℕ} (s : List ℕ) → length s ≡ 76 → o₁ ≡ sets s 0 (shared 2 r) → o₂ ≡ sets o₁ 68 (replicate 8 0) → o₂ ≡ up_bytes r
+  unfolding up_bytes
+  up_stores s l e₁ e₂ =
+      let a : sets s 0 (up_bytes r) ≡ sets (sets s 0 (shared 2 r)) 68 (replicate 8 0) = simp (sets-append, length-shared) in
+      rw (e₂, e₁) (sym a ∙ sets-whole s (up_bytes r) (l ∙ sym length_up))
+
+  pub down_stores : {o : List ℕ} (s : List ℕ) → length s ≡ 68 → o ≡ sets s 0 (shared 1 r) → o ≡ down_bytes r
+  unfolding down_bytes
+  down_stores s l e = e ∙ sets-whole s (shared 1 r) (l ∙ sym (length-shared 1))
 
   -- the bytes shared, and zeros over what is left
   pub converted_stores : {o₁ o₂ o₃ z : List ℕ} (s : List ℕ) (k : ℕ) → length s ≡ drive_length k

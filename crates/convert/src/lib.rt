@@ -25,6 +25,7 @@ fn is_record(r: &[u8], kind: u16) -> bool
 // cannot say the last eight bytes of the device path, nor the type I2O; a sound record of kind 1 has neither. Else
 // refused, and nothing is written.
 #[tactic(auto, using(crate::proofs::ConvertLaws::decodable), unfolding(crate::specs::Convert::converts, crate::specs::Convert::sound_record, crate::specs::Convert::converted_bytes))]
+#[inline(always)]
 fn convert(r: &[u8], from: u16, to: u16, out: &mut [u8]) -> Result<(), Unconvertible>
     ensures { (result ≡ answer (converts from to r.now (length out.old))) × (out.new ≡ pick (converts from to r.now (length out.old)) (converted_bytes to r.now) out.old) }
 {

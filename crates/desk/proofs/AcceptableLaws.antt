@@ -19,7 +19,7 @@ use lib.Seq.{take_all}
 use lib.Dec.{leb, eqb}
 use borrow.Author.Tests.{leb-true, ltb-true, eqb-true}
 use Rattle.logic.specs.Logic.{pick, both, either}
-use Rattle.logic.proofs.LogicLaws.{both_true, both_intro, both_comm, and_both}
+use Rattle.logic.proofs.LogicLaws.{both_true, both_intro, both_comm, all_more, and_both}
 use Rattle.drive.specs.declared.Drive.{Drive}
 use Rattle.chs.specs.Chs.{size}
 use Rattle.drive.specs.Drive.{geometry_of, is_protected}
@@ -28,6 +28,7 @@ use Rattle.table.specs.Table.{is_sound, drives_of}
 use Rattle.table.proofs.Sound.{Obeys, good-obeys}
 use Rattle.int13.specs.declared.Registers.{Registers}
 use Rattle.int13.specs.declared.Job.{Job}
+use Rattle.int13.specs.declared.Placement.{Placement}
 use Rattle.int13.specs.Answers.{ah, is_sectors, is_write}
 use Rattle.int13.specs.Placement.{table_count}
 use Rattle.int13.specs.Steps.{is_drive, drive_at}
@@ -36,8 +37,8 @@ use Rattle.desk.specs.declared.Stage.{Stage}
 use Rattle.desk.specs.declared.Stage.TheVariants.{Vacant, Waiting, Finished}
 use Rattle.desk.specs.declared.Row.{Row}
 use Rattle.desk.specs.declared.Desk.{Desk}
-use Rattle.desk.specs.Parts.{window_size, store_blocks, vacant_row, stage_in}
-use Rattle.desk.specs.Acceptable.{is_transfer, packet_ok, job_rules, job_ok, moved_ok, request_ok, stage_ok, rows_ok, placements_ok, accept, Servable}
+use Rattle.desk.specs.Parts.{window_size, store_blocks, vacant_row, stage_in, placement_at}
+use Rattle.desk.specs.Acceptable.{is_transfer, packet_ok, job_rules, job_ok, moved_ok, request_ok, stage_ok, rows_ok, placement_ok, placements_ok, accept, Servable}
 use Rattle.desk.specs.Calls.{closed}
 
 -- ---- the parts of the test
@@ -153,6 +154,34 @@ pub not-waiting : {A : Type 0} (f : Stage → A) {x : A} (s : Stage) → OneOf (
 not-waiting f Vacant k v h = v
 not-waiting f (Waiting q) k v h = absurd (⊎_elim (λ w. omega arith) (λ w. omega arith) k)
 not-waiting f (Finished r) k v h = h r
+
+pub rows_ok-more : {r a s : Bool} (i : ℕ) (rows : List Row) (b : Table) (M : ℕ) → s ≡ rows_ok i rows b M → r ≡ both a s → a ≡ stage_ok b M (stage_in rows i) → r ≡ rows_ok (i + 1) rows b M
+unfolding rows_ok
+rows_ok-more i rows b M p q e = rw (add-one, q, e, p)
+
+pub placements_more : {r a s : Bool} {p : Placement} (g n M : ℕ) (d : Desk) → s ≡ placements_ok g n M d → r ≡ both a s → a ≡ placement_ok n M p → p ≡ placement_at d g
+    → r ≡ placements_ok (g + 1) n M d
+unfolding placements_ok
+placements_more g n M d h e a p = all_more g (λ i. placement_ok n M (placement_at d i)) h e (a ∙ ap (placement_ok n M) p)
+
+-- a count past its limit, whatever else
+pub job_count : {f : ℕ} {sector count : Bool} (d : Drive) (M : ℕ) (j : Job) → f ≡ ah j.registers → sector ≡ is_sectors f → count ≡ leb j.count (pick sector 128 127) → count ≡ false
+    → false ≡ job_rules d M j
+job_count {f} {sector} d M j ef es ec e = rw (← ef, ← es, ← ec, e) (by_transfer (either sector (either (eqb f 0x42) (eqb f 0x43))))
+  where
+    by_transfer : (t : Bool) → false ≡ both t false
+    by_transfer true = refl
+    by_transfer false = refl
+
+pub job_tests : {f : ℕ} {sector word transfer writes guarded protected buffer packet placed places range blocks count x : Bool} (d : Drive) (M : ℕ) (j : Job)
+    → f ≡ ah j.registers → sector ≡ is_sectors f → count ≡ leb j.count (pick sector 128 127) → count ≡ true
+    → word ≡ either (eqb f 0x42) (eqb f 0x43) → transfer ≡ either sector word → writes ≡ is_write f → guarded ≡ is_protected d → protected ≡ both writes guarded
+    → buffer ≡ leb (j.buffer + 512 * j.count) M → packet ≡ pick sector (eqb j.packet 0) (leb (j.packet + 16) M) → placed ≡ both packet (not protected) → places ≡ both buffer placed
+    → range ≡ both (leb (j.start + j.count) d.blocks) (pick sector (leb (j.start + j.count) (size (geometry_of d))) true) → blocks ≡ both range places
+    → x ≡ both transfer blocks → x ≡ job_rules d M j
+job_tests d M j ef es ec c ew et ei eg ep eb ek el en er eo ex =
+    let k : leb j.count (pick (is_sectors (ah j.registers)) 128 127) ≡ true = rw (← ef, ← es, ← ec) c in
+    rw (ex, eo, er, en, el, ek, eb, ep, eg, ei, et, ew, es, ef, k)
 
 -- the rows in their order, as the library's `all` takes them
 rows_to : (n : ℕ) (rows : List Row) (b : Table) (M : ℕ) → n ≤ length rows → list_all (λ (row : Row). stage_ok b M row.stage) (take n rows) ≡ rows_ok n rows b M

@@ -37,7 +37,7 @@ use Rattle.desk.specs.declared.HouseNumber.{HouseNumber}
 use Rattle.desk.specs.declared.HouseNumber.TheVariants.{NotVacant, NotFinished, NotWaiting, BadPlace}
 use Rattle.desk.specs.Parts.{window_size, own_window, with_own, stage_in, stage_at, with_stage, is_waiting, next, with_pointer, placement_at, with_placement}
 use Rattle.desk.specs.Acceptable.{packet_ok, place_ok, accept, Servable, InRange}
-use Rattle.desk.specs.Calls.{PostAnswer, TurnAnswer, WithdrawAnswer, PlaceAnswer, house_tests, house_answer, is_lent, done, table_written, written_of, written_out, post_checked, post_row, post_of, first_waiting, quota, moves_now, service_of, beside, bads_for, moved_from, Transferred, serve_by, serve_stage, turn_next, turn_of, collect_stage, collect_of, withdrawn_window, withdraw_stage, withdraw_of, tables_in, place_tables, place_stage, place_of}
+use Rattle.desk.specs.Calls.{number, PostAnswer, TurnAnswer, WithdrawAnswer, PlaceAnswer, house_tests, house_number, house_answer, is_lent, done, table_written, written_of, written_out, post_checked, post_row, post_of, first_waiting, quota, moves_now, service_of, beside, bads_for, moved_from, Transferred, serve_by, serve_stage, turn_next, turn_of, collect_stage, collect_of, withdrawn_window, withdraw_stage, withdraw_of, tables_in, place_tables, place_stage, place_of}
 use Rattle.desk.proofs.AcceptableLaws.{accept_true, rows_ok_at, Waits, waits_facts, not-waiting, drive-obeys, waits_servable}
 use Rattle.desk.proofs.Transfers.{length_moved, ending_laid}
 
@@ -94,34 +94,54 @@ own-length d arena store e = ap window_length (lent_arena d arena store e)
 
 -- ---- the tests before the row's
 
+-- a number that is not 0 is the refusal
+pub house-refused : {A : Type 0} {n : ℕ} (a l g : Bool) (f : ℕ → A) (x : A) → n ≡ house_number a l g → (n ≡ 0 → ⊥) → f n ≡ house_tests a l g (λ e. f (number e)) x
+unfolding house_number
+house-refused false l g f x e z = ap f e
+house-refused true false g f x e z = ap f e
+house-refused true true false f x e z = ap f e
+house-refused true true true f x e z = absurd (z e)
+
+-- the tests as the code has them
+pub house-tests : {n : ℕ} {a l g a' l' g' : Bool} → n ≡ house_number a l g → a ≡ a' → l ≡ l' → g ≡ g' → n ≡ house_number a' l' g'
+house-tests e ea el eg = rw (← ea, ← el, ← eg) e
+
 -- a refusal of the tests is the call's
-house-refused : {A : Type 0} {e : HouseNumber} (a l g : Bool) (f : HouseNumber → A) (x : A) → house_answer a l g ≡ Err e → f e ≡ house_tests a l g f x
+answer-refused : {A : Type 0} {e : HouseNumber} (a l g : Bool) (f : HouseNumber → A) (x : A) → house_answer a l g ≡ Err e → f e ≡ house_tests a l g f x
 unfolding house_answer
-house-refused false l g f x q = ap f (cc)
-house-refused true false g f x q = ap f (cc)
-house-refused true true false f x q = ap f (cc)
-house-refused true true true f x q = impossible (cc)
+answer-refused false l g f x q = ap f (cc)
+answer-refused true false g f x q = ap f (cc)
+answer-refused true true false f x q = ap f (cc)
+answer-refused true true true f x q = impossible (cc)
 
 -- as a `?` in the code hands it on
 pub refused_by : {A X : Type 0} {h : Result (Unit {0}) HouseNumber} {e y : HouseNumber} {r : Result X HouseNumber} (a l g : Bool) (f : Result X HouseNumber → A) (x : A)
     → h ≡ house_answer a l g → h ≡ Err e → r ≡ Err y → y ≡ e → f r ≡ house_tests a l g (λ e. f (Err e)) x
-refused_by a l g f x p q s t = rw (s, t) (house-refused a l g (λ e. f (Err e)) x (sym p ∙ q))
+refused_by a l g f x p q s t = rw (s, t) (answer-refused a l g (λ e. f (Err e)) x (sym p ∙ q))
 
 pub record Passed (a l g : Bool) : Type 0 where
   pub acceptable : a ≡ true
   pub lent : l ≡ true
   pub guest : g ≡ true
 
+-- at 0 all of them pass
+pub house_passed : {n : ℕ} (a l g : Bool) → n ≡ house_number a l g → n ≡ 0 → Passed a l g
+unfolding house_number
+house_passed false l g e z = absurd (omega arith)
+house_passed true false g e z = absurd (omega arith)
+house_passed true true false e z = absurd (omega arith)
+house_passed true true true e z = record { acceptable = refl; lent = refl; guest = refl }
+
 -- where there is none all of them pass
-house_passed : {u : Unit {0}} (a l g : Bool) → house_answer a l g ≡ Ok u → Passed a l g
+answer_passed : {u : Unit {0}} (a l g : Bool) → house_answer a l g ≡ Ok u → Passed a l g
 unfolding house_answer
-house_passed false l g q = impossible (cc)
-house_passed true false g q = impossible (cc)
-house_passed true true false q = impossible (cc)
-house_passed true true true q = record { acceptable = refl; lent = refl; guest = refl }
+answer_passed false l g q = impossible (cc)
+answer_passed true false g q = impossible (cc)
+answer_passed true true false q = impossible (cc)
+answer_passed true true true q = record { acceptable = refl; lent = refl; guest = refl }
 
 pub passed_by : {h : Result (Unit {0}) HouseNumber} {u : Unit {0}} (a l g : Bool) → h ≡ house_answer a l g → h ≡ Ok u → Passed a l g
-passed_by a l g p q = house_passed a l g (sym p ∙ q)
+passed_by a l g p q = answer_passed a l g (sym p ∙ q)
 
 pub passed-below : {a l : Bool} (g : ℕ) → Passed a l (ltb g 8) → g < 8
 passed-below g p = ltb-true g 8 p.guest

@@ -51,6 +51,9 @@ zeros = replicate 128 0
 zeros_long : length zeros ≡ 128
 zeros_long = refl
 
+pub tables-room : {bytes : List ℕ} (b : Table) → bytes ≡ sets zeros 0 (tables_of b) → length bytes ≡ 128
+tables-room b s = ap length s ∙ length-sets zeros 0 (tables_of b) ∙ zeros_long
+
 -- the tables at its front
 pub tables-taken : {bytes : List ℕ} {n : ℕ} (b : Table) → n ≡ table_count b → n ≤ 8 → bytes ≡ sets zeros 0 (tables_of b) → length (tables_of b) ≡ 16 * table_count b
     → take (16 * n) bytes ≡ tables_of b

@@ -24,6 +24,9 @@ use Rattle.desk.specs.Parts.{own_window, with_own}
 use Rattle.desk.specs.Acceptable.{InRange, packet_ok}
 use Rattle.desk.specs.Calls.{goes_on, beside, Copied, moved_from, Transferred}
 
+pub store-fits : {first k g a s : ℕ} {q : Request} → InRange first q k g a s → 512 * (first + q.job.start + q.moved) < 2 ^ 64
+store-fits r = omega (arith, r.blocks, r.part, r.store)
+
 pub ranges : {first k g a s at place : ℕ} {q : Request} → InRange first q k g a s
     → at ≡ q.job.buffer + 512 * q.moved → place ≡ 512 * (first + q.job.start + q.moved)
     → (at + 512 * k ≤ span_length a g (window_length a)) × (place + 512 * k ≤ s)

@@ -11,7 +11,7 @@ use Rattle.attached.specs.Bad.{good}
 use Rattle.table.specs.declared.Table.{Table}
 use Rattle.table.specs.declared.Refused.{Refused}
 use Rattle.table.specs.declared.ShortBuffer.{ShortBuffer}
-use Rattle.table.specs.Table.{empty_table, read_table, write_answer, write_out}
+use Rattle.table.specs.Table.{empty_table, read_table, write_answer, write_out, short_buffer as too_short}
 use Rattle.int13.specs.declared.Registers.{Registers}
 use Rattle.int13.specs.declared.Outcome.{Outcome}
 use Rattle.int13.specs.declared.Outcome.TheVariants.{Answered, Waits}
@@ -64,7 +64,7 @@ bad_place = 26
 
 -- 19: the buffer is shorter than the table that write lays out
 abbrev pub short_buffer : ℕ
-short_buffer = 19
+short_buffer = too_short
 
 -- the number of a refusal
 abbrev pub number : HouseNumber → ℕ

@@ -66,7 +66,7 @@ pub struct Service {
 }
 
 // The guest that a turn served, and the blocks that it moved.
-#[derive(Clone, Copy, PartialEq, Eq, Debug)]
+#[derive(Clone, Copy, PartialEq, Eq)]
 pub struct Served {
     pub guest: usize,
     pub moved: u64,
@@ -506,7 +506,7 @@ fn begin_own(
 {
     let m = memory::window_length(arena.len());
     let span = memory::span_of(arena.len(), guest, m);
-    int13::begin(b, placement, registers, &mut arena[span])
+    int13::begin(b, placement, registers, &mut arena[span.start..span.end])
 }
 
 impl Desk {

@@ -8,7 +8,7 @@ use native.Mathlib.Omega.{arith}
 use mathlib.Core.Bool.{Bool, true, false}
 use lib.Pointwise.{pointwise, bytes_decides}
 use lib.Dec.{leb, ltb, eqb}
-use borrow.Author.Tests.{eq-eqb, eqb-true, le-leb, lt-leb, leb-true, leb-false, lt-ltb, ltb-true}
+use borrow.Author.Tests.{eq-eqb, eqb-true, eqb-false, le-leb, lt-leb, leb-true, leb-false, lt-ltb, ltb-true}
 use Rattle.logic.specs.Logic.{pick, both, either}
 use Rattle.logic.proofs.LogicLaws.{impossible, both_true, both_assoc, both_false, pick-cases, true_iff, leb_iff}
 use lib.ListN.{length, set, take, drop, replicate, length-append, length-drop}
@@ -41,6 +41,21 @@ pub record Arrays (d : Drive) : Type 0 where
   pub device : length d.device ≡ 8
   pub tail : length d.tail ≡ 8
 
+pub geometry_stores : (s : List ℕ) (d : Drive) → sets s 0 (geometry_bytes d)
+    ≡ sets (sets (sets (sets (sets s 0 (le_bytes 2 (drive_length d.kind))) 2 (le_bytes 2 d.kind)) 4 (le_bytes 4 d.cylinders)) 8 (le_bytes 4 d.heads)) 12 (le_bytes 4 d.sectors)
+unfolding geometry_bytes
+geometry_stores s d = simp (sets-append, length-le_bytes)
+
+pub size_stores : (s : List ℕ) (d : Drive) → sets s 16 (size_bytes d)
+    ≡ sets (sets (sets (sets (sets s 16 (le_bytes 8 d.blocks)) 24 (le_bytes 8 d.first)) 32 (le_bytes 2 d.flags)) 34 (le_bytes 2 d.c)) 36 (le_bytes 2 d.h)
+unfolding size_bytes
+size_stores s d = simp (sets-append, length-le_bytes)
+
+pub name_stores : (s : List ℕ) (d : Drive) → Arrays d → sets s 38 (name_bytes d)
+    ≡ sets (sets (sets (sets (set (set s 38 d.s) 39 d.protection) 40 d.bus) 44 d.interface) 52 d.path) 60 d.device
+unfolding name_bytes
+name_stores s d f = simp (sets-append, f.bus, f.interface, f.path)
+
 length_geometry : (d : Drive) → length (geometry_bytes d) ≡ 16
 unfolding geometry_bytes
 length_geometry d = simp (length-append, length-le_bytes)
@@ -71,6 +86,15 @@ length-record d f =
 -- the record with its tail, whatever its kind
 abbrev pub tailed : Drive → List ℕ
 tailed d = geometry_bytes d ++ (size_bytes d ++ (name_bytes d ++ d.tail))
+
+pub record_stores : {o₁ o₂ o₃ o₄ : List ℕ} (s : List ℕ) (d : Drive) → Arrays d → length s ≡ 76
+    → o₁ ≡ sets s 0 (geometry_bytes d) → o₂ ≡ sets o₁ 16 (size_bytes d) → o₃ ≡ sets o₂ 38 (name_bytes d) → o₄ ≡ sets o₃ 68 d.tail → o₄ ≡ tailed d
+record_stores s d f l e₁ e₂ e₃ e₄ =
+    let n : length (tailed d) ≡ 76 = simp (length-append, length_geometry, length-sizes, length-names d f, f.tail) in
+    let w : sets s 0 (tailed d) ≡ tailed d = sets-whole s (tailed d) (l ∙ sym n) in
+    let a : sets s 0 (tailed d) ≡ sets (sets (sets (sets s 0 (geometry_bytes d)) 16 (size_bytes d)) 38 (name_bytes d)) 68 d.tail =
+    simp (sets-append, length_geometry, length-sizes, length-names d f) in
+    rw (e₄, e₃, e₂, e₁) (sym a ∙ w)
 
 -- what `encode` lays, offset by offset
 abbrev laid : List ℕ → Drive → List ℕ
@@ -345,6 +369,18 @@ pub pointwise_same : (a b : List ℕ) → pointwise eqb a b ≡ same a b
 pointwise_same a b =
     true_iff (pointwise eqb a b) (same a b) (λ e. rw ((bytes_decides a b).0 e) (same_refl b)) (λ e. (bytes_decides a b).1 (same_true a b e))
 
+-- equal words are the same bytes
+pub same_value : (k : ℕ) (a b : List ℕ) → length a ≡ k → length b ≡ k → Bytes a → Bytes b → eqb (le k a 0) (le k b 0) ≡ same a b
+same_value k a b la lb ha hb = by_value (eqb (le k a 0) (le k b 0)) refl
+  where
+    by_value : (t : Bool) → eqb (le k a 0) (le k b 0) ≡ t → eqb (le k a 0) (le k b 0) ≡ same a b
+    by_value true e = e ∙ sym (rw (same_bytes k a b la lb ha hb (eqb-true _ _ e)) (same_refl b))
+    by_value false e = e ∙ sym (differ (same a b) refl)
+      where
+        differ : (t : Bool) → same a b ≡ t → t ≡ false
+        differ true q = absurd (eqb-false _ _ e (ap (λ (l : List ℕ). le k l 0) (same_true a b q)))
+        differ false q = refl
+
 -- a test, computed over a whole name, that its elements are bytes
 abbrev pub all_bytes : List ℕ → Bool
 all_bytes [] = true
@@ -355,10 +391,14 @@ all_bytes_true [] e i = omega arith
 all_bytes_true (x ∷ l) e zero = ltb-true x 256 (both_true (ltb x 256) (all_bytes l) e).0
 all_bytes_true (x ∷ l) e (suc i) = all_bytes_true l (both_true (ltb x 256) (all_bytes l) e).1 i
 
--- and bytes that are compared with a name by their words
-pub named : {v : ℕ} (k : ℕ) (b name : List ℕ) → v ≡ sum_through (λ i. byte_worth i (slice_index b i)) k → length b ≡ suc k → Bytes b → length name ≡ suc k
+-- bytes that are compared with a name by their words
+pub named : (k : ℕ) (b name : List ℕ) → length b ≡ k → length name ≡ k → Bytes b → all_bytes name ≡ true → eqb (le k b 0) (le k name 0) ≡ same b name
+named k b name lb ln hb t = same_value k b name lb ln hb (all_bytes_true name t)
+
+-- and as the code reads the words
+pub named_word : {v : ℕ} (k : ℕ) (b name : List ℕ) → v ≡ sum_through (λ i. byte_worth i (slice_index b i)) k → length b ≡ suc k → Bytes b → length name ≡ suc k
     → all_bytes name ≡ true → eqb (sum_through (λ i. byte_worth i (slice_index name i)) k) v ≡ same b name
-named {v = v} k b name e lb hb ln t =
+named_word {v = v} k b name e lb hb ln t =
     true_iff (eqb (sum_through (λ i. byte_worth i (slice_index name i)) k) v) (same b name)
     (λ q.
     let p : le (suc k) b 0 ≡ le (suc k) name 0 = sym (sum_bytes k b) ∙ sym e ∙ sym (eqb-true _ _ q) ∙ sum_bytes k name in

@@ -10,7 +10,7 @@ ghost use Rattle.drive.specs.Drive.{is_drive_kind, drive_length, tail_of, drive_
 use chs::Geometry;
 
 // The fields of a record in the paper's order. Flags and the protection byte are kept as the table has them.
-#[derive(Clone, Copy, PartialEq, Eq, Default, Debug)]
+#[derive(Clone, Copy, PartialEq, Eq, Default)]
 pub struct Drive {
     // physical geometry, any
     pub cylinders: u32,
@@ -172,7 +172,8 @@ const FIBRE: [u8; 8] = *b"FIBRE\0\0\0";
 
 const I2O: [u8; 8] = *b"I2O\0\0\0\0\0";
 
-// Stays: names are compared as words. `contains` takes twice as long on the arrays, and each call judges eight drives.
+// Stays: names are compared as words. `contains` takes half as long again on the arrays, and each call judges eight
+// drives.
 fn bus_ok(b: [u8; 4]) -> bool
     ensures { result ≡ bus_ok b }
 {
@@ -190,11 +191,11 @@ fn interface_ok(b: [u8; 8]) -> bool
 }
 
 // The interface type is I2O, which only a drive of kind 2 has.
-#[tactic(auto, using(crate::proofs::DriveLaws::pointwise_same), unfolding(crate::specs::Drive::is_i2o))]
 pub fn is_i2o(d: Drive) -> bool
     ensures { result ≡ is_i2o d }
 {
-    d.interface == I2O
+    let v = u64::from_le_bytes(d.interface);
+    u64::from_le_bytes(I2O) == v
 }
 
 // The last eight bytes of the device path are zero.
@@ -243,8 +244,10 @@ fn geometry_fits(d: Drive) -> bool
     logic::and(chs::in_limits(geometry_of(d)), n <= d.blocks)
 }
 
-// Every field is as the table's rules say.
+// Every field is as the table's rules say. Each call at a desk asks it of eight drives: it is made a part of its
+// callers, so that a drive is not copied for it.
 #[tactic(auto, unfolding(crate::specs::Drive::fields_ok))]
+#[inline(always)]
 pub fn fields_ok(d: Drive) -> bool
     ensures { result ≡ fields_ok d }
 {

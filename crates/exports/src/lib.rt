@@ -161,7 +161,7 @@ fn begun(block: &[u8; image::SIZE], guest: usize, r: Registers, arena: &mut [u8]
 {
     let m = memory::window_length(arena.len());
     let span = memory::span_of(arena.len(), guest, m);
-    steps_at(block, guest, r, &mut arena[span])
+    steps_at(block, guest, r, &mut arena[span.start..span.end])
 }
 
 #[unsafe(no_mangle)]

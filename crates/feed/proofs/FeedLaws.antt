@@ -92,9 +92,17 @@ pub open_full : (held : List ℕ) (filled x : ℕ) → longest_record ≤ filled
 unfolding stays_open
 open_full held filled x l = rw (le-ltb filled longest_record l)
 
+pub byte-whole : (f : Feed) (x : ℕ) → f.course ≡ Reading → longest_record ≤ f.filled → f ≡ feed_byte f x
+unfolding feed_byte by_course
+byte-whole f x c l = rw (c, le-ltb f.filled longest_record l)
+
 pub byte-closed : {q : Feed} (f : Feed) (x : ℕ) → f.course ≡ Closed → q ≡ cleared f f.table (Refused byte_follows) → q ≡ feed_byte f x
 unfolding feed_byte by_course
 byte-closed f x c q = rw c q
+
+pub byte-accepted : (f : Feed) (x : ℕ) → f.course ≡ Accepted → f ≡ feed_byte f x
+unfolding feed_byte by_course
+byte-accepted f x c = rw c
 
 pub byte-refused : {n : ℕ} (f : Feed) (x : ℕ) → f.course ≡ Refused n → f ≡ feed_byte f x
 unfolding feed_byte by_course
@@ -151,6 +159,14 @@ feed_over {g} f l i e z =
 
 -- ---- the end of input
 
+pub end-reading : {q : Feed} (f : Feed) → f.course ≡ Reading → q ≡ cleared f f.table (Refused cut_off) → q ≡ end_feed f
+unfolding end_feed end_by
+end-reading f c q = rw c q
+
+pub end-closed : {q : Feed} (f : Feed) → f.course ≡ Closed → q ≡ cleared f f.table Accepted → q ≡ end_feed f
+unfolding end_feed end_by
+end-closed f c q = rw c q
+
 pub end-accepted : (f : Feed) → f.course ≡ Accepted → f ≡ end_feed f
 unfolding end_feed end_by
 end-accepted f c = rw c
@@ -168,6 +184,22 @@ place-behind b p e = rw (e, p)
 pub place-record : {p n : ℕ} (b : Table) → p ≡ next_place b → (n ≡ byte_follows → ⊥) → p ≡ refused_at n b
 unfolding refused_at
 place-record {n = n} b p e = rw (ne_eqb n byte_follows e) p
+
+pub answer-reading : (f : Feed) → f.course ≡ Reading → More ≡ answer_of f
+unfolding answer_of answer_by
+answer-reading f c = rw c
+
+pub answer-closed : (f : Feed) → f.course ≡ Closed → More ≡ answer_of f
+unfolding answer_of answer_by
+answer-closed f c = rw c
+
+pub answer-accepted : (f : Feed) → f.course ≡ Accepted → FedAccepted ≡ answer_of f
+unfolding answer_of answer_by
+answer-accepted f c = rw c
+
+pub answer-refused : {n p : ℕ} (f : Feed) → f.course ≡ Refused n → p ≡ refused_at n f.table → FedRefused n p ≡ answer_of f
+unfolding answer_of answer_by
+answer-refused f c p = rw (c, p)
 
 -- no two answers have the same numbers
 pub fed-apart : (x y : Fed) → fed_numbers x ≡ fed_numbers y → x ≡ y

@@ -17,7 +17,7 @@ const BYTE_FOLLOWS: u8 = table::BYTE_FOLLOWS;
 // How the reading goes: it reads; it has read the end record; the end was told and the table is accepted; or it is refused.
 // Stays: a refusal here is any byte, since a course is made of the byte that a reader block holds
 // (`reader::course_ok` judges it).
-#[derive(Clone, Copy, PartialEq, Eq, Debug)]
+#[derive(Clone, Copy, PartialEq, Eq)]
 pub enum Course {
     Reading,
     Closed,
@@ -38,7 +38,7 @@ pub struct Feed {
 
 // What a reader says: nothing is settled, the table is accepted, or refusal number and place.
 // Stays: it says the number of a `Course`, which may be any byte.
-#[derive(Clone, Copy, PartialEq, Eq, Debug)]
+#[derive(Clone, Copy, PartialEq, Eq)]
 pub enum Fed {
     More,
     Accepted,

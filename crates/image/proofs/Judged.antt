@@ -815,6 +815,26 @@ judged-is b h = go (eqb (length b) desk_size) (eqb-true (length b) desk_size) �
 
 -- ---- the tests of the code
 
+module _ (n : ℕ) (b : List ℕ) where
+  past : ℕ → Bool
+  past i = either (ltb i n) (below 16 1 b (slot_at i))
+
+  past_is : {a : Bool} (i : ℕ) → n ≤ i → a ≡ below 16 1 b (slot_at i) → a ≡ past i
+  unfolding past
+  past_is i l e = rw (le-ltb i n l) e
+
+  pub rest-none : true ≡ rest_zero n n b
+  unfolding rest_zero past
+  rest-none = sym (all_intro n past (λ i l. rw (lt-ltb i n l)))
+
+  pub rest-bad : {a : Bool} (i : ℕ) → n ≤ i → i < 8 → a ≡ below 16 1 b (slot_at i) → a ≡ false → false ≡ rest_zero 8 n b
+  unfolding rest_zero past
+  rest-bad i l m e z = all_fails 8 i past m (past_is i l e) z
+
+  pub rest-next : {a : Bool} (i : ℕ) → n ≤ i → true ≡ rest_zero i n b → a ≡ below 16 1 b (slot_at i) → a ≡ true → true ≡ rest_zero (i + 1) n b
+  unfolding rest_zero past
+  rest-next i l p e z = all-next i past p (past_is i l e) z
+
 module _ (b : List ℕ) (M i : ℕ) where
   pub waiting_unknown : (q : Request) → q ≡ request_at b (request_place i) → is_drive (read_desk b).table q.job.drive ≡ false → false ≡ waiting_good b M i
   unfolding waiting_good

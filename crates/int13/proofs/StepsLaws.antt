@@ -111,6 +111,11 @@ module _ (known : Bool) (count : ℕ) (d : Drive) (l : Bads) (s : Option ℕ) (r
   unfolding steps
   steps_48 e = rw (sym q ∙ e)
 
+  pub steps-other : is_sectors f ≡ false → (f ≡ 0x08 → ⊥) → (f ≡ 0x41 → ⊥) → either (eqb f 0x42) (either (eqb f 0x43) (eqb f 0x44)) ≡ false
+      → (f ≡ 0x47 → ⊥) → (f ≡ 0x48 → ⊥) → steps known count d l s r w ≡ unchanged w (Answered (refuse bad_parameter r))
+  unfolding steps
+  steps-other e₁ n₂ n₃ e₄ n₅ n₆ = rw (← q, e₁, ne_eqb f 0x08 n₂, ne_eqb f 0x41 n₃, e₄, ne_eqb f 0x47 n₅, ne_eqb f 0x48 n₆)
+
   pub steps-unnamed : Unnamed f → steps known count d l s r w ≡ unchanged w (Answered (refuse bad_parameter r))
   unfolding steps
   steps-unnamed u =

@@ -244,7 +244,9 @@ pub fn is_drive(b: Table, n: u8) -> bool
 pub fn drive_at(b: Table, n: u8) -> Drive
     ensures { (result ≡ drive_in b n) × (is_drive b n ≡ true → result ≡ drive_at b n) }
 {
-    b.drives[(n % 8) as usize]
+    // an index into the table would copy all of it
+    let drives = b.drives;
+    drives[(n % 8) as usize]
 }
 
 // The drive of a number, where it is one.
@@ -307,7 +309,8 @@ pub fn shown_of(b: Table, placement: Placement, n: u8) -> Option<u16>
     }
     let slot = n - FIRST_DRIVE;
     let i = slot as usize;
-    if !(placement.placed && b.present[i]) {
+    let present = b.present;
+    if !(placement.placed && present[i]) {
         return None;
     }
     let before = tables_before(b, i);

@@ -6,23 +6,24 @@ use mathlib.Core.Bool.{Bool, true, false}
 use mathlib.Core.Logic.{◌≢◌}
 use Prim.Native.Nat.{ℕ, zero, suc, ◌+◌, ◌-◌, ◌/◌, ◌%◌, ◌≤◌, ◌<◌}
 use native.Mathlib.Nat.{add-zero, zero-add, add_assoc, mod-add-mod, add-mod-mod, mod-lt, mod_self}
+use native.Mathlib.Numerals.{add-one}
 use native.Mathlib.Omega.{arith}
 use lib.ListN.{length, get_or, set, take, drop, replicate, length-append, length-drop}
 use Rattle.std.proofs.lemmas.List.{length-map, ext_get_or}
-use lib.Seq.{sets, take_at, take-take, drop_at, length-take-le}
+use lib.Seq.{sets, take_all, take_at, take-suc, take-take, drop_at, length-take-le}
 use lib.Dec.{eqb, leb, ltb}
 use borrow.Author.Tests.{ne_eqb, eq-eqb, le-leb, lt-leb, leb-true}
 use Rattle.logic.specs.Logic.{pick, both}
 use Rattle.logic.proofs.LogicLaws.{both_true, impossible}
 use Rattle.words.specs.Words.{le_bytes, part}
-use Rattle.words.proofs.WordsLaws.{sets-append, sets_front, length-le_bytes}
+use Rattle.words.proofs.WordsLaws.{sets_more, sets-append, sets_front, length-le_bytes}
 use Rattle.drive.specs.declared.Drive.{Drive}
 use Rattle.drive.specs.Drive.{is_i2o}
 use Rattle.drive.proofs.DriveLaws.{Arrays}
 use Rattle.layout.specs.declared.Pointer.{Pointer}
 use Rattle.std.specs.Prelude.{Result, Ok, Err, fold}
 use Rattle.layout.specs.declared.BadParameter.{BadParameter}
-use Rattle.layout.specs.ResultBuffer.{least_size, pointer_size, path_size, wide_size, returned_size, flags_shown, path_key, parameter_bytes, block_bytes, interface_of, interface_bytes, paths_of, path_bytes, padded_byte, padded, wide_interface_bytes, wide_path_bytes, sum, checksum, checked, summed_bytes, whole_result, result_bytes, result_answer, written, result_out, result_numbers, size_given}
+use Rattle.layout.specs.ResultBuffer.{least_size, pointer_size, path_size, wide_size, returned_size, flags_shown, path_key, wide_path_length, parameter_bytes, block_bytes, interface_of, interface_bytes, paths_of, path_bytes, padded_byte, padded, wide_interface_bytes, wide_path_bytes, sum, checksum, checked, summed_bytes, whole_result, result_bytes, result_answer, written, result_out, result_numbers, size_given}
 use Rattle.memory.specs.Blocks.{block_length}
 
 -- ---- the sum
@@ -35,6 +36,10 @@ sum-append (x ∷ a) b = rw (sum-append a b, add_assoc)
 sum_one : (x : ℕ) → sum (x ∷ []) ≡ x
 unfolding sum
 sum_one x = add-zero x
+
+-- one byte more
+pub sum_more : (s : List ℕ) (i : ℕ) → i < length s → (sum (take i s) % 256 + get_or s i 0) % 256 ≡ sum (take (i + 1) s) % 256
+sum_more s i h = rw (add-one, take-suc s i 0 h, sum-append, sum_one, mod-add-mod)
 
 -- what the code adds up, each sum modulo 256
 fold_sum_from : (s : List ℕ) (a : ℕ) → fold (λ t x. (t + x) % 256) (a % 256) s ≡ (a + sum s) % 256
@@ -63,6 +68,13 @@ unfolding padded
 padded_at [] i h = absurd (omega arith)
 padded_at (x ∷ name) zero h = refl
 padded_at (x ∷ name) (suc i) h = padded_at name i (omega arith)
+
+-- one byte of a name more
+pub padded-more : (s : List ℕ) (at : ℕ) (name : List ℕ) (i : ℕ) → i < length name
+    → set (sets s at (take i (padded name))) (at + i) (padded_byte (get_or name i 0)) ≡ sets s at (take (i + 1) (padded name))
+padded-more s at name i h =
+    let l : i < length (padded name) = omega (arith, length-padded name) in
+    ap (set (sets s at (take i (padded name))) (at + i)) (sym (padded_at name i h)) ∙ sets_more s at (padded name) i l
 
 -- a list whose bytes are those of a name, each padded
 pub padded_is : (name shown : List ℕ) (n : ℕ) → length name ≡ n → length shown ≡ n
@@ -105,6 +117,17 @@ interface_stores s n bus interface b h e₁ e₂ e₃ e₄ = rw (e₄, e₃, e�
 pub path_stores : {o₁ o₂ o₃ o₄ : List ℕ} (s : List ℕ) (d : Drive) (tail : List ℕ) → length d.path ≡ 8 → length d.device ≡ 8
     → o₁ ≡ sets s 48 d.path → o₂ ≡ sets o₁ 56 d.device → o₃ ≡ sets o₂ 64 tail → o₄ ≡ set o₃ (64 + length tail) 0 → o₄ ≡ sets s 48 (paths_of d tail)
 path_stores s d tail hp hd e₁ e₂ e₃ e₄ = rw (e₄, e₃, e₂, e₁) (simp (sets-append, hp, hd))
+
+pub wide-interface_stores : {o₁ o₂ o₃ o₄ : List ℕ} (s : List ℕ) (d : Drive) → length d.bus ≡ 4
+    → o₁ ≡ sets s 30 (le_bytes 2 path_key) → o₂ ≡ sets o₁ 32 (le_bytes 4 wide_path_length) → o₃ ≡ sets o₂ 36 (padded d.bus)
+    → o₄ ≡ sets o₃ 40 (padded d.interface) → o₄ ≡ sets s 30 (wide_interface_bytes d)
+unfolding wide_interface_bytes le_bytes
+wide-interface_stores s d h e₁ e₂ e₃ e₄ = rw (e₄, e₃, e₂, e₁) (simp (sets-append, length-padded, h))
+
+pub wide-path_stores : {o₁ o₂ o₃ o₄ : List ℕ} (s : List ℕ) (d : Drive) → length d.path ≡ 8 → length d.device ≡ 8 → length d.tail ≡ 8
+    → o₁ ≡ sets s 48 d.path → o₂ ≡ sets o₁ 56 d.device → o₃ ≡ sets o₂ 64 d.tail → o₄ ≡ set o₃ 72 0 → o₄ ≡ sets s 48 (wide_path_bytes d)
+unfolding wide_path_bytes
+wide-path_stores s d hp hd ht e₁ e₂ e₃ e₄ = rw (e₄, e₃, e₂, e₁) (simp (sets-append, hp, hd, ht))
 
 -- ---- lengths
 
@@ -220,6 +243,13 @@ returned_most d asked = by_test (ltb asked pointer_size) (ltb asked path_size) (
     by_test false false true false = omega arith
     by_test false false false i = omega arith
 
+-- one that is not 74 is at most 66
+pub returned_narrow : {n : ℕ} (d : Drive) (asked : ℕ) → n ≡ returned_size d asked → n ≢ wide_size → n ≤ path_size
+returned_narrow {n} d asked e h =
+    let t : eqb n wide_size ≡ false = ne_eqb n wide_size h in
+    let m : n ≤ whole_size n = rw (← e) at (returned_most d asked) in
+    rw t at m
+
 pub returned_wide : (d : Drive) (asked : ℕ) → returned_size d asked ≤ wide_size
 returned_wide d asked = by_size (eqb (returned_size d asked) wide_size) (returned_most d asked)
   where
@@ -265,6 +295,19 @@ module _ (d : Drive) (p : Pointer) (asked : ℕ) (out : List ℕ) where
       let k : length (take n (whole_result d p n)) ≡ n = length-take-le n (whole_result d p n) l in
       let x : sets out 0 (take n (whole_result d p n)) ≡ take n (whole_result d p n) ++ drop n out = rw k at (sets_front out (take n (whole_result d p n)) (omega arith)) in
       answered (rw (t, u, en)) (rw (t, u, ← en) (eo ∙ rw front x))
+
+  -- the 74 bytes are stored as they are
+  pub answer-wide : {n : ℕ} {r o : List ℕ} → length r ≡ wide_size → r ≡ whole_result d p wide_size → least_size ≤ asked → n ≡ returned_size d asked → n ≡ wide_size
+      → n ≤ length out → o ≡ sets out 0 r → Answers (Ok n) o
+  unfolding result_answer result_bytes
+  answer-wide {n} {r} l er h en e q eo =
+      let t : leb least_size asked ≡ true = le-leb least_size asked h in
+      let u : leb (returned_size d asked) (length out) ≡ true = le-leb (returned_size d asked) (length out) (omega arith) in
+      let whole : r ≡ whole_result d p n = rw e er in
+      let all : take n (whole_result d p n) ≡ r = rw (← whole) (take_all n r (omega arith)) in
+      let k : length r ≡ n = omega arith in
+      let x : sets out 0 r ≡ r ++ drop n out = rw k at (sets_front out r (omega arith)) in
+      answered (rw (t, u, en)) (rw (t, u, ← en, all) (eo ∙ x))
 
 -- no two answers have the same numbers
 pub result_apart : (x y : Result ℕ BadParameter) → result_numbers x ≡ result_numbers y → x ≡ y

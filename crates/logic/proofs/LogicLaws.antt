@@ -115,6 +115,14 @@ lt_or_le m n = by_test (ltb m n) refl
     by_test true e = inl (ltb-true m n e)
     by_test false e = inr (ltb-false m n e)
 
+-- ---- a sum that does not wrap, by differences
+
+pub ends-past : (place n end : ℕ) → end < place → false ≡ leb (place + n) end
+ends-past place n end h = sym (lt-leb (place + n) end (omega arith))
+
+pub ends_rest : (place n end : ℕ) → place ≤ end → leb n (end - place) ≡ leb (place + n) end
+ends_rest place n end h = leb_iff n (end - place) (place + n) end (λ q. omega arith) (λ q. omega arith)
+
 -- ---- every number below n, and some number below n
 
 -- one more, as a loop finds it

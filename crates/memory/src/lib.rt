@@ -9,13 +9,19 @@ ghost use Rattle.words.specs.Words.{le_bytes};
 ghost use Rattle.memory.specs.Window.{window_length, span_start, span_length, window_of, with_window};
 ghost use Rattle.memory.specs.Blocks.{block_length, blocks};
 
-use std::ops::Range;
-
 // Guests are 0 to 7.
 pub const GUESTS: usize = 8;
 
 // Bytes of a block.
 pub const BLOCK_LENGTH: usize = 512;
+
+// Where a window lies in the arena: the bytes from start up to, not including, end.
+// Stays: a struct of its own, since a `Range` is not Copy, and callers may use the place twice.
+#[derive(Clone, Copy)]
+pub struct Span {
+    pub start: usize,
+    pub end: usize,
+}
 
 // M, the length of each window of an arena of n bytes.
 pub fn window_length(n: usize) -> usize
@@ -27,17 +33,20 @@ pub fn window_length(n: usize) -> usize
 // Where a guest's window of m bytes lies in an arena of n: the empty part at 0 where m is above M or the guest is 8
 // or more. The product is made only after m has passed, so it cannot wrap. That the end lies in the arena follows.
 #[tactic(auto, unfolding(crate::specs::Window::span_start, crate::specs::Window::span_length))]
-pub fn span_of(n: usize, guest: usize, m: usize) -> Range<usize>
+pub fn span_of(n: usize, guest: usize, m: usize) -> Span
     ensures { (result.start ≡ span_start n guest m) × (result.end ≡ span_start n guest m + span_length n guest m) × (result.end ≤ n) }
 {
     if window_length(n) < m {
-        return 0..0;
+        return Span { start: 0, end: 0 };
     }
     if GUESTS <= guest {
-        return 0..0;
+        return Span { start: 0, end: 0 };
     }
     let start = guest * m;
-    start..start + m
+    Span {
+        start: start,
+        end: start + m,
+    }
 }
 
 // ---- A window, handed out as that part of the arena itself: the promise names its bytes and its place in memory.
@@ -49,16 +58,16 @@ pub fn span_of(n: usize, guest: usize, m: usize) -> Range<usize>
 pub fn window<'a>(arena: &'a mut [u8], guest: usize, m: usize) -> &'a mut [u8]
     ensures { (result.now ≡ window_of arena.old guest m) × (result.ref_ptr ≡ (arena.entry.ref_ptr.0, arena.entry.ref_ptr.1 + span_start (length arena.old) guest m)) }
 {
-    let place = span_of(arena.len(), guest, m);
-    &mut arena[place]
+    let Span { start, end } = span_of(arena.len(), guest, m);
+    &mut arena[start..end]
 }
 
 // To be read.
 pub fn window_shared<'a>(arena: &'a [u8], guest: usize, m: usize) -> &'a [u8]
     ensures { (result.now ≡ window_of arena.now guest m) × (result.ref_ptr ≡ (arena.entry.ref_ptr.0, arena.entry.ref_ptr.1 + span_start (length arena.now) guest m)) }
 {
-    let place = span_of(arena.len(), guest, m);
-    &arena[place]
+    let Span { start, end } = span_of(arena.len(), guest, m);
+    &arena[start..end]
 }
 
 // ---- Moves of k blocks, promised as k moves of one block in ascending order.
@@ -107,8 +116,8 @@ pub fn load(
     requires { (at + block_length * k ≤ span_length (length arena.old) guest m) × (from + block_length * k ≤ length store.now) }
     ensures { arena.new ≡ with_window arena.old guest m (blocks (window_of arena.old guest m) at store.now from k) }
 {
-    let place = span_of(arena.len(), guest, m);
-    copy(&mut arena[place], at, store, from, k);
+    let Span { start, end } = span_of(arena.len(), guest, m);
+    copy(&mut arena[start..end], at, store, from, k);
 }
 
 // A write: k blocks at place at of the guest's window go to the store, from byte to. The same tests as for a read.
@@ -116,8 +125,8 @@ pub fn save(arena: &[u8], guest: usize, m: usize, at: usize, store: &mut [u8], t
     requires { (at + block_length * k ≤ span_length (length arena.now) guest m) × (to + block_length * k ≤ length store.old) }
     ensures { store.new ≡ blocks store.old to (window_of arena.now guest m) at k }
 {
-    let place = span_of(arena.len(), guest, m);
-    copy(store, to, &arena[place], at, k);
+    let Span { start, end } = span_of(arena.len(), guest, m);
+    copy(store, to, &arena[start..end], at, k);
 }
 
 // Bytes laid at a place of the guest's window, as its parameter tables. The desk has tested that they lie in the window (26).
@@ -126,8 +135,8 @@ pub fn put_bytes_in(arena: &mut [u8], guest: usize, m: usize, at: usize, bytes: 
     requires { at + length bytes.now ≤ span_length (length arena.old) guest m }
     ensures { arena.new ≡ with_window arena.old guest m (sets (window_of arena.old guest m) at bytes.now) }
 {
-    let place = span_of(arena.len(), guest, m);
-    words::store(&mut arena[place], at, bytes);
+    let Span { start, end } = span_of(arena.len(), guest, m);
+    words::store(&mut arena[start..end], at, bytes);
 }
 
 // A word laid at a place of the guest's window, as the packet's count. The desk has tested that the packet lies in the window (01h).
@@ -136,6 +145,6 @@ pub fn put_word_in(arena: &mut [u8], guest: usize, m: usize, at: usize, x: u16)
     requires { at + 2 ≤ span_length (length arena.old) guest m }
     ensures { arena.new ≡ with_window arena.old guest m (sets (window_of arena.old guest m) at (le_bytes 2 x)) }
 {
-    let place = span_of(arena.len(), guest, m);
-    words::put(&mut arena[place], at, x);
+    let Span { start, end } = span_of(arena.len(), guest, m);
+    words::put(&mut arena[start..end], at, x);
 }

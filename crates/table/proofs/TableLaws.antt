@@ -121,6 +121,12 @@ pub header_of-whole : (left size kind : ℕ) → 4 ≤ left → is_kind kind ≡
 unfolding header_of
 header_of-whole left size kind f k l w = rw (le-ltb left 4 f, k, l, le-ltb left size w)
 
+-- the header from what the code read and tested
+pub header_is : {left size kind : ℕ} {k l : Bool} (t : List ℕ) (at : ℕ) → left ≡ length t - at → size ≡ le 2 t at → kind ≡ le 2 t (at + 2) → k ≡ is_kind kind → l ≡ length_ok kind size
+    → header_at t at ≡ pick (ltb left 4) (Err CutOff) (pick (not k) (Err UnknownKind) (pick (not l) (Err WrongLength) (pick (ltb left size) (Err CutOff) (Ok (kind, size)))))
+unfolding header_at header_of
+header_is t at e s q k l = rw (k, l, e, s, q)
+
 -- a word of a part is the word
 pub le-part : (k n : ℕ) (s : List ℕ) (at i : ℕ) → i + k ≤ n → le k (part n s at) i ≡ le k s (at + i)
 le-part k n s at i h = le_ext k (part n s at) s i (at + i) (λ j l.
@@ -133,6 +139,9 @@ drive-kind zero z l = absurd (z refl)
 drive-kind (suc zero) z l = refl
 drive-kind (suc (suc zero)) z l = refl
 drive-kind (suc (suc (suc k))) z l = absurd (omega arith)
+
+pub other-kind : (k : ℕ) → 2 < k → is_drive_kind k ≡ false
+other-kind k l = rw (ne_eqb k 1 (λ e. omega arith), ne_eqb k 2 (λ e. omega arith))
 
 pub kind-cases : (k : ℕ) → is_drive_kind k ≡ true → (k ≡ 1) ⊎ (k ≡ 2)
 kind-cases k d = ⊎_elim (λ x. inl (eqb-true k 1 x)) (λ x. inr (eqb-true k 2 x)) (either_true (eqb k 1) (eqb k 2) d)
@@ -201,6 +210,10 @@ pub length_ok-parameters : (k n : ℕ) → length_ok k n ≡ true → (k ≡ 0 �
 length_ok-parameters k n h e f g =
     ⊎_elim (λ x. absurd (e x.0)) (λ y. ⊎_elim (λ x. true≢false (is_drive_kind k) x.0 f) (λ z. ⊎_elim (λ x. absurd (g x.0)) (λ x. x) z) y) (length_ok-cases k n h)
 
+-- the bytes of a whole record of a length
+size-whole : (t : List ℕ) (at k n m : ℕ) → header_at t at ≡ Ok (k, n) → n ≡ m → (length (part n t at) ≡ m) × (at + m ≤ length t)
+size-whole t at k n m h e = let w = whole_at t at k n h in (length_whole t at k n h ∙ e, omega (arith, w.whole, w.header, e))
+
 -- a whole record of a drive, of either kind
 pub record DriveAt (t : List ℕ) (at n : ℕ) : Type 0 where
   pub kind : ℕ
@@ -241,6 +254,17 @@ bads_whole t at k n h e =
     let w = whole_at t at k n h in
     let g : bad_length_ok n ≡ true = length_ok-bad k n w.right e in
     (length_whole t at k n h, bad_length_ok-least n g, bad_length_ok-most n g, omega (arith, w.whole, w.header), g)
+
+pub parameters-whole : (t : List ℕ) (at k n : ℕ) → header_at t at ≡ Ok (k, n) → (k ≡ 0 → ⊥) → is_drive_kind k ≡ false → (k ≡ 3 → ⊥)
+    → (length (part n t at) ≡ 20) × (at + 20 ≤ length t)
+parameters-whole t at k n h e f g = size-whole t at k n 20 h (length_ok-parameters k n (whole_at t at k n h).right e f g).1
+
+-- a record that neither ends the table nor is a drive's has a number
+pub attached_least : (t : List ℕ) (at k n : ℕ) → header_at t at ≡ Ok (k, n) → (k ≡ 0 → ⊥) → is_drive_kind k ≡ false → 6 ≤ n
+attached_least t at k n h e f =
+    ⊎_elim (λ x. absurd (e x.0))
+    (λ y. ⊎_elim (λ x. true≢false (is_drive_kind k) x.0 f) (λ z. ⊎_elim (λ x. omega (arith, bad_length_ok-least n x.1)) (λ x. omega (arith, x.1)) z) y)
+    (length_ok-cases k n (whole_at t at k n h).right)
 
 -- the lengths that there are
 pub length_ok-least : (k m : ℕ) → length_ok k m ≡ true → (4 ≤ m) × (is_kind k ≡ true)
@@ -298,6 +322,10 @@ parameters-room b i h = by_tests (ltb i 8) (eqb (i + 1) b.count) (has_parameters
 pub parameters-taken : (b : Table) (i : ℕ) → i < 8 → i + 1 ≡ b.count → has_parameters b i ≡ false → parameters_refusal b i ≡ 0
 unfolding parameters_refusal
 parameters-taken b i h e m = rw (lt-ltb i 8 h, eq-eqb (i + 1) b.count e, m)
+
+-- a slot that a record names, as the code tested it
+pub slot_named : {a : Bool} (i : ℕ) (x : Bool) → a ≡ both (ltb i 8) x → a ≡ true → i < 8
+slot_named i x e z = ltb-true i 8 (both_true (ltb i 8) x (sym e ∙ z)).0
 
 -- the refusal from what the code tested
 parameters-is : {a : Bool} (b : Table) (i : ℕ) → a ≡ both (ltb i 8) (both (eqb (i + 1) b.count) (not (has_parameters b i))) → pick a 0 9 ≡ parameters_refusal b i
@@ -393,11 +421,20 @@ pub drive-next : {d : Drive} {n : ℕ} {p : Table} (k : ℕ) (r : List ℕ) (at 
 drive-next k r at b store w e q z p =
     rw (p, e, ← drive_with k r b w) (record_step-next k (length r) r b at store (rw (← e) q ∙ sym (drive-refusal k r b store w)) z)
 
+pub drive-refused : {d : Drive} {n : ℕ} (k : ℕ) (r : List ℕ) (at : ℕ) (b : Table) (store : ℕ) → is_drive_kind k ≡ true → d ≡ drive_of r → n ≡ refusal b.count b.drives d store → (n ≡ 0 → ⊥)
+    → stepped (Refused n at) b ≡ record_step k (length r) r b at store
+drive-refused k r at b store w e q z = record_step-refused k (length r) r b at store (rw (← e) q ∙ sym (drive-refusal k r b store w)) z
+
 -- and of a record of parameters
 pub parameters-next : {i n : ℕ} {y : List ℕ} {p : Table} (r : List ℕ) (at : ℕ) (b : Table) (store : ℕ) → length r ≡ 20 → i ≡ number_in r → y ≡ parameters_in r → n ≡ parameters_refusal b i → n ≡ 0
     → p ≡ with_parameters b i y → stepped (Next (at + length r)) p ≡ record_step 4 20 r b at store
 unfolding record_refusal with_record
 parameters-next r at b store l e y q z p = rw (l, p, e, y) (record_step-next 4 20 r b at store (rw (← e) q) z)
+
+pub parameters-refused : {i n : ℕ} (r : List ℕ) (at : ℕ) (b : Table) (store : ℕ) → i ≡ number_in r → n ≡ parameters_refusal b i → (n ≡ 0 → ⊥)
+    → stepped (Refused n at) b ≡ record_step 4 20 r b at store
+unfolding record_refusal
+parameters-refused r at b store e q z = record_step-refused 4 20 r b at store (rw (← e) q) z
 
 -- and of a record of bad blocks
 pub bads_next : {i n : ℕ} {l : Bads} {p : Table} (r : List ℕ) (at : ℕ) (b : Table) (store : ℕ) → i ≡ number_in r → l ≡ bads_in r → n ≡ bads_refusal b i l → n ≡ 0

@@ -178,3 +178,19 @@ module _ {found : Result (Option ℕ) RefusedAt} {a : Table} (left : ℕ) (t : L
 
   pub loop_refused : {f : RefusedAt} → found ≡ Err f → Reads t store (reading (Err f) a)
   loop_refused {f} q = rw named-number at (reads-refused left t store at b l e (ap step_found q) s)
+
+-- a header that is not whole ends it with its refusal, and the end record with the answer there
+module _ (left : ℕ) (t : List ℕ) (store at : ℕ) (b : Table) (l : 0 < left) (s : read_from left t store at b ≡ read_table t store) where
+  pub header_reads : {e : Refusal} → header_at t at ≡ Err e → Reads t store (reading (Err (record { refusal = e; place = at })) b)
+  header_reads {e} h = rw named-number at (reads-refused left t store at b l (step_at-bad t at e b store h) refl s)
+
+  module _ {k n : ℕ} (h : header_at t at ≡ Ok (k, n)) where
+    pub end_reads : {a : Result Unit RefusedAt} → k ≡ 0 → a ≡ end_answer (at + n) (length t) → Reads t store (reading a b)
+    unfolding end_answer
+    end_reads z e =
+        let four : n ≡ 4 = length_ok-end k n (whole_at t at k n h).right z in
+        rw (e, four) (by_byte (ltb (at + 4) (length t)) refl)
+      where
+        by_byte : (x : Bool) → ltb (at + 4) (length t) ≡ x → Reads t store (reading (end_answer (at + 4) (length t)) b)
+        by_byte true q = rw q (reads-refused left t store at b l (end_step-byte t at b (ltb-true (at + 4) (length t) q) ∙ step_at-end t at k n b store h z) refl s)
+        by_byte false q = rw q (reads-done left t store at b l (end_step-done t at b (ltb-false (at + 4) (length t) q) ∙ step_at-end t at k n b store h z) refl s)

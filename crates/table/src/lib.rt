@@ -39,7 +39,7 @@ impl Refusal {
 }
 
 // What a table is refused for, and the place.
-#[derive(Clone, Copy, PartialEq, Eq, Debug)]
+#[derive(Clone, Copy, PartialEq, Eq)]
 pub struct Refused {
     pub refusal: Refusal,
     pub place: usize,
@@ -50,9 +50,9 @@ pub struct Refused {
 pub struct ShortBuffer;
 
 // The numbers of two refusals, for a reader that is fed fragments.
-pub const CUT_OFF: u8 = 1;
+pub const CUT_OFF: u8 = Refusal::CutOff as u8;
 
-pub const BYTE_FOLLOWS: u8 = 8;
+pub const BYTE_FOLLOWS: u8 = Refusal::ByteFollows as u8;
 
 // House number of a write to a buffer shorter than the table.
 pub const SHORT_BUFFER: u8 = 19;
@@ -270,7 +270,13 @@ pub fn bads_at(b: Table, i: usize) -> Bads
     requires { i < 8 }
     ensures { result ≡ bads_at b i }
 {
-    bads_in_slot(&b, i)
+    // a reference into the table would copy all of it
+    let counts = b.counts;
+    let bad = b.bad;
+    Bads {
+        count: counts[i],
+        list: words::load(&bad, attached::LIST_LENGTH * i),
+    }
 }
 
 // A list for the last drive read, which has so many bad blocks already and so many blocks, is taken, or refused.
@@ -647,7 +653,8 @@ pub fn drive_count(b: Table) -> usize
     b.count.min(MOST_DRIVES)
 }
 
-// The fields obey their rules, and the drive ends inside the store.
+// The fields obey their rules, and the drive ends inside the store. Made a part of its callers, as `drive::fields_ok`.
+#[inline(always)]
 pub fn obeys(d: Drive, store: u64) -> bool
     ensures { result ≡ both (fields_ok d) (in_store d store) }
 {

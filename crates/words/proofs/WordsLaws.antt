@@ -4,16 +4,16 @@ use mathlib.Core.Path.{◌≡◌, refl, sym, ap, ◌∙◌}
 use mathlib.Core.List.{List, [], ◌∷◌, ◌++◌, append-nil, append_assoc}
 use Prim.Native.Nat.{ℕ, zero, suc, ◌+◌, ◌-◌, ◌*◌, ◌/◌, ◌%◌, ◌^◌, ◌≤◌, ◌<◌}
 use native.Mathlib.Nat.{add-zero, add-suc, suc-add, zero-add, add_assoc, mul-add, mul_assoc, mul_comm, pow-suc, mul-zero, one-mul, mod-one, mul-le-mul_left, add-mul-div_left, add-mul-mod_self_left, div-eq_of_lt, mod-eq_of_lt, one-le-pow, mod-lt, div-one, div-div-eq-div-mul, pow-succ'}
-use native.Mathlib.Numerals.{one-add}
+use native.Mathlib.Numerals.{one-add, add-one}
 use native.Mathlib.Omega.{arith}
 use mathlib.Core.Bool.{Bool, true, false}
 use lib.Dec.{ltb}
 use borrow.Author.Tests.{ltb-true, ltb-false}
 use lib.ListN.{length, get_or, set, take, drop, length-drop, length-take, drop_of_length-le, get_or-eq_default}
-use lib.Seq.{take-add, drop-cons, sets-eq, length-take-le, sets, drop-drop, ext_get_or, get_or-take, get_or-drop}
+use lib.Seq.{take-add, drop-cons, sets-eq, take-suc, length-take-le, sets, drop-drop, ext_get_or, get_or-take, get_or-drop}
 use borrow.Rule.Slice.PartMut.{put_mid}
 use lib.Pow.{pow-add}
-use lib.Arith.{mod-mul}
+use lib.Arith.{mod-mul, digits_div, digits_mod}
 use Rattle.std.specs.Prelude.{slice_index}
 use Rattle.std.specs.Int.{bytes_low_first, byte_at, byte_worth, sum_through}
 use Rattle.words.specs.Words.{Bytes, le, le_bytes, part}
@@ -84,11 +84,21 @@ unfolding le_bytes
 length-le_bytes zero v = refl
 length-le_bytes (suc k) v = ap suc (length-le_bytes k (v / 256))
 
+le_bytes-low : (k v : ℕ) → le_bytes k (v % 256 ^ k) ≡ le_bytes k v
+unfolding le_bytes
+le_bytes-low zero v = refl
+le_bytes-low (suc k) v =
+    let m : 0 < 256 = omega arith in
+    rw (pow-suc 256 k, mod-mul v {m = 256 ^ k} {c = 256} (pos k) m, digits_mod (v / 256 % 256 ^ k) (mod-lt v m), digits_div (v / 256 % 256 ^ k) (mod-lt v m), le_bytes-low k (v / 256))
+
 pub le_bytes-append : (j k v : ℕ) → le_bytes (j + k) v ≡ le_bytes j v ++ le_bytes k (v / 256 ^ j)
 unfolding le_bytes
 le_bytes-append zero k v = rw (zero-add, div-one)
 le_bytes-append (suc j) k v =
     rw (suc-add, le_bytes-append j k (v / 256), div-div-eq-div-mul v 256 (256 ^ j), ← pow-succ' 256 j)
+
+le_bytes-split : (j k v : ℕ) → le_bytes (j + k) v ≡ le_bytes j (v % 256 ^ j) ++ le_bytes k (v / 256 ^ j)
+le_bytes-split j k v = rw le_bytes-low (le_bytes-append j k v)
 
 -- read of what was written
 le-le_bytes : (k v : ℕ) → le k (le_bytes k v) 0 ≡ v % 256 ^ k
@@ -170,6 +180,17 @@ word_bytes k v = bytes_low k 0 v ∙ ap (le_bytes k) (div-one v)
 pub sets-append : (s : List ℕ) (at : ℕ) (a b : List ℕ) → sets s at (a ++ b) ≡ sets (sets s at a) (at + length a) b
 sets-append s at [] b = rw add-zero
 sets-append s at (x ∷ a) b = rw (sets-append (set s at x) (suc at) a b, suc-add, ← add-suc)
+
+-- the stores of a word's halves are the store of the word
+pub sets_two : {o₁ o₂ : List ℕ} (j k : ℕ) (s : List ℕ) (at v : ℕ)
+    → o₁ ≡ sets s at (le_bytes j (v % 256 ^ j)) → o₂ ≡ sets o₁ (at + j) (le_bytes k (v / 256 ^ j)) → o₂ ≡ sets s at (le_bytes (j + k) v)
+sets_two j k s at v e₁ e₂ = rw (e₂, e₁, le_bytes-split, sets-append, length-le_bytes)
+
+-- one store more
+pub sets_more : (s : List ℕ) (at : ℕ) (a : List ℕ) (i : ℕ) → i < length a → set (sets s at (take i a)) (at + i) (get_or a i 0) ≡ sets s at (take (i + 1) a)
+sets_more s at a i h =
+    let l : length (take i a) ≡ i = length-take-le i a (omega arith) in
+    rw (add-one, take-suc a i 0 h, sets-append, l)
 
 -- a part of a slice that is written over is a run of stores
 pub put_mid-sets : (s a : List ℕ) (at k : ℕ) → k ≡ length a → at + length a ≤ length s → put_mid at k s a ≡ sets s at a

@@ -23,5 +23,5 @@ slot c =
 pub overflow_sub-slot : goal.overflow_sub-slot
 overflow_sub-slot c = (slot c).0
 
-pub bounds-b-i : goal.bounds-b-i
-bounds-b-i c = (slot c.before).1
+pub bounds-present-i : goal.bounds-present-i
+bounds-present-i c = (slot c.before.before).1
