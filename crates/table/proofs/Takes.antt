@@ -5,7 +5,9 @@ use Rattle.std.specs.Prelude.{Result, Ok, Err, Option, Some, None}
 use mathlib.Core.Path.{◌≡◌, refl, sym, ap, ◌∙◌}
 use mathlib.Core.Bool.{Bool, true, false, not}
 use mathlib.Core.List.{List, [], ◌∷◌}
+use mathlib.Core.Logic.{⊎_elim}
 use Prim.Native.Nat.{ℕ, ◌+◌, ◌-◌, ◌*◌, ◌≤◌, ◌<◌}
+use native.Mathlib.Decide.{ℕ_discrete}
 use native.Mathlib.Omega.{arith}
 use lib.ListN.{length, get_or, set, take, drop, replicate, length-drop}
 use lib.Pointwise.{pointwise}
@@ -27,7 +29,7 @@ use Rattle.table.specs.declared.Refusal.TheVariants.{ByteFollows, NotLast}
 use Rattle.table.specs.declared.Refused.{Refused as RefusedAt}
 use Rattle.table.specs.declared.Step.TheVariants.{Done}
 use Rattle.table.specs.Table.{number, no_drive, taken_at, sound_to, header_at, overlaps_any, refusal, more, has_parameters, stepped, record_refusal, with_record, step_found, WholeRecord, Takes, step_at, reading, read_from, read_table, Reads, end_answer}
-use Rattle.table.proofs.TableLaws.{number_some, named-number, length_ok-least, whole_at, length_whole, le-part, length_ok-end, length_ok-bad, step_at-bad, step_at-end, step_at-record, end_step-byte, end_step-done, record_step-next, record_step-refused, drive-refusal, drive_with, parameters-none, parameters_nine, bads_nine, bads_named, reads-next, reads-done, reads-refused}
+use Rattle.table.proofs.TableLaws.{kind-cases, number_some, named-number, length_ok-least, whole_at, length_whole, le-part, length_ok-end, length_ok-bad, step_at-bad, step_at-end, step_at-record, end_step-byte, end_step-done, record_step-next, record_step-refused, drive-refusal, drive_with, parameters-none, parameters_nine, bads_nine, bads_named, reads-next, reads-done, reads-refused}
 
 -- ---- what the library says of `any` over a slice, and of `==` with an array of zeros
 
@@ -194,3 +196,24 @@ module _ (left : ℕ) (t : List ℕ) (store at : ℕ) (b : Table) (l : 0 < left)
         by_byte : (x : Bool) → ltb (at + 4) (length t) ≡ x → Reads t store (reading (end_answer (at + 4) (length t)) b)
         by_byte true q = rw q (reads-refused left t store at b l (end_step-byte t at b (ltb-true (at + 4) (length t) q) ∙ step_at-end t at k n b store h z) refl s)
         by_byte false q = rw q (reads-done left t store at b l (end_step-done t at b (ltb-false (at + 4) (length t) q) ∙ step_at-end t at k n b store h z) refl s)
+
+    -- a drive's record ends it with its refusal, or what is left to read gives the whole reading from the drive on
+    module _ {d : Drive} {m : ℕ} (z : is_drive_kind k ≡ true) (e : d ≡ drive_of (part n t at)) (q : m ≡ refusal b.count b.drives d store) where
+      no_end : k ≡ 0 → ⊥
+      no_end w = ⊎_elim (λ x. omega arith) (λ x. omega arith) (kind-cases k z)
+
+      pub drive-reads : {f : Refusal} → number f ≡ m → Reads t store (reading (Err (record { refusal = f; place = at })) b)
+      drive-reads x = loop_refused left t store at b l (found_refused t at b store h no_end (drive_refused (part n t at) b store k z e q x)) s refl
+
+      pub drive_stands : m ≡ 0 → read_from (left - 1) t store (at + n) (more b d) ≡ read_table t store
+      drive_stands x = loop_next left t store at b l (found_next t at b store h no_end (drive_takes (part n t at) b store k z e q (sym x))) s refl
+
+    -- and a record that belongs to a drive, but not to the last one read, ends it with 9
+    module _ {i : ℕ} {a : Bool} (e : i ≡ number_in (part n t at)) (q : a ≡ both (ltb i 8) (both (eqb (i + 1) b.count) (not (has_parameters b i)))) where
+      pub attached_reads : (k ≡ 0 → ⊥) → is_drive_kind k ≡ false → a ≡ false → Reads t store (reading (Err (record { refusal = NotLast; place = at })) b)
+      unfolding record_refusal
+      attached_reads z z' x = loop_refused left t store at b l (found_refused t at b store h z {e = NotLast} (takes_refused k (part n t at) b store (by_kind (ℕ_discrete k 3)))) s refl
+        where
+          by_kind : Dec (k ≡ 3) → 9 ≡ record_refusal k (part n t at) b store
+          by_kind (yes y) = rw (y, ← e) (bads_nine b i (bads_in (part n t at)) q x)
+          by_kind (no y) = rw (z', ne_eqb k 3 y, ← e) (parameters_nine b i q x)
